@@ -1,0 +1,39 @@
+//! A message.
+
+ghost use Rattle.std.specs.Prelude.{◌≡◌};
+
+use net_prefix::Prefix;
+use path_attr::Attr;
+use seq::Copied;
+use std::alloc::{AllocError, Global};
+
+/// What one end of a session tells the other of one prefix (RFC 4271, 3.1).
+#[derive(Debug, Drop, PartialEq)]
+pub enum Message {
+    /// A route to the prefix, in place of any that was told before.
+    Update(Prefix, Attr),
+    /// The route that was told is no more.
+    Withdraw(Prefix),
+}
+
+impl Message {
+    ghost use Rattle.session_queue.specs.Telling.{prefix_of};
+
+    /// The prefix that it speaks of.
+    pub fn prefix(&self) -> Prefix
+        ensures { result ≡ prefix_of self.now }
+    {
+        match self {
+            Message::Update(prefix, _) | Message::Withdraw(prefix) => *prefix,
+        }
+    }
+}
+
+impl Copied for Message {
+    fn copy(&self, alloc: Global) -> Result<Message, AllocError> {
+        match self {
+            Message::Update(prefix, attr) => Ok(Message::Update(*prefix, attr.copy(alloc)?)),
+            Message::Withdraw(prefix) => Ok(Message::Withdraw(*prefix)),
+        }
+    }
+}
