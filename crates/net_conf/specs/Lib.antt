@@ -1,0 +1,4 @@
+pub mod Metric
+pub mod Refusals
+pub mod Configuration
+pub mod Edits

@@ -1,0 +1,2 @@
+//! Which of the routes to a prefix is best, and why each other one is not.
+#![tactic(auto)]
