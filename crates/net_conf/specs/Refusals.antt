@@ -1,5 +1,5 @@
--- Refusals: their numbers, which are the order of the tests.
-use Rattle.std.specs.Prelude.{ℕ}
+-- Refusals: their numbers, which are the order of the tests, and their names.
+use Rattle.std.specs.Prelude.{ℕ, List, codes}
 use Rattle.net_conf.specs.declared.refusal.Refusal.{Refusal}
 use Rattle.net_conf.specs.declared.refusal.Refusal.TheVariants.{Syntax, NoRouter, RouterExists, SameRouter, BadEnd, VirtualInside, NoLink, LinkExists, NotLinked, NoSession, SessionExists, InternalOnly, RuleNotAllowed, OriginExists, NoOrigin, SessionDown, QueueEmpty, FirstAs, Limit, Memory}
 
@@ -24,3 +24,25 @@ number_of QueueEmpty = 17
 number_of FirstAs = 18
 number_of Limit = 19
 number_of Memory = 20
+
+abbrev pub name_of : Refusal → List ℕ
+name_of Syntax = codes "syntax"
+name_of NoRouter = codes "no-router"
+name_of RouterExists = codes "router-exists"
+name_of SameRouter = codes "same-router"
+name_of BadEnd = codes "bad-end"
+name_of VirtualInside = codes "virtual-inside"
+name_of NoLink = codes "no-link"
+name_of LinkExists = codes "link-exists"
+name_of NotLinked = codes "not-linked"
+name_of NoSession = codes "no-session"
+name_of SessionExists = codes "session-exists"
+name_of InternalOnly = codes "internal-only"
+name_of RuleNotAllowed = codes "rule-not-allowed"
+name_of OriginExists = codes "origin-exists"
+name_of NoOrigin = codes "no-origin"
+name_of SessionDown = codes "session-down"
+name_of QueueEmpty = codes "queue-empty"
+name_of FirstAs = codes "first-as"
+name_of Limit = codes "limit"
+name_of Memory = codes "memory"

@@ -1,7 +1,7 @@
 //! Why a command is refused.
 
 ghost use Rattle.std.specs.Prelude.{◌≡◌};
-ghost use Rattle.net_conf.specs.Refusals.{number_of};
+ghost use Rattle.net_conf.specs.Refusals.{number_of, name_of};
 
 /// Why a command is refused, in the order in which the tests are made.
 #[derive(Clone, Copy, Debug, PartialEq, Eq)]
@@ -54,5 +54,33 @@ impl Refusal {
         ensures { result ≡ number_of self }
     {
         self as u8
+    }
+
+    /// Its name, as it is printed.
+    pub fn name(self) -> &'static str
+        ensures { result.now ≡ name_of self }
+    {
+        match self {
+            Refusal::Syntax => "syntax",
+            Refusal::NoRouter => "no-router",
+            Refusal::RouterExists => "router-exists",
+            Refusal::SameRouter => "same-router",
+            Refusal::BadEnd => "bad-end",
+            Refusal::VirtualInside => "virtual-inside",
+            Refusal::NoLink => "no-link",
+            Refusal::LinkExists => "link-exists",
+            Refusal::NotLinked => "not-linked",
+            Refusal::NoSession => "no-session",
+            Refusal::SessionExists => "session-exists",
+            Refusal::InternalOnly => "internal-only",
+            Refusal::RuleNotAllowed => "rule-not-allowed",
+            Refusal::OriginExists => "origin-exists",
+            Refusal::NoOrigin => "no-origin",
+            Refusal::SessionDown => "session-down",
+            Refusal::QueueEmpty => "queue-empty",
+            Refusal::FirstAs => "first-as",
+            Refusal::Limit => "limit",
+            Refusal::Memory => "memory",
+        }
     }
 }

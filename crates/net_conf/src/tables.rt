@@ -27,6 +27,28 @@ pub struct Ends {
     pub high: Addr,
 }
 
+impl Ends {
+    ghost use Rattle.std.specs.Prelude.{◌≡◌};
+    ghost use Rattle.net_conf.specs.Configuration.{ends_of};
+
+    /// The ends of a link or a session of the two, which are the same in both orders.
+    pub fn of(one: Addr, other: Addr) -> Ends
+        ensures { result ≡ ends_of one other }
+    {
+        if one.0 <= other.0 {
+            Ends {
+                low: one,
+                high: other,
+            }
+        } else {
+            Ends {
+                low: other,
+                high: one,
+            }
+        }
+    }
+}
+
 /// A prefix that a router originates.
 #[derive(Clone, Copy, Debug, PartialEq, Eq, PartialOrd, Ord)]
 pub struct Origination {

@@ -15,4 +15,4 @@ octet k a = a.0 / 256 ^ k % 256
 
 -- a.b.c.d
 unfoldable pub addr_text : Addr → List ℕ
-addr_text a = decimal (octet 3 a) ++ (46 ∷ decimal (octet 2 a)) ++ (46 ∷ decimal (octet 1 a)) ++ (46 ∷ decimal (octet 0 a))
+addr_text a = decimal (octet 3 a) ++ (46 ∷ decimal (octet 2 a) ++ (46 ∷ decimal (octet 1 a) ++ (46 ∷ decimal (octet 0 a))))

@@ -1,0 +1,5 @@
+pub mod EntryLemmas
+mod Keeping
+mod Leading
+mod Ranks
+mod Scan

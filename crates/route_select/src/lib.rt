@@ -1,2 +1,14 @@
-//! Which of the routes to a prefix is best, and why each other one is not.
+//! Which of the routes to a prefix is best, and why each other one is not (RFC 4271, 9.1.2; RFC 4456, 9).
 #![tactic(auto)]
+
+mod candidate;
+mod chosen;
+mod entries;
+mod filter;
+mod filter_cell;
+#[cfg(test)]
+mod tests;
+
+pub use candidate::{Candidate, Reason, Source, Standing};
+pub use chosen::{Chosen, Selector};
+pub use filter_cell::FilterCell;

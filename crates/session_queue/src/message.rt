@@ -16,8 +16,25 @@ pub enum Message {
     Withdraw(Prefix),
 }
 
+/// Whether a message tells a route or takes one back.
+#[derive(Clone, Copy, Debug, PartialEq, Eq)]
+pub enum MessageKind {
+    Update,
+    Withdraw,
+}
+
 impl Message {
-    ghost use Rattle.session_queue.specs.Telling.{prefix_of};
+    ghost use Rattle.session_queue.specs.Telling.{prefix_of, kind_of};
+
+    /// Whether it tells a route or takes one back.
+    pub fn kind(&self) -> MessageKind
+        ensures { result ≡ kind_of self.now }
+    {
+        match self {
+            Message::Update(_, _) => MessageKind::Update,
+            Message::Withdraw(_) => MessageKind::Withdraw,
+        }
+    }
 
     /// The prefix that it speaks of.
     pub fn prefix(&self) -> Prefix

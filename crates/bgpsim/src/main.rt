@@ -1,0 +1,72 @@
+//! `bgpsim`: an interactive simulator of BGP-4 networks.
+#![tactic(auto)]
+
+mod command_line;
+mod script;
+
+use clap::Error;
+use clap::error::ErrorKind;
+use command_line::{Choice, choose};
+use script::run_script;
+use std::env;
+use std::io::{self, BufWriter, Write};
+use std::process::ExitCode;
+
+/// The exit status of a mistaken command line.
+const MISTAKEN: u8 = 2;
+
+/// The exit status of want of memory.
+const NO_MEMORY: u8 = 5;
+
+fn main(rt: HostRuntime) -> ExitCode {
+    let alloc = rt.alloc();
+    let words = match env::args(&rt) {
+        Ok(words) => words,
+        Err(error) if error.kind() == io::ErrorKind::OutOfMemory => return without_memory(&rt),
+        Err(_) => {
+            let _ = eprintln!(rt; "error: the command line is not UTF-8");
+            return ExitCode::from(MISTAKEN);
+        }
+    };
+    let words: Vec<String> = match words.collect(alloc) {
+        Ok(words) => words,
+        Err(_) => return without_memory(&rt),
+    };
+    match choose(alloc, words.as_slice()) {
+        Ok(Choice::Script) => serve_streams(&rt, &mut rt.stderr()),
+        Err(error) if error.kind() == ErrorKind::OutOfMemory => without_memory(&rt),
+        Err(error) => show(&rt, &error),
+    }
+}
+
+/// Help and the version go to standard output, a mistake to standard error.
+fn show(rt: &(impl Print + Eprint + AllocGlobal), error: &Error) -> ExitCode {
+    let _ = error.print(rt);
+    if error.use_stderr() {
+        ExitCode::from(MISTAKEN)
+    } else {
+        ExitCode::SUCCESS
+    }
+}
+
+fn without_memory(rt: &impl Eprint) -> ExitCode {
+    let _ = rt.eprintln("memory");
+    ExitCode::from(NO_MEMORY)
+}
+
+/// Serves standard input to standard output.
+fn serve_streams(
+    rt: &(impl Print + Eprint + Input + AllocGlobal),
+    errors: &mut impl Write,
+) -> ExitCode {
+    let alloc = rt.alloc();
+    let Ok(writer) = BufWriter::new(alloc, io::writer(rt)) else {
+        return without_memory(rt);
+    };
+    let mut input = watched::Input::new(rt.reader());
+    let mut output = watched::Output::new(writer);
+    ExitCode::from(run_script(alloc, &mut input, &mut output, errors))
+}
+
+#[cfg(test)]
+mod tests;

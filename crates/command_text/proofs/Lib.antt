@@ -1,0 +1,6 @@
+mod Joins
+mod Tokens
+mod Numbers
+mod Segments
+mod Readings
+mod FirstWords

@@ -1,0 +1,38 @@
+-- What a line means.
+use Rattle.std.specs.Prelude.{◌≡◌, ◌≢◌, ℕ, ◌<◌, ◌≤◌, Bool, true, false, not, ◌==◌, IsTrue, ◌⊎◌, List, [], ◌∷◌, filter, length, nat_lt, Option, Some, None, Result, Ok, Err}
+use Rattle.std.specs.List.{slice_split}
+use Rattle.net_conf.specs.declared.refusal.Refusal.{Refusal}
+use Rattle.net_conf.specs.declared.refusal.Refusal.TheVariants.{Syntax, Memory}
+use Rattle.sim_event.specs.declared.event.Event.{Event}
+use Rattle.sim_event.specs.Events.{IsEvent}
+use Rattle.command_text.specs.Words.{words_of}
+
+-- the words of a line: what stands between its spaces
+abbrev pub tokens : List ℕ → List (List ℕ)
+tokens line = filter (λ word. nat_lt 0 (length word)) (slice_split (λ b. b == 32) line)
+
+-- no word, or a comment: the first word begins with `#`
+abbrev pub are_silent : List (List ℕ) → Bool
+are_silent [] = true
+are_silent ([] ∷ words) = false
+are_silent ((b ∷ bs) ∷ words) = b == 35
+
+-- a line of at most 4,096 bytes that is blank or a comment
+abbrev pub IsSilent : List ℕ → Type 0
+IsSilent line = (length line ≤ 4096) × IsTrue (are_silent (tokens line))
+
+-- a line of at most 4,096 bytes whose words spell the event
+abbrev pub Means : List ℕ → Event → Type 0
+Means line event = (length line ≤ 4096) × IsEvent event × (tokens line ≡ words_of event)
+
+-- a line that is neither
+abbrev pub IsFault : List ℕ → Type 0
+IsFault line = (IsSilent line → ⊥) × ((event : Event) → Means line event → ⊥)
+
+-- what reading a line may answer: nothing, its event, a fault of syntax; or, where it means an event, want of memory
+abbrev pub IsReading : List ℕ → Result (Option Event) Refusal → Type 0
+IsReading line (Ok None) = IsSilent line
+IsReading line (Ok (Some event)) = Means line event
+IsReading line (Err Syntax) = IsFault line
+IsReading line (Err Memory) = (event : Event) × Means line event
+IsReading line (Err _) = ⊥

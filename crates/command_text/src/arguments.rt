@@ -1,0 +1,65 @@
+//! The words after the first one of a command, by their shapes.
+
+ghost use Rattle.std.specs.Prelude.{◌≡◌, ℕ, ◌≤◌, List, ◌∷◌, length, IfSome, IfNone};
+ghost use Rattle.net_prefix.specs.declared.addr.Addr.{Addr};
+ghost use Rattle.net_prefix.specs.Address.{addr_text};
+ghost use Rattle.sim_event.specs.Events.{IsAddress};
+ghost use Rattle.command_text.specs.Lines.{tokens};
+ghost use Rattle.command_text.specs.Reading.{Reads};
+ghost use Rattle.command_text.specs.Arguments.{address_words, AreAddresses, addresses_words, IsNumberedAddress, numbered_words, AreEndsAndMetric, metric_words, IsAddressAndPrefix, prefix_words};
+
+use crate::values::{addr_of, asn_of, metric_of, prefix_of};
+use crate::words::{next_word, one_word, three_words, two_words};
+use net_conf::Metric;
+use net_prefix::{Addr, Prefix};
+use path_attr::Asn;
+
+/// `A`
+pub(crate) fn address(words: &[u8]) -> Option<Addr>
+    ensures { Reads IsAddress address_words (tokens words.now) result }
+{
+    addr_of(one_word(words)?)
+}
+
+/// `A B`
+pub(crate) fn two_addresses(words: &[u8]) -> Option<(Addr, Addr)>
+    ensures { Reads AreAddresses addresses_words (tokens words.now) result }
+{
+    let (first, second) = two_words(words)?;
+    Some((addr_of(first)?, addr_of(second)?))
+}
+
+/// `A N`
+pub(crate) fn numbered_address(words: &[u8]) -> Option<(Addr, Asn)>
+    ensures { Reads IsNumberedAddress numbered_words (tokens words.now) result }
+{
+    let (addr, number) = two_words(words)?;
+    Some((addr_of(addr)?, asn_of(number)?))
+}
+
+/// `A B M`
+pub(crate) fn ends_and_metric(words: &[u8]) -> Option<(Addr, Addr, Metric)>
+    ensures { Reads AreEndsAndMetric metric_words (tokens words.now) result }
+{
+    let (first, second, metric) = three_words(words)?;
+    Some((addr_of(first)?, addr_of(second)?, metric_of(metric)?))
+}
+
+/// `A P`
+pub(crate) fn address_and_prefix(words: &[u8]) -> Option<(Addr, Prefix)>
+    ensures { Reads IsAddressAndPrefix prefix_words (tokens words.now) result }
+{
+    let (addr, prefix) = two_words(words)?;
+    Some((addr_of(addr)?, prefix_of(prefix)?))
+}
+
+/// The address that stands first, and the text after it.
+pub(crate) fn next_address(words: &[u8]) -> Option<(Addr, &[u8])>
+    ensures address { IfSome result (λ next. IsAddress next.0) }
+    ensures found { IfSome result (λ next. tokens words.now ≡ addr_text next.0 ∷ tokens next.1.now) }
+    ensures shorter { IfSome result (λ next. length next.1.now ≤ length words.now) }
+    ensures none { IfNone result ((a : Addr) (more : List (List ℕ)) → IsAddress a → tokens words.now ≡ addr_text a ∷ more → ⊥) }
+{
+    let (word, rest) = next_word(words)?;
+    Some((addr_of(word)?, rest))
+}

@@ -1,0 +1,38 @@
+//! A line of input.
+
+ghost use Rattle.std.specs.Prelude.{◌≡◌, ℕ, List, ◌∷◌};
+ghost use Rattle.command_text.specs.Lines.{IsReading, are_silent};
+
+use crate::command::read_command;
+use crate::words::next_word;
+use net_conf::Refusal;
+use sim_event::Event;
+use std::alloc::Global;
+
+/// The most bytes of a line, without its end.
+const MAX_LINE: usize = 4096;
+
+/// The event that a line spells, without its end: the first word names the command, and words are parted by spaces.
+/// None for a blank line and for a comment, whose first word begins with `#`. Over 4,096 bytes the line is a fault of
+/// syntax, whatever it holds. Only the path of a fed route takes memory, after the whole line is tested.
+pub fn read_line(alloc: Global, line: &[u8]) -> Result<Option<Event>, Refusal>
+    ensures { IsReading line.now result }
+{
+    if line.len() > MAX_LINE {
+        return Err(Refusal::Syntax);
+    }
+    let Some((first, rest)) = next_word(line) else {
+        return Ok(None);
+    };
+    if is_comment(first) {
+        return Ok(None);
+    }
+    Ok(Some(read_command(alloc, first, rest)?))
+}
+
+/// Whether a line with this first word is a comment.
+fn is_comment(first: &[u8]) -> bool
+    ensures { (words : List (List ℕ)) → result ≡ are_silent (first.now ∷ words) }
+{
+    first.first() == Some(&b'#')
+}

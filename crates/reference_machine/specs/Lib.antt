@@ -1,0 +1,5 @@
+pub mod Network
+pub mod Decision
+pub mod Advertising
+pub mod Reports
+pub mod Machine

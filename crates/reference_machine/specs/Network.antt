@@ -1,0 +1,87 @@
+-- The state of a network: what is configured, what each router has received, and what is on its way. Nothing else.
+use Rattle.std.specs.Prelude.{ℕ, Bool, not, ◌==◌, ◌&&◌, ◌||◌, List, [], ◌∷◌, ◌++◌, map, filter, Option, option_map, find, if◌then◌else◌}
+use Rattle.std.specs.declared.cmp.Ordering.{Ordering}
+use Rattle.std.specs.Ordering.{is_lt, is_eq, is_gt, ordering_then}
+use Rattle.net_prefix.specs.declared.addr.Addr.{Addr}
+use Rattle.net_prefix.specs.Address.{addr_cmp}
+use Rattle.net_prefix.specs.Block.{Block, block_cmp, same_block}
+use Rattle.path_attr.specs.declared.attr.Attr.{Attr}
+use Rattle.session_queue.specs.declared.message.Message.{Message}
+use Rattle.net_conf.specs.Configuration.{Configuration}
+use Rattle.reference_machine.specs.declared.rows.RouteKey.{RouteKey}
+use Rattle.reference_machine.specs.declared.rows.Received.{Received}
+use Rattle.reference_machine.specs.declared.rows.Direction.{Direction}
+use Rattle.reference_machine.specs.declared.rows.Queue.{Queue}
+
+-- received: the Adj-RIBs-In of all routers, unprocessed (RFC 4271, 3.2), by receiver, prefix and sender;
+-- queues: the messages on their way, by sender and receiver, the head first
+pub record Network : Type 0 where
+  pub conf : Configuration
+  pub received : List Received
+  pub queues : List Queue
+
+abbrev pub same_addr : Addr → Addr → Bool
+same_addr a b = a.0 == b.0
+
+-- by receiver, then by prefix, then by sender
+abbrev pub route_cmp : RouteKey → RouteKey → Ordering
+route_cmp k l = ordering_then (addr_cmp k.to l.to) (ordering_then (block_cmp k.prefix l.prefix) (addr_cmp k.from l.from))
+
+-- what stands before the key, and what after it
+abbrev pub before : RouteKey → List Received → List Received
+before k es = filter (λ e. is_gt (route_cmp k e.key)) es
+
+abbrev pub after : RouteKey → List Received → List Received
+after k es = filter (λ e. is_lt (route_cmp k e.key)) es
+
+-- what was received, with this route in place of any of its key
+abbrev pub with_route : RouteKey → Attr → List Received → List Received
+with_route k attr es = before k es ++ (record { key = k; attr = attr } ∷ after k es)
+
+-- what was received, with no route of the key
+abbrev pub without_route : RouteKey → List Received → List Received
+without_route k es = filter (λ e. not (is_eq (route_cmp k e.key))) es
+
+-- what the router has received
+abbrev pub received_by : Addr → List Received → List Received
+received_by r es = filter (λ e. same_addr e.key.to r) es
+
+-- by sender, then by receiver
+abbrev pub direction_cmp : Direction → Direction → Ordering
+direction_cmp d e = ordering_then (addr_cmp d.from e.from) (addr_cmp d.to e.to)
+
+abbrev pub is_of : Direction → Queue → Bool
+is_of d q = same_addr q.of.from d.from && same_addr q.of.to d.to
+
+-- the messages on their way in the direction, where there is a session
+abbrev pub messages_in : List Queue → Direction → Option (List Message)
+messages_in qs d = option_map (λ q. q.messages) (find (is_of d) qs)
+
+-- the queues and an empty one for the direction, in order
+abbrev pub with_direction : Direction → List Queue → List Queue
+with_direction d qs = filter (λ q. is_gt (direction_cmp d q.of)) qs ++ (record { of = d; messages = [] } ∷ filter (λ q. is_lt (direction_cmp d q.of)) qs)
+
+-- the queue with more messages at its end
+abbrev pub with_more : Queue → List Message → Queue
+with_more q more = record q { messages = q.messages ++ more }
+
+-- the queue with the message at its end, if it is that of the direction
+abbrev pub more : Direction → Message → Queue → Queue
+more d m q = if is_of d q then with_more q (m ∷ []) else q
+
+-- the queues, with a message at the end of that of the direction
+abbrev pub with_message : Direction → Message → List Queue → List Queue
+with_message d m qs = map (more d m) qs
+
+-- all messages but the head
+abbrev pub rest_of : List Message → List Message
+rest_of [] = []
+rest_of (m ∷ ms) = ms
+
+-- the queue without its head, if it is that of the direction
+abbrev pub less : Direction → Queue → Queue
+less d q = if is_of d q then record q { messages = rest_of q.messages } else q
+
+-- the queues, without the head of that of the direction
+abbrev pub without_head : Direction → List Queue → List Queue
+without_head d qs = map (less d) qs

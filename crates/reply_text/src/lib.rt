@@ -1,0 +1,13 @@
+//! Replies as text: a reply is its lines, each ended by a line feed.
+#![tactic(auto)]
+
+mod number;
+mod part;
+mod path;
+mod reply;
+mod text;
+
+pub use reply::{write_refusal, write_reply};
+
+#[cfg(test)]
+mod tests;

@@ -1,0 +1,64 @@
+//! Numbers, addresses and prefixes as text.
+
+ghost use Rattle.watched.specs.Streams.{Writes};
+
+use crate::text::{Text, write_after, write_joined};
+use itoa::{Buffer, Integer};
+use net_prefix::{Addr, Prefix};
+use path_attr::Asn;
+use std::io::Write;
+use watched::{Output, WriterFailed};
+
+/// Writes the number in decimal.
+pub(crate) fn write_number<N: Integer, W: Write>(number: N, output: &mut Output<W>) -> Result<(), WriterFailed>
+    ensures { Writes output.old (N.text number) result output.new }
+{
+    let mut buffer = Buffer::new();
+    output.write(buffer.format(number).as_bytes())
+}
+
+impl Text for u8 {
+    ghost use Rattle.std.specs.Fmt.{decimal};
+
+    ghost text = { decimal };
+
+    fn write<W: Write>(&self, output: &mut Output<W>) -> Result<(), WriterFailed> {
+        write_number(*self, output)
+    }
+}
+
+impl Text for Asn {
+    ghost use Rattle.std.specs.Fmt.{decimal};
+
+    ghost text = { decimal };
+
+    fn write<W: Write>(&self, output: &mut Output<W>) -> Result<(), WriterFailed> {
+        write_number(self.number(), output)
+    }
+}
+
+impl Text for Addr {
+    ghost use Rattle.net_prefix.specs.Address.{addr_text};
+
+    ghost text = { addr_text };
+
+    /// Writes the four octets, joined by dots.
+    #[tactic(auto, unfolding(net_prefix::specs::Address::addr_text))]
+    fn write<W: Write>(&self, output: &mut Output<W>) -> Result<(), WriterFailed> {
+        let octets = self.0.to_be_bytes();
+        write_joined(b'.', &octets, output)
+    }
+}
+
+impl Text for Prefix {
+    ghost use Rattle.net_prefix.specs.Block.{block_text};
+
+    ghost text = { block_text };
+
+    /// Writes the address, a slash and the length.
+    #[tactic(auto, unfolding(net_prefix::specs::Block::block_text))]
+    fn write<W: Write>(&self, output: &mut Output<W>) -> Result<(), WriterFailed> {
+        self.addr().write(output)?;
+        write_after(b'/', &self.len(), output)
+    }
+}

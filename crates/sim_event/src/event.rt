@@ -1,0 +1,78 @@
+//! What the machine is told to do.
+
+use net_conf::Edit;
+use net_prefix::{Addr, Prefix};
+use path_attr::{AsPath, Origin};
+use seq::Copied;
+use std::alloc::{AllocError, Global};
+
+/// One step of the machine, with the values that its command names and nothing else.
+#[derive(Debug, Drop)]
+pub enum Event {
+    /// The configuration changes.
+    Edit(Edit),
+    /// A virtual peer tells a router something.
+    Feed(Feed),
+    /// The head of the queue from the first to the second is taken by the second.
+    Deliver(Addr, Addr),
+    /// Nothing changes; the reply is a report.
+    Ask(Ask),
+}
+
+/// What a virtual peer tells a router.
+#[derive(Debug, Drop)]
+pub struct Feed {
+    /// The virtual peer.
+    pub from: Addr,
+    /// The router.
+    pub to: Addr,
+    pub news: News,
+}
+
+/// News of a prefix that is fed by hand.
+#[derive(Debug, Drop)]
+pub enum News {
+    /// A route, with its AS_PATH, ORIGIN and MULTI_EXIT_DISC.
+    Update(Prefix, AsPath, Origin, Option<u32>),
+    /// No route any more.
+    Withdraw(Prefix),
+}
+
+/// A question, one variant a kind of command.
+#[derive(Clone, Copy, Debug, PartialEq, Eq)]
+pub enum Ask {
+    /// The router's Loc-RIB.
+    Routes(Addr),
+}
+
+impl Copied for News {
+    fn copy(&self, alloc: Global) -> Result<News, AllocError> {
+        match self {
+            News::Update(prefix, path, origin, med) => {
+                Ok(News::Update(*prefix, path.copy(alloc)?, *origin, *med))
+            }
+            News::Withdraw(prefix) => Ok(News::Withdraw(*prefix)),
+        }
+    }
+}
+
+impl Copied for Feed {
+    fn copy(&self, alloc: Global) -> Result<Feed, AllocError> {
+        Ok(Feed {
+            from: self.from,
+            to: self.to,
+            news: self.news.copy(alloc)?,
+        })
+    }
+}
+
+impl Copied for Event {
+    fn copy(&self, alloc: Global) -> Result<Event, AllocError> {
+        match self {
+            Event::Edit(edit) => Ok(Event::Edit(*edit)),
+            Event::Feed(feed) => Ok(Event::Feed(feed.copy(alloc)?)),
+            Event::Deliver(from, to) => Ok(Event::Deliver(*from, *to)),
+            Event::Ask(ask) => Ok(Event::Ask(*ask)),
+        }
+    }
+}

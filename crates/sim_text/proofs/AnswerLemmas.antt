@@ -1,0 +1,169 @@
+-- Answers, line by line.
+use Rattle.std.proofs.Common.{◌≡◌, ℕ, ◌+◌, ◌-◌, ◌<◌, ◌≤◌, true, ◌⊎◌, inl, inr, ⊎_elim, List, [], ◌∷◌, ◌++◌, length, take, drop, get_or, Option, Some, None, All, Ok, Err, refl, sym, ap, ◌∙◌, subst, arith, append_assoc, append-nil}
+use Rattle.std.specs.Str.Lines.{lines}
+use Rattle.std.specs.Io.KnownBytes.{Appends, Keeps}
+use Rattle.std.proofs.lemmas.List.{take_at, get_or_at, take_more, take_all, length_push, length-append, length-take-le, take-append-le}
+use Rattle.std.proofs.lemmas.List.Elements.{All-nil, All-push, All-same}
+use Rattle.watched.specs.Streams.{Reading, Writing}
+use Rattle.watched.specs.Writing.{appends_both, appends_none}
+use Rattle.reference_machine.specs.Network.{Network}
+use Rattle.sim_text.specs.declared.fault.ServeFault.TheVariants.{Read, Write}
+use Rattle.sim_text.specs.Serving.{IsAnswer, AreAnswers, Served, IsServing, line_at, most_bytes, most_lines}
+use Rattle.sim_text.specs.Next.{IsUnfit}
+use Rattle.sim_text.specs.Progress.{SoFar, Ends}
+use Rattle.sim_text.specs.declared.fault.ServeFault.{ServeFault}
+
+-- one more line
+pub are_answers_push : (s mid s' : Network) (done : List (List ℕ)) (line text answer : List ℕ) → AreAnswers s done text mid → IsAnswer mid line answer s' → AreAnswers s (done ++ line ∷ []) (text ++ answer) s'
+are_answers_push s mid s' [] line text answer all one =
+    let P : Network → Type 0 = λ t. IsAnswer t line answer s' in
+    (s', answer, [], subst P all.1 one, (refl, refl), ap (λ t. t ++ answer) all.0 ∙ sym (append-nil answer))
+are_answers_push s mid s' (l ∷ more) line text answer all one =
+    (all.0, all.1, all.2 ++ answer, all.3, are_answers_push all.0 mid s' more line all.2 answer all.4 one, ap (λ t. t ++ answer) all.5 ∙ append_assoc all.1 all.2 answer)
+
+-- the last line apart
+pub are_answers_pop : (s s' : Network) (done : List (List ℕ)) (line text : List ℕ) → AreAnswers s (done ++ line ∷ []) text s' → (mid : Network) × (front answer : List ℕ) × AreAnswers s done front mid × IsAnswer mid line answer s' × (text ≡ front ++ answer)
+are_answers_pop s s' [] line text all =
+    let P : Network → Type 0 = λ t. IsAnswer s line all.1 t in
+    (s, [], all.1, (refl, refl), subst P (sym all.4.1) all.3, all.5 ∙ ap (λ t. all.1 ++ t) all.4.0 ∙ append-nil all.1)
+are_answers_pop s s' (l ∷ more) line text all =
+    let rest = are_answers_pop all.0 s' more line all.2 all.4 in
+    (rest.0, all.1 ++ rest.1, rest.2, (all.0, all.1, rest.1, all.3, rest.3, refl), rest.4, all.5 ∙ ap (λ t. all.1 ++ t) rest.5 ∙ sym (append_assoc all.1 rest.1 rest.2))
+
+pub appends_kept : (old mid new : Option (List ℕ)) (text : List ℕ) → Appends old mid text → Keeps mid new → Appends old new text
+appends_kept None mid new text h k = tt
+appends_kept (Some x) None new text h k = absurd h
+appends_kept (Some x) (Some y) None text h k = absurd k
+appends_kept (Some x) (Some y) (Some z) text h k = k ∙ h
+
+-- WHERE SERVING HAS COME
+
+pub so_far_start : (bytes : List ℕ) (s : Network) (o : Writing) → SoFar bytes bytes 0 s o s o
+so_far_start bytes s o = record {
+  done = [];
+  text = [];
+  parts = refl;
+  count = refl;
+  few = omega arith;
+  short = All-nil (λ line. length line ≤ most_bytes);
+  answers = (refl, refl);
+  written = appends_none o.written;
+}
+
+-- one more line was answered
+pub so_far_more : (bytes left left' line answer : List ℕ) (k : ℕ) (s : Network) (o : Writing) (mid : Network) (om : Writing) (s' : Network) (o' : Writing)
+    → lines left ≡ line ∷ lines left' → k < most_lines → length line ≤ most_bytes → IsAnswer mid line answer s' → Appends om.written o'.written answer
+    → SoFar bytes left k s o mid om → SoFar bytes left' (k + 1) s o s' o'
+so_far_more bytes left left' line answer k s o mid om s' o' cut low short one more so = record {
+  done = so.done ++ line ∷ [];
+  text = so.text ++ answer;
+  parts = so.parts ∙ ap (λ t. so.done ++ t) cut ∙ sym (append_assoc so.done (line ∷ []) (lines left'));
+  count = length_push so.done line ∙ ap (λ n. n + 1) so.count;
+  few = omega arith;
+  short = All-push (λ l. length l ≤ most_bytes) so.done line so.short short;
+  answers = are_answers_push s mid s' so.done line so.text answer so.answers one;
+  written = appends_both o.written om.written o'.written so.text answer so.written more;
+}
+
+-- what was written is kept
+pub so_far_kept : (bytes left : List ℕ) (k : ℕ) (s : Network) (o : Writing) (s' : Network) (om o' : Writing)
+    → Keeps om.written o'.written → SoFar bytes left k s o s' om → SoFar bytes left k s o s' o'
+so_far_kept bytes left k s o s' om o' kept so = record {
+  done = so.done;
+  text = so.text;
+  parts = so.parts;
+  count = so.count;
+  few = so.few;
+  short = so.short;
+  answers = so.answers;
+  written = appends_kept o.written om.written o'.written so.text so.written kept;
+}
+
+-- HOW SERVING ENDS
+
+pub served : (bytes left : List ℕ) (k : ℕ) (s : Network) (o : Writing) (s' : Network) (o' : Writing) → SoFar bytes left k s o s' o' → Served bytes k s o s' o'
+served bytes left k s o s' o' so =
+    let P : List (List ℕ) → Type 0 = λ ls. AreAnswers s ls so.text s' in
+    (so.text, subst P (sym (ap (take k) so.parts ∙ take_at so.done (lines left) k so.count)) so.answers, so.written)
+
+pub end_served : (bytes left : List ℕ) (k : ℕ) (s : Network) (o : Writing) (s' : Network) (o' : Writing) (i' : Reading)
+    → left ≡ [] → i'.remaining ≡ Some [] → SoFar bytes left k s o s' o' → IsServing bytes s o (Ok k) s' o' i'
+end_served bytes left k s o s' o' i' none end so =
+    let all : lines bytes ≡ so.done = so.parts ∙ ap (λ t. so.done ++ lines t) none ∙ append-nil so.done in
+    (sym so.count ∙ ap length (sym all), so.few, All-same (λ line. length line ≤ most_bytes) (lines bytes) so.done all so.short, end, served bytes left k s o s' o' so)
+
+-- the reader failed
+pub end_failed : (bytes left : List ℕ) (k : ℕ) (s : Network) (o : Writing) (s' : Network) (o' : Writing) (i' : Reading)
+    → i'.failed ≡ true → SoFar bytes left k s o s' o' → IsServing bytes s o (Err (Read (k + 1))) s' o' i'
+end_failed bytes left k s o s' o' i' failed so = (k, refl, inl failed, served bytes left k s o s' o' so)
+
+-- the next line, and how many there are
+next_at : (bytes left : List ℕ) (k : ℕ) (s : Network) (o : Writing) (s' : Network) (o' : Writing) (line : List ℕ) (more : List (List ℕ))
+    → lines left ≡ line ∷ more → SoFar bytes left k s o s' o' → (k < length (lines bytes)) × (line_at bytes k ≡ line)
+next_at bytes left k s o s' o' line more begins so =
+    let parts : lines bytes ≡ so.done ++ (line ∷ more) = so.parts ∙ ap (λ t. so.done ++ t) begins in
+    let len : length (lines bytes) ≡ length so.done + length (line ∷ more) = ap length parts ∙ length-append so.done (line ∷ more) in
+    (omega (arith, len, so.count), ap (λ ls. get_or ls k []) parts ∙ get_or_at so.done line more [] k so.count)
+
+-- the next line is too long
+pub end_long : (bytes left : List ℕ) (k : ℕ) (s : Network) (o : Writing) (s' : Network) (o' : Writing) (i' : Reading) (line : List ℕ) (more : List (List ℕ))
+    → lines left ≡ line ∷ more → most_bytes < length line → SoFar bytes left k s o s' o' → IsServing bytes s o (Err (Read (k + 1))) s' o' i'
+end_long bytes left k s o s' o' i' line more begins long so =
+    let next = next_at bytes left k s o s' o' line more begins so in
+    let P : List ℕ → Type 0 = λ l. most_bytes < length l in
+    (k, refl, inr (inl (next.0, subst P (sym next.1) long)), served bytes left k s o s' o' so)
+
+-- the next line is one too many
+pub end_many : (bytes left : List ℕ) (k : ℕ) (s : Network) (o : Writing) (s' : Network) (o' : Writing) (i' : Reading) (line : List ℕ) (more : List (List ℕ))
+    → lines left ≡ line ∷ more → most_lines ≤ k → SoFar bytes left k s o s' o' → IsServing bytes s o (Err (Read (k + 1))) s' o' i'
+end_many bytes left k s o s' o' i' line more begins many so =
+    let next = next_at bytes left k s o s' o' line more begins so in
+    let last : k ≡ most_lines = omega (arith, so.few) in
+    (k, refl, inr (inr (last, omega (arith, next.0))), served bytes left k s o s' o' so)
+
+-- the next line's answer was not written whole
+pub end_unwritten : (bytes left : List ℕ) (k : ℕ) (s : Network) (o : Writing) (mid : Network) (om : Writing) (s' : Network) (o' : Writing) (i' : Reading) (line : List ℕ) (more : List (List ℕ)) (answer : List ℕ) (n : ℕ)
+    → lines left ≡ line ∷ more → IsAnswer mid line answer s' → Appends om.written o'.written (take n answer) → o'.failed ≡ true
+    → SoFar bytes left k s o mid om → IsServing bytes s o (Err (Write (k + 1))) s' o' i'
+end_unwritten bytes left k s o mid om s' o' i' line more answer n begins one front failed so =
+    let next = next_at bytes left k s o mid om line more begins so in
+    let before = served bytes left k s o mid om so in
+    let P : List ℕ → Type 0 = λ l. IsAnswer mid l answer s' in
+    (k, refl, (next.0, failed, mid, before.0, answer, n, before.1, subst P (sym next.1) one, appends_both o.written om.written o'.written before.0 (take n answer) before.2 front))
+
+-- all was written, and could not be sent on
+pub end_unsent : (bytes left : List ℕ) (k : ℕ) (s : Network) (o : Writing) (s' : Network) (om o' : Writing) (i' : Reading)
+    → 0 < k → Keeps om.written o'.written → o'.failed ≡ true → SoFar bytes left k s o s' om → IsServing bytes s o (Err (Write k)) s' o' i'
+end_unsent bytes left k s o s' om o' i' some kept failed so =
+    let j = k - 1 in
+    let len : length (lines bytes) ≡ length so.done + length (lines left) = ap length so.parts ∙ length-append so.done (lines left) in
+    let low : j < length (lines bytes) = omega (arith, so.count) in
+    let sum : k ≡ j + 1 = omega arith in
+    let all = served bytes left k s o s' om so in
+    let P : List (List ℕ) → Type 0 = λ ls. AreAnswers s ls all.0 s' in
+    let apart = are_answers_pop s s' (take j (lines bytes)) (line_at bytes j) all.0 (subst P (ap (λ n. take n (lines bytes)) sum ∙ take_more (lines bytes) j [] low) all.1) in
+    let Q : List ℕ → Type 0 = λ t. Appends o.written o'.written t in
+    (j, sum, (low, failed, apart.0, apart.1, apart.2, length apart.2, apart.3, apart.4,
+    subst Q (apart.5 ∙ ap (λ t. apart.1 ++ t) (sym (take_all (length apart.2) apart.2 (omega arith)))) (appends_kept o.written om.written o'.written all.0 all.2 kept)))
+
+-- the next line cannot be answered
+pub end_unfit : (bytes pending rest : List ℕ) (k : ℕ) (s : Network) (o : Writing) (s' : Network) (o' : Writing) (i' : Reading)
+    → IsUnfit pending k → SoFar bytes (pending ++ rest) k s o s' o' → IsServing bytes s o (Err (Read (k + 1))) s' o' i'
+end_unfit bytes pending rest k s o s' o' i' unfit so =
+    let found = unfit rest in
+    ⊎_elim
+        (λ many. end_many bytes (pending ++ rest) k s o s' o' i' found.0 found.1 found.2 many so)
+        (λ long. end_long bytes (pending ++ rest) k s o s' o' i' found.0 found.1 found.2 long so)
+        found.3
+
+pub ends_unsent : (left : List ℕ) (k : ℕ) (s' : Network) (om o' : Writing) (fault : ServeFault) (i' : Reading)
+    → Keeps om.written o'.written → (fault ≡ Write k) × (0 < k) × (o'.failed ≡ true) → Ends left k s' om fault s' o' i'
+ends_unsent left k s' om o' fault i' kept h = λ bytes s0 o0 so.
+    let P : ServeFault → Type 0 = λ f. IsServing bytes s0 o0 (Err f) s' o' i' in
+    subst P (sym h.0) (end_unsent bytes left k s0 o0 s' om o' i' h.1 kept h.2 so)
+
+pub so_far_at : (bytes left left' : List ℕ) (k : ℕ) (s : Network) (o : Writing) (s' : Network) (o' : Writing)
+    → left ≡ left' → SoFar bytes left k s o s' o' → SoFar bytes left' k s o s' o'
+so_far_at bytes left left' k s o s' o' same so =
+    let P : List ℕ → Type 0 = λ t. SoFar bytes t k s o s' o' in
+    subst P same so

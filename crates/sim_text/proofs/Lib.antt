@@ -1,0 +1,4 @@
+mod AnswerLemmas
+mod BufferLemmas
+mod LineLemmas
+mod ReadLemmas

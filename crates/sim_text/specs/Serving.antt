@@ -1,0 +1,62 @@
+-- What it means to serve a script: each line is answered in turn.
+use Rattle.std.specs.Prelude.{◌≡◌, ℕ, ◌+◌, ◌<◌, ◌≤◌, true, ◌⊎◌, List, [], ◌∷◌, ◌++◌, length, take, slice_index_or, All, Some, Result, Ok, Err}
+use Rattle.std.specs.Str.Lines.{lines}
+use Rattle.std.specs.Io.KnownBytes.{Appends}
+use Rattle.watched.specs.Streams.{Reading, Writing}
+use Rattle.net_conf.specs.declared.refusal.Refusal.TheVariants.{Syntax, Memory}
+use Rattle.sim_event.specs.declared.event.Event.{Event}
+use Rattle.sim_event.specs.declared.reply.Reply.{Reply}
+use Rattle.reference_machine.specs.Network.{Network}
+use Rattle.reference_machine.specs.Machine.{IsStep}
+use Rattle.command_text.specs.Lines.{IsSilent, IsFault, Means}
+use Rattle.reply_text.specs.Replies.{reply_text, refusal_text}
+use Rattle.sim_text.specs.declared.fault.ServeFault.{ServeFault}
+use Rattle.sim_text.specs.declared.fault.ServeFault.TheVariants.{Read, Write}
+
+-- what a line is answered, and the state after it: nothing for a blank line or a comment; a refusal of syntax for a line
+-- that spells no event; the machine's reply to the event that the line means; or, where memory was wanted to make that
+-- event, a refusal that changes nothing
+abbrev pub IsAnswer : Network → List ℕ → List ℕ → Network → Type 0
+IsAnswer s line text s' =
+    (IsSilent line × (text ≡ []) × (s' ≡ s))
+    ⊎ ((IsFault line × (text ≡ refusal_text Syntax) × (s' ≡ s))
+    ⊎ (((event : Event) × (reply : Reply) × Means line event × IsStep s event reply s' × (text ≡ reply_text reply))
+    ⊎ ((event : Event) × Means line event × (text ≡ refusal_text Memory) × (s' ≡ s))))
+
+-- the lines were answered one after another
+abbrev pub AreAnswers : Network → List (List ℕ) → List ℕ → Network → Type 0
+AreAnswers s [] text s' = (text ≡ []) × (s' ≡ s)
+AreAnswers s (line ∷ more) text s' = (mid : Network) × (first : List ℕ) × (rest : List ℕ) × IsAnswer s line first mid × AreAnswers mid more rest s' × (text ≡ first ++ rest)
+
+-- the most bytes that a line may have, its end not counted, and the most lines
+abbrev pub most_bytes : ℕ
+most_bytes = 65536
+
+abbrev pub most_lines : ℕ
+most_lines = 1000000
+
+abbrev pub line_at : List ℕ → ℕ → List ℕ
+line_at bytes k = slice_index_or (lines bytes) k []
+
+-- the first k lines were answered, and their answers were written in full
+abbrev pub Served : List ℕ → ℕ → Network → Writing → Network → Writing → Type 0
+Served bytes k s o s' o' = (text : List ℕ) × AreAnswers s (take k (lines bytes)) text s' × Appends o.written o'.written text
+
+-- why reading ends in a fault after k lines: the reader failed, the next line is too long, or there are too many lines
+abbrev pub IsReadFault : List ℕ → ℕ → Reading → Type 0
+IsReadFault bytes k i' =
+    (i'.failed ≡ true)
+    ⊎ (((k < length (lines bytes)) × (most_bytes < length (line_at bytes k)))
+    ⊎ ((k ≡ most_lines) × (most_lines < length (lines bytes))))
+
+-- the first k lines were answered in full; the next one's event was taken too, and a front of its answer was written
+abbrev pub IsWriteFault : List ℕ → ℕ → Network → Writing → Network → Writing → Type 0
+IsWriteFault bytes k s o s' o' = (k < length (lines bytes)) × (o'.failed ≡ true) × (mid : Network) × (text : List ℕ) × (answer : List ℕ) × (n : ℕ)
+    × AreAnswers s (take k (lines bytes)) text mid × IsAnswer mid (line_at bytes k) answer s' × Appends o.written o'.written (text ++ take n answer)
+
+-- serving the bytes: all lines were answered, or a fault came at the line that it names, counted from 1
+abbrev pub IsServing : List ℕ → Network → Writing → Result ℕ ServeFault → Network → Writing → Reading → Type 0
+IsServing bytes s o (Ok n) s' o' i' = (n ≡ length (lines bytes)) × (n ≤ most_lines) × All (λ line. length line ≤ most_bytes) (lines bytes)
+    × (i'.remaining ≡ Some []) × Served bytes n s o s' o'
+IsServing bytes s o (Err (Read line)) s' o' i' = (k : ℕ) × (line ≡ k + 1) × IsReadFault bytes k i' × Served bytes k s o s' o'
+IsServing bytes s o (Err (Write line)) s' o' i' = (k : ℕ) × (line ≡ k + 1) × IsWriteFault bytes k s o s' o'

@@ -1,0 +1,32 @@
+//! The answer to a line.
+
+ghost use Rattle.std.specs.Prelude.{ℕ, List};
+ghost use Rattle.watched.specs.Streams.{Writes};
+ghost use Rattle.sim_text.specs.Serving.{IsAnswer};
+
+use command_text::read_line;
+use reference_machine::Machine;
+use reply_text::{write_refusal, write_reply};
+use std::alloc::Global;
+use std::io::Write;
+use watched::{Output, WriterFailed};
+
+/// Takes a line and writes its answer. Where the writer fails, the line's event was taken all the same.
+pub(crate) fn answer_line<W: Write, M: Machine>(
+    alloc: Global,
+    line: &[u8],
+    output: &mut Output<W>,
+    machine: &mut M,
+) -> Result<(), WriterFailed>
+    ensures { (answer : List ℕ) × IsAnswer (M.network machine.old) line.now answer (M.network machine.new)
+        × Writes output.old answer result output.new }
+{
+    match read_line(alloc, line) {
+        Ok(None) => Ok(()),
+        Ok(Some(event)) => {
+            let reply = machine.step(&event);
+            write_reply(&reply, output)
+        }
+        Err(refusal) => write_refusal(refusal, output),
+    }
+}

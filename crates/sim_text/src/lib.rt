@@ -1,0 +1,12 @@
+//! Scripts: lines in, replies out.
+#![tactic(auto)]
+
+mod answer;
+mod buffer;
+mod fault;
+mod line;
+mod script;
+mod serving;
+
+pub use fault::ServeFault;
+pub use serving::serve;

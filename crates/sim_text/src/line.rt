@@ -1,0 +1,55 @@
+//! Where lines end.
+
+ghost use Rattle.std.specs.Prelude.{◌≡◌, ◌==◌, position};
+ghost use Rattle.std.specs.Str.Lines.{strip_carriage_return};
+ghost use Rattle.sim_text.specs.Next.{IsNext};
+
+use crate::buffer::CAPACITY;
+
+/// The most bytes of a line, its end not counted.
+pub(crate) const MOST_BYTES: usize = 65_536;
+
+/// The most lines of a script.
+pub(crate) const MOST_LINES: u64 = 1_000_000;
+
+/// What stands at the head of the bytes that are left.
+#[derive(Clone, Copy, Debug, PartialEq, Eq)]
+pub(crate) enum Next {
+    /// A line, with its line feed at this index.
+    Line(usize),
+    /// Nothing, or a part of a line that may be the last.
+    Part,
+    /// A line that is too long, or one too many.
+    Unfit,
+}
+
+/// The index of the first line feed.
+fn line_feed_at(bytes: &[u8]) -> Option<usize>
+    ensures { result ≡ position (λ b. b == 10) bytes.now }
+{
+    bytes.iter().position(|b| *b == b'\n')
+}
+
+/// A line without the carriage return at its end.
+pub(crate) fn without_carriage_return(line: &[u8]) -> &[u8]
+    ensures { result.now ≡ strip_carriage_return line.now }
+{
+    match line {
+        [front @ .., b'\r'] => front,
+        _ => line,
+    }
+}
+
+/// What stands at the head of the bytes, after so many lines.
+pub(crate) fn next_line(bytes: &[u8], answered: u64) -> Next
+    ensures { IsNext bytes.now answered result }
+{
+    if answered >= MOST_LINES && !bytes.is_empty() {
+        return Next::Unfit;
+    }
+    match line_feed_at(bytes) {
+        Some(end) if without_carriage_return(&bytes[..end]).len() <= MOST_BYTES => Next::Line(end),
+        None if bytes.len() < CAPACITY => Next::Part,
+        _ => Next::Unfit,
+    }
+}

@@ -1,0 +1,179 @@
+//! A script on its way: what was read of it, and how many of its lines were answered.
+
+ghost use Rattle.std.specs.Prelude.{◌≡◌, ℕ, ◌+◌, ◌<◌, ◌≤◌, true, false, List, [], ◌++◌, IfOk, IfErr, OnOk, Some};
+ghost use Rattle.std.specs.Io.KnownBytes.{Keeps};
+ghost use Rattle.watched.specs.Streams.{Reading};
+ghost use Rattle.sim_text.specs.Next.{IsNext};
+ghost use Rattle.sim_text.specs.Progress.{Advances, Ends, IsTurn, turns_left};
+ghost use Rattle.sim_text.specs.declared.line.Next.TheVariants.{Line, Part};
+
+use crate::ServeFault;
+use crate::answer::answer_line;
+use crate::buffer::LineBuffer;
+use crate::line::{MOST_BYTES, Next, next_line, without_carriage_return};
+use reference_machine::Machine;
+use std::alloc::Global;
+use std::io::{Read, Write};
+use watched::{Input, Output};
+
+#[derive(Drop)]
+pub(crate) struct Script {
+    pub(crate) pending: LineBuffer,
+    pub(crate) answered: u64,
+    ghost few: { answered ≤ 1000000 },
+}
+
+impl Script {
+    pub(crate) fn new() -> Self
+        ensures pending { result.pending ≡ [] }
+        ensures answered { result.answered ≡ 0 }
+    {
+        Script {
+            pending: LineBuffer::new(),
+            answered: 0,
+        }
+    }
+}
+
+/// Sends on what was written, if any line was answered.
+fn flush<W: Write>(answered: u64, output: &mut Output<W>) -> Result<(), ServeFault>
+    ensures kept { Keeps output.old.written output.new.written }
+    ensures err { IfErr result (λ fault. (fault ≡ ServeFault.Write answered) × (0 < answered) × (output.new.failed ≡ true)) }
+{
+    if answered == 0 {
+        return Ok(());
+    }
+    match output.flush() {
+        Ok(()) => Ok(()),
+        Err(_) => Err(ServeFault::Write { line: answered }),
+    }
+}
+
+/// Answers the line that ends in the buffer.
+fn answer_first<W: Write, M: Machine>(
+    alloc: Global,
+    script: &mut Script,
+    end: usize,
+    output: &mut Output<W>,
+    machine: &mut M,
+) -> Result<(), ServeFault>
+    requires { IsNext script.old.pending script.old.answered (Line end) }
+    ensures ok { OnOk result ((rest : List ℕ) → Advances (script.old.pending ++ rest) script.old.answered (M.network machine.old) output.old
+        (script.new.pending ++ rest) script.new.answered (M.network machine.new) output.new) }
+    ensures count { OnOk result (script.new.answered ≡ script.old.answered + 1) }
+    ensures err { IfErr result (λ fault. (rest : List ℕ) (i : Reading) →
+        Ends (script.old.pending ++ rest) script.old.answered (M.network machine.old) output.old fault (M.network machine.new) output.new i) }
+{
+    let next = script.answered + 1;
+    let line = without_carriage_return(&script.pending.as_slice()[..end]);
+    match answer_line(alloc, line, output, machine) {
+        Ok(()) => {}
+        Err(_) => return Err(ServeFault::Write { line: next }),
+    }
+    script.pending.skip(end + 1);
+    script.answered = next;
+    Ok(())
+}
+
+/// Answers a last line with no line feed, if there is one.
+fn answer_last<W: Write, M: Machine>(
+    alloc: Global,
+    script: &mut Script,
+    output: &mut Output<W>,
+    machine: &mut M,
+) -> Result<(), ServeFault>
+    requires { IsNext script.old.pending script.old.answered Part }
+    ensures ok { OnOk result (Advances script.old.pending script.old.answered (M.network machine.old) output.old
+        [] script.new.answered (M.network machine.new) output.new) }
+    ensures none { OnOk result (script.new.pending ≡ []) }
+    ensures err { IfErr result (λ fault. (i : Reading) →
+        Ends script.old.pending script.old.answered (M.network machine.old) output.old fault (M.network machine.new) output.new i) }
+{
+    let line = script.pending.as_slice();
+    if line.is_empty() {
+        return Ok(());
+    }
+    let next = script.answered + 1;
+    let length = line.len();
+    if length > MOST_BYTES {
+        return Err(ServeFault::Read { line: next });
+    }
+    match answer_line(alloc, line, output, machine) {
+        Ok(()) => {}
+        Err(_) => return Err(ServeFault::Write { line: next }),
+    }
+    script.pending.skip(length);
+    script.answered = next;
+    Ok(())
+}
+
+/// Answers what is left at the end, and sends on all that was written.
+fn finish<W: Write, M: Machine>(
+    alloc: Global,
+    script: &mut Script,
+    output: &mut Output<W>,
+    machine: &mut M,
+) -> Result<(), ServeFault>
+    requires { IsNext script.old.pending script.old.answered Part }
+    ensures ok { OnOk result (Advances script.old.pending script.old.answered (M.network machine.old) output.old
+        [] script.new.answered (M.network machine.new) output.new) }
+    ensures none { OnOk result (script.new.pending ≡ []) }
+    ensures err { IfErr result (λ fault. (i : Reading) →
+        Ends script.old.pending script.old.answered (M.network machine.old) output.old fault (M.network machine.new) output.new i) }
+{
+    answer_last(alloc, script, output, machine)?;
+    flush(script.answered, output)
+}
+
+/// Reads more, once all that was written is sent on. False at the end, where the last line has been answered too.
+fn read_on<R: Read, W: Write, M: Machine>(
+    alloc: Global,
+    script: &mut Script,
+    input: &mut Input<R>,
+    output: &mut Output<W>,
+    machine: &mut M,
+) -> Result<bool, ServeFault>
+    requires { IsNext script.old.pending script.old.answered Part }
+    ensures turn { (rest : List ℕ) → input.old.remaining ≡ Some rest →
+        IsTurn (script.old.pending ++ rest) script.old.answered (M.network machine.old) output.old result
+            script.new.pending script.new.answered (M.network machine.new) output.new input.new }
+    ensures smaller { IfOk result (λ more. more ≡ true →
+        turns_left script.new.pending script.new.answered < turns_left script.old.pending script.old.answered) }
+{
+    flush(script.answered, output)?;
+    let more = match script.pending.read_more(input) {
+        Ok(more) => more,
+        Err(_) => return Err(ServeFault::Read { line: script.answered + 1 }),
+    };
+    if !more {
+        finish(alloc, script, output, machine)?;
+    }
+    Ok(more)
+}
+
+/// Answers a line that was read, or reads more. False at the end.
+pub(crate) fn turn<R: Read, W: Write, M: Machine>(
+    alloc: Global,
+    script: &mut Script,
+    input: &mut Input<R>,
+    output: &mut Output<W>,
+    machine: &mut M,
+) -> Result<bool, ServeFault>
+    ensures turn { (rest : List ℕ) → input.old.remaining ≡ Some rest →
+        IsTurn (script.old.pending ++ rest) script.old.answered (M.network machine.old) output.old result
+            script.new.pending script.new.answered (M.network machine.new) output.new input.new }
+    ensures smaller { IfOk result (λ more. more ≡ true →
+        turns_left script.new.pending script.new.answered < turns_left script.old.pending script.old.answered) }
+{
+    match next_line(script.pending.as_slice(), script.answered) {
+        Next::Line(end) => {
+            answer_first(alloc, script, end, output, machine)?;
+            Ok(true)
+        }
+        Next::Part => read_on(alloc, script, input, output, machine),
+        Next::Unfit => {
+            flush(script.answered, output)?;
+            Err(ServeFault::Read { line: script.answered + 1 })
+        }
+    }
+}

@@ -1,0 +1,23 @@
+-- Streams of bytes as contracts see them, and what a read or a write does to them.
+use Rattle.std.specs.Prelude.{◌≡◌, ℕ, ◌<◌, ◌≤◌, Bool, true, List, [], ◌++◌, length, take, Option, Some, None, Result, MatchResult}
+use Rattle.std.specs.Io.KnownBytes.{Appends, Consumes, Keeps}
+
+-- the bytes that are still to come, where the reader tells them; whether a read has failed
+pub record Reading : Type 0 where
+  pub remaining : Option (List ℕ)
+  pub failed : Bool
+
+-- the bytes that were written, where the writer tells them; whether a write has failed
+pub record Writing : Type 0 where
+  pub written : Option (List ℕ)
+  pub failed : Bool
+
+-- a front of the bytes was written, and nothing else
+abbrev pub AppendsFront : Option (List ℕ) → Option (List ℕ) → List ℕ → Type 0
+AppendsFront old new bytes = (n : ℕ) × Appends old new (take n bytes)
+
+-- writing the bytes: at Ok all of them were written, and the writer did not fail; else it failed, after a front of them
+abbrev pub Writes : {E : Type 0} → Writing → List ℕ → Result Unit E → Writing → Type 0
+Writes old bytes result new = MatchResult result
+    (λ _. Appends old.written new.written bytes × (new.failed ≡ old.failed))
+    (λ _. AppendsFront old.written new.written bytes × (new.failed ≡ true))
