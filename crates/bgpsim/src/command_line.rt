@@ -18,8 +18,9 @@ pub fn choose<'a>(alloc: Global, words: &'a [String]) -> Result<Choice, Error> {
 }
 
 fn program<'a>(alloc: Global) -> Result<Command<'a>, AllocError> {
-    let script = Command::new(alloc, "script")
-        .about("Reads commands from standard input and answers each on standard output");
+    let script = Command::new(alloc, "script").about(
+        "Reads commands from standard input and answers each on standard output",
+    );
     Command::new(alloc, "bgpsim")
         .version("0.1.0")
         .about("An interactive simulator of BGP-4 networks")

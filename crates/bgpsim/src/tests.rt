@@ -52,13 +52,32 @@ fn the_command_line(rt: HostRuntime) -> Result<(), Fail> {
         }
         Ok(all)
     };
-    assert!(rt; matches!(choose(alloc, words("bgpsim script")?.as_slice()), Ok(Choice::Script)));
-    for mistaken in ["bgpsim", "bgpsim scripts", "bgpsim script more", "bgpsim --loud script"] {
-        let error = choose(alloc, words(mistaken)?.as_slice()).err().ok_or("taken")?;
+    assert!(rt;
+        matches!(
+            choose(alloc, words("bgpsim script")?.as_slice()),
+            Ok(Choice::Script)
+        )
+    );
+    for mistaken in [
+        "bgpsim",
+        "bgpsim scripts",
+        "bgpsim script more",
+        "bgpsim --loud script",
+    ] {
+        let error = choose(alloc, words(mistaken)?.as_slice())
+            .err()
+            .ok_or("taken")?;
         assert!(rt; error.use_stderr());
     }
-    for shown in ["bgpsim --help", "bgpsim --version", "bgpsim script --help", "bgpsim help"] {
-        let error = choose(alloc, words(shown)?.as_slice()).err().ok_or("taken")?;
+    for shown in [
+        "bgpsim --help",
+        "bgpsim --version",
+        "bgpsim script --help",
+        "bgpsim help",
+    ] {
+        let error = choose(alloc, words(shown)?.as_slice())
+            .err()
+            .ok_or("taken")?;
         assert!(rt; !error.use_stderr());
     }
     Ok(())

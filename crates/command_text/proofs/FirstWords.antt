@@ -1,6 +1,5 @@
 -- The first word of an event tells its kind, and so which words follow.
-use Rattle.std.proofs.Common.{◌≡◌, ℕ, ◌<◌, ◌^◌, List, [], ◌∷◌, Option, cond, true, false, zero, suc, nat_lt, codes, refl, sym, ap, ◌∙◌, subst, arith}
-use Rattle.std.specs.Option.{IfSome}
+use Rattle.std.proofs.Common.{◌≡◌, ℕ, List, [], ◌∷◌, cond, true, false, zero, suc, nat_lt, codes, refl, sym, ap, ◌∙◌, subst, arith}
 use Rattle.std.specs.List.{list_all}
 use Rattle.std.specs.Str.{bytes_eq, IsAscii, IsUtf8}
 use Rattle.std.proofs.lemmas.Bool.{both_ways, and_parts, ltb-true}
@@ -8,23 +7,16 @@ use Rattle.std.proofs.lemmas.Str.{IsUtf8-from_ascii}
 use Rattle.std.proofs.lemmas.Slice.Eq.{bytes_eq-Decides}
 use Rattle.net_prefix.specs.declared.addr.Addr.{Addr}
 use Rattle.net_prefix.specs.Address.{addr_text}
-use Rattle.net_prefix.specs.Block.{Block, block_text}
 use Rattle.net_conf.specs.declared.edit.Edit.{Edit}
 use Rattle.net_conf.specs.declared.edit.Edit.TheVariants.{Router, Virtual, Link, Join, Origin}
-use Rattle.path_attr.specs.declared.path.Segment.{Segment}
-use Rattle.path_attr.specs.declared.origin.Origin.{Origin as OriginCode}
 use Rattle.sim_event.specs.declared.event.Event.{Event}
 use Rattle.sim_event.specs.declared.event.Event.TheVariants.{Edit as AnEdit, Feed as AFeed, Deliver, Ask as AnAsk}
-use Rattle.sim_event.specs.declared.event.Feed.{Feed}
 use Rattle.sim_event.specs.declared.event.News.{News}
-use Rattle.sim_event.specs.declared.event.News.TheVariants.{Update, Withdraw}
 use Rattle.sim_event.specs.declared.event.Ask.{Ask}
 use Rattle.sim_event.specs.declared.event.Ask.TheVariants.{Routes}
-use Rattle.sim_event.specs.Events.{IsAddress, IsPrefix, IsEvent, IsNews}
-use Rattle.sim_event.specs.Wording.{path_text, origin_text, maybe_number_text}
+use Rattle.sim_event.specs.Events.{IsAddress, IsEvent, IsNews}
 use Rattle.command_text.specs.Words.{words_of, edit_words, ask_words, news_words}
-use Rattle.command_text.specs.Paths.{IsAsPath}
-use Rattle.command_text.specs.Arguments.{address_words, AreAddresses, addresses_words, IsNumberedAddress, numbered_words, AreEndsAndMetric, metric_words, IsAddressAndPrefix, prefix_words}
+use Rattle.command_text.specs.Arguments.{AreAddresses, addresses_words, IsNumberedAddress, numbered_words, AreEndsAndMetric, metric_words, IsAddressAndPrefix, prefix_words}
 
 -- two words that a test tells apart
 pub differ : (a b : List ℕ) → bytes_eq a b ≡ false → a ≡ b → ⊥

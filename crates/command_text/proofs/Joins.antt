@@ -1,5 +1,5 @@
 -- A text that is cut at its first separator: the parts are joined values exactly where the text is.
-use Rattle.std.proofs.Common.{◌≡◌, ℕ, ◌<◌, List, [], ◌∷◌, ◌++◌, map, length, refl, sym, subst, ◌∙◌, append_assoc, arith}
+use Rattle.std.proofs.Common.{◌≡◌, ℕ, List, [], ◌∷◌, ◌++◌, map, refl, sym, subst, ◌∙◌, append_assoc, arith}
 use Rattle.std.specs.List.{join_with_byte}
 use Rattle.decimal.specs.Separators.{Lacks, cut_exact, not_lacks}
 use Rattle.command_text.specs.Joined.{Joins, HasJoined, HasOne}

@@ -1,5 +1,5 @@
 -- Texts of AS numbers that are joined by commas.
-use Rattle.std.proofs.Common.{◌≡◌, ◌≢◌, ℕ, ◌^◌, ◌<◌, ◌≤◌, ◌+◌, List, [], ◌∷◌, ◌++◌, map, length, refl, sym, ap, subst, ◌∙◌, arith, length-append}
+use Rattle.std.proofs.Common.{◌≡◌, ◌≢◌, ℕ, ◌<◌, ◌≤◌, List, [], ◌∷◌, ◌++◌, map, length, sym, subst, ◌∙◌, arith, length-append}
 use Rattle.std.specs.Fmt.{decimal}
 use Rattle.std.specs.List.{All, AllByRecursion, join_with_byte}
 use Rattle.std.proofs.lemmas.List.Elements.{All-nil, All-cons, All-append}
@@ -8,7 +8,6 @@ use Rattle.decimal.specs.Separators.{Lacks, decimal_lacks}
 use Rattle.path_attr.specs.Path.{IsAscending}
 use Rattle.sim_event.specs.Events.{IsAsNumber}
 use Rattle.sim_event.specs.Wording.{numbers_text}
-use Rattle.command_text.specs.Joined.{Joins}
 use Rattle.command_text.specs.Paths.{HasNumber, AreNumbers, HasNumbers, HasAscending}
 use Rattle.command_text.proofs.Joins.{joins_first, joins_last, joins_one, joins_more, joins_same, has_first, has_after, has_more, has_last, has_one, GoesOn, goes_more, goes_last}
 

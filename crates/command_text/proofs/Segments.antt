@@ -1,19 +1,18 @@
 -- Texts of segments, and of segments that are joined by underscores.
-use Rattle.std.proofs.Common.{◌≡◌, ◌≢◌, ℕ, suc, ◌^◌, ◌<◌, ◌≤◌, ◌+◌, List, [], ◌∷◌, ◌++◌, map, length, refl, sym, ap, subst, ◌∙◌, arith, length-append}
-use Rattle.std.specs.List.{All, AllByRecursion, join_with_byte}
+use Rattle.std.proofs.Common.{◌≡◌, ◌≢◌, ℕ, ◌≤◌, List, [], ◌∷◌, ◌++◌, map, length, refl, sym, ap, subst, ◌∙◌, arith, length-append}
+use Rattle.std.specs.List.{AllByRecursion, join_with_byte}
 use Rattle.std.proofs.lemmas.List.{append_cancel_right}
 use Rattle.std.proofs.lemmas.List.Elements.{All-nil, All-cons, All-append, All-head, All-from_recursion, recursion_from_All}
 use Rattle.std.proofs.lemmas.List.Sums.{sum_by-cons}
-use Rattle.decimal.specs.Digits.{IsDigit}
 use Rattle.decimal.specs.Separators.{Lacks}
 use Rattle.path_attr.specs.declared.path.Segment.{Segment}
 use Rattle.path_attr.specs.declared.path.Segment.TheVariants.{Seq as Sequence, Set}
-use Rattle.path_attr.specs.Path.{IsAscending, AreSegments, IsPath, numbers_of, number_count}
+use Rattle.path_attr.specs.Path.{IsAscending, AreSegments, numbers_of, number_count}
 use Rattle.sim_event.specs.Events.{IsAsNumber, HasAsNumbers}
 use Rattle.sim_event.specs.Wording.{none_text, numbers_text, segment_text, path_text}
 use Rattle.command_text.specs.Paths.{AreNumbers, HasNumbers, HasAscending, IsPart, HasSegment, AreParts, HasSegments, IsAsPath, HasPath}
 use Rattle.command_text.proofs.Joins.{has_first, has_after, has_more, has_last, has_one, GoesOn, goes_more, goes_last}
-use Rattle.command_text.proofs.Numbers.{numbers_lack, numbers_within, ascending_from, ascending_of, ascending_numbers}
+use Rattle.command_text.proofs.Numbers.{numbers_lack, numbers_within, ascending_from, ascending_of}
 
 abbrev braced : List ℕ → List ℕ
 braced text = 123 ∷ text ++ (125 ∷ [])

@@ -1,5 +1,5 @@
 -- Texts of values that are joined by one byte.
-use Rattle.std.specs.Prelude.{◌≡◌, ℕ, ◌<◌, List, [], ◌∷◌, map, length}
+use Rattle.std.specs.Prelude.{◌≡◌, ℕ, ◌<◌, List, map, length}
 use Rattle.std.specs.List.{join_with_byte, AllByRecursion}
 
 -- the text is that of one value or more, each in its range, joined by the byte

@@ -1,5 +1,5 @@
 -- Which texts spell AS numbers, segments and paths.
-use Rattle.std.specs.Prelude.{◌≡◌, ℕ, List, [], ◌∷◌, All}
+use Rattle.std.specs.Prelude.{ℕ, List, ◌∷◌, All}
 use Rattle.std.specs.Fmt.{decimal}
 use Rattle.path_attr.specs.declared.path.Segment.{Segment}
 use Rattle.path_attr.specs.Path.{IsPath, IsSegment, IsAscending, numbers_of}

@@ -10,7 +10,9 @@ ghost use Rattle.command_text.specs.Lines.{tokens};
 ghost use Rattle.command_text.specs.Paths.{HasPath};
 ghost use Rattle.command_text.specs.Reading.{Makes};
 
-use crate::arguments::{address, address_and_prefix, ends_and_metric, next_address, numbered_address, two_addresses};
+use crate::arguments::{
+    address, address_and_prefix, ends_and_metric, next_address, numbered_address, two_addresses,
+};
 use crate::path::{build_path, is_path};
 use crate::values::{med_of, origin_of, prefix_of};
 use crate::words::{four_words, next_word, one_word};

@@ -56,13 +56,19 @@ fn edits_are_read(rt: HostRuntime) {
     let (one, two) = (Addr(0x0100_0001), Addr(0x0200_0001));
     let cost = Metric::new(65_535).expect(&rt, "a metric");
     let ten = Prefix::new(Addr(0x0a00_0000), 8).expect(&rt, "a prefix");
-    assert_eq!(rt; edit(alloc, b"router 1.0.0.1 65001"), Some(Edit::Router(one, asn(&rt, 65_001))));
-    assert_eq!(rt; edit(alloc, b"router 1.0.0.1 4294967295"), Some(Edit::Router(one, asn(&rt, 4_294_967_295))));
-    assert_eq!(rt; edit(alloc, b"virtual 1.0.0.1 7"), Some(Edit::Virtual(one, asn(&rt, 7))));
-    assert_eq!(rt; edit(alloc, b"link 1.0.0.1 2.0.0.1 65535"), Some(Edit::Link(one, two, cost)));
-    assert_eq!(rt; edit(alloc, b"join 2.0.0.1 1.0.0.1"), Some(Edit::Join(two, one)));
-    assert_eq!(rt; edit(alloc, b"origin 1.0.0.1 10.0.0.0/8"), Some(Edit::Origin(one, ten)));
-    assert_eq!(rt; edit(alloc, b"  join   2.0.0.1  1.0.0.1 "), Some(Edit::Join(two, one)));
+    let private = Edit::Router(one, asn(&rt, 65_001));
+    let last = Edit::Router(one, asn(&rt, 4_294_967_295));
+    for (line, expected) in [
+        (b"router 1.0.0.1 65001".as_slice(), private),
+        (b"router 1.0.0.1 4294967295", last),
+        (b"virtual 1.0.0.1 7", Edit::Virtual(one, asn(&rt, 7))),
+        (b"link 1.0.0.1 2.0.0.1 65535", Edit::Link(one, two, cost)),
+        (b"join 2.0.0.1 1.0.0.1", Edit::Join(two, one)),
+        (b"  join   2.0.0.1  1.0.0.1 ", Edit::Join(two, one)),
+        (b"origin 1.0.0.1 10.0.0.0/8", Edit::Origin(one, ten)),
+    ] {
+        assert_eq!(rt; edit(alloc, line), Some(expected), "{line:?}");
+    }
 }
 
 #[test]
@@ -92,7 +98,10 @@ fn withdrawals_are_read(rt: HostRuntime) -> Result<(), Fail> {
 
 #[test]
 fn updates_are_read(rt: HostRuntime) -> Result<(), Fail> {
-    let feed = feed(rt.alloc(), b"feed 9.0.0.1 1.0.0.1 update 10.0.0.0/8 2,1_{21,22} egp 4294967295")?;
+    let feed = feed(
+        rt.alloc(),
+        b"feed 9.0.0.1 1.0.0.1 update 10.0.0.0/8 2,1_{21,22} egp 4294967295",
+    )?;
     match &feed.news {
         News::Update(prefix, path, origin, med) => {
             assert_eq!(rt; prefix.len(), 8);
@@ -115,8 +124,16 @@ fn updates_are_read(rt: HostRuntime) -> Result<(), Fail> {
 #[test]
 fn a_path_may_be_empty_and_may_begin_with_a_set(rt: HostRuntime) -> Result<(), Fail> {
     for (line, numbers, code) in [
-        (b"feed 9.0.0.1 1.0.0.1 update 10.0.0.0/8 - igp -".as_slice(), 0, Origin::Igp),
-        (b"feed 9.0.0.1 1.0.0.1 update 10.0.0.0/8 {1,2} inc -".as_slice(), 2, Origin::Incomplete),
+        (
+            b"feed 9.0.0.1 1.0.0.1 update 10.0.0.0/8 - igp -".as_slice(),
+            0,
+            Origin::Igp,
+        ),
+        (
+            b"feed 9.0.0.1 1.0.0.1 update 10.0.0.0/8 {1,2} inc -".as_slice(),
+            2,
+            Origin::Incomplete,
+        ),
     ] {
         let feed = feed(rt.alloc(), line)?;
         match &feed.news {
@@ -185,7 +202,15 @@ fn other_feeds_are_faults(rt: HostRuntime) {
 
 #[test]
 fn blank_lines_and_comments_are_silent(rt: HostRuntime) {
-    for line in [b"".as_slice(), b" ", b"    ", b"# x", b"   #x", b"#", b"# \xff\xff"] {
+    for line in [
+        b"".as_slice(),
+        b" ",
+        b"    ",
+        b"# x",
+        b"   #x",
+        b"#",
+        b"# \xff\xff",
+    ] {
         assert!(rt; is_silent(rt.alloc(), line), "{line:?}");
     }
 }

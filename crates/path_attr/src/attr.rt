@@ -76,7 +76,10 @@ fn has_same_way(a: &Attr, b: &Attr) -> bool
 fn has_same_ranks(a: &Attr, b: &Attr) -> bool
     ensures { result ≡ (same_number a.now.med b.now.med && same_number a.now.pref b.now.pref && same_maybe_addr a.now.oid b.now.oid && pointwise same_addr a.now.clusters b.now.clusters) }
 {
-    a.med == b.med && a.pref == b.pref && a.oid == b.oid && are_same_clusters(a.clusters.as_slice(), b.clusters.as_slice())
+    a.med == b.med
+        && a.pref == b.pref
+        && a.oid == b.oid
+        && are_same_clusters(a.clusters.as_slice(), b.clusters.as_slice())
 }
 
 /// Whether both cluster lists are the same.

@@ -2,7 +2,6 @@
 
 ghost use Rattle.std.specs.Prelude.{◌≡◌, ◌↔◌, ◌<◌, ◌^◌, ◌∷◌, [], IsTrue, OnOk, OnErr, IfOk};
 ghost use Rattle.std.specs.Option.{SomeIff};
-
 ghost use Rattle.path_attr.specs.Path.{IsAscending, AreSegments, number_count, begins_with_room, prepended};
 
 use crate::asn::Asn;
@@ -135,7 +134,8 @@ impl PartialEq for Segment {
 
     fn eq(&self, other: &Segment) -> bool {
         match (self, other) {
-            (Segment::Seq(mine), Segment::Seq(theirs)) | (Segment::Set(mine), Segment::Set(theirs)) => mine == theirs,
+            (Segment::Seq(mine), Segment::Seq(theirs))
+            | (Segment::Set(mine), Segment::Set(theirs)) => mine == theirs,
             (Segment::Seq(_), Segment::Set(_)) | (Segment::Set(_), Segment::Seq(_)) => false,
         }
     }

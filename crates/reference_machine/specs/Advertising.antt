@@ -30,7 +30,7 @@ to_other_as n r attr = record {
   med = None;
   pref = None;
   oid = None;
-  clusters = []
+  clusters = [];
 }
 
 -- what the router offers a peer of its choice: nothing where it has that from the peer itself

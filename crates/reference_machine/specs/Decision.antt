@@ -60,7 +60,7 @@ peer_candidate c r u attr = record {
   pref = default_preference;
   external = not (same_number (as_of c u) (as_of c r));
   cost = unwrap_or (cost_to c r attr.next) 0;
-  ident = unwrap_or attr.oid u
+  ident = unwrap_or attr.oid u;
 }
 
 abbrev pub standing_by : Option Reason → Candidate → Standing

@@ -28,12 +28,7 @@ fn is_from(peer: Addr, source: Source) -> bool
 }
 
 /// The attributes towards another AS.
-fn to_other_as(
-    alloc: Global,
-    asn: Asn,
-    router: Addr,
-    attr: &Attr,
-) -> Result<Attr, AllocError>
+fn to_other_as(alloc: Global, asn: Asn, router: Addr, attr: &Attr) -> Result<Attr, AllocError>
     ensures { IfOk result (λ a. a ≡ to_other_as asn router attr.now) }
 {
     let mut path = attr.path.copy(alloc)?;

@@ -126,7 +126,10 @@ pub fn add_own<S: Selector>(
     ensures { OnOk result (S.standings chosen.new ≡ added (S.standings chosen.old) (own_standings conf.now router prefix)) }
 {
     if conf.originates(router, prefix) {
-        chosen.put(Source::Own, Standing::Considered(own_candidate(alloc, router)))?;
+        chosen.put(
+            Source::Own,
+            Standing::Considered(own_candidate(alloc, router)),
+        )?;
     }
     Ok(())
 }

@@ -13,8 +13,8 @@ mod steps;
 
 pub use machine::Machine;
 pub use rows::{Direction, Queue, Received, RouteKey};
-pub use simulator::Simulator;
 pub use sim_event::{Ask, Event, Feed, Held, News, Reply, Report};
+pub use simulator::Simulator;
 
 #[cfg(test)]
 mod tests;

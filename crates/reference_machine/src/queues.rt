@@ -72,11 +72,7 @@ pub fn with_direction(
 }
 
 /// The queue with more messages at its end.
-pub fn with_more(
-    alloc: Global,
-    queue: &Queue,
-    messages: Vec<Message>,
-) -> Result<Queue, AllocError>
+pub fn with_more(alloc: Global, queue: &Queue, messages: Vec<Message>) -> Result<Queue, AllocError>
     ensures { IfOk result (λ more. more ≡ with_more queue.now messages.items) }
 {
     let mut all = queue.messages.copy(alloc)?;

@@ -9,11 +9,7 @@ use seq::Copied;
 use std::alloc::{AllocError, Global};
 
 /// What stands before the key.
-fn before(
-    alloc: Global,
-    received: &[Received],
-    key: RouteKey,
-) -> Result<Vec<Received>, AllocError>
+fn before(alloc: Global, received: &[Received], key: RouteKey) -> Result<Vec<Received>, AllocError>
     ensures { IfOk result (λ kept. kept.items ≡ before key received.now) }
 {
     let mut kept = Vec::new(alloc);

@@ -10,10 +10,8 @@ ghost use Rattle.reference_machine.specs.Decision.{best, standings};
 ghost use Rattle.reference_machine.specs.Advertising.{advertised, change_of, prefixes_at, in_order, changes, sent};
 ghost use Rattle.reference_machine.specs.Machine.{nothing, with_sent};
 
-use crate::advertise;
-use crate::decide;
-use crate::queues;
 use crate::rows::{Queue, Received};
+use crate::{advertise, decide, queues};
 use net_conf::Conf;
 use net_prefix::{Addr, Prefix};
 use path_attr::Attr;
@@ -62,7 +60,14 @@ impl State {
     {
         let mut chosen = S::new(alloc);
         decide::add_own(alloc, &mut chosen, &self.conf, router, prefix)?;
-        decide::add_peers(alloc, &mut chosen, &self.conf, router, prefix, &self.received)?;
+        decide::add_peers(
+            alloc,
+            &mut chosen,
+            &self.conf,
+            router,
+            prefix,
+            &self.received,
+        )?;
         Ok(chosen)
     }
 

@@ -9,10 +9,9 @@ ghost use Rattle.reference_machine.specs.Reports.{held_of, loc_rib};
 ghost use Rattle.reference_machine.specs.Machine.{step, edits, with_queues, configured, has_foreign_first, is_too_long, feed_refusal, fed_message, feeds, received_after, taken, delivery_refusal, delivers, ask_refusal, report_of, asks, Tries};
 
 use crate::decide::as_of;
-use crate::queues;
-use crate::routes;
 use crate::rows::{Direction, Queue, Received, RouteKey};
 use crate::state::{State, with_sent};
+use crate::{queues, routes};
 use net_conf::{Conf, Edit, Refusal};
 use net_prefix::{Addr, Prefix};
 use path_attr::Attr;

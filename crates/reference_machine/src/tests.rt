@@ -9,6 +9,7 @@ use session_queue::MessageKind;
 use std::test::Fail;
 
 const ONE: Addr = Addr(0x0100_0001);
+
 const TWO: Addr = Addr(0x0200_0001);
 
 fn asn(number: u32) -> Result<Asn, Fail> {
@@ -41,13 +42,15 @@ fn is_first_path(reply: &Reply) -> Result<bool, Fail> {
     let [held] = routes.as_slice() else {
         return Ok(false);
     };
-    Ok(held.prefix == ten()?
-        && held.source == Source::Peer(ONE)
-        && held.attr.path.length() == 1
-        && held.attr.path.neighbour() == Some(asn(1)?)
-        && held.attr.next == ONE
-        && held.attr.med.is_none()
-        && held.attr.pref == Some(100))
+    Ok(
+        held.prefix == ten()?
+            && held.source == Source::Peer(ONE)
+            && held.attr.path.length() == 1
+            && held.attr.path.neighbour() == Some(asn(1)?)
+            && held.attr.next == ONE
+            && held.attr.med.is_none()
+            && held.attr.pref == Some(100),
+    )
 }
 
 #[test]

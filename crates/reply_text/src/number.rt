@@ -10,7 +10,10 @@ use std::io::Write;
 use watched::{Output, WriterFailed};
 
 /// Writes the number in decimal.
-pub(crate) fn write_number<N: Integer, W: Write>(number: N, output: &mut Output<W>) -> Result<(), WriterFailed>
+pub(crate) fn write_number<N: Integer, W: Write>(
+    number: N,
+    output: &mut Output<W>,
+) -> Result<(), WriterFailed>
     ensures { Writes output.old (N.text number) result output.new }
 {
     let mut buffer = Buffer::new();

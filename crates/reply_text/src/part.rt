@@ -57,7 +57,10 @@ impl Text for Part<'_> {
 }
 
 /// Writes the number, or a dash.
-fn write_maybe_number<W: Write>(number: Option<u32>, output: &mut Output<W>) -> Result<(), WriterFailed>
+fn write_maybe_number<W: Write>(
+    number: Option<u32>,
+    output: &mut Output<W>,
+) -> Result<(), WriterFailed>
     ensures { Writes output.old (maybe_number_text number) result output.new }
 {
     match number {
@@ -67,7 +70,10 @@ fn write_maybe_number<W: Write>(number: Option<u32>, output: &mut Output<W>) -> 
 }
 
 /// Writes the address, or a dash.
-fn write_maybe_addr<W: Write>(addr: Option<Addr>, output: &mut Output<W>) -> Result<(), WriterFailed>
+fn write_maybe_addr<W: Write>(
+    addr: Option<Addr>,
+    output: &mut Output<W>,
+) -> Result<(), WriterFailed>
     ensures { Writes output.old (maybe_addr_text addr) result output.new }
 {
     match addr {

@@ -35,7 +35,11 @@ fn write_set<W: Write>(numbers: &[Asn], output: &mut Output<W>) -> Result<(), Wr
 }
 
 /// Writes the items, the separator between each and the next. A dash where there is none.
-fn write_list<T: Text, W: Write>(separator: u8, items: &[T], output: &mut Output<W>) -> Result<(), WriterFailed>
+fn write_list<T: Text, W: Write>(
+    separator: u8,
+    items: &[T],
+    output: &mut Output<W>,
+) -> Result<(), WriterFailed>
     ensures { Writes output.old (dash_or_joined separator (map T.text items.now)) result output.new }
 {
     if items.is_empty() {
@@ -46,14 +50,20 @@ fn write_list<T: Text, W: Write>(separator: u8, items: &[T], output: &mut Output
 
 /// Writes the segments, joined by underscores.
 #[tactic(auto, unfolding(sim_event::specs::Wording::path_text))]
-pub(crate) fn write_path<W: Write>(segments: &[Segment], output: &mut Output<W>) -> Result<(), WriterFailed>
+pub(crate) fn write_path<W: Write>(
+    segments: &[Segment],
+    output: &mut Output<W>,
+) -> Result<(), WriterFailed>
     ensures { Writes output.old (path_text segments.now) result output.new }
 {
     write_list(b'_', segments, output)
 }
 
 /// Writes the addresses, joined by commas.
-pub(crate) fn write_clusters<W: Write>(clusters: &[Addr], output: &mut Output<W>) -> Result<(), WriterFailed>
+pub(crate) fn write_clusters<W: Write>(
+    clusters: &[Addr],
+    output: &mut Output<W>,
+) -> Result<(), WriterFailed>
     ensures { Writes output.old (clusters_text clusters.now) result output.new }
 {
     write_list(b',', clusters, output)

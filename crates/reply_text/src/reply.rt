@@ -41,7 +41,11 @@ pub fn write_refusal<W: Write>(refusal: Refusal, output: &mut Output<W>) -> Resu
 }
 
 /// Writes the line of a message that was taken.
-fn write_took<W: Write>(prefix: Prefix, kind: MessageKind, output: &mut Output<W>) -> Result<(), WriterFailed>
+fn write_took<W: Write>(
+    prefix: Prefix,
+    kind: MessageKind,
+    output: &mut Output<W>,
+) -> Result<(), WriterFailed>
     ensures { Writes output.old (reply_text (Reply.Took prefix kind)) result output.new }
 {
     let parts = [

@@ -107,15 +107,23 @@ fn refusals(rt: HostRuntime) -> Result<(), Fail> {
 #[test]
 fn no_routes(rt: HostRuntime) -> Result<(), Fail> {
     let reply = Reply::Report(Report::Routes(Seq::new(rt.alloc())));
-    assert_eq!(rt; text_of(rt.alloc(), &reply)?.as_slice(), b"end 0\n".as_slice());
+    assert_eq!(rt;
+        text_of(rt.alloc(), &reply)?.as_slice(),
+        b"end 0\n".as_slice()
+    );
     Ok(())
 }
 
 #[test]
 fn a_route_of_a_peer(rt: HostRuntime) -> Result<(), Fail> {
-    let held = plain(rt.alloc(), Source::Peer(ROUTER), sequence(rt.alloc(), &[1])?)?;
+    let held = plain(
+        rt.alloc(),
+        Source::Peer(ROUTER),
+        sequence(rt.alloc(), &[1])?,
+    )?;
     let text = text_of(rt.alloc(), &report(rt.alloc(), held)?)?;
-    let line = b"10.0.0.0/8 from 1.0.0.1 path=1 origin=igp next=1.0.0.1 med=- pref=100 oid=- clusters=-\nend 1\n";
+    let line =
+        b"10.0.0.0/8 from 1.0.0.1 path=1 origin=igp next=1.0.0.1 med=- pref=100 oid=- clusters=-\nend 1\n";
     assert_eq!(rt; text.as_slice(), line.as_slice());
     Ok(())
 }
@@ -128,21 +136,27 @@ fn a_set_stands_in_braces(rt: HostRuntime) -> Result<(), Fail> {
     held.attr.next = PEER;
     held.attr.med = Some(5);
     let text = text_of(rt.alloc(), &report(rt.alloc(), held)?)?;
-    let line = b"10.0.0.0/8 from 7.0.0.1 path=7_{21,22} origin=egp next=7.0.0.1 med=5 pref=100 oid=- clusters=-\nend 1\n";
+    let line =
+        b"10.0.0.0/8 from 7.0.0.1 path=7_{21,22} origin=egp next=7.0.0.1 med=5 pref=100 oid=- clusters=-\nend 1\n";
     assert_eq!(rt; text.as_slice(), line.as_slice());
     Ok(())
 }
 
 #[test]
 fn a_reflected_route(rt: HostRuntime) -> Result<(), Fail> {
-    let mut held = plain(rt.alloc(), Source::Peer(ROUTER), sequence(rt.alloc(), &[65001, 4294967295])?)?;
+    let mut held = plain(
+        rt.alloc(),
+        Source::Peer(ROUTER),
+        sequence(rt.alloc(), &[65001, 4294967295])?,
+    )?;
     held.attr.origin = Origin::Incomplete;
     held.attr.pref = None;
     held.attr.oid = Some(Addr(0x0500_0001));
     held.attr.clusters.push(Addr(0x0500_0002))?;
     held.attr.clusters.push(Addr(0x0500_0003))?;
     let text = text_of(rt.alloc(), &report(rt.alloc(), held)?)?;
-    let line = b"10.0.0.0/8 from 1.0.0.1 path=65001,4294967295 origin=inc next=1.0.0.1 med=- pref=- oid=5.0.0.1 clusters=5.0.0.2,5.0.0.3\nend 1\n";
+    let line =
+        b"10.0.0.0/8 from 1.0.0.1 path=65001,4294967295 origin=inc next=1.0.0.1 med=- pref=- oid=5.0.0.1 clusters=5.0.0.2,5.0.0.3\nend 1\n";
     assert_eq!(rt; text.as_slice(), line.as_slice());
     Ok(())
 }
@@ -155,7 +169,8 @@ fn two_routes_in_order(rt: HostRuntime) -> Result<(), Fail> {
     routes.push(plain(rt.alloc(), Source::Own, AsPath::empty(rt.alloc()))?)?;
     routes.push(other)?;
     let text = text_of(rt.alloc(), &Reply::Report(Report::Routes(routes)))?;
-    let lines = b"10.0.0.0/8 from self path=- origin=igp next=1.0.0.1 med=- pref=100 oid=- clusters=-\n192.168.255.0/24 from 7.0.0.1 path=7 origin=igp next=1.0.0.1 med=- pref=100 oid=- clusters=-\nend 2\n";
+    let lines =
+        b"10.0.0.0/8 from self path=- origin=igp next=1.0.0.1 med=- pref=100 oid=- clusters=-\n192.168.255.0/24 from 7.0.0.1 path=7 origin=igp next=1.0.0.1 med=- pref=100 oid=- clusters=-\nend 2\n";
     assert_eq!(rt; text.as_slice(), lines.as_slice());
     Ok(())
 }
@@ -188,7 +203,12 @@ impl Write for Flaky<'_> {
 }
 
 /// What went out before the failure, where there was one, and whether the reply was written.
-fn attempt(alloc: Global, reply: &Reply, chunk: usize, calls: usize) -> Result<(Vec<u8>, bool), Fail> {
+fn attempt(
+    alloc: Global,
+    reply: &Reply,
+    chunk: usize,
+    calls: usize,
+) -> Result<(Vec<u8>, bool), Fail> {
     let mut taken = Vec::with_capacity(alloc, 256)?;
     let written = {
         let mut output = Output::new(Flaky {
@@ -218,9 +238,14 @@ fn byte_by_byte_a_front_goes_out(rt: HostRuntime) -> Result<(), Fail> {
 
 #[test]
 fn call_by_call_a_front_goes_out(rt: HostRuntime) -> Result<(), Fail> {
-    let held = plain(rt.alloc(), Source::Peer(PEER), sequence_and_set(rt.alloc(), &[7], &[21, 22])?)?;
+    let held = plain(
+        rt.alloc(),
+        Source::Peer(PEER),
+        sequence_and_set(rt.alloc(), &[7], &[21, 22])?,
+    )?;
     let reply = report(rt.alloc(), held)?;
-    let line = b"10.0.0.0/8 from 7.0.0.1 path=7_{21,22} origin=igp next=1.0.0.1 med=- pref=100 oid=- clusters=-\nend 1\n".as_slice();
+    let line =
+        b"10.0.0.0/8 from 7.0.0.1 path=7_{21,22} origin=igp next=1.0.0.1 med=- pref=100 oid=- clusters=-\nend 1\n".as_slice();
     let mut longest = 0;
     for calls in 0..100 {
         let (taken, written) = attempt(rt.alloc(), &reply, 256, calls)?;

@@ -19,7 +19,10 @@ pub(crate) trait Text {
 }
 
 /// Writes the items, one after the other.
-pub(crate) fn write_each<T: Text, W: Write>(items: &[T], output: &mut Output<W>) -> Result<(), WriterFailed>
+pub(crate) fn write_each<T: Text, W: Write>(
+    items: &[T],
+    output: &mut Output<W>,
+) -> Result<(), WriterFailed>
     ensures { Writes output.old (flat_map T.text items.now) result output.new }
 {
     for item in items {
@@ -29,7 +32,11 @@ pub(crate) fn write_each<T: Text, W: Write>(items: &[T], output: &mut Output<W>)
 }
 
 /// Writes the separator and the item.
-pub(crate) fn write_after<T: Text, W: Write>(separator: u8, item: &T, output: &mut Output<W>) -> Result<(), WriterFailed>
+pub(crate) fn write_after<T: Text, W: Write>(
+    separator: u8,
+    item: &T,
+    output: &mut Output<W>,
+) -> Result<(), WriterFailed>
     ensures { Writes output.old (separator ∷ T.text item.now) result output.new }
 {
     output.write(&[separator])?;
@@ -37,7 +44,11 @@ pub(crate) fn write_after<T: Text, W: Write>(separator: u8, item: &T, output: &m
 }
 
 /// Writes the items, the separator before each.
-fn write_each_after<T: Text, W: Write>(separator: u8, items: &[T], output: &mut Output<W>) -> Result<(), WriterFailed>
+fn write_each_after<T: Text, W: Write>(
+    separator: u8,
+    items: &[T],
+    output: &mut Output<W>,
+) -> Result<(), WriterFailed>
     ensures { Writes output.old (flat_map (λ item. separator ∷ T.text item) items.now) result output.new }
 {
     for item in items {
@@ -47,7 +58,11 @@ fn write_each_after<T: Text, W: Write>(separator: u8, items: &[T], output: &mut 
 }
 
 /// Writes the items, the separator between each and the next.
-pub(crate) fn write_joined<T: Text, W: Write>(separator: u8, items: &[T], output: &mut Output<W>) -> Result<(), WriterFailed>
+pub(crate) fn write_joined<T: Text, W: Write>(
+    separator: u8,
+    items: &[T],
+    output: &mut Output<W>,
+) -> Result<(), WriterFailed>
     ensures { Writes output.old (join_with_byte separator (map T.text items.now)) result output.new }
 {
     let [first, rest @ ..] = items else {

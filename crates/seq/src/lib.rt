@@ -133,3 +133,6 @@ impl<T: PartialEq> PartialEq for Seq<T> {
         self.vec.as_slice() == other.vec.as_slice()
     }
 }
+
+#[cfg(test)]
+mod tests;

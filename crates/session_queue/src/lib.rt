@@ -2,5 +2,7 @@
 #![tactic(auto)]
 
 mod message;
+#[cfg(test)]
+mod tests;
 
 pub use message::{Message, MessageKind};

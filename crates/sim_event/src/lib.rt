@@ -3,6 +3,8 @@
 
 mod event;
 mod reply;
+#[cfg(test)]
+mod tests;
 
 pub use event::{Ask, Event, Feed, News};
 pub use reply::{Held, Reply, Report};

@@ -95,7 +95,9 @@ end_served bytes left k s o s' o' i' none end so =
 -- the reader failed
 pub end_failed : (bytes left : List ℕ) (k : ℕ) (s : Network) (o : Writing) (s' : Network) (o' : Writing) (i' : Reading)
     → i'.failed ≡ true → SoFar bytes left k s o s' o' → IsServing bytes s o (Err (Read (k + 1))) s' o' i'
-end_failed bytes left k s o s' o' i' failed so = (k, refl, inl failed, served bytes left k s o s' o' so)
+end_failed bytes left k s o s' o' i' failed so =
+    let len : length (lines bytes) ≡ length so.done + length (lines left) = ap length so.parts ∙ length-append so.done (lines left) in
+    (k, refl, inl (failed, omega (arith, so.count)), served bytes left k s o s' o' so)
 
 -- the next line, and how many there are
 next_at : (bytes left : List ℕ) (k : ℕ) (s : Network) (o : Writing) (s' : Network) (o' : Writing) (line : List ℕ) (more : List (List ℕ))

@@ -1,5 +1,5 @@
 -- What it means to serve a script: each line is answered in turn.
-use Rattle.std.specs.Prelude.{◌≡◌, ℕ, ◌+◌, ◌<◌, ◌≤◌, true, ◌⊎◌, List, [], ◌∷◌, ◌++◌, length, take, slice_index_or, All, Some, Result, Ok, Err}
+use Rattle.std.specs.Prelude.{◌≡◌, ℕ, ◌+◌, ◌<◌, ◌≤◌, Bool, true, false, ◌⊎◌, List, [], ◌∷◌, ◌++◌, length, take, slice_index_or, All, Some, Result, Ok, Err}
 use Rattle.std.specs.Str.Lines.{lines}
 use Rattle.std.specs.Io.KnownBytes.{Appends}
 use Rattle.watched.specs.Streams.{Reading, Writing}
@@ -45,7 +45,7 @@ Served bytes k s o s' o' = (text : List ℕ) × AreAnswers s (take k (lines byte
 -- why reading ends in a fault after k lines: the reader failed, the next line is too long, or there are too many lines
 abbrev pub IsReadFault : List ℕ → ℕ → Reading → Type 0
 IsReadFault bytes k i' =
-    (i'.failed ≡ true)
+    ((i'.failed ≡ true) × (k ≤ length (lines bytes)))
     ⊎ (((k < length (lines bytes)) × (most_bytes < length (line_at bytes k)))
     ⊎ ((k ≡ most_lines) × (most_lines < length (lines bytes))))
 
@@ -53,6 +53,12 @@ IsReadFault bytes k i' =
 abbrev pub IsWriteFault : List ℕ → ℕ → Network → Writing → Network → Writing → Type 0
 IsWriteFault bytes k s o s' o' = (k < length (lines bytes)) × (o'.failed ≡ true) × (mid : Network) × (text : List ℕ) × (answer : List ℕ) × (n : ℕ)
     × AreAnswers s (take k (lines bytes)) text mid × IsAnswer mid (line_at bytes k) answer s' × Appends o.written o'.written (text ++ take n answer)
+
+-- the writer failed
+abbrev pub is_write_fault : {A : Type 0} → Result A ServeFault → Bool
+is_write_fault (Ok done) = false
+is_write_fault (Err (Read line)) = false
+is_write_fault (Err (Write line)) = true
 
 -- serving the bytes: all lines were answered, or a fault came at the line that it names, counted from 1
 abbrev pub IsServing : List ℕ → Network → Writing → Result ℕ ServeFault → Network → Writing → Reading → Type 0

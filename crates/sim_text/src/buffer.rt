@@ -1,6 +1,6 @@
 //! The bytes that were read and not yet answered.
 
-ghost use Rattle.std.specs.Prelude.{◌≡◌, ℕ, ◌+◌, ◌<◌, ◌≤◌, List, [], ◌++◌, length, drop, IfOk, OnErr, true, false};
+ghost use Rattle.std.specs.Prelude.{◌≡◌, ℕ, ◌+◌, ◌<◌, ◌≤◌, List, [], ◌++◌, length, drop, IfOk, OnOk, OnErr, true, false};
 ghost use Rattle.std.specs.Io.KnownBytes.{Consumes, IsAtEnd};
 
 use std::io;
@@ -61,6 +61,7 @@ impl LineBuffer {
             × Consumes input.old.remaining input.new.remaining more
             × (any ≡ true → 0 < length more)
             × (any ≡ false → (more ≡ []) × IsAtEnd input.new.remaining)) }
+        ensures calm { OnOk result (input.new.failed ≡ input.old.failed) }
         ensures err { OnErr result (input.new.failed ≡ true) }
     {
         let (start, end) = (self.start, self.end);

@@ -10,3 +10,6 @@ mod serving;
 
 pub use fault::ServeFault;
 pub use serving::serve;
+
+#[cfg(test)]
+mod tests;

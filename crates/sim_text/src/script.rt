@@ -5,6 +5,7 @@ ghost use Rattle.std.specs.Io.KnownBytes.{Keeps};
 ghost use Rattle.watched.specs.Streams.{Reading};
 ghost use Rattle.sim_text.specs.Next.{IsNext};
 ghost use Rattle.sim_text.specs.Progress.{Advances, Ends, IsTurn, turns_left};
+ghost use Rattle.sim_text.specs.Serving.{is_write_fault};
 ghost use Rattle.sim_text.specs.declared.line.Next.TheVariants.{Line, Part};
 
 use crate::ServeFault;
@@ -37,7 +38,9 @@ impl Script {
 
 /// Sends on what was written, if any line was answered.
 fn flush<W: Write>(answered: u64, output: &mut Output<W>) -> Result<(), ServeFault>
+    requires { output.old.failed ≡ false }
     ensures kept { Keeps output.old.written output.new.written }
+    ensures writer { output.new.failed ≡ is_write_fault result }
     ensures err { IfErr result (λ fault. (fault ≡ ServeFault.Write answered) × (0 < answered) × (output.new.failed ≡ true)) }
 {
     if answered == 0 {
@@ -57,7 +60,9 @@ fn answer_first<W: Write, M: Machine>(
     output: &mut Output<W>,
     machine: &mut M,
 ) -> Result<(), ServeFault>
-    requires { IsNext script.old.pending script.old.answered (Line end) }
+    requires next { IsNext script.old.pending script.old.answered (Line end) }
+    requires writes { output.old.failed ≡ false }
+    ensures writer { output.new.failed ≡ is_write_fault result }
     ensures ok { OnOk result ((rest : List ℕ) → Advances (script.old.pending ++ rest) script.old.answered (M.network machine.old) output.old
         (script.new.pending ++ rest) script.new.answered (M.network machine.new) output.new) }
     ensures count { OnOk result (script.new.answered ≡ script.old.answered + 1) }
@@ -82,7 +87,9 @@ fn answer_last<W: Write, M: Machine>(
     output: &mut Output<W>,
     machine: &mut M,
 ) -> Result<(), ServeFault>
-    requires { IsNext script.old.pending script.old.answered Part }
+    requires next { IsNext script.old.pending script.old.answered Part }
+    requires writes { output.old.failed ≡ false }
+    ensures writer { output.new.failed ≡ is_write_fault result }
     ensures ok { OnOk result (Advances script.old.pending script.old.answered (M.network machine.old) output.old
         [] script.new.answered (M.network machine.new) output.new) }
     ensures none { OnOk result (script.new.pending ≡ []) }
@@ -114,7 +121,9 @@ fn finish<W: Write, M: Machine>(
     output: &mut Output<W>,
     machine: &mut M,
 ) -> Result<(), ServeFault>
-    requires { IsNext script.old.pending script.old.answered Part }
+    requires next { IsNext script.old.pending script.old.answered Part }
+    requires writes { output.old.failed ≡ false }
+    ensures writer { output.new.failed ≡ is_write_fault result }
     ensures ok { OnOk result (Advances script.old.pending script.old.answered (M.network machine.old) output.old
         [] script.new.answered (M.network machine.new) output.new) }
     ensures none { OnOk result (script.new.pending ≡ []) }
@@ -133,7 +142,10 @@ fn read_on<R: Read, W: Write, M: Machine>(
     output: &mut Output<W>,
     machine: &mut M,
 ) -> Result<bool, ServeFault>
-    requires { IsNext script.old.pending script.old.answered Part }
+    requires next { IsNext script.old.pending script.old.answered Part }
+    requires writes { output.old.failed ≡ false }
+    ensures reader { OnOk result (input.new.failed ≡ input.old.failed) }
+    ensures writer { output.new.failed ≡ is_write_fault result }
     ensures turn { (rest : List ℕ) → input.old.remaining ≡ Some rest →
         IsTurn (script.old.pending ++ rest) script.old.answered (M.network machine.old) output.old result
             script.new.pending script.new.answered (M.network machine.new) output.new input.new }
@@ -159,6 +171,9 @@ pub(crate) fn turn<R: Read, W: Write, M: Machine>(
     output: &mut Output<W>,
     machine: &mut M,
 ) -> Result<bool, ServeFault>
+    requires { output.old.failed ≡ false }
+    ensures reader { OnOk result (input.new.failed ≡ input.old.failed) }
+    ensures writer { output.new.failed ≡ is_write_fault result }
     ensures turn { (rest : List ℕ) → input.old.remaining ≡ Some rest →
         IsTurn (script.old.pending ++ rest) script.old.answered (M.network machine.old) output.old result
             script.new.pending script.new.answered (M.network machine.new) output.new input.new }

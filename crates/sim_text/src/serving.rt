@@ -1,7 +1,7 @@
 //! Serving a script.
 
-ghost use Rattle.std.specs.Prelude.{◌≡◌, false, IfSome};
-ghost use Rattle.sim_text.specs.Serving.{IsServing};
+ghost use Rattle.std.specs.Prelude.{◌≡◌, false, IfSome, OnOk};
+ghost use Rattle.sim_text.specs.Serving.{IsServing, is_write_fault};
 
 use crate::ServeFault;
 use crate::script::{Script, turn};
@@ -23,7 +23,9 @@ pub fn serve<R: Read, W: Write, M: Machine>(
 ) -> Result<u64, ServeFault>
     requires reads { input.old.failed ≡ false }
     requires writes { output.old.failed ≡ false }
-    ensures { IfSome input.old.remaining (λ bytes.
+    ensures reader { OnOk result (input.new.failed ≡ false) }
+    ensures writer { output.new.failed ≡ is_write_fault result }
+    ensures served { IfSome input.old.remaining (λ bytes.
         IsServing bytes (M.network machine.old) output.old result (M.network machine.new) output.new input.new) }
 {
     let mut script = Script::new();

@@ -79,3 +79,116 @@ fn write_all<W: Write>(writer: &mut W, bytes: &[u8]) -> Result<(), WriterFailed>
     }
     Ok(())
 }
+
+#[cfg(test)]
+mod tests {
+    use super::*;
+    use std::io;
+    use std::test::Fail;
+
+    /// What comes once in place of a success.
+    #[derive(Clone, Copy, Debug, PartialEq)]
+    enum Fault {
+        Error,
+        Zero,
+    }
+
+    /// Takes a byte a write.
+    #[derive(Drop)]
+    struct Trickle {
+        taken: [u8; 4],
+        count: usize,
+        /// The fault, and how many calls come before it.
+        fault: Option<(Fault, u8)>,
+        is_flushed: bool,
+    }
+
+    impl Trickle {
+        fn new(fault: Option<(Fault, u8)>) -> Self {
+            Trickle {
+                taken: [0; 4],
+                count: 0,
+                fault,
+                is_flushed: false,
+            }
+        }
+
+        /// The fault that comes at this call.
+        fn turn(&mut self) -> Option<Fault> {
+            let (fault, calls_before) = self.fault?;
+            if calls_before == 0 {
+                self.fault = None;
+                return Some(fault);
+            }
+            self.fault = Some((fault, calls_before - 1));
+            None
+        }
+    }
+
+    impl Write for Trickle {
+        fn write(&mut self, bytes: &[u8]) -> io::Result<usize> {
+            match self.turn() {
+                Some(Fault::Error) => return Err(io::Error::from(io::ErrorKind::Other)),
+                Some(Fault::Zero) => return Ok(0),
+                None => {}
+            }
+            if bytes.is_empty() || self.count >= self.taken.len() {
+                return Ok(0);
+            }
+            self.taken[self.count] = bytes[0];
+            self.count += 1;
+            Ok(1)
+        }
+
+        fn flush(&mut self) -> io::Result<()> {
+            if self.turn().is_some() {
+                return Err(io::Error::from(io::ErrorKind::Other));
+            }
+            self.is_flushed = true;
+            Ok(())
+        }
+    }
+
+    #[test]
+    fn writes_all_in_pieces(rt: HostRuntime) -> Result<(), Fail> {
+        let mut output = Output::new(Trickle::new(None));
+        output.write(b"abc")?;
+        output.write(b"")?;
+        output.write(b"d")?;
+        assert_eq!(rt; output.writer.taken, *b"abcd");
+        assert!(rt; !output.writer.is_flushed);
+        output.flush()?;
+        assert!(rt; output.writer.is_flushed && !output.failed);
+        Ok(())
+    }
+
+    #[test]
+    fn remembers_a_failed_write(rt: HostRuntime) -> Result<(), Fail> {
+        for fault in [Fault::Error, Fault::Zero] {
+            for (calls_before, front) in [(0, [0; 4]), (1, *b"a\0\0\0"), (2, *b"ab\0\0")] {
+                let mut output = Output::new(Trickle::new(Some((fault, calls_before))));
+                assert_eq!(rt; output.write(b"abc"), Err(WriterFailed));
+                assert_eq!(rt;
+                    output.writer.taken,
+                    front,
+                    "{fault:?} after {calls_before}"
+                );
+                assert!(rt; output.failed);
+                output.write(b"e")?;
+                assert!(rt; output.failed);
+            }
+        }
+        Ok(())
+    }
+
+    #[test]
+    fn remembers_a_failed_flush(rt: HostRuntime) -> Result<(), Fail> {
+        let mut output = Output::new(Trickle::new(Some((Fault::Error, 1))));
+        output.write(b"a")?;
+        assert_eq!(rt; output.flush(), Err(WriterFailed));
+        assert!(rt; output.failed && !output.writer.is_flushed);
+        output.flush()?;
+        assert!(rt; output.failed && output.writer.is_flushed);
+        Ok(())
+    }
+}

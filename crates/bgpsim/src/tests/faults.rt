@@ -22,7 +22,8 @@ const FIRST_PATH: [(&str, &str); 7] = [
     ("routes 2.0.0.1\n", TABLE),
 ];
 
-const TABLE: &str = "10.0.0.0/8 from 1.0.0.1 path=1 origin=igp next=1.0.0.1 med=- pref=100 oid=- clusters=-\nend 1\n";
+const TABLE: &str =
+    "10.0.0.0/8 from 1.0.0.1 path=1 origin=igp next=1.0.0.1 med=- pref=100 oid=- clusters=-\nend 1\n";
 
 /// What the second router's table shows once this many lines were taken.
 fn table_after(lines: usize) -> &'static str {
@@ -121,7 +122,12 @@ fn a_reader_that_fails_at_each_read(rt: HostRuntime) -> Result<(), Fail> {
         let mut output = Output::new(&mut written);
         let served = serve(alloc, &mut input, &mut output, &mut machine);
         drop(output);
-        assert_eq!(rt; served, Err(ServeFault::Read { line: lines as u64 + 1 }));
+        assert_eq!(rt;
+            served,
+            Err(ServeFault::Read {
+                line: lines as u64 + 1
+            })
+        );
         assert_eq!(rt; written.as_slice(), replies.as_bytes());
         let table = asked(alloc, &mut machine, "routes 2.0.0.1\n")?;
         assert_eq!(rt; table.as_slice(), table_after(lines).as_bytes());

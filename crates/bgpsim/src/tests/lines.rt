@@ -58,5 +58,10 @@ fn other_bytes_are_faults(rt: HostRuntime) -> Result<(), Fail> {
 
 #[test]
 fn spaces_part_words(rt: HostRuntime) -> Result<(), Fail> {
-    check(&rt, "   router   1.0.0.1    1  \n#\n \nroutes 1.0.0.1\n", "ok\nend 0\n", 0)
+    check(
+        &rt,
+        "   router   1.0.0.1    1  \n#\n \nroutes 1.0.0.1\n",
+        "ok\nend 0\n",
+        0,
+    )
 }

@@ -5,12 +5,7 @@ use std::test::Fail;
 
 #[test]
 fn empty_input(rt: HostRuntime) -> Result<(), Fail> {
-    check(
-        &rt,
-        "",
-        "",
-        0,
-    )
+    check(&rt, "", "", 0)
 }
 
 #[test]

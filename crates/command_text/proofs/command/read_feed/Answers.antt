@@ -1,9 +1,5 @@
-use Rattle.std.proofs.Common.{◌≡◌, ◌∷◌, List, ℕ, sym}
-use Rattle.net_prefix.specs.Address.{addr_text}
-use Rattle.sim_event.specs.declared.event.Event.{Event}
 use Rattle.sim_event.specs.declared.event.Event.TheVariants.{Feed as AFeed}
 use Rattle.sim_event.specs.Events.{IsEvent, IsNews}
-use Rattle.command_text.specs.Lines.{tokens}
 use Rattle.command_text.specs.Words.{words_of, news_words}
 use Rattle.command_text.proofs.FirstWords.{feed_only}
 use Rattle.command_text.proofs.Readings.{refused_so, handed_on, at_none, at_some}

@@ -4,9 +4,10 @@ use Rattle.command_text.proofs.Numbers.{numbers_first, numbers_after, numbers_mo
 use Rattle.command_text.proofs.path.are_numbers.Goals as goal
 
 pub returns-then-not-is_number : goal.returns-then-not-is_number
-returns-then-not-is_number c =
-    (λ e. absurd (false≢true e),
-    λ has. c.if-not-is_number.ensures.1 (numbers_first _ _ _ c.in-Some.ensures.whole c.in-Some.ensures.first (c.loop-first.invariant.down has)))
+returns-then-not-is_number c = (
+  λ e. absurd (false≢true e),
+  λ has. c.if-not-is_number.ensures.1 (numbers_first _ _ _ c.in-Some.ensures.whole c.in-Some.ensures.first (c.loop-first.invariant.down has)),
+)
 
 pub loop-first-preserved : goal.loop-first-preserved
 loop-first-preserved c = record {
@@ -15,6 +16,7 @@ loop-first-preserved c = record {
 }
 
 pub returns : goal.returns
-returns c =
-    (λ e. c.loop-first.invariant.up (numbers_one _ (c.is_number-2.ensures.0 e)),
-    λ has. c.is_number-2.ensures.1 (numbers_last _ c.in_default.ensures.none (c.loop-first.invariant.down has)))
+returns c = (
+  λ e. c.loop-first.invariant.up (numbers_one _ (c.is_number-2.ensures.0 e)),
+  λ has. c.is_number-2.ensures.1 (numbers_last _ c.in_default.ensures.none (c.loop-first.invariant.down has)),
+)

@@ -4,9 +4,10 @@ use Rattle.command_text.proofs.Segments.{segments_first, segments_after, segment
 use Rattle.command_text.proofs.path.are_segments.Goals as goal
 
 pub returns-then-not-is_segment : goal.returns-then-not-is_segment
-returns-then-not-is_segment c =
-    (λ e. absurd (false≢true e),
-    λ has. c.if-not-is_segment.ensures.1 (segments_first _ _ _ c.in-Some.ensures.whole c.in-Some.ensures.first (c.loop-first.invariant.down has)))
+returns-then-not-is_segment c = (
+  λ e. absurd (false≢true e),
+  λ has. c.if-not-is_segment.ensures.1 (segments_first _ _ _ c.in-Some.ensures.whole c.in-Some.ensures.first (c.loop-first.invariant.down has)),
+)
 
 pub loop-first-preserved : goal.loop-first-preserved
 loop-first-preserved c = record {
@@ -15,6 +16,7 @@ loop-first-preserved c = record {
 }
 
 pub returns : goal.returns
-returns c =
-    (λ e. c.loop-first.invariant.up (segments_one _ (c.is_segment-2.ensures.0 e)),
-    λ has. c.is_segment-2.ensures.1 (segments_last _ c.in_default.ensures.none (c.loop-first.invariant.down has)))
+returns c = (
+  λ e. c.loop-first.invariant.up (segments_one _ (c.is_segment-2.ensures.0 e)),
+  λ has. c.is_segment-2.ensures.1 (segments_last _ c.in_default.ensures.none (c.loop-first.invariant.down has)),
+)

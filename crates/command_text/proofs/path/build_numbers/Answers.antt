@@ -2,7 +2,7 @@ use Rattle.std.proofs.Common.{sym, subst}
 use Rattle.std.specs.Fmt.{decimal}
 use Rattle.sim_event.specs.Events.{IsAsNumber}
 use Rattle.command_text.specs.Reading.{Reads}
-use Rattle.command_text.proofs.Numbers.{NumbersGoOn, numbers_first, numbers_after, numbers_last, numbers_go_more, numbers_go_last}
+use Rattle.command_text.proofs.Numbers.{NumbersGoOn, numbers_first, numbers_after, numbers_last, numbers_go_more}
 use Rattle.command_text.proofs.Readings.{reads_some}
 use Rattle.command_text.proofs.path.build_numbers.Goals as goal
 

@@ -1,0 +1,157 @@
+//! Whole scripts that reach no event, read in pieces of every kind, and how serving ends early.
+
+use crate::{ServeFault, serve};
+use reference_machine::{Event, Machine, Reply};
+use std::alloc::Global;
+use std::io;
+use std::io::{Read, Write};
+use std::process::Abort;
+use std::test::Fail;
+use watched::{Input, Output};
+
+/// A machine that no event may reach.
+#[derive(Drop)]
+struct Idle<'a, A: Abort>(&'a A);
+
+impl<A: Abort> Machine for Idle<'_, A> {
+    ghost use Rattle.reference_machine.specs.Machine.{nothing};
+
+    ghost network = { λ _. nothing };
+
+    fn step(&mut self, _event: &Event) -> Reply {
+        panic!(self.0; "an event was taken")
+    }
+}
+
+/// A reader of at most so many bytes at a time.
+#[derive(Drop)]
+struct Pieces<'a> {
+    rest: &'a [u8],
+    size: usize,
+}
+
+impl Read for Pieces<'_> {
+    fn read(&mut self, buffer: &mut [u8]) -> io::Result<usize> {
+        let count = self.size.min(self.rest.len()).min(buffer.len());
+        let (front, back) = self.rest.split_at(count);
+        buffer[..count].copy_from_slice(front);
+        self.rest = back;
+        Ok(count)
+    }
+}
+
+/// A reader that only fails.
+#[derive(Drop)]
+struct Broken;
+
+impl Read for Broken {
+    fn read(&mut self, _buffer: &mut [u8]) -> io::Result<usize> {
+        Err(io::Error::from(io::ErrorKind::Other))
+    }
+}
+
+/// A writer that takes all and cannot send it on.
+#[derive(Drop)]
+struct Stuck;
+
+impl Write for Stuck {
+    fn write(&mut self, bytes: &[u8]) -> io::Result<usize> {
+        Ok(bytes.len())
+    }
+
+    fn flush(&mut self) -> io::Result<()> {
+        Err(io::Error::from(io::ErrorKind::Other))
+    }
+}
+
+fn served<A: Abort, R: Read + Drop, W: Write + Drop>(
+    rt: &A,
+    alloc: Global,
+    reader: R,
+    writer: W,
+) -> Result<u64, ServeFault> {
+    serve(alloc, &mut Input::new(reader), &mut Output::new(writer), &mut Idle(rt))
+}
+
+#[test]
+fn answers_each_line(rt: HostRuntime) {
+    let refusals = b"refused 1 syntax\nrefused 1 syntax\nrefused 1 syntax\n";
+    let scripts = [
+        (b"".as_slice(), 0, 0),
+        (b"\n\r\n# a comment\n  \n", 4, 0),
+        (b"#", 1, 0),
+        (b"x", 1, 1),
+        (b"x\n", 1, 1),
+        (b"x\n\n", 2, 1),
+        (b"x\r\n#\r\n\r\nx\r\nx\r", 5, 3),
+    ];
+    for (script, lines, refused) in scripts {
+        for size in [1, 2, 3, 5, 100] {
+            let mut room = [0u8; 51];
+            let reader = Pieces { rest: script, size };
+            let result = served(&rt, rt.alloc(), reader, room.as_mut_slice());
+            assert_eq!(rt; result, Ok(lines), "in pieces of {size}");
+            let mut expected = [0u8; 51];
+            let length = 17 * refused;
+            assert!(rt; length <= 51);
+            expected[..length].copy_from_slice(&refusals[..length]);
+            assert_eq!(rt; room.as_slice(), expected.as_slice(), "in pieces of {size}");
+        }
+    }
+}
+
+#[test]
+fn holds_the_longest_line(rt: HostRuntime) {
+    let mut script = [b'#'; 65_540];
+    let longest = &script[..65_536];
+    assert_eq!(rt; served(&rt, rt.alloc(), longest, io::sink()), Ok(1));
+    let longer = &script[..65_537];
+    assert_eq!(rt; served(&rt, rt.alloc(), longer, io::sink()), Err(ServeFault::Read { line: 1 }));
+    script[65_536] = b'\r';
+    script[65_537] = b'\n';
+    let two = script.as_slice();
+    assert_eq!(rt; served(&rt, rt.alloc(), two, io::sink()), Ok(2));
+    script[65_536] = b'#';
+    let longer = script.as_slice();
+    assert_eq!(rt; served(&rt, rt.alloc(), longer, io::sink()), Err(ServeFault::Read { line: 1 }));
+}
+
+#[test]
+fn takes_a_million_lines(rt: HostRuntime) {
+    let most = io::repeat(b'\n').take(1_000_000);
+    assert_eq!(rt; served(&rt, rt.alloc(), most, io::sink()), Ok(1_000_000));
+    let more = io::repeat(b'\n').take(1_000_001);
+    let fault = ServeFault::Read { line: 1_000_001 };
+    assert_eq!(rt; served(&rt, rt.alloc(), more, io::sink()), Err(fault));
+}
+
+#[test]
+fn faults_name_their_line(rt: HostRuntime) -> Result<(), Fail> {
+    let broken = b"x\n\nx".chain(Broken);
+    assert_eq!(rt; served(&rt, rt.alloc(), broken, io::sink()), Err(ServeFault::Read { line: 3 }));
+    assert_eq!(rt; served(&rt, rt.alloc(), Broken, io::sink()), Err(ServeFault::Read { line: 1 }));
+    let mut room = [0u8; 20];
+    let script = b"\nx\n\nx\nx\n".as_slice();
+    let full = served(&rt, rt.alloc(), script, room.as_mut_slice());
+    assert_eq!(rt; full, Err(ServeFault::Write { line: 4 }));
+    assert_eq!(rt; room.as_slice(), b"refused 1 syntax\nref".as_slice());
+    assert_eq!(rt; served(&rt, rt.alloc(), script, Stuck), Err(ServeFault::Write { line: 5 }));
+    assert_eq!(rt; served(&rt, rt.alloc(), b"".as_slice(), Stuck), Ok(0));
+    Ok(())
+}
+
+#[test]
+fn faults_are_printed(rt: HostRuntime) -> Result<(), Fail> {
+    let read = format!(in rt.alloc(); "{}", ServeFault::Read { line: 12 })?;
+    assert_eq!(rt; read.as_str(), "read fault at line 12");
+    let write = format!(in rt.alloc(); "{}", ServeFault::Write { line: 12 })?;
+    assert_eq!(rt; write.as_str(), "write fault");
+    Ok(())
+}
+
+#[test]
+fn slow(rt: HostRuntime) {
+    let script = [b'#'; 65_536];
+    let reader = Pieces { rest: script.as_slice(), size: 1 };
+    assert_eq!(rt; served(&rt, rt.alloc(), reader, io::sink()), Ok(1));
+}
