@@ -8,6 +8,7 @@ use route_select::Source;
 use seq::{Copied, Seq};
 use session_queue::MessageKind;
 use std::alloc::{AllocError, Global};
+use std::process::Abort;
 use std::test::Fail;
 
 const FIRST: Addr = Addr(0x0100_0001);
@@ -72,32 +73,35 @@ fn copies_events(rt: HostRuntime) -> Result<(), Fail> {
     Ok(())
 }
 
+/// The copy of what the first feeds the second.
+fn fed(rt: &impl Abort, alloc: Global, news: News) -> Result<News, Fail> {
+    let event = Event::Feed(Feed {
+        from: FIRST,
+        to: SECOND,
+        news,
+    });
+    let Event::Feed(feed) = copied(alloc, &event)? else {
+        return Err(Fail::new("a feed was copied"));
+    };
+    assert!(rt; feed.from == FIRST && feed.to == SECOND);
+    Ok(feed.news)
+}
+
 #[test]
 fn copies_feeds(rt: HostRuntime) -> Result<(), Fail> {
     let alloc = rt.alloc();
-    for news in [
-        News::Update(ten()?, path(alloc)?, Origin::Incomplete, Some(5)),
-        News::Withdraw(ten()?),
-    ] {
-        let event = Event::Feed(Feed {
-            from: FIRST,
-            to: SECOND,
-            news,
-        });
-        let Event::Feed(feed) = copied(alloc, &event)? else {
-            return Err(Fail::new("a feed was copied"));
-        };
-        assert!(rt; feed.from == FIRST && feed.to == SECOND);
-        match feed.news {
-            News::Update(prefix, path, origin, med) => {
-                assert_eq!(rt; prefix, ten()?);
-                assert_eq!(rt; path.length(), 1);
-                assert_eq!(rt; origin, Origin::Incomplete);
-                assert_eq!(rt; med, Some(5));
-            }
-            News::Withdraw(prefix) => assert_eq!(rt; prefix, ten()?),
-        }
-    }
+    let update = News::Update(ten()?, path(alloc)?, Origin::Incomplete, Some(5));
+    let News::Update(prefix, path, origin, med) = fed(&rt, alloc, update)? else {
+        return Err(Fail::new("a route was fed"));
+    };
+    assert_eq!(rt; prefix, ten()?);
+    assert_eq!(rt; path.length(), 1);
+    assert_eq!(rt; origin, Origin::Incomplete);
+    assert_eq!(rt; med, Some(5));
+    let News::Withdraw(prefix) = fed(&rt, alloc, News::Withdraw(ten()?))? else {
+        return Err(Fail::new("a withdrawal was fed"));
+    };
+    assert_eq!(rt; prefix, ten()?);
     Ok(())
 }
 

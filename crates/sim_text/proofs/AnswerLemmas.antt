@@ -1,11 +1,11 @@
 -- Answers, line by line.
-use Rattle.std.proofs.Common.{◌≡◌, ℕ, ◌+◌, ◌-◌, ◌<◌, ◌≤◌, true, ◌⊎◌, inl, inr, ⊎_elim, List, [], ◌∷◌, ◌++◌, length, take, drop, get_or, Option, Some, None, All, Ok, Err, refl, sym, ap, ◌∙◌, subst, arith, append_assoc, append-nil}
+use Rattle.std.proofs.Common.{◌≡◌, ℕ, ◌+◌, ◌-◌, ◌<◌, ◌≤◌, true, inl, inr, ⊎_elim, List, [], ◌∷◌, ◌++◌, length, take, get_or, Option, Some, None, Ok, Err, refl, sym, ap, ◌∙◌, subst, arith, append_assoc, append-nil}
 use Rattle.std.specs.Str.Lines.{lines}
 use Rattle.std.specs.Io.KnownBytes.{Appends, Keeps}
-use Rattle.std.proofs.lemmas.List.{take_at, get_or_at, take_more, take_all, length_push, length-append, length-take-le, take-append-le}
-use Rattle.std.proofs.lemmas.List.Elements.{All-nil, All-push, All-same}
+use Rattle.std.proofs.lemmas.List.{take_at, get_or_at, take_more, take_all, length_push, length-append}
+use Rattle.std.proofs.lemmas.List.Elements.{All-push, All-same}
 use Rattle.watched.specs.Streams.{Reading, Writing}
-use Rattle.watched.specs.Writing.{appends_both, appends_none}
+use Rattle.watched.specs.Writing.{appends_both}
 use Rattle.reference_machine.specs.Network.{Network}
 use Rattle.sim_text.specs.declared.fault.ServeFault.TheVariants.{Read, Write}
 use Rattle.sim_text.specs.Serving.{IsAnswer, AreAnswers, Served, IsServing, line_at, most_bytes, most_lines}
@@ -37,18 +37,6 @@ appends_kept (Some x) (Some y) None text h k = absurd k
 appends_kept (Some x) (Some y) (Some z) text h k = k ∙ h
 
 -- WHERE SERVING HAS COME
-
-pub so_far_start : (bytes : List ℕ) (s : Network) (o : Writing) → SoFar bytes bytes 0 s o s o
-so_far_start bytes s o = record {
-  done = [];
-  text = [];
-  parts = refl;
-  count = refl;
-  few = omega arith;
-  short = All-nil (λ line. length line ≤ most_bytes);
-  answers = (refl, refl);
-  written = appends_none o.written;
-}
 
 -- one more line was answered
 pub so_far_more : (bytes left left' line answer : List ℕ) (k : ℕ) (s : Network) (o : Writing) (mid : Network) (om : Writing) (s' : Network) (o' : Writing)
@@ -91,13 +79,6 @@ pub end_served : (bytes left : List ℕ) (k : ℕ) (s : Network) (o : Writing) (
 end_served bytes left k s o s' o' i' none end so =
     let all : lines bytes ≡ so.done = so.parts ∙ ap (λ t. so.done ++ lines t) none ∙ append-nil so.done in
     (sym so.count ∙ ap length (sym all), so.few, All-same (λ line. length line ≤ most_bytes) (lines bytes) so.done all so.short, end, served bytes left k s o s' o' so)
-
--- the reader failed
-pub end_failed : (bytes left : List ℕ) (k : ℕ) (s : Network) (o : Writing) (s' : Network) (o' : Writing) (i' : Reading)
-    → i'.failed ≡ true → SoFar bytes left k s o s' o' → IsServing bytes s o (Err (Read (k + 1))) s' o' i'
-end_failed bytes left k s o s' o' i' failed so =
-    let len : length (lines bytes) ≡ length so.done + length (lines left) = ap length so.parts ∙ length-append so.done (lines left) in
-    (k, refl, inl (failed, omega (arith, so.count)), served bytes left k s o s' o' so)
 
 -- the next line, and how many there are
 next_at : (bytes left : List ℕ) (k : ℕ) (s : Network) (o : Writing) (s' : Network) (o' : Writing) (line : List ℕ) (more : List (List ℕ))
@@ -144,9 +125,21 @@ end_unsent bytes left k s o s' om o' i' some kept failed so =
     let all = served bytes left k s o s' om so in
     let P : List (List ℕ) → Type 0 = λ ls. AreAnswers s ls all.0 s' in
     let apart = are_answers_pop s s' (take j (lines bytes)) (line_at bytes j) all.0 (subst P (ap (λ n. take n (lines bytes)) sum ∙ take_more (lines bytes) j [] low) all.1) in
-    let Q : List ℕ → Type 0 = λ t. Appends o.written o'.written t in
-    (j, sum, (low, failed, apart.0, apart.1, apart.2, length apart.2, apart.3, apart.4,
-    subst Q (apart.5 ∙ ap (λ t. apart.1 ++ t) (sym (take_all (length apart.2) apart.2 (omega arith)))) (appends_kept o.written om.written o'.written all.0 all.2 kept)))
+    let Q : List ℕ → Type 0 = λ t. Appends o.written o'.written t in (
+      j,
+      sum,
+      (
+        low,
+        failed,
+        apart.0,
+        apart.1,
+        apart.2,
+        length apart.2,
+        apart.3,
+        apart.4,
+        subst Q (apart.5 ∙ ap (λ t. apart.1 ++ t) (sym (take_all (length apart.2) apart.2 (omega arith)))) (appends_kept o.written om.written o'.written all.0 all.2 kept),
+      ),
+    )
 
 -- the next line cannot be answered
 pub end_unfit : (bytes pending rest : List ℕ) (k : ℕ) (s : Network) (o : Writing) (s' : Network) (o' : Writing) (i' : Reading)
@@ -154,18 +147,12 @@ pub end_unfit : (bytes pending rest : List ℕ) (k : ℕ) (s : Network) (o : Wri
 end_unfit bytes pending rest k s o s' o' i' unfit so =
     let found = unfit rest in
     ⊎_elim
-        (λ many. end_many bytes (pending ++ rest) k s o s' o' i' found.0 found.1 found.2 many so)
-        (λ long. end_long bytes (pending ++ rest) k s o s' o' i' found.0 found.1 found.2 long so)
-        found.3
+    (λ many. end_many bytes (pending ++ rest) k s o s' o' i' found.0 found.1 found.2 many so)
+    (λ long. end_long bytes (pending ++ rest) k s o s' o' i' found.0 found.1 found.2 long so)
+    found.3
 
 pub ends_unsent : (left : List ℕ) (k : ℕ) (s' : Network) (om o' : Writing) (fault : ServeFault) (i' : Reading)
     → Keeps om.written o'.written → (fault ≡ Write k) × (0 < k) × (o'.failed ≡ true) → Ends left k s' om fault s' o' i'
 ends_unsent left k s' om o' fault i' kept h = λ bytes s0 o0 so.
     let P : ServeFault → Type 0 = λ f. IsServing bytes s0 o0 (Err f) s' o' i' in
     subst P (sym h.0) (end_unsent bytes left k s0 o0 s' om o' i' h.1 kept h.2 so)
-
-pub so_far_at : (bytes left left' : List ℕ) (k : ℕ) (s : Network) (o : Writing) (s' : Network) (o' : Writing)
-    → left ≡ left' → SoFar bytes left k s o s' o' → SoFar bytes left' k s o s' o'
-so_far_at bytes left left' k s o s' o' same so =
-    let P : List ℕ → Type 0 = λ t. SoFar bytes t k s o s' o' in
-    subst P same so

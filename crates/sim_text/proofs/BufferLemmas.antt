@@ -1,8 +1,8 @@
--- The bytes of a buffer, after a step of its start, a move to its front or a write behind its end.
-use Rattle.std.proofs.Common.{◌≡◌, ℕ, ◌+◌, ◌-◌, ◌≤◌, List, [], ◌++◌, length, take, drop, slice_range, refl, sym, ap, ◌∙◌, arith}
-use Rattle.std.proofs.lemmas.List.{take_at, drop_at, take-append-le, drop-append-le, drop-take, drop-drop, length-take-le, length-drop, take_all, append-nil}
+-- The bytes of a buffer, after a step of its start or a write behind its end.
+use Rattle.std.proofs.Common.{◌≡◌, ℕ, ◌+◌, ◌-◌, ◌≤◌, List, ◌++◌, length, take, drop, slice_range, refl, sym, ap, ◌∙◌, arith}
+use Rattle.std.proofs.lemmas.List.{take_at, drop_at, take-append-le, drop-append-le, drop-take, drop-drop, length-take-le, length-drop, append-nil}
 use borrow.Rule.Slice.PartMut.{put_mid, post_of}
-use lib.Seq.{take-add, paste}
+use lib.Seq.{take-add}
 
 -- behind the bytes up to end, n bytes of ys
 pub grown : (xs ys : List ℕ) (start end k n : ℕ) → start ≤ end → end ≤ length xs → n ≤ length ys
@@ -27,9 +27,17 @@ consumed xs start end count inside =
     sym (ap (λ j. drop count (take j (drop start xs))) parts ∙ drop-take count _ (drop start xs)
     ∙ ap (take (end - (start + count))) (drop-drop count start xs))
 
--- copied to the front
-pub moved : (xs : List ℕ) (start end : ℕ) → start ≤ end → end ≤ length xs
-    → take (end - start) (paste xs 0 (drop start xs) (end - start)) ≡ slice_range xs start end
-moved xs start end ordered within =
-    let held = take (end - start) (drop start xs) in
-    take_at held (drop (0 + (end - start)) xs) (end - start) (length-take-le (end - start) (drop start xs) (omega (arith, length-drop start xs)))
+-- the bytes up to end stay
+pub kept : (xs ys : List ℕ) (start end k : ℕ) → start ≤ end → end ≤ length xs
+    → slice_range (put_mid end k xs ys) start end ≡ slice_range xs start end
+kept xs ys start end k ordered within =
+    let none : end ≡ end + 0 = omega arith in
+    ap (slice_range (put_mid end k xs ys) start) none ∙ grown xs ys start end k 0 ordered within (omega arith) ∙ append-nil _
+
+-- cut in two
+pub cut : (xs : List ℕ) (start mid end : ℕ) → start ≤ mid → mid ≤ end → slice_range xs start end ≡ slice_range xs start mid ++ slice_range xs mid end
+cut xs start mid end low high =
+    let sum : end - start ≡ (mid - start) + (end - mid) = omega arith in
+    let place : start + (mid - start) ≡ mid = omega arith in
+    ap (λ n. take n (drop start xs)) sum ∙ take-add (mid - start) (end - mid) (drop start xs)
+    ∙ ap (λ t. slice_range xs start mid ++ take (end - mid) t) (drop-drop (mid - start) start xs ∙ ap (λ n. drop n xs) place)

@@ -1,5 +1,5 @@
 -- What stands at the head of the bytes that are left. No public clause cites this module.
-use Rattle.std.specs.Prelude.{◌≡◌, ℕ, ◌+◌, ◌<◌, ◌≤◌, ◌==◌, ◌⊎◌, List, ◌∷◌, ◌++◌, length, take, drop, position, Some, None}
+use Rattle.std.specs.Prelude.{◌≡◌, ℕ, ◌<◌, ◌≤◌, ◌==◌, ◌⊎◌, List, ◌∷◌, ◌++◌, length, take, position, Some, None}
 use Rattle.std.specs.Str.Lines.{lines, strip_carriage_return}
 use Rattle.sim_text.specs.Serving.{most_bytes, most_lines}
 use Rattle.sim_text.specs.declared.line.Next.{Next}

@@ -1,6 +1,6 @@
 //! The bytes that were read and not yet answered.
 
-ghost use Rattle.std.specs.Prelude.{◌≡◌, ℕ, ◌+◌, ◌<◌, ◌≤◌, List, [], ◌++◌, length, drop, IfOk, OnOk, OnErr, true, false};
+ghost use Rattle.std.specs.Prelude.{◌≡◌, ℕ, ◌+◌, ◌-◌, ◌<◌, ◌≤◌, ◌==◌, List, [], ◌++◌, length, take, drop, slice_range, position, None, IfOk, OnOk, OnErr, true, false};
 ghost use Rattle.std.specs.Io.KnownBytes.{Consumes, IsAtEnd};
 
 use std::io;
@@ -16,17 +16,38 @@ pub(crate) const CAPACITY: usize = 65_538;
 pub(crate) struct LineBuffer {
     bytes: [u8; CAPACITY],
     start: usize,
+    /// No line feed stands from `start` to here.
+    searched: usize,
     end: usize,
 }
 
 impl Model for LineBuffer {
-    ghost use Rattle.std.specs.Prelude.{ℕ, ◌≤◌, List, slice_range};
+    ghost use Rattle.std.specs.Prelude.{◌≡◌, ℕ, ◌≤◌, ◌==◌, false, List, slice_range, All};
 
     ghost Value = { List ℕ };
 
     ghost view = { λ b. slice_range b.bytes b.start b.end };
 
-    ghost invariant = { λ b. (b.start ≤ b.end) × (b.end ≤ 65538) };
+    ghost invariant = { λ b. (b.start ≤ b.searched) × (b.searched ≤ b.end) × (b.end ≤ 65538)
+        × All (λ x. (x == 10) ≡ false) (slice_range b.bytes b.start b.searched) };
+}
+
+/// The index of the first line feed.
+fn line_feed_in(bytes: &[u8]) -> Option<usize>
+    ensures { result ≡ position (λ b. b == 10) bytes.now }
+{
+    bytes.iter().position(|b| *b == b'\n')
+}
+
+/// Copies the bytes from start to end to the front.
+fn move_to_front(bytes: &mut [u8], start: usize, end: usize)
+    requires ordered { start ≤ end }
+    requires within { end ≤ length bytes.old }
+    ensures { take (end - start) bytes.new ≡ slice_range bytes.old start end }
+{
+    if start > 0 {
+        bytes.copy_within(start..end, 0);
+    }
 }
 
 impl LineBuffer {
@@ -36,6 +57,7 @@ impl LineBuffer {
         LineBuffer {
             bytes: [0; CAPACITY],
             start: 0,
+            searched: 0,
             end: 0,
         }
     }
@@ -52,11 +74,21 @@ impl LineBuffer {
         ensures { self.new ≡ drop count self.old }
     {
         self.start += count;
+        self.searched = self.start;
     }
 
-    /// Reads more bytes behind those that it holds, and says whether there were any.
+    /// The index of the first line feed.
+    pub(crate) fn line_feed_at(&self) -> Option<usize>
+        ensures { result ≡ position (λ b. b == 10) self.now }
+    {
+        let index = line_feed_in(&self.bytes[self.searched..self.end])?;
+        Some(self.searched - self.start + index)
+    }
+
+    /// Reads more bytes behind those that it holds, among which no line feed is, and says whether there were any.
     pub(crate) fn read_more<R: Read>(&mut self, input: &mut Input<R>) -> io::Result<bool>
-        requires { length self.old < 65538 }
+        requires room { length self.old < 65538 }
+        requires whole { position (λ b. b == 10) self.old ≡ None }
         ensures ok { IfOk result (λ any. (more : List ℕ) × (self.new ≡ self.old ++ more)
             × Consumes input.old.remaining input.new.remaining more
             × (any ≡ true → 0 < length more)
@@ -64,10 +96,10 @@ impl LineBuffer {
         ensures calm { OnOk result (input.new.failed ≡ input.old.failed) }
         ensures err { OnErr result (input.new.failed ≡ true) }
     {
-        let (start, end) = (self.start, self.end);
-        self.bytes.copy_within(start..end, 0);
-        let held = end - start;
+        let held = self.end - self.start;
+        move_to_front(&mut self.bytes, self.start, self.end);
         self.start = 0;
+        self.searched = held;
         self.end = held;
         let count = input.read(&mut self.bytes[held..])?;
         self.end = held + count;

@@ -1,10 +1,10 @@
 //! Where lines end.
 
-ghost use Rattle.std.specs.Prelude.{◌≡◌, ◌==◌, position};
+ghost use Rattle.std.specs.Prelude.{◌≡◌};
 ghost use Rattle.std.specs.Str.Lines.{strip_carriage_return};
 ghost use Rattle.sim_text.specs.Next.{IsNext};
 
-use crate::buffer::CAPACITY;
+use crate::buffer::{CAPACITY, LineBuffer};
 
 /// The most bytes of a line, its end not counted.
 pub(crate) const MOST_BYTES: usize = 65_536;
@@ -23,13 +23,6 @@ pub(crate) enum Next {
     Unfit,
 }
 
-/// The index of the first line feed.
-fn line_feed_at(bytes: &[u8]) -> Option<usize>
-    ensures { result ≡ position (λ b. b == 10) bytes.now }
-{
-    bytes.iter().position(|b| *b == b'\n')
-}
-
 /// A line without the carriage return at its end.
 pub(crate) fn without_carriage_return(line: &[u8]) -> &[u8]
     ensures { result.now ≡ strip_carriage_return line.now }
@@ -40,14 +33,15 @@ pub(crate) fn without_carriage_return(line: &[u8]) -> &[u8]
     }
 }
 
-/// What stands at the head of the bytes, after so many lines.
-pub(crate) fn next_line(bytes: &[u8], answered: u64) -> Next
-    ensures { IsNext bytes.now answered result }
+/// What stands at the head of the bytes that are left, after so many lines.
+pub(crate) fn next_line(pending: &LineBuffer, answered: u64) -> Next
+    ensures { IsNext pending.now answered result }
 {
+    let bytes = pending.as_slice();
     if answered >= MOST_LINES && !bytes.is_empty() {
         return Next::Unfit;
     }
-    match line_feed_at(bytes) {
+    match pending.line_feed_at() {
         Some(end) if without_carriage_return(&bytes[..end]).len() <= MOST_BYTES => Next::Line(end),
         None if bytes.len() < CAPACITY => Next::Part,
         _ => Next::Unfit,

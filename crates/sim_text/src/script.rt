@@ -148,14 +148,15 @@ fn read_on<R: Read, W: Write, M: Machine>(
     ensures writer { output.new.failed ≡ is_write_fault result }
     ensures turn { (rest : List ℕ) → input.old.remaining ≡ Some rest →
         IsTurn (script.old.pending ++ rest) script.old.answered (M.network machine.old) output.old result
-            script.new.pending script.new.answered (M.network machine.new) output.new input.new }
+        script.new.pending script.new.answered (M.network machine.new) output.new input.new }
     ensures smaller { IfOk result (λ more. more ≡ true →
         turns_left script.new.pending script.new.answered < turns_left script.old.pending script.old.answered) }
 {
     flush(script.answered, output)?;
+    let next = script.answered + 1;
     let more = match script.pending.read_more(input) {
         Ok(more) => more,
-        Err(_) => return Err(ServeFault::Read { line: script.answered + 1 }),
+        Err(_) => return Err(ServeFault::Read { line: next }),
     };
     if !more {
         finish(alloc, script, output, machine)?;
@@ -176,11 +177,11 @@ pub(crate) fn turn<R: Read, W: Write, M: Machine>(
     ensures writer { output.new.failed ≡ is_write_fault result }
     ensures turn { (rest : List ℕ) → input.old.remaining ≡ Some rest →
         IsTurn (script.old.pending ++ rest) script.old.answered (M.network machine.old) output.old result
-            script.new.pending script.new.answered (M.network machine.new) output.new input.new }
+        script.new.pending script.new.answered (M.network machine.new) output.new input.new }
     ensures smaller { IfOk result (λ more. more ≡ true →
         turns_left script.new.pending script.new.answered < turns_left script.old.pending script.old.answered) }
 {
-    match next_line(script.pending.as_slice(), script.answered) {
+    match next_line(&script.pending, script.answered) {
         Next::Line(end) => {
             answer_first(alloc, script, end, output, machine)?;
             Ok(true)
@@ -188,7 +189,8 @@ pub(crate) fn turn<R: Read, W: Write, M: Machine>(
         Next::Part => read_on(alloc, script, input, output, machine),
         Next::Unfit => {
             flush(script.answered, output)?;
-            Err(ServeFault::Read { line: script.answered + 1 })
+            let next = script.answered + 1;
+            Err(ServeFault::Read { line: next })
         }
     }
 }

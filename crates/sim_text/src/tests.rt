@@ -70,7 +70,12 @@ fn served<A: Abort, R: Read + Drop, W: Write + Drop>(
     reader: R,
     writer: W,
 ) -> Result<u64, ServeFault> {
-    serve(alloc, &mut Input::new(reader), &mut Output::new(writer), &mut Idle(rt))
+    serve(
+        alloc,
+        &mut Input::new(reader),
+        &mut Output::new(writer),
+        &mut Idle(rt),
+    )
 }
 
 #[test]
@@ -105,15 +110,26 @@ fn holds_the_longest_line(rt: HostRuntime) {
     let mut script = [b'#'; 65_540];
     let longest = &script[..65_536];
     assert_eq!(rt; served(&rt, rt.alloc(), longest, io::sink()), Ok(1));
+    let slow = Pieces {
+        rest: longest,
+        size: 1,
+    };
+    assert_eq!(rt; served(&rt, rt.alloc(), slow, io::sink()), Ok(1));
     let longer = &script[..65_537];
-    assert_eq!(rt; served(&rt, rt.alloc(), longer, io::sink()), Err(ServeFault::Read { line: 1 }));
+    assert_eq!(rt;
+        served(&rt, rt.alloc(), longer, io::sink()),
+        Err(ServeFault::Read { line: 1 })
+    );
     script[65_536] = b'\r';
     script[65_537] = b'\n';
     let two = script.as_slice();
     assert_eq!(rt; served(&rt, rt.alloc(), two, io::sink()), Ok(2));
     script[65_536] = b'#';
     let longer = script.as_slice();
-    assert_eq!(rt; served(&rt, rt.alloc(), longer, io::sink()), Err(ServeFault::Read { line: 1 }));
+    assert_eq!(rt;
+        served(&rt, rt.alloc(), longer, io::sink()),
+        Err(ServeFault::Read { line: 1 })
+    );
 }
 
 #[test]
@@ -128,14 +144,23 @@ fn takes_a_million_lines(rt: HostRuntime) {
 #[test]
 fn faults_name_their_line(rt: HostRuntime) -> Result<(), Fail> {
     let broken = b"x\n\nx".chain(Broken);
-    assert_eq!(rt; served(&rt, rt.alloc(), broken, io::sink()), Err(ServeFault::Read { line: 3 }));
-    assert_eq!(rt; served(&rt, rt.alloc(), Broken, io::sink()), Err(ServeFault::Read { line: 1 }));
+    assert_eq!(rt;
+        served(&rt, rt.alloc(), broken, io::sink()),
+        Err(ServeFault::Read { line: 3 })
+    );
+    assert_eq!(rt;
+        served(&rt, rt.alloc(), Broken, io::sink()),
+        Err(ServeFault::Read { line: 1 })
+    );
     let mut room = [0u8; 20];
     let script = b"\nx\n\nx\nx\n".as_slice();
     let full = served(&rt, rt.alloc(), script, room.as_mut_slice());
     assert_eq!(rt; full, Err(ServeFault::Write { line: 4 }));
     assert_eq!(rt; room.as_slice(), b"refused 1 syntax\nref".as_slice());
-    assert_eq!(rt; served(&rt, rt.alloc(), script, Stuck), Err(ServeFault::Write { line: 5 }));
+    assert_eq!(rt;
+        served(&rt, rt.alloc(), script, Stuck),
+        Err(ServeFault::Write { line: 5 })
+    );
     assert_eq!(rt; served(&rt, rt.alloc(), b"".as_slice(), Stuck), Ok(0));
     Ok(())
 }
@@ -147,11 +172,4 @@ fn faults_are_printed(rt: HostRuntime) -> Result<(), Fail> {
     let write = format!(in rt.alloc(); "{}", ServeFault::Write { line: 12 })?;
     assert_eq!(rt; write.as_str(), "write fault");
     Ok(())
-}
-
-#[test]
-fn slow(rt: HostRuntime) {
-    let script = [b'#'; 65_536];
-    let reader = Pieces { rest: script.as_slice(), size: 1 };
-    assert_eq!(rt; served(&rt, rt.alloc(), reader, io::sink()), Ok(1));
 }

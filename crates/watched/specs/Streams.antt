@@ -1,6 +1,6 @@
 -- Streams of bytes as contracts see them, and what a read or a write does to them.
-use Rattle.std.specs.Prelude.{◌≡◌, ℕ, ◌<◌, ◌≤◌, Bool, true, List, [], ◌++◌, length, take, Option, Some, None, Result, MatchResult}
-use Rattle.std.specs.Io.KnownBytes.{Appends, Consumes, Keeps}
+use Rattle.std.specs.Prelude.{◌≡◌, ℕ, Bool, true, List, take, Option, Result, MatchResult}
+use Rattle.std.specs.Io.KnownBytes.{Appends}
 
 -- the bytes that are still to come, where the reader tells them; whether a read has failed
 pub record Reading : Type 0 where

@@ -180,13 +180,11 @@ fn a_million_lines_are_served(rt: HostRuntime) -> Result<(), Fail> {
 fn a_line_that_wants_memory_succeeds_when_repeated(rt: HostRuntime) -> Result<(), Fail> {
     let alloc = rt.alloc();
     let mut machine: Machine = Simulator::new(alloc);
-    let mut taken = 0;
-    for (line, reply) in FIRST_PATH {
+    for (taken, (line, reply)) in FIRST_PATH.iter().enumerate() {
         let before = repeated(alloc, &mut machine, "routes 2.0.0.1\n")?;
         assert_eq!(rt; before.as_slice(), table_after(taken).as_bytes());
         let answer = repeated(alloc, &mut machine, line)?;
         assert_eq!(rt; answer.as_slice(), reply.as_bytes());
-        taken += 1;
     }
     Ok(())
 }

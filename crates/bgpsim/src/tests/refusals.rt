@@ -3,11 +3,8 @@
 use super::check;
 use std::test::Fail;
 
-#[test]
-fn refused_feeds(rt: HostRuntime) -> Result<(), Fail> {
-    check(
-        &rt,
-        "router 9.0.0.1 9
+/// A router with two virtual peers, and feeds and deliveries that are refused, but for one.
+const FEEDS: &str = "router 9.0.0.1 9
 virtual 7.0.0.1 7
 virtual 8.0.0.1 8
 link 9.0.0.1 7.0.0.1 1
@@ -23,8 +20,9 @@ feed 9.0.0.1 7.0.0.1 withdraw 10.0.0.0/8
 feed 7.0.0.1 8.0.0.1 withdraw 10.0.0.0/8
 feed 7.0.0.1 9.0.0.9 withdraw 10.0.0.0/8
 deliver 7.0.0.1 8.0.0.1
-",
-        "ok
+";
+
+const FEED_REPLIES: &str = "ok
 ok
 ok
 ok
@@ -40,16 +38,10 @@ refused 5 bad-end
 refused 5 bad-end
 refused 2 no-router
 refused 10 no-session
-",
-        0,
-    )
-}
+";
 
-#[test]
-fn refused_edits(rt: HostRuntime) -> Result<(), Fail> {
-    check(
-        &rt,
-        "router 1.0.0.1 1
+/// Two routers of one AS, one of another, two virtual peers, and edits and questions of every kind.
+const EDITS: &str = "router 1.0.0.1 1
 router 1.0.0.2 1
 router 2.0.0.1 2
 virtual 1.0.0.9 1
@@ -73,8 +65,9 @@ origin 1.0.0.1 10.0.0.1/8
 origin 1.0.0.1 10.0.0.0/8
 origin 1.0.0.1 10.0.0.0/8
 deliver 2.0.0.1 1.0.0.1
-",
-        "ok
+";
+
+const EDIT_REPLIES: &str = "ok
 ok
 ok
 ok
@@ -98,7 +91,14 @@ refused 1 syntax
 ok
 refused 14 origin-exists
 refused 17 queue-empty
-",
-        0,
-    )
+";
+
+#[test]
+fn refused_feeds(rt: HostRuntime) -> Result<(), Fail> {
+    check(&rt, FEEDS, FEED_REPLIES, 0)
+}
+
+#[test]
+fn refused_edits(rt: HostRuntime) -> Result<(), Fail> {
+    check(&rt, EDITS, EDIT_REPLIES, 0)
 }

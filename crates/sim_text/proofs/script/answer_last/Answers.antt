@@ -1,6 +1,5 @@
-use Rattle.std.proofs.Common.{◌≡◌, ◌<◌, ◌≤◌, List, [], ◌∷◌, length, ap, sym, ◌∙◌, arith}
+use Rattle.std.proofs.Common.{◌<◌, [], ◌∷◌, length, ap, sym, ◌∙◌, arith}
 use Rattle.std.proofs.lemmas.Bool.{eqb-false}
-use Rattle.std.specs.Str.Lines.{lines}
 use Rattle.sim_text.specs.Serving.{most_bytes}
 use Rattle.sim_text.proofs.LineLemmas.{lines_whole, no_cut}
 use Rattle.sim_text.proofs.AnswerLemmas.{so_far_more, end_long, end_unwritten}
@@ -21,7 +20,7 @@ returns-in-Err-clause-err g c = λ i bytes s0 o0 so.
     let none = eqb-false (length line) 0 (sym c.is_empty.ensures ∙ c.if-is_empty.false) in
     let said = c.in-Err.ensures in
     end_unwritten bytes pending c.args.script.now.answered s0 o0 _ c.args.output.now _ c.answer_line.new.output i line [] said.0 said.2.0.0
-        (lines_whole pending (no_cut pending c.requires.next.0) (omega arith) ∙ ap (λ l. l ∷ []) (sym c.as_slice-line.ensures)) said.1 said.2.0.1 said.2.1 so
+    (lines_whole pending (no_cut pending c.requires.next.0) (omega arith) ∙ ap (λ l. l ∷ []) (sym c.as_slice-line.ensures)) said.1 said.2.0.1 said.2.1 so
 
 pub returns-clause-ok : goal.returns-clause-ok
 returns-clause-ok g c = λ bytes s0 o0 so.
@@ -31,5 +30,5 @@ returns-clause-ok g c = λ bytes s0 o0 so.
     let none = eqb-false (length line) 0 (sym c.is_empty.ensures ∙ c.if-is_empty.false) in
     let said = c.in-Ok.ensures in
     so_far_more bytes pending [] line said.0 c.args.script.now.answered s0 o0 _ c.args.output.now _ c.answer_line.new.output
-        (lines_whole pending (no_cut pending c.requires.next.0) (omega arith) ∙ ap (λ l. l ∷ []) (sym c.as_slice-line.ensures))
-        (c.requires.next.2 (omega arith)) (omega arith) said.1 said.2.0 so
+    (lines_whole pending (no_cut pending c.requires.next.0) (omega arith) ∙ ap (λ l. l ∷ []) (sym c.as_slice-line.ensures))
+    (c.requires.next.2 (omega arith)) (omega arith) said.1 said.2.0 so

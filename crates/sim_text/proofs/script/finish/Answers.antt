@@ -13,8 +13,8 @@ returns-clause-err g c =
     let answered = c.answer_last.new.script.answered in
     let P : ServeFault → Type 0 = λ fault. (fault ≡ Write answered) × (0 < answered) × (c.flush.new.output.failed ≡ true) in
     let Q : ServeFault → Type 0 = λ fault. (i : Reading) →
-        Ends script.pending script.answered (g.M.Machine.network c.args.machine.now) c.args.output.now fault (g.M.Machine.network c.answer_last.new.machine) c.flush.new.output i in
+    Ends script.pending script.answered (g.M.Machine.network c.args.machine.now) c.args.output.now fault (g.M.Machine.network c.answer_last.new.machine) c.flush.new.output i in
     IfErr-weaker c.flush.result P Q
-        (λ fault unsent i bytes s0 o0 so. ends_unsent [] answered _ c.answer_last.new.output c.flush.new.output fault i c.flush.ensures.kept unsent bytes s0 o0
-            (c.in_ok-answer_last.ensures.ok bytes s0 o0 so))
-        c.flush.ensures.err
+    (λ fault unsent i bytes s0 o0 so. ends_unsent [] answered _ c.answer_last.new.output c.flush.new.output fault i c.flush.ensures.kept unsent bytes s0 o0
+    (c.in_ok-answer_last.ensures.ok bytes s0 o0 so))
+    c.flush.ensures.err

@@ -1,8 +1,5 @@
-use Rattle.std.proofs.Common.{◌≡◌, ◌++◌, [], List, ap, sym, ◌∙◌, append-nil}
 use Rattle.std.proofs.lemmas.Result.{err_from_is_err_and}
-use Rattle.sim_text.specs.Progress.{IsTurn}
-use Rattle.sim_text.proofs.ReadLemmas.{read_parts, read_all}
-use Rattle.sim_text.proofs.AnswerLemmas.{so_far_at, so_far_kept, ends_unsent}
+use Rattle.sim_text.proofs.AnswerLemmas.{ends_unsent}
 use Rattle.sim_text.proofs.script.read_on.Goals as goal
 
 pub returns-in_err-flush-clause-turn : goal.returns-in_err-flush-clause-turn

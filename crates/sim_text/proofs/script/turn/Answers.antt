@@ -1,6 +1,4 @@
-use Rattle.std.proofs.Common.{ℕ, List, subst}
 use Rattle.std.proofs.lemmas.Result.{err_from_is_err_and}
-use Rattle.sim_text.specs.Next.{IsUnfit}
 use Rattle.sim_text.proofs.AnswerLemmas.{so_far_kept, end_unfit, ends_unsent}
 use Rattle.sim_text.proofs.script.turn.Goals as goal
 
@@ -16,6 +14,5 @@ returns-in_err-flush-in-Unfit-clause-turn g c = λ rest known.
 
 pub returns-in_ok-flush-in-Unfit-clause-turn : goal.returns-in_ok-flush-in-Unfit-clause-turn
 returns-in_ok-flush-in-Unfit-clause-turn g c = λ rest known bytes s0 o0 so.
-    let P : List ℕ → Type 0 = λ t. IsUnfit t c.args.script.now.answered in
-    end_unfit bytes c.args.script.now.pending rest c.args.script.now.answered s0 o0 _ c.flush.new.output c.args.input.now (subst P c.as_slice.ensures c.in-Unfit.ensures)
-        (so_far_kept bytes _ c.args.script.now.answered s0 o0 _ c.args.output.now c.flush.new.output c.flush.ensures.kept so)
+    end_unfit bytes c.args.script.now.pending rest c.args.script.now.answered s0 o0 _ c.flush.new.output c.args.input.now c.in-Unfit.ensures
+    (so_far_kept bytes _ c.args.script.now.answered s0 o0 _ c.args.output.now c.flush.new.output c.flush.ensures.kept so)

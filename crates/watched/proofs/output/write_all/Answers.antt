@@ -1,6 +1,5 @@
-use Rattle.std.proofs.Common.{arith, ◌≡◌, ◌+◌, ◌-◌, length, drop, take, ◌≤◌, subst}
+use Rattle.std.proofs.Common.{arith, ◌≡◌, ◌-◌, length, drop, take, ◌≤◌}
 use Rattle.std.proofs.lemmas.List.{take_rest, length-drop}
-use Rattle.std.specs.Io.KnownBytes.{Appends}
 use Rattle.watched.proofs.Appending.{appends_more}
 use Rattle.watched.proofs.output.write_all.Goals as goal
 
