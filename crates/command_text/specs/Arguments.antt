@@ -1,7 +1,7 @@
 -- The words after the first one of a command, by their shapes.
 use Rattle.std.specs.Prelude.{ℕ, List, [], ◌∷◌}
 use Rattle.std.specs.Fmt.{decimal}
-use Rattle.net_conf.specs.Metric.{IsMetric}
+use Rattle.igp_cost.specs.Metric.{IsMetric}
 use Rattle.net_prefix.specs.declared.addr.Addr.{Addr}
 use Rattle.net_prefix.specs.Address.{addr_text}
 use Rattle.net_prefix.specs.Block.{Block, block_text}

@@ -2,7 +2,7 @@
 
 ghost use Rattle.std.specs.Prelude.{◌≡◌, ◌↔◌, ℕ, ◌<◌, ◌^◌, IfSome, IsTrue, ⊤};
 ghost use Rattle.std.specs.Fmt.{decimal};
-ghost use Rattle.net_conf.specs.Metric.{IsMetric};
+ghost use Rattle.igp_cost.specs.Metric.{IsMetric};
 ghost use Rattle.net_prefix.specs.Address.{addr_text};
 ghost use Rattle.net_prefix.specs.Block.{block_text};
 ghost use Rattle.sim_event.specs.Events.{IsAddress, IsAsNumber, IsPrefix};

@@ -1,4 +1,3 @@
-pub mod Metric
 pub mod Refusals
 pub mod Configuration
 pub mod Edits

@@ -8,9 +8,9 @@ ghost use Rattle.net_prefix.specs.Address.{addr_cmp};
 ghost use Rattle.net_conf.specs.Edits.{edited, IsEdit};
 
 use crate::edit::Edit;
-use crate::metric::Metric;
 use crate::refusal::Refusal;
 use crate::tables::{Ends, Kind, Node, Origination};
+use igp_cost::Metric;
 use net_prefix::{Addr, Prefix};
 use path_attr::Asn;
 use seq::Copied;

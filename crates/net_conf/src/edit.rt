@@ -1,6 +1,6 @@
 //! Changes of a configuration.
 
-use crate::metric::Metric;
+use igp_cost::Metric;
 use net_prefix::{Addr, Prefix};
 use path_attr::Asn;
 

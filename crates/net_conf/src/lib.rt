@@ -4,7 +4,6 @@
 mod checks;
 mod conf;
 mod edit;
-mod metric;
 mod refusal;
 mod tables;
 #[cfg(test)]
@@ -13,6 +12,6 @@ mod tests;
 pub use checks::{MAX_LINKS, MAX_NODES, MAX_SESSIONS};
 pub use conf::Conf;
 pub use edit::Edit;
-pub use metric::Metric;
+pub use igp_cost::Metric;
 pub use refusal::Refusal;
 pub use tables::{Ends, Kind, Node, Origination};

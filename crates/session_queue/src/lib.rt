@@ -1,8 +1,15 @@
-//! What one end of a session tells the other.
+//! What one end of a session tells the other, and the queues of what is on its way.
 #![tactic(auto)]
 
+mod direction;
 mod message;
+mod queue;
+mod queues;
 #[cfg(test)]
 mod tests;
+mod view;
 
+pub use direction::Direction;
 pub use message::{Message, MessageKind};
+pub use queues::Queues;
+pub use view::View;

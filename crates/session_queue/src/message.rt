@@ -1,6 +1,6 @@
 //! A message.
 
-ghost use Rattle.std.specs.Prelude.{◌≡◌};
+ghost use Rattle.std.specs.Prelude.{◌≡◌, ◌↔◌, IsTrue};
 
 use net_prefix::Prefix;
 use path_attr::Attr;
@@ -25,6 +25,19 @@ pub enum MessageKind {
 
 impl Message {
     ghost use Rattle.session_queue.specs.Telling.{prefix_of, kind_of};
+
+    /// Whether both say the same.
+    pub fn is_same(&self, other: &Message) -> bool
+        ensures { IsTrue result ↔ (self.now ≡ other.now) }
+    {
+        match (self, other) {
+            (Message::Update(prefix, attr), Message::Update(also_prefix, also_attr)) => {
+                prefix == also_prefix && attr.is_same(also_attr)
+            }
+            (Message::Withdraw(prefix), Message::Withdraw(also_prefix)) => prefix == also_prefix,
+            _ => false,
+        }
+    }
 
     /// Whether it tells a route or takes one back.
     pub fn kind(&self) -> MessageKind

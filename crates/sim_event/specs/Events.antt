@@ -4,7 +4,7 @@ use Rattle.net_prefix.specs.declared.addr.Addr.{Addr}
 use Rattle.net_prefix.specs.Block.{Block, IsBlock}
 use Rattle.path_attr.specs.declared.path.Segment.{Segment}
 use Rattle.path_attr.specs.Path.{IsPath, numbers_of}
-use Rattle.net_conf.specs.Metric.{IsMetric}
+use Rattle.igp_cost.specs.Metric.{IsMetric}
 use Rattle.net_conf.specs.declared.edit.Edit.{Edit}
 use Rattle.net_conf.specs.declared.edit.Edit.TheVariants.{Router, Virtual, Link, Join, Origin}
 use Rattle.sim_event.specs.declared.event.Event.{Event}

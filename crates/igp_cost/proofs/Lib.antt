@@ -1,0 +1,10 @@
+mod Exact
+mod Hops
+mod Kernel
+mod Certificate
+mod Places
+mod Rows
+mod Whole
+mod Links
+mod Bridge
+mod OneTree

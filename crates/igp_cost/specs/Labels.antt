@@ -1,0 +1,129 @@
+-- Labels of nodes by their places in the list of nodes, and what holds of them while they are improved. No public contract cites this file.
+use Rattle.std.specs.Prelude.{◌≡◌, ℕ, ◌+◌, ◌*◌, ◌<◌, ◌≤◌, ◌⊎◌, ◌==◌, List, Bool, true, false, length, Contains, if◌then◌else◌, slice_index_or, Some, None, Option, IfSome, IsSomeAnd, sum_by, All}
+use Rattle.net_prefix.specs.declared.addr.Addr.{Addr}
+use Rattle.igp_cost.specs.declared.label.Label.{Label}
+use Rattle.igp_cost.specs.declared.link.Link.{Link}
+use Rattle.igp_cost.specs.Metric.{IsMetric}
+use Rattle.igp_cost.specs.Walks.{Nodes}
+
+-- what is read past the nodes
+abbrev pub nowhere : Addr × ℕ
+nowhere = (record { 0 = 0 }, 0)
+
+abbrev pub addr_at : Nodes → ℕ → Addr
+addr_at nodes i = let node = slice_index_or nodes i nowhere in node.0
+
+abbrev pub asn_at : Nodes → ℕ → ℕ
+asn_at nodes i = let node = slice_index_or nodes i nowhere in node.1
+
+abbrev pub Labels : Type 0
+Labels = List (Option Label)
+
+abbrev pub label_at : Labels → ℕ → Option Label
+label_at labels i = slice_index_or labels i None
+
+-- the label that a link offers to its end, from a label at its start
+abbrev pub extended : Nodes → ℕ → Link → Option Label → Option Label
+extended nodes s link None = None
+extended nodes s link (Some b) =
+    if asn_at nodes link.from == asn_at nodes s
+    then Some (record { cost = b.cost + link.metric; hop = if link.from == s then addr_at nodes link.to else b.hop })
+    else None
+
+abbrev pub extension : Nodes → ℕ → Labels → Link → Option Label
+extension nodes s labels link = extended nodes s link (label_at labels link.from)
+
+-- a is at least as good as b
+pub record IsNotAfter (a b : Label) : Type 0 where
+  pub cost : a.cost ≤ b.cost
+  pub hop : a.cost ≡ b.cost → a.hop.0 ≤ b.hop.0
+
+-- a is better than what is there
+abbrev pub IsBefore : Label → Option Label → Type 0
+IsBefore a None = Unit {0}
+IsBefore a (Some b) = (a.cost < b.cost) ⊎ ((a.cost ≡ b.cost) × (a.hop.0 < b.hop.0))
+
+-- the link offers its end nothing better
+abbrev pub IsClosedAt : Nodes → ℕ → Labels → Link → Type 0
+IsClosedAt nodes s labels link =
+    IfSome (extension nodes s labels link) (λ e. IsSomeAnd (label_at labels link.to) (λ b. IsNotAfter b e))
+
+abbrev pub IsClosed : Nodes → ℕ → List Link → Labels → Type 0
+IsClosed nodes s links labels = (link : Link) → Contains links link → IsClosedAt nodes s labels link
+
+-- some link into v offers l or better
+pub record IsBacked (nodes : Nodes) (s : ℕ) (links : List Link) (labels : Labels) (v : ℕ) (l : Label) : Type 0 where
+  pub link : Link
+  pub among : Contains links link
+  pub ends : link.to ≡ v
+  pub offer : Label
+  pub offered : extension nodes s labels link ≡ Some offer
+  pub enough : IsNotAfter offer l
+
+-- how many nodes have a label
+abbrev pub one : Option Label → ℕ
+one None = 0
+one (Some l) = 1
+
+abbrev pub reached : Labels → ℕ
+reached labels = sum_by one labels
+
+pub record IsSound (nodes : Nodes) (s : ℕ) (links : List Link) (labels : Labels) : Type 0 where
+  pub same_length : length labels ≡ length nodes
+  pub start : label_at labels s ≡ Some (record { cost = 0; hop = addr_at nodes s })
+  pub backed : (v : ℕ) (l : Label) → label_at labels v ≡ Some l → (v ≡ s) ⊎ IsBacked nodes s links labels v l
+  pub bounded : (v : ℕ) (l : Label) → label_at labels v ≡ Some l → l.cost ≤ 268435456 + 65535 * reached labels
+
+-- the ends of the links are nodes, and their metrics are metrics
+abbrev pub IsWithin : Nodes → List Link → Type 0
+IsWithin nodes links = All (λ l. (l.from < length nodes) × (l.to < length nodes) × IsMetric l.metric) links
+
+-- what falls with each improvement
+abbrev pub weight : Option Label → ℕ
+weight None = 18446744073709551616
+weight (Some l) = l.cost * 4294967296 + l.hop.0
+
+abbrev pub weight_of : Labels → ℕ
+weight_of labels = sum_by weight labels
+
+-- the link at a place offers its end nothing better
+abbrev pub ClosesAt : Nodes → ℕ → List Link → Labels → ℕ → Type 0
+ClosesAt nodes s links labels at = (link : Link) → slice_index_or links at link ≡ link → IsClosedAt nodes s labels link
+
+-- where the links of each node start, and where they all end
+pub record IsIndexed (nodes : Nodes) (links : List Link) (starts : List ℕ) : Type 0 where
+  pub count : length starts ≡ length nodes + 1
+  pub within : All (λ s. s ≤ length links) starts
+
+-- each label is within a limit, from which sums still fit
+abbrev pub AreLimited : Labels → Type 0
+AreLimited labels = (v : ℕ) (l : Label) → label_at labels v ≡ Some l → l.cost ≤ 268435456
+
+abbrev pub is_marked : List Bool → ℕ → Bool
+is_marked marks v = slice_index_or marks v false
+
+-- where there is a mark, a link backs the label
+abbrev pub AreBacked : Nodes → ℕ → List Link → Labels → List Bool → Type 0
+AreBacked nodes s links labels marks = (v : ℕ) (l : Label) → is_marked marks v ≡ true → label_at labels v ≡ Some l → IsBacked nodes s links labels v l
+
+-- the label of a node other than the source is marked
+abbrev pub IsMarkedAt : ℕ → Labels → List Bool → ℕ → Type 0
+IsMarkedAt s labels marks v = (l : Label) → label_at labels v ≡ Some l → (v ≡ s) ⊎ (is_marked marks v ≡ true)
+
+abbrev pub AreMarked : ℕ → Labels → List Bool → Type 0
+AreMarked s labels marks = (v : ℕ) → v < length labels → IsMarkedAt s labels marks v
+
+-- each label but the source's is backed
+abbrev pub AllBacked : Nodes → ℕ → List Link → Labels → Type 0
+AllBacked nodes s links labels = (v : ℕ) (l : Label) → label_at labels v ≡ Some l → (v ≡ s) ⊎ IsBacked nodes s links labels v l
+
+abbrev pub Starts : Nodes → ℕ → Labels → Type 0
+Starts nodes s labels = label_at labels s ≡ Some (record { cost = 0; hop = addr_at nodes s })
+
+-- the link offers its end a label at least as good as the one there
+pub record Backs (nodes : Nodes) (s : ℕ) (labels : Labels) (link : Link) : Type 0 where
+  pub offer : Label
+  pub offered : extension nodes s labels link ≡ Some offer
+  pub label : Label
+  pub there : label_at labels link.to ≡ Some label
+  pub enough : IsNotAfter offer label

@@ -1,0 +1,23 @@
+//! What has changed between two graphs.
+
+use crate::metric::Metric;
+use net_prefix::Addr;
+
+/// One edge, by its ends, that a graph has now and had not, had and has no longer, or has with another metric.
+#[derive(Clone, Copy, Debug, PartialEq, Eq)]
+pub enum Change {
+    Added(Addr, Addr, Metric),
+    Removed(Addr, Addr),
+    Changed(Addr, Addr, Metric),
+}
+
+impl Change {
+    /// The ends of the edge.
+    pub(crate) fn ends(self) -> (Addr, Addr) {
+        match self {
+            Change::Added(one, other, _) => (one, other),
+            Change::Removed(one, other) => (one, other),
+            Change::Changed(one, other, _) => (one, other),
+        }
+    }
+}

@@ -1,0 +1,28 @@
+//! What holds of costs, first hops and trees in any graph. These functions do nothing: a call gives the caller's proof what they ensure.
+
+ghost use Rattle.igp_cost.specs.Laws.{CostsAreLeast, FirstHopsAreLeast, CostsAreOne, FirstHopsAreOne, TreesAreOne};
+
+/// The specification's function `cost` is the cost of a least walk.
+pub fn costs_are_least()
+    ensures { CostsAreLeast }
+{}
+
+/// The specification's function `first_hop` is the least second address of a least walk, where edges have metrics.
+pub fn first_hops_are_least()
+    ensures { FirstHopsAreLeast }
+{}
+
+/// A router has one cost to an address.
+pub fn costs_are_one()
+    ensures { CostsAreOne }
+{}
+
+/// A router has one first hop to an address.
+pub fn first_hops_are_one()
+    ensures { FirstHopsAreOne }
+{}
+
+/// A router has one tree: `retouch` gives what `tree` gives.
+pub fn trees_are_one()
+    ensures { TreesAreOne }
+{}

@@ -1,0 +1,25 @@
+//! Interior costs: the least cost and the first hop from a router to every other, over the edges of one network.
+#![tactic(auto)]
+
+mod change;
+mod conditions;
+mod graph;
+mod label;
+mod laws;
+mod link;
+mod metric;
+mod repair;
+mod search;
+#[cfg(test)]
+mod tests;
+mod tree;
+mod wiring;
+
+pub use change::Change;
+pub use conditions::is_topology;
+pub use graph::Graph;
+pub use laws::{
+    costs_are_least, costs_are_one, first_hops_are_least, first_hops_are_one, trees_are_one,
+};
+pub use metric::Metric;
+pub use tree::Tree;

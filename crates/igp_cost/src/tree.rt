@@ -1,0 +1,123 @@
+//! The costs and first hops from one router.
+
+ghost use Rattle.std.specs.Prelude.{◌≡◌, ◌++◌, length, IfOk, OnOk};
+ghost use Rattle.igp_cost.specs.Trees.{source_of, label_in, cost_in, first_hop_in};
+ghost use Rattle.igp_cost.specs.Wired.{IsRising, row, rows_of};
+
+use crate::label::Label;
+use net_prefix::Addr;
+use path_attr::Asn;
+use seq::{Copied, Seq};
+use std::alloc::{AllocError, Global};
+use std::marker::Model;
+
+/// The least cost and the first hop from a router, its source, to each address that a walk from it reaches.
+#[derive(Debug, Drop)]
+pub struct Tree {
+    source: Addr,
+    rows: Seq<(Addr, Label)>,
+}
+
+impl Model for Tree {
+    ghost use Rattle.igp_cost.specs.Trees.{Reached};
+    ghost use Rattle.igp_cost.specs.Wired.{AreAscending};
+
+    ghost Value = { Reached };
+
+    ghost view = { λ t. record { source = t.source; labels = t.rows } };
+
+    ghost invariant = { λ t. AreAscending t.rows };
+}
+
+impl Tree {
+    /// The tree of labels by the places of their nodes.
+    pub(crate) fn from_labels(
+        alloc: Global,
+        source: Addr,
+        nodes: &[(Addr, Asn)],
+        labels: &[Option<Label>],
+    ) -> Result<Self, AllocError>
+        requires rising { IsRising nodes.now }
+        requires same_length { length labels.now ≡ length nodes.now }
+        ensures { IfOk result (λ t. t ≡ record { source = source; labels = rows_of nodes.now labels.now }) }
+    {
+        let rows = labelled(alloc, nodes, labels)?;
+        Ok(Tree {
+            source,
+            rows: Seq::of(rows),
+        })
+    }
+
+    /// The router that the tree starts from.
+    pub fn source(&self) -> Addr
+        ensures { result ≡ source_of self.now }
+    {
+        self.source
+    }
+
+    /// The least cost from the source to an address. None where there is no walk.
+    pub fn cost(&self, to: Addr) -> Option<u32>
+        ensures { result ≡ cost_in self.now to }
+    {
+        Some(self.label(to)?.cost)
+    }
+
+    /// The first hop from the source to an address: the least second address of a walk of least cost. None where there is no walk.
+    pub fn first_hop(&self, to: Addr) -> Option<Addr>
+        ensures { result ≡ first_hop_in self.now to }
+    {
+        Some(self.label(to)?.hop)
+    }
+
+    fn label(&self, to: Addr) -> Option<Label>
+        ensures { result ≡ label_in self.now to }
+    {
+        let rows = self.rows.as_slice();
+        match rows.binary_search_by_key(&to.0, |row| row.0.0) {
+            Ok(at) => Some(rows[at].1),
+            Err(_) => None,
+        }
+    }
+
+    /// The addresses that are reached, in ascending order, each with its label.
+    pub(crate) fn rows(&self) -> &[(Addr, Label)]
+        ensures { result.now ≡ self.now.labels }
+    {
+        self.rows.as_slice()
+    }
+}
+
+impl Copied for Tree {
+    fn copy(&self, alloc: Global) -> Result<Self, AllocError> {
+        Ok(Tree {
+            source: self.source,
+            rows: Seq::copy_of(alloc, self.rows.as_slice())?,
+        })
+    }
+}
+
+// Adds the row of an address, if it has a label.
+fn add(rows: &mut Vec<(Addr, Label)>, addr: Addr, label: Option<Label>) -> Result<(), AllocError>
+    ensures { OnOk result (rows.new.items ≡ rows.old.items ++ row addr label) }
+{
+    if let Some(label) = label {
+        rows.push((addr, label))?;
+    }
+    Ok(())
+}
+
+// The nodes that have a label, each with its label.
+fn labelled(
+    alloc: Global,
+    nodes: &[(Addr, Asn)],
+    labels: &[Option<Label>],
+) -> Result<Vec<(Addr, Label)>, AllocError>
+    requires same_length { length labels.now ≡ length nodes.now }
+    ensures { IfOk result (λ v. v.items ≡ rows_of nodes.now labels.now) }
+{
+    let mut rows = Vec::new(alloc);
+    for at in 0..nodes.len() {
+        add(&mut rows, nodes[at].0, labels[at])?;
+    }
+    Ok(rows)
+}

@@ -1,0 +1,87 @@
+//! Links between the places of nodes, from edges between their addresses.
+
+ghost use Rattle.std.specs.Prelude.{◌≡◌, ◌≤◌, [], ◌∷◌, ◌++◌, length, IsTrue, IfOk, OnOk};
+ghost use Rattle.igp_cost.specs.Labels.{IsIndexed};
+ghost use Rattle.igp_cost.specs.Topology.{is_node, IsTopology};
+ghost use Rattle.igp_cost.specs.Wired.{IsRising, IsFound, IsWired};
+
+use crate::conditions::place_of;
+use crate::link::Link;
+use crate::metric::Metric;
+use net_prefix::Addr;
+use path_attr::Asn;
+use std::alloc::{AllocError, Global};
+
+// The links of edges, both ways, in the order of the nodes that they leave.
+pub fn links_of(
+    alloc: Global,
+    nodes: &[(Addr, Asn)],
+    edges: &[(Addr, Addr, Metric)],
+) -> Result<Vec<Link>, AllocError>
+    requires { IsTopology nodes.now edges.now }
+    ensures { IfOk result (λ v. IsWired nodes.now edges.now v.items) }
+{
+    let mut links = both_ways(alloc, nodes, edges)?;
+    links.sort_by_key(|link| link.from)?;
+    Ok(links)
+}
+
+// The links of edges, both ways.
+fn both_ways(
+    alloc: Global,
+    nodes: &[(Addr, Asn)],
+    edges: &[(Addr, Addr, Metric)],
+) -> Result<Vec<Link>, AllocError>
+    requires { IsTopology nodes.now edges.now }
+    ensures { IfOk result (λ v. IsWired nodes.now edges.now v.items) }
+{
+    let mut links = Vec::new(alloc);
+    for (one, other, metric) in edges {
+        let from = place(nodes, *one);
+        let to = place(nodes, *other);
+        let metric = metric.cost();
+        add_both(&mut links, from, to, metric)?;
+    }
+    Ok(links)
+}
+
+// Adds the two links of an edge.
+fn add_both(links: &mut Vec<Link>, from: usize, to: usize, metric: u32) -> Result<(), AllocError>
+    ensures { OnOk result (links.new.items ≡ (links.old.items ++ record { from = from; to = to; metric = metric } ∷ []) ++ record { from = to; to = from; metric = metric } ∷ []) }
+{
+    links.push(Link { from, to, metric })?;
+    links.push(Link {
+        from: to,
+        to: from,
+        metric,
+    })?;
+    Ok(())
+}
+
+// The place of a node.
+pub fn place(nodes: &[(Addr, Asn)], addr: Addr) -> usize
+    requires rising { IsRising nodes.now }
+    requires there { IsTrue (is_node nodes.now addr) }
+    ensures { IsFound nodes.now addr result }
+{
+    match place_of(nodes, addr) {
+        Some(at) => at,
+        None => unreachable!(),
+    }
+}
+
+// Where the links of each node start, and where they all end.
+pub fn starts_of(
+    alloc: Global,
+    nodes: &[(Addr, Asn)],
+    links: &[Link],
+) -> Result<Vec<usize>, AllocError>
+    requires size { length nodes.now ≤ 4096 }
+    ensures { IfOk result (λ v. IsIndexed nodes.now links.now v.items) }
+{
+    let mut starts = Vec::with_capacity(alloc, nodes.len() + 1)?;
+    for at in 0..nodes.len() + 1 {
+        starts.push(links.partition_point(|link| link.from < at))?;
+    }
+    Ok(starts)
+}

@@ -1,0 +1,9 @@
+pub mod Blocks
+pub mod Contents
+pub mod Entries
+pub mod Growing
+pub mod Keeping
+pub mod Lengths
+pub mod Linking
+pub mod Paths
+pub mod Splicing

@@ -1,0 +1,24 @@
+-- Where a key's entry stands in a list in the order of its keys, and where it would go.
+use Rattle.std.specs.Prelude.{◌≡◌, ℕ, ◌-◌, ◌*◌, ◌/◌, ◌^◌, ◌<◌, ◌≤◌, List, length, Some, None, slice_get}
+use Rattle.std.proofs.Common.{set}
+use Rattle.std.specs.List.{insert}
+use Rattle.std.specs.FinMap.Entries.{put, find}
+use Rattle.net_prefix.specs.declared.addr.Addr.{Addr}
+use Rattle.net_prefix.specs.Block.{Block, block_cmp}
+
+-- the key's entry stands at this place
+pub record IsAt {V : Type 0} (es : List (Block × V)) (p : Block) (place : ℕ) : Type 0 where
+  pub in_range : place < length es
+  pub written : (v : V) → set es place (p, v) ≡ put block_cmp p v es
+  pub value : (e : Block × V) → slice_get es place ≡ Some e → find block_cmp p es ≡ Some e.1
+  pub key : (e : Block × V) → slice_get es place ≡ Some e → e.0 ≡ p
+
+-- the key has no entry, and would go to this place
+pub record IsFor {V : Type 0} (es : List (Block × V)) (p : Block) (place : ℕ) : Type 0 where
+  pub in_range : place ≤ length es
+  pub added : (v : V) → insert es place (p, v) ≡ put block_cmp p v es
+  pub absent : find block_cmp p es ≡ None
+
+-- the prefix of this length that contains the address
+abbrev pub block_at : Addr → ℕ → Block
+block_at a len = record { addr = record { 0 = (a.0 / (2 ^ (32 - len))) * (2 ^ (32 - len)) }; len = len }

@@ -1,0 +1,30 @@
+//! Prefixes made of addresses.
+
+ghost use Rattle.std.specs.Prelude.{◌≡◌, ◌≤◌};
+ghost use Rattle.prefix_table.specs.Places.{block_at};
+ghost use Rattle.prefix_table.specs.Tables.{is_after};
+
+use net_prefix::{Addr, Prefix};
+
+/// The prefix of this length that contains the address.
+pub(crate) fn cut(addr: Addr, len: u8) -> Prefix
+    requires { len ≤ 32 }
+    ensures { result ≡ block_at addr len }
+{
+    let size = 1u64 << (32 - len);
+    let low = u64::from(addr.0) / size * size;
+    match Prefix::new(Addr(low as u32), len) {
+        Some(prefix) => prefix,
+        None => unreachable!(),
+    }
+}
+
+/// Whether the prefix comes after the other one, if there is one.
+pub(crate) fn comes_after(prefix: Prefix, after: Option<Prefix>) -> bool
+    ensures { result ≡ is_after after prefix }
+{
+    match after {
+        None => true,
+        Some(other) => other.cmp(&prefix).is_lt(),
+    }
+}

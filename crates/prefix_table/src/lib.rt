@@ -1,0 +1,16 @@
+//! Tables from prefixes to values, with longest match and a walk in order.
+#![tactic(auto)]
+
+mod cut;
+mod descent;
+mod growth;
+mod node;
+mod sorted;
+mod table;
+#[cfg(test)]
+mod tests;
+mod trie;
+
+pub use sorted::SortedTable;
+pub use table::PrefixTable;
+pub use trie::TrieTable;

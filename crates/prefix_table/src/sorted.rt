@@ -1,0 +1,149 @@
+//! The plain table: a vector in the order of the prefixes. Look-ups halve it; an insert moves what comes after.
+
+ghost use Rattle.std.specs.Prelude.{◌≡◌, Some, None, IfOk, IfErr, OnOk, OnErr, IsTrue, slice_get};
+ghost use Rattle.std.specs.Option.{option_copied};
+ghost use Rattle.std.specs.FinMap as map;
+ghost use Rattle.std.specs.FinMap.Entries.{find, put, is_sorted};
+ghost use Rattle.std.specs.List as list;
+ghost use Rattle.net_prefix.specs.Block.{block_cmp};
+ghost use Rattle.prefix_table.specs.Tables.{seen, is_after};
+ghost use Rattle.prefix_table.specs.Places.{IsAt, IsFor};
+
+use crate::cut::{comes_after, cut};
+use crate::table::PrefixTable;
+use net_prefix::{Addr, Prefix};
+use std::alloc::Global;
+use std::marker::Model;
+
+/// A table in a sorted vector.
+#[derive(Drop)]
+pub struct SortedTable<V> {
+    entries: Vec<(Prefix, V)>,
+}
+
+impl<V> Model for SortedTable<V> {
+    ghost use Rattle.std.specs.Prelude.{IsTrue};
+    ghost use Rattle.std.specs.FinMap as map;
+    ghost use Rattle.net_prefix.specs.Block.{block_cmp};
+    ghost use Rattle.prefix_table.specs.Tables.{Table, coded_block};
+
+    ghost Value = { Table V };
+
+    ghost coded = { map.code coded_block V.code };
+
+    ghost view = { λ s. map.from_sorted s.entries.items };
+
+    ghost invariant = { λ s. IsTrue (map.is_sorted block_cmp s.entries.items) };
+}
+
+/// The place of the prefix's entry, or as an error the place where it would go.
+fn place<V>(entries: &[(Prefix, V)], prefix: Prefix) -> Result<usize, usize>
+    requires { IsTrue (is_sorted block_cmp entries.now) }
+    ensures found { IfOk result (IsAt entries.now prefix) }
+    ensures absent { IfErr result (IsFor entries.now prefix) }
+{
+    let at = entries.partition_point(|entry| prefix.cmp(&entry.0).is_gt());
+    match entries.get(at) {
+        Some(entry) if prefix.cmp(&entry.0).is_eq() => Ok(at),
+        _ => Err(at),
+    }
+}
+
+/// The prefix's value.
+fn find_in<V>(entries: &[(Prefix, V)], prefix: Prefix) -> Option<&V>
+    requires { IsTrue (is_sorted block_cmp entries.now) }
+    ensures { option_copied result ≡ find block_cmp prefix entries.now }
+{
+    match place(entries, prefix) {
+        Ok(at) => Some(&entries[at].1),
+        Err(_) => None,
+    }
+}
+
+/// The first entry after this prefix, or the first of all.
+fn next_in<V>(entries: &[(Prefix, V)], after: Option<Prefix>) -> Option<(Prefix, &V)>
+    requires { IsTrue (is_sorted block_cmp entries.now) }
+    ensures { seen result ≡ list.find (λ e. is_after after e.0) entries.now }
+{
+    let at = entries.partition_point(|entry| !comes_after(entry.0, after));
+    match entries.get(at) {
+        Some(entry) => Some((entry.0, &entry.1)),
+        None => None,
+    }
+}
+
+/// Gives the prefix this value.
+fn put_in<V: Drop>(entries: &mut Vec<(Prefix, V)>, prefix: Prefix, value: V) -> Result<Option<V>, V>
+    requires { IsTrue (is_sorted block_cmp entries.old.items) }
+    ensures before { IfOk result (λ before. before ≡ find block_cmp prefix entries.old.items) }
+    ensures inserted { OnOk result (entries.new.items ≡ put block_cmp prefix value entries.old.items) }
+    ensures back { IfErr result (λ back. back ≡ value) }
+    ensures same { OnErr result (entries.new.items ≡ entries.old.items) }
+{
+    match place(entries, prefix) {
+        Ok(at) => {
+            let entry = &mut entries[at];
+            Ok(Some(std::mem::replace(&mut entry.1, value)))
+        }
+        Err(at) => match entries.insert(at, (prefix, value)) {
+            Ok(()) => Ok(None),
+            Err(failed) => Err(failed.value.1),
+        },
+    }
+}
+
+/// Gives a prefix that has a value this one.
+fn replace_in<V>(entries: &mut Vec<(Prefix, V)>, prefix: Prefix, value: V) -> Result<V, V>
+    requires { IsTrue (is_sorted block_cmp entries.old.items) }
+    ensures before { IfOk result (λ before. find block_cmp prefix entries.old.items ≡ Some before) }
+    ensures replaced { OnOk result (entries.new.items ≡ put block_cmp prefix value entries.old.items) }
+    ensures back { IfErr result (λ back. back ≡ value) }
+    ensures absent { OnErr result (find block_cmp prefix entries.old.items ≡ None) }
+    ensures same { OnErr result (entries.new.items ≡ entries.old.items) }
+{
+    match place(entries, prefix) {
+        Ok(at) => {
+            let entry = &mut entries[at];
+            Ok(std::mem::replace(&mut entry.1, value))
+        }
+        Err(_) => Err(value),
+    }
+}
+
+impl<V: Drop> PrefixTable<V> for SortedTable<V> {
+    ghost table = { λ s. s };
+
+    fn new(alloc: Global) -> Self {
+        SortedTable {
+            entries: Vec::new(alloc),
+        }
+    }
+
+    fn get(&self, prefix: Prefix) -> Option<&V> {
+        find_in(&self.entries, prefix)
+    }
+
+    fn insert(&mut self, prefix: Prefix, value: V) -> Result<Option<V>, V> {
+        put_in(&mut self.entries, prefix, value)
+    }
+
+    fn replace(&mut self, prefix: Prefix, value: V) -> Result<V, V> {
+        replace_in(&mut self.entries, prefix, value)
+    }
+
+    fn longest(&self, addr: Addr, most: u8) -> Option<(Prefix, &V)> {
+        let mut lengths = most.min(32) + 1;
+        while lengths > 0 {
+            lengths -= 1;
+            let prefix = cut(addr, lengths);
+            if let Some(value) = self.get(prefix) {
+                return Some((prefix, value));
+            }
+        }
+        None
+    }
+
+    fn next_after(&self, after: Option<Prefix>) -> Option<(Prefix, &V)> {
+        next_in(&self.entries, after)
+    }
+}

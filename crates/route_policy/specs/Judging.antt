@@ -1,0 +1,44 @@
+-- Policies: ordered lists of rules, of which the first that matches decides.
+use Rattle.std.specs.Prelude.{◌≡◌, Bool, true, ◌/◌, ◌-◌, ◌^◌, ◌==◌, ◌&&◌, nat_le, List, find, Some, None, option_map, unwrap_or, IsTrue}
+use Rattle.net_prefix.specs.Block.{Block, Covers, same_block}
+use Rattle.path_attr.specs.declared.attr.Attr.{Attr}
+use Rattle.path_attr.specs.Number.{same_number}
+use Rattle.path_attr.specs.Path.{holds, neighbour}
+use Rattle.route_policy.specs.declared.rule.Match.{Match}
+use Rattle.route_policy.specs.declared.rule.Match.TheVariants.{Any, Is, Under, Path, First}
+use Rattle.route_policy.specs.declared.rule.Action.{Action}
+use Rattle.route_policy.specs.declared.rule.Action.TheVariants.{Permit}
+use Rattle.route_policy.specs.declared.rule.Rule.{Rule}
+
+-- what a rule asks of a route to prefix p with attributes a
+abbrev pub Meets : Match → Block → Attr → Type 0
+-- nothing
+Meets Any p a = Unit {0}
+-- it goes to this very prefix
+Meets (Is q) p a = q ≡ p
+-- it goes to this prefix, or to a part of it
+Meets (Under q) p a = Covers q p
+-- the AS stands in its path, in a sequence or in a set
+Meets (Path n) p a = IsTrue (holds n a.path)
+-- the AS is its neighbouring AS
+Meets (First n) p a = neighbour a.path ≡ Some n
+
+-- whether the second block is the first or a part of it
+abbrev pub covers : Block → Block → Bool
+covers q p = nat_le q.len p.len && p.addr.0 / 2 ^ (32 - q.len) == q.addr.0 / 2 ^ (32 - q.len)
+
+-- whether a route to the prefix with these attributes meets it
+abbrev pub matches : Match → Block → Attr → Bool
+matches Any p a = true
+matches (Is q) p a = same_block q p
+matches (Under q) p a = covers q p
+matches (Path n) p a = holds n a.path
+matches (First n) p a = same_number (neighbour a.path) (Some n)
+
+-- a permit without settings
+abbrev pub plain_permit : Action
+plain_permit = Permit None None None
+
+-- what becomes of the route: the action of the first rule that matches it, and a plain permit where none does
+unfoldable pub judged : List Rule → Block → Attr → Action
+judged rules p a = unwrap_or (option_map (λ r. r.act) (find (λ r. matches r.cond p a) rules)) plain_permit

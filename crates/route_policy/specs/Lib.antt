@@ -1,0 +1,5 @@
+pub mod Repeats
+pub mod Limits
+pub mod Judging
+pub mod Sameness
+pub mod Faults

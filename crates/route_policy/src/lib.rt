@@ -1,0 +1,12 @@
+//! Policies: the rules by which a router denies routes, or permits them with settings.
+#![tactic(auto)]
+
+mod policy;
+mod repeat;
+mod rule;
+#[cfg(test)]
+mod tests;
+
+pub use policy::{AddFault, MAX_RULES, Policy, judge};
+pub use repeat::Repeat;
+pub use rule::{Action, Match, Rule};

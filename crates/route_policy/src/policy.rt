@@ -1,0 +1,191 @@
+//! Policies.
+
+ghost use Rattle.std.specs.Prelude.{◌≡◌, ◌↔◌, ◌≤◌, ◌∷◌, ◌++◌, [], length, find, option_map, IsTrue, OnOk, OnErr, IsErrOf};
+ghost use Rattle.route_policy.specs.Judging.{matches, judged};
+ghost use Rattle.route_policy.specs.Limits.{rule_limit, is_full};
+ghost use Rattle.route_policy.specs.Sameness.{same_policy};
+ghost use Rattle.route_policy.specs.declared.policy.AddFault.TheVariants.{Limit};
+
+use crate::rule::{Action, Rule};
+use net_prefix::Prefix;
+use path_attr::Attr;
+use seq::Copied;
+use std::alloc::{AllocError, Global};
+use std::error::Error;
+use std::fmt;
+use std::marker::Model;
+
+/// The most rules that a policy takes.
+pub const MAX_RULES: usize = 256;
+
+/// Why a rule is not added.
+#[derive(Clone, Copy, Debug, PartialEq, Eq)]
+pub enum AddFault {
+    /// The policy has 256 rules.
+    Limit,
+    /// Memory was refused.
+    Memory,
+}
+
+impl fmt::Display for AddFault {
+    ghost use Rattle.std.specs.Prelude.{Some};
+    ghost use Rattle.route_policy.specs.Faults.{fault_text};
+
+    ghost output = { λ f. Some (fault_text f) };
+
+    #[tactic(auto, unfolding(crate::specs::Faults::fault_text))]
+    fn fmt<W: fmt::Write>(&self, f: &mut fmt::Formatter<W>) -> fmt::Result {
+        match self {
+            AddFault::Limit => write!(f, "the policy has 256 rules"),
+            AddFault::Memory => write!(f, "out of memory"),
+        }
+    }
+}
+
+impl Error for AddFault {}
+
+/// An ordered list of rules, at most 256. The first that matches a route decides what becomes of it.
+#[derive(Debug, Drop)]
+pub struct Policy {
+    rules: Vec<Rule>,
+}
+
+impl Model for Policy {
+    ghost use Rattle.std.specs.Prelude.{List, ◌≤◌, length};
+    ghost use Rattle.route_policy.specs.declared.rule.Rule.{Rule};
+    ghost use Rattle.route_policy.specs.Limits.{rule_limit};
+
+    ghost Value = { List Rule };
+
+    ghost view = { λ p. p.rules.items };
+
+    ghost invariant = { λ p. length p.rules.items ≤ rule_limit };
+}
+
+impl Policy {
+    /// The policy without rules: it permits each route as it is. It takes no memory.
+    pub fn new(alloc: Global) -> Policy
+        ensures { result ≡ [] }
+    {
+        Policy {
+            rules: Vec::new(alloc),
+        }
+    }
+
+    /// The rules, in order.
+    pub fn rules(&self) -> &[Rule]
+        ensures value { result.now ≡ self.now }
+        ensures limit { length self.now ≤ rule_limit }
+    {
+        &self.rules
+    }
+
+    /// How many rules there are.
+    pub fn len(&self) -> usize
+        ensures { result ≡ length self.now }
+    {
+        self.rules.len()
+    }
+
+    /// Whether there is no rule.
+    pub fn is_empty(&self) -> bool
+        ensures { IsTrue result ↔ (self.now ≡ []) }
+    {
+        self.rules.is_empty()
+    }
+
+    /// Whether it takes no more rules: it has 256.
+    pub fn is_full(&self) -> bool
+        ensures value { result ≡ is_full self.now }
+        ensures meaning { IsTrue result ↔ (rule_limit ≤ length self.now) }
+    {
+        self.len() >= MAX_RULES
+    }
+
+    /// Whether both have the same rules in the same order.
+    #[tactic(auto, using(crate::specs::Sameness::told_policies))]
+    pub fn is_same(&self, other: &Policy) -> bool
+        ensures value { result ≡ same_policy self.now other.now }
+        ensures meaning { IsTrue result ↔ (self.now ≡ other.now) }
+    {
+        self == other
+    }
+
+    /// Adds a rule at the end. A fault changes nothing: the limit where there are 256 rules, else want of memory.
+    pub fn add(&mut self, rule: Rule) -> Result<(), AddFault>
+        ensures ok { OnOk result (self.new ≡ self.old ++ rule ∷ []) }
+        ensures err { OnErr result (self.new ≡ self.old) }
+        ensures limit { IsErrOf result Limit ↔ (rule_limit ≤ length self.old) }
+    {
+        if self.is_full() {
+            return Err(AddFault::Limit);
+        }
+        // A slice of one, since the proof of a `push` of a rule is not generated.
+        self.rules
+            .extend_from_slice(&[rule])
+            .map_err(|_| AddFault::Memory)
+    }
+
+    /// Takes all rules away.
+    pub fn clear(&mut self)
+        ensures { self.new ≡ [] }
+    {
+        self.rules.clear();
+    }
+}
+
+/// What becomes of a route to the prefix with these attributes: the action of the first rule that matches it, and
+/// a plain permit where none does.
+#[tactic(auto, unfolding(crate::specs::Judging::judged))]
+pub fn judge(policy: &Policy, prefix: Prefix, attr: &Attr) -> Action
+    ensures { result ≡ judged policy.now prefix attr.now }
+{
+    first_action(policy.rules(), prefix, attr).unwrap_or(Action::PLAIN_PERMIT)
+}
+
+/// The action of the first rule that a route to the prefix with these attributes matches.
+fn first_action(rules: &[Rule], prefix: Prefix, attr: &Attr) -> Option<Action>
+    ensures { result ≡ option_map (λ r. r.act) (find (λ r. matches r.cond prefix attr.now) rules.now) }
+{
+    rules
+        .iter()
+        .find(|r| r.cond.matches(prefix, attr))
+        .map(|r| r.act)
+}
+
+impl Copied for Policy {
+    fn copy(&self, alloc: Global) -> Result<Policy, AllocError> {
+        Ok(Policy {
+            rules: Vec::from_slice(alloc, &self.rules)?,
+        })
+    }
+}
+
+impl Clone for Policy {
+    ghost is_clone = { λ policy again. again ≡ policy };
+
+    fn clone(&self) -> Result<Policy, AllocError> {
+        Ok(Policy {
+            rules: self.rules.clone()?,
+        })
+    }
+}
+
+/// Whether both are the same rules in the same order.
+fn are_same(rules: &[Rule], others: &[Rule]) -> bool
+    ensures { result ≡ same_policy rules.now others.now }
+{
+    rules == others
+}
+
+impl PartialEq for Policy {
+    ghost use Rattle.route_policy.specs.Sameness.{same_policy, policy_per};
+
+    ghost eq = { same_policy };
+
+    ghost laws = { policy_per };
+
+    fn eq(&self, other: &Policy) -> bool {
+        are_same(&self.rules, &other.rules)
+    }
+}

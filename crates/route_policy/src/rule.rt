@@ -1,0 +1,74 @@
+//! Rules of a policy.
+
+ghost use Rattle.std.specs.Prelude.{◌≡◌, ◌↔◌, IsTrue};
+
+use crate::repeat::Repeat;
+use net_prefix::Prefix;
+use path_attr::{Asn, Attr};
+
+/// Which routes a rule is about.
+#[derive(Clone, Copy, Debug, PartialEq, Eq)]
+pub enum Match {
+    /// Any route.
+    Any,
+    /// The routes to this prefix.
+    Is(Prefix),
+    /// The routes to the prefixes that this one covers, itself included.
+    Under(Prefix),
+    /// The routes whose path holds the AS, in a sequence or in a set.
+    Path(Asn),
+    /// The routes that came through this neighbouring AS: none whose path is empty or begins with a set.
+    First(Asn),
+}
+
+/// What becomes of a route.
+#[derive(Clone, Copy, Debug, PartialEq, Eq)]
+pub enum Action {
+    /// It is left out.
+    Deny,
+    /// It passes, with those settings that are given.
+    Permit {
+        /// Its LOCAL_PREF.
+        pref: Option<u32>,
+        /// Its MULTI_EXIT_DISC.
+        med: Option<u32>,
+        /// How many more times than once the own AS is put in front of its path.
+        prepend: Option<Repeat>,
+    },
+}
+
+impl Action {
+    /// A permit without settings.
+    pub const PLAIN_PERMIT: Action = Action::Permit {
+        pref: None,
+        med: None,
+        prepend: None,
+    };
+}
+
+/// A rule: what becomes of the routes that it is about.
+#[derive(Clone, Copy, Debug, PartialEq, Eq)]
+pub struct Rule {
+    /// Which routes it is about.
+    pub cond: Match,
+    /// What becomes of them.
+    pub act: Action,
+}
+
+impl Match {
+    ghost use Rattle.route_policy.specs.Judging.{Meets, matches};
+
+    /// Whether a route to the prefix with these attributes is one of them.
+    pub fn matches(self, prefix: Prefix, attr: &Attr) -> bool
+        ensures value { result ≡ matches self prefix attr.now }
+        ensures meaning { IsTrue result ↔ Meets self prefix attr.now }
+    {
+        match self {
+            Match::Any => true,
+            Match::Is(block) => block == prefix,
+            Match::Under(block) => block.covers(&prefix),
+            Match::Path(asn) => attr.path.holds(asn),
+            Match::First(asn) => attr.path.neighbour() == Some(asn),
+        }
+    }
+}

@@ -1,0 +1,206 @@
+//! The queues of all directions.
+
+ghost use Rattle.std.specs.Prelude.{◌≡◌, ℕ, ◌+◌, ◌<◌, ◌↔◌, [], ◌∷◌, ◌++◌, length, max, drop, slice_get, option_map, option_copied, find, IsTrue, IfSome, OnOk, OnErr};
+
+use crate::direction::Direction;
+use crate::message::Message;
+use crate::queue::Queue;
+use crate::view::View;
+use net_prefix::Addr;
+use std::alloc::{AllocError, Global};
+use std::collections::BTreeMap;
+use std::marker::Model;
+use std::ops::Bound;
+
+/// In each direction of a session the messages on their way, the head first, and how many more it has places for.
+#[derive(Debug, Drop)]
+pub struct Queues {
+    alloc: Global,
+    /// The directions with a message or a spare place.
+    queues: BTreeMap<Direction, Queue>,
+    /// How many directions have a message.
+    full: usize,
+}
+
+impl Model for Queues {
+    ghost use Rattle.session_queue.specs.Waiting.{WaitingByDirection};
+    ghost use Rattle.session_queue.specs.Tidy.{IsTidy};
+
+    ghost Value = { WaitingByDirection };
+
+    ghost view = { λ q. q.queues.entries };
+
+    ghost invariant = { λ q. IsTidy q.queues.entries q.full };
+}
+
+impl Queues {
+    ghost use Rattle.std.specs.BTreeMap.Range.{entries_between};
+    ghost use Rattle.std.specs.List.Sorted.{IsStrictlySortedBy};
+    ghost use Rattle.std.specs.Map.{keys_of};
+    ghost use Rattle.session_queue.specs.Tidy.{has_message, start_past};
+    ghost use Rattle.session_queue.specs.Telling.{message_of};
+    ghost use Rattle.session_queue.specs.Waiting.{direction_cmp, queue_at, spare_at, waiting_at, KeepsOthers, IsQuiet, IsPast, SkipsNone};
+
+    /// No message, and no spare place, in any direction. It takes no memory.
+    #[tactic(auto, unfolding(crate::specs::Waiting::queue_at, crate::specs::Waiting::spare_at))]
+    pub fn new(alloc: Global) -> Self
+        ensures messages { IsQuiet result }
+        ensures spare { (from to : Addr) → spare_at result from to ≡ 0 }
+    {
+        Queues {
+            alloc,
+            queues: BTreeMap::new(alloc),
+            full: 0,
+        }
+    }
+
+    /// Sees to it that the direction has places for n more messages. Only this call takes memory. An error changes nothing.
+    pub fn reserve(&mut self, from: Addr, to: Addr, n: usize) -> Result<(), AllocError>
+        ensures spare { OnOk result (spare_at self.new from to ≡ max n (spare_at self.old from to)) }
+        ensures queue { queue_at self.new from to ≡ queue_at self.old from to }
+        ensures others { KeepsOthers from to self.old self.new }
+        ensures err { OnErr result (self.new ≡ self.old) }
+    {
+        if n == 0 {
+            return Ok(());
+        }
+        let direction = Direction { from, to };
+        if let Some(queue) = self.queues.get_mut(&direction) {
+            return queue.reserve(n);
+        }
+        let queue = Queue::with_spare(self.alloc, n)?;
+        self.queues.insert(direction, queue)?;
+        Ok(())
+    }
+
+    /// Adds a message at the end of the direction's queue. It takes one of the spare places, and no memory.
+    pub fn push(&mut self, from: Addr, to: Addr, message: Message)
+        requires { 0 < spare_at self.old from to }
+        ensures queue { queue_at self.new from to ≡ queue_at self.old from to ++ message ∷ [] }
+        ensures spare { spare_at self.new from to + 1 ≡ spare_at self.old from to }
+        ensures others { KeepsOthers from to self.old self.new }
+    {
+        // No more directions have a message than there are, so one more can be counted.
+        prove!(self.full <= self.queues.len());
+        let Some(queue) = self.queues.get_mut(&Direction { from, to }) else {
+            unreachable!()
+        };
+        self.full += usize::from(queue.is_empty());
+        queue.push(message);
+    }
+
+    /// How many messages are on their way in the direction.
+    #[tactic(auto, unfolding(crate::specs::Waiting::queue_at))]
+    pub fn len(&self, from: Addr, to: Addr) -> usize
+        ensures { result ≡ length (queue_at self.now from to) }
+    {
+        self.queue(from, to).map_or(0, |queue| queue.len())
+    }
+
+    /// How many more messages the direction has places for.
+    #[tactic(auto, unfolding(crate::specs::Waiting::spare_at))]
+    pub fn spare(&self, from: Addr, to: Addr) -> usize
+        ensures { result ≡ spare_at self.now from to }
+    {
+        self.queue(from, to).map_or(0, |queue| queue.spare())
+    }
+
+    /// The message at the place of the direction's queue, the head's being 0.
+    #[tactic(auto, unfolding(crate::specs::Waiting::queue_at))]
+    pub fn at(&self, from: Addr, to: Addr, n: usize) -> Option<View<'_>>
+        ensures { option_map message_of result ≡ slice_get (queue_at self.now from to) n }
+    {
+        self.queue(from, to)?.at(n)
+    }
+
+    /// The head of the direction's queue.
+    pub fn head(&self, from: Addr, to: Addr) -> Option<View<'_>>
+        ensures { option_map message_of result ≡ slice_get (queue_at self.now from to) 0 }
+    {
+        self.at(from, to, 0)
+    }
+
+    /// Removes the head of the direction's queue, if there is one, and says whether there was.
+    pub fn pop(&mut self, from: Addr, to: Addr) -> bool
+        ensures had { IsTrue result ↔ (0 < length (queue_at self.old from to)) }
+        ensures queue { queue_at self.new from to ≡ drop 1 (queue_at self.old from to) }
+        ensures spare { spare_at self.new from to ≡ spare_at self.old from to }
+        ensures others { KeepsOthers from to self.old self.new }
+    {
+        let served = Direction { from, to };
+        let Some(queue) = self.queues.get_mut(&served) else {
+            return false;
+        };
+        self.full -= usize::from(queue.len() == 1);
+        let popped = queue.pop();
+        if queue.is_blank() {
+            drop(self.queues.remove(&served));
+        }
+        popped
+    }
+
+    /// Removes all messages of the direction.
+    pub fn clear(&mut self, from: Addr, to: Addr)
+        ensures queue { queue_at self.new from to ≡ [] }
+        ensures spare { spare_at self.new from to ≡ spare_at self.old from to }
+        ensures others { KeepsOthers from to self.old self.new }
+    {
+        let silenced = Direction { from, to };
+        let Some(queue) = self.queues.get_mut(&silenced) else {
+            return;
+        };
+        self.full -= usize::from(!queue.is_empty());
+        queue.clear();
+        if queue.is_blank() {
+            drop(self.queues.remove(&silenced));
+        }
+    }
+
+    /// Whether no message is on its way in any direction.
+    pub fn all_empty(&self) -> bool
+        ensures { IsTrue result ↔ IsQuiet self.now }
+    {
+        self.full == 0
+    }
+
+    /// The next direction with a message, by sender, then by receiver: the first of all, or the first past the one
+    /// that is given.
+    pub fn next_full(&self, past: Option<(Addr, Addr)>) -> Option<(Addr, Addr)>
+        ensures full { IfSome result (λ found. 0 < length (queue_at self.now found.0 found.1)) }
+        ensures past { IfSome result (IsPast past) }
+        ensures none_between { SkipsNone self.now past result }
+    {
+        self.first_full(Self::start_past(past))
+            .map(|direction| (direction.from, direction.to))
+    }
+
+    /// Where the directions past this one begin.
+    fn start_past(past: Option<(Addr, Addr)>) -> Bound<Direction>
+        ensures { result ≡ start_past past }
+    {
+        match past {
+            Some((from, to)) => Bound::Excluded(Direction { from, to }),
+            None => Bound::Unbounded,
+        }
+    }
+
+    /// The first direction with a message, from the start on.
+    fn first_full(&self, start: Bound<Direction>) -> Option<Direction>
+        ensures ordered { IsStrictlySortedBy direction_cmp (keys_of self.now) }
+        ensures first { result ≡ option_map (λ e. e.0) (find (λ e. has_message e.1) (entries_between direction_cmp start Bound.Unbounded self.now)) }
+    {
+        for (direction, queue) in self.queues.range((start, Bound::Unbounded)) {
+            if !queue.is_empty() {
+                return Some(*direction);
+            }
+        }
+        None
+    }
+
+    /// The queue of the direction, where it has a message or a spare place.
+    fn queue(&self, from: Addr, to: Addr) -> Option<&Queue>
+        ensures { option_copied result ≡ waiting_at self.now from to }
+    {
+        self.queues.get(&Direction { from, to })
+    }
+}

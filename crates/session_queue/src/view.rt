@@ -1,0 +1,42 @@
+//! A message that stays in its queue.
+
+ghost use Rattle.std.specs.Prelude.{◌≡◌, IfOk};
+
+use crate::message::Message;
+use net_prefix::Prefix;
+use path_attr::Attr;
+use seq::Copied;
+use std::alloc::{AllocError, Global};
+
+/// A message, borrowed from its queue.
+#[derive(Clone, Copy, Debug, PartialEq)]
+pub enum View<'a> {
+    /// A route to the prefix, in place of any that was told before.
+    Update(Prefix, &'a Attr),
+    /// The route that was told is no more.
+    Withdraw(Prefix),
+}
+
+impl<'a> View<'a> {
+    ghost use Rattle.session_queue.specs.Telling.{message_of};
+
+    /// The message, borrowed.
+    pub fn of(message: &'a Message) -> Self
+        ensures { message_of result ≡ message.now }
+    {
+        match message {
+            Message::Update(prefix, attr) => View::Update(*prefix, attr),
+            Message::Withdraw(prefix) => View::Withdraw(*prefix),
+        }
+    }
+
+    /// A copy of the message.
+    pub fn to_message(&self, alloc: Global) -> Result<Message, AllocError>
+        ensures { IfOk result (λ message. message ≡ message_of self.now) }
+    {
+        match self {
+            View::Update(prefix, attr) => Ok(Message::Update(*prefix, attr.copy(alloc)?)),
+            View::Withdraw(prefix) => Ok(Message::Withdraw(*prefix)),
+        }
+    }
+}
