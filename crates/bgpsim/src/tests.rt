@@ -1,9 +1,14 @@
 //! Whole scripts, served without a process.
 
+mod examples;
 mod faults;
+mod limits;
 mod lines;
+mod reflection;
 mod refusals;
 mod rows;
+mod selection;
+mod whole;
 
 use crate::command_line::{Choice, choose};
 use crate::script::run_script;
@@ -40,6 +45,14 @@ fn check(
     status: u8,
 ) -> Result<(), Fail> {
     check_bytes(rt, script.as_bytes(), replies, "", status)
+}
+
+/// Adds the text so many times.
+fn push_times(to: &mut String, text: &str, count: usize) -> Result<(), Fail> {
+    for _ in 0..count {
+        to.push_str(text)?;
+    }
+    Ok(())
 }
 
 #[test]

@@ -1,22 +1,31 @@
--- The first word of an event tells its kind, and so which words follow.
-use Rattle.std.proofs.Common.{◌≡◌, ℕ, List, [], ◌∷◌, cond, true, false, zero, suc, nat_lt, codes, refl, sym, ap, ◌∙◌, subst, arith}
-use Rattle.std.specs.List.{list_all}
-use Rattle.std.specs.Str.{bytes_eq, IsAscii, IsUtf8}
-use Rattle.std.proofs.lemmas.Bool.{both_ways, and_parts, ltb-true}
-use Rattle.std.proofs.lemmas.Str.{IsUtf8-from_ascii}
+-- The first word of an event tells its shape, and so which words follow.
+use Rattle.std.proofs.Common.{◌≡◌, ℕ, Bool, List, [], ◌∷◌, cond, false, codes, refl, sym, subst}
+use Rattle.std.specs.List.{list_any}
+use Rattle.std.specs.Str.{bytes_eq}
+use Rattle.std.proofs.lemmas.Bool.{both_ways}
 use Rattle.std.proofs.lemmas.Slice.Eq.{bytes_eq-Decides}
-use Rattle.net_prefix.specs.declared.addr.Addr.{Addr}
 use Rattle.net_prefix.specs.Address.{addr_text}
-use Rattle.net_conf.specs.declared.edit.Edit.{Edit}
-use Rattle.net_conf.specs.declared.edit.Edit.TheVariants.{Router, Virtual, Link, Join, Origin}
+use Rattle.net_conf.specs.declared.edit.Edit.TheVariants.{Router, Virtual, Link, Metric, Fail, Mend, Join, Stop, Start, Client, OwnNext, Cluster, Rule as AddRule, Clear, Origin, NoOrigin}
 use Rattle.sim_event.specs.declared.event.Event.{Event}
 use Rattle.sim_event.specs.declared.event.Event.TheVariants.{Edit as AnEdit, Feed as AFeed, Deliver, Ask as AnAsk}
-use Rattle.sim_event.specs.declared.event.News.{News}
-use Rattle.sim_event.specs.declared.event.Ask.{Ask}
-use Rattle.sim_event.specs.declared.event.Ask.TheVariants.{Routes}
+use Rattle.sim_event.specs.declared.event.Ask.TheVariants.{Routes, Best, Why, In, Out, Queue, Quiet, Cost, Trace}
+use Rattle.sim_event.specs.declared.event.Feed.{Feed}
 use Rattle.sim_event.specs.Events.{IsAddress, IsEvent, IsNews}
-use Rattle.command_text.specs.Words.{words_of, edit_words, ask_words, news_words}
-use Rattle.command_text.specs.Arguments.{AreAddresses, addresses_words, IsNumberedAddress, numbered_words, AreEndsAndMetric, metric_words, IsAddressAndPrefix, prefix_words}
+use Rattle.command_text.specs.declared.verb.Verb.{Verb}
+use Rattle.command_text.specs.declared.verb.Verb.TheVariants as verb
+use Rattle.command_text.specs.declared.verb.NodeVerb.{NodeVerb}
+use Rattle.command_text.specs.declared.verb.NodeVerb.TheVariants as node
+use Rattle.command_text.specs.declared.verb.LinkVerb.{LinkVerb}
+use Rattle.command_text.specs.declared.verb.LinkVerb.TheVariants as link
+use Rattle.command_text.specs.declared.verb.PairVerb.{PairVerb}
+use Rattle.command_text.specs.declared.verb.PairVerb.TheVariants as pair
+use Rattle.command_text.specs.declared.verb.SwitchVerb.{SwitchVerb}
+use Rattle.command_text.specs.declared.verb.SwitchVerb.TheVariants as switch
+use Rattle.command_text.specs.declared.verb.PrefixVerb.{PrefixVerb}
+use Rattle.command_text.specs.declared.verb.PrefixVerb.TheVariants as prefix
+use Rattle.command_text.specs.Words.{words_of, news_words}
+use Rattle.command_text.specs.Verbs.{verb_word, node_word, link_word, pair_word, setting_word, prefix_word}
+use Rattle.command_text.specs.Arguments.{AreAddresses, addresses_words, IsNumberedAddress, numbered_words, AreEndsAndMetric, metric_words, IsAddressAndPrefix, prefix_words, AreEnds, switch_words, way_words, IsAddedRule, added_words}
 
 -- two words that a test tells apart
 pub differ : (a b : List ℕ) → bytes_eq a b ≡ false → a ≡ b → ⊥
@@ -34,131 +43,152 @@ more_words (word ∷ words) = words
 abbrev pub Shaped : {X : Type 0} → (X → Type 0) → (X → List (List ℕ)) → List (List ℕ) → Type 0
 Shaped {X} IsIn spelling words = (x : X) × IsIn x × (words ≡ spelling x)
 
--- another first word
-other_word : (key : List ℕ) (e : Event) (words : List (List ℕ)) → bytes_eq key (head_word (words_of e)) ≡ false → key ∷ words ≡ words_of e → ⊥
-other_word key e words other s = differ key (head_word (words_of e)) other (ap head_word s)
+-- what follows the first word of a feed
+abbrev pub IsFeed : Feed → Type 0
+IsFeed f = IsAddress f.from × IsAddress f.to × IsNews f.news
 
--- 1 to 3 for the first words of feeds, deliveries and questions, and 0 for those of edits
-family : List ℕ → ℕ
-family word = cond (bytes_eq word (codes "feed")) 1 (cond (bytes_eq word (codes "deliver")) 2 (cond (bytes_eq word (codes "routes")) 3 0))
+abbrev pub feed_words : Feed → List (List ℕ)
+feed_words f = addr_text f.from ∷ addr_text f.to ∷ news_words f.news
 
-abbrev family_of : Event → ℕ
-family_of (AnEdit e) = 0
-family_of (AFeed f) = 1
-family_of (Deliver a b) = 2
-family_of (AnAsk q) = 3
+-- the shapes of commands
+data Shape : Type 0 where
+  nodes : Shape
+  links : Shape
+  pairs : Shape
+  switches : Shape
+  prefixes : Shape
+  rules : Shape
+  clears : Shape
+  feeds : Shape
+  others : Shape
 
-edit_family : (e : Edit) → family (head_word (edit_words e)) ≡ 0
-unfolding family
-edit_family (Router a n) = refl
-edit_family e = refl
+-- what follows the first word
+Follows : Shape → List (List ℕ) → Type 0
+Follows nodes words = Shaped IsNumberedAddress numbered_words words
+Follows links words = Shaped AreEndsAndMetric metric_words words
+Follows pairs words = Shaped AreAddresses addresses_words words
+Follows switches words = Shaped AreEnds switch_words words
+Follows prefixes words = Shaped IsAddressAndPrefix prefix_words words
+Follows rules words = Shaped IsAddedRule added_words words
+Follows clears words = Shaped AreEnds way_words words
+Follows feeds words = Shaped IsFeed feed_words words
+Follows others words = Unit {0}
 
-ask_family : (q : Ask) → family (head_word (ask_words q)) ≡ 3
-unfolding family
-ask_family (Routes r) = refl
+is_one : List (List ℕ) → List ℕ → Bool
+is_one words word = list_any (bytes_eq word) words
 
-event_family : (e : Event) → family (head_word (words_of e)) ≡ family_of e
-unfolding family
-event_family (AnEdit e) = edit_family e
-event_family (AFeed f) = refl
-event_family (Deliver a b) = refl
-event_family (AnAsk q) = ask_family q
+shape_of : List ℕ → Shape
+shape_of word =
+    cond (is_one (codes "router" ∷ codes "virtual" ∷ []) word) nodes
+    (cond (is_one (codes "link" ∷ codes "metric" ∷ []) word) links
+    (cond (is_one (codes "client" ∷ codes "self" ∷ []) word) switches
+    (cond (is_one (codes "origin" ∷ codes "noorigin" ∷ codes "best" ∷ codes "why" ∷ []) word) prefixes
+    (cond (is_one (codes "rule" ∷ []) word) rules
+    (cond (is_one (codes "clear" ∷ []) word) clears
+    (cond (is_one (codes "feed" ∷ []) word) feeds
+    (cond (is_one (codes "routes" ∷ codes "quiet" ∷ []) word) others pairs)))))))
 
-other_family : (key : List ℕ) (n : ℕ) → family key ≡ n → (e : Event) (words : List (List ℕ)) → (n ≡ family_of e → ⊥) → key ∷ words ≡ words_of e → ⊥
-other_family key n is e words other s = other (sym is ∙ ap (λ ws. family (head_word ws)) s ∙ event_family e)
+-- the words of an event
+event_follows : (e : Event) → IsEvent e → Follows (shape_of (head_word (words_of e))) (more_words (words_of e))
+unfolding Follows shape_of is_one
+event_follows (AnEdit (Router a n)) h = ((a, n), h, refl)
+event_follows (AnEdit (Virtual a n)) h = ((a, n), h, refl)
+event_follows (AnEdit (Link a b m)) h = ((a, b, m), h, refl)
+event_follows (AnEdit (Metric a b m)) h = ((a, b, m), h, refl)
+event_follows (AnEdit (Fail a b)) h = ((a, b), h, refl)
+event_follows (AnEdit (Mend a b)) h = ((a, b), h, refl)
+event_follows (AnEdit (Join a b)) h = ((a, b), h, refl)
+event_follows (AnEdit (Stop a b)) h = ((a, b), h, refl)
+event_follows (AnEdit (Start a b)) h = ((a, b), h, refl)
+event_follows (AnEdit (Client a b on)) h = ((a, b, on), h, refl)
+event_follows (AnEdit (OwnNext a b on)) h = ((a, b, on), h, refl)
+event_follows (AnEdit (Cluster a id)) h = ((a, id), h, refl)
+event_follows (AnEdit (AddRule a b way rule)) h = ((a, b, way, rule), (h.0, h.1, (h.2, h.3)), refl)
+event_follows (AnEdit (Clear a b way)) h = ((a, b, way), h, refl)
+event_follows (AnEdit (Origin a p)) h = ((a, p), h, refl)
+event_follows (AnEdit (NoOrigin a p)) h = ((a, p), h, refl)
+event_follows (AFeed f) h = (f, h, refl)
+event_follows (Deliver a b) h = ((a, b), h, refl)
+event_follows (AnAsk (Routes r)) h = tt
+event_follows (AnAsk (Best r p)) h = ((r, p), h, refl)
+event_follows (AnAsk (Why r p)) h = ((r, p), h, refl)
+event_follows (AnAsk (In a b)) h = ((a, b), h, refl)
+event_follows (AnAsk (Out a b)) h = ((a, b), h, refl)
+event_follows (AnAsk (Queue a b)) h = ((a, b), h, refl)
+event_follows (AnAsk Quiet) h = tt
+event_follows (AnAsk (Cost r x)) h = ((r, x), h, refl)
+event_follows (AnAsk (Trace r d)) h = ((r, d), h, refl)
 
-key_router : family (codes "router") ≡ 0
-unfolding family
-key_router = refl
+follows : (word : List ℕ) (words : List (List ℕ)) (e : Event) → IsEvent e → word ∷ words ≡ words_of e → Follows (shape_of word) words
+follows word words e h s = subst (λ ws. Follows (shape_of (head_word ws)) (more_words ws)) (sym s) (event_follows e h)
 
-pub router_only : (e : Event) (words : List (List ℕ)) → IsEvent e → codes "router" ∷ words ≡ words_of e → Shaped IsNumberedAddress numbered_words words
-router_only (AnEdit (Router a n)) words h s = ((a, n), h, ap more_words s)
-router_only (AnEdit e) words h s = absurd (other_word (codes "router") (AnEdit e) words refl s)
-router_only e words h s = absurd (other_family (codes "router") 0 key_router e words (λ eq. omega (arith, eq)) s)
+pub node_follows : (v : NodeVerb) (words : List (List ℕ)) (e : Event) → IsEvent e → node_word v ∷ words ≡ words_of e → Shaped IsNumberedAddress numbered_words words
+unfolding Follows shape_of is_one
+node_follows node.Router = follows (codes "router")
+node_follows node.Virtual = follows (codes "virtual")
 
-key_virtual : family (codes "virtual") ≡ 0
-unfolding family
-key_virtual = refl
+pub link_follows : (v : LinkVerb) (words : List (List ℕ)) (e : Event) → IsEvent e → link_word v ∷ words ≡ words_of e → Shaped AreEndsAndMetric metric_words words
+unfolding Follows shape_of is_one
+link_follows link.Link = follows (codes "link")
+link_follows link.Metric = follows (codes "metric")
 
-pub virtual_only : (e : Event) (words : List (List ℕ)) → IsEvent e → codes "virtual" ∷ words ≡ words_of e → Shaped IsNumberedAddress numbered_words words
-virtual_only (AnEdit (Virtual a n)) words h s = ((a, n), h, ap more_words s)
-virtual_only (AnEdit e) words h s = absurd (other_word (codes "virtual") (AnEdit e) words refl s)
-virtual_only e words h s = absurd (other_family (codes "virtual") 0 key_virtual e words (λ eq. omega (arith, eq)) s)
+pub pair_follows : (v : PairVerb) (words : List (List ℕ)) (e : Event) → IsEvent e → pair_word v ∷ words ≡ words_of e → Shaped AreAddresses addresses_words words
+unfolding Follows shape_of is_one
+pair_follows pair.Fail = follows (codes "fail")
+pair_follows v = follows (pair_word v)
 
-key_link : family (codes "link") ≡ 0
-unfolding family
-key_link = refl
+pub switch_follows : (v : SwitchVerb) (words : List (List ℕ)) (e : Event) → IsEvent e → setting_word v ∷ words ≡ words_of e → Shaped AreEnds switch_words words
+unfolding Follows shape_of is_one
+switch_follows switch.Client = follows (codes "client")
+switch_follows switch.OwnNext = follows (codes "self")
 
-pub link_only : (e : Event) (words : List (List ℕ)) → IsEvent e → codes "link" ∷ words ≡ words_of e → Shaped AreEndsAndMetric metric_words words
-link_only (AnEdit (Link a b m)) words h s = ((a, b, m), h, ap more_words s)
-link_only (AnEdit e) words h s = absurd (other_word (codes "link") (AnEdit e) words refl s)
-link_only e words h s = absurd (other_family (codes "link") 0 key_link e words (λ eq. omega (arith, eq)) s)
+pub prefix_follows : (v : PrefixVerb) (words : List (List ℕ)) (e : Event) → IsEvent e → prefix_word v ∷ words ≡ words_of e → Shaped IsAddressAndPrefix prefix_words words
+unfolding Follows shape_of is_one
+prefix_follows prefix.Origin = follows (codes "origin")
+prefix_follows v = follows (prefix_word v)
 
-key_join : family (codes "join") ≡ 0
-unfolding family
-key_join = refl
+pub rule_follows : (words : List (List ℕ)) (e : Event) → IsEvent e → codes "rule" ∷ words ≡ words_of e → Shaped IsAddedRule added_words words
+unfolding Follows shape_of is_one
+rule_follows = follows (codes "rule")
 
-pub join_only : (e : Event) (words : List (List ℕ)) → IsEvent e → codes "join" ∷ words ≡ words_of e → Shaped AreAddresses addresses_words words
-join_only (AnEdit (Join a b)) words h s = ((a, b), h, ap more_words s)
-join_only (AnEdit e) words h s = absurd (other_word (codes "join") (AnEdit e) words refl s)
-join_only e words h s = absurd (other_family (codes "join") 0 key_join e words (λ eq. omega (arith, eq)) s)
+pub clear_follows : (words : List (List ℕ)) (e : Event) → IsEvent e → codes "clear" ∷ words ≡ words_of e → Shaped AreEnds way_words words
+unfolding Follows shape_of is_one
+clear_follows = follows (codes "clear")
 
-key_origin : family (codes "origin") ≡ 0
-unfolding family
-key_origin = refl
+pub feed_follows : (words : List (List ℕ)) (e : Event) → IsEvent e → codes "feed" ∷ words ≡ words_of e → Shaped IsFeed feed_words words
+unfolding Follows shape_of is_one
+feed_follows = follows (codes "feed")
 
-pub origin_only : (e : Event) (words : List (List ℕ)) → IsEvent e → codes "origin" ∷ words ≡ words_of e → Shaped IsAddressAndPrefix prefix_words words
-origin_only (AnEdit (Origin a p)) words h s = ((a, p), h, ap more_words s)
-origin_only (AnEdit e) words h s = absurd (other_word (codes "origin") (AnEdit e) words refl s)
-origin_only e words h s = absurd (other_family (codes "origin") 0 key_origin e words (λ eq. omega (arith, eq)) s)
+-- the first word of an event, where it is not that of a feed, is a verb
+event_verb : (e : Event) → (head_word (words_of e) ≡ codes "feed" → ⊥) → (v : Verb) × (head_word (words_of e) ≡ verb_word v)
+event_verb (AnEdit (Router a n)) other = (verb.Node node.Router, refl)
+event_verb (AnEdit (Virtual a n)) other = (verb.Node node.Virtual, refl)
+event_verb (AnEdit (Link a b m)) other = (verb.Link link.Link, refl)
+event_verb (AnEdit (Metric a b m)) other = (verb.Link link.Metric, refl)
+event_verb (AnEdit (Fail a b)) other = (verb.Pair pair.Fail, refl)
+event_verb (AnEdit (Mend a b)) other = (verb.Pair pair.Mend, refl)
+event_verb (AnEdit (Join a b)) other = (verb.Pair pair.Join, refl)
+event_verb (AnEdit (Stop a b)) other = (verb.Pair pair.Stop, refl)
+event_verb (AnEdit (Start a b)) other = (verb.Pair pair.Start, refl)
+event_verb (AnEdit (Client a b on)) other = (verb.Switch switch.Client, refl)
+event_verb (AnEdit (OwnNext a b on)) other = (verb.Switch switch.OwnNext, refl)
+event_verb (AnEdit (Cluster a id)) other = (verb.Pair pair.Cluster, refl)
+event_verb (AnEdit (AddRule a b way rule)) other = (verb.Rule, refl)
+event_verb (AnEdit (Clear a b way)) other = (verb.Clear, refl)
+event_verb (AnEdit (Origin a p)) other = (verb.Prefix prefix.Origin, refl)
+event_verb (AnEdit (NoOrigin a p)) other = (verb.Prefix prefix.NoOrigin, refl)
+event_verb (AFeed f) other = absurd (other refl)
+event_verb (Deliver a b) other = (verb.Pair pair.Deliver, refl)
+event_verb (AnAsk (Routes r)) other = (verb.Routes, refl)
+event_verb (AnAsk (Best r p)) other = (verb.Prefix prefix.Best, refl)
+event_verb (AnAsk (Why r p)) other = (verb.Prefix prefix.Why, refl)
+event_verb (AnAsk (In a b)) other = (verb.Pair pair.In, refl)
+event_verb (AnAsk (Out a b)) other = (verb.Pair pair.Out, refl)
+event_verb (AnAsk (Queue a b)) other = (verb.Pair pair.Queue, refl)
+event_verb (AnAsk Quiet) other = (verb.Quiet, refl)
+event_verb (AnAsk (Cost r x)) other = (verb.Pair pair.Cost, refl)
+event_verb (AnAsk (Trace r d)) other = (verb.Pair pair.Trace, refl)
 
-key_deliver : family (codes "deliver") ≡ 2
-unfolding family
-key_deliver = refl
-
-pub deliver_only : (e : Event) (words : List (List ℕ)) → IsEvent e → codes "deliver" ∷ words ≡ words_of e → Shaped AreAddresses addresses_words words
-deliver_only (Deliver a b) words h s = ((a, b), h, ap more_words s)
-deliver_only e words h s = absurd (other_family (codes "deliver") 2 key_deliver e words (λ eq. omega (arith, eq)) s)
-
--- a feed
-pub record Fed (words : List (List ℕ)) : Type 0 where
-  pub from : Addr
-  pub to : Addr
-  pub news : News
-  pub from_in : IsAddress from
-  pub to_in : IsAddress to
-  pub news_in : IsNews news
-  pub spelled : words ≡ addr_text from ∷ addr_text to ∷ news_words news
-
-key_feed : family (codes "feed") ≡ 1
-unfolding family
-key_feed = refl
-
-pub feed_only : (e : Event) (words : List (List ℕ)) → IsEvent e → codes "feed" ∷ words ≡ words_of e → Fed words
-feed_only (AFeed f) words h s = record { from = f.from; to = f.to; news = f.news; from_in = h.0; to_in = h.1; news_in = h.2; spelled = ap more_words s }
-feed_only e words h s = absurd (other_family (codes "feed") 1 key_feed e words (λ eq. omega (arith, eq)) s)
-
--- each first word is text
-ascii_bytes : (word : List ℕ) → list_all (λ b. nat_lt b 128) word ≡ true → IsAscii word
-ascii_bytes [] h i = omega arith
-ascii_bytes (b ∷ bs) h zero = ltb-true b 128 (and_parts (nat_lt b 128) (list_all (λ b. nat_lt b 128) bs) h).0
-ascii_bytes (b ∷ bs) h (suc i) = ascii_bytes bs (and_parts (nat_lt b 128) (list_all (λ b. nat_lt b 128) bs) h).1 i
-
-keyword_utf8 : (word : List ℕ) → list_all (λ b. nat_lt b 128) word ≡ true → IsUtf8 word
-keyword_utf8 word ascii = IsUtf8-from_ascii word (ascii_bytes word ascii)
-
-edit_utf8 : (e : Edit) → IsUtf8 (head_word (edit_words e))
-edit_utf8 (Router a n) = keyword_utf8 (codes "router") refl
-edit_utf8 e = keyword_utf8 (head_word (edit_words e)) refl
-
-ask_utf8 : (q : Ask) → IsUtf8 (head_word (ask_words q))
-ask_utf8 (Routes r) = keyword_utf8 (codes "routes") refl
-
-event_utf8 : (e : Event) → IsUtf8 (head_word (words_of e))
-event_utf8 (AnEdit e) = edit_utf8 e
-event_utf8 (AFeed f) = keyword_utf8 (codes "feed") refl
-event_utf8 (Deliver a b) = keyword_utf8 (codes "deliver") refl
-event_utf8 (AnAsk q) = ask_utf8 q
-
-pub first_utf8 : (first : List ℕ) (words : List (List ℕ)) (e : Event) → first ∷ words ≡ words_of e → IsUtf8 first
-first_utf8 first words e s = subst IsUtf8 (sym (ap head_word s)) (event_utf8 e)
+pub first_verb : (first : List ℕ) (words : List (List ℕ)) (e : Event) → first ∷ words ≡ words_of e → (first ≡ codes "feed" → ⊥) → (v : Verb) × (first ≡ verb_word v)
+first_verb first words e s =
+    subst (λ ws. (head_word ws ≡ codes "feed" → ⊥) → (v : Verb) × (head_word ws ≡ verb_word v)) (sym s) (event_verb e)

@@ -3,4 +3,5 @@ mod Tokens
 mod Numbers
 mod Segments
 mod Readings
+mod Settings
 mod FirstWords

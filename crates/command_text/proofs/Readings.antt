@@ -39,14 +39,6 @@ pub refused_so : {X Y S : Type 0} (IsIn : X → Type 0) (spelling : X → S) (te
     o ≡ None → Err e ≡ ok_or o Syntax → IsErrAnd r (λ d. d ≡ e) → ((x : X) → IsIn x → text ≡ spelling x → ⊥) → Makes IsIn spelling text r
 refused_so IsIn spelling text o e r n is h none = at_fault IsIn spelling text r (same_fault r e Syntax (fault_of o e n is) h) none
 
--- where nothing is read of some words, nothing is made of a text that needs them
-pub refused : {X Y S U : Type 0} (IsIn : X → Type 0) (spelling : X → S) (text : S) (IsPart : Y → Type 0) (wording : Y → U) (words : U) (o : Option Y) (e : Refusal) (r : Result X Refusal) →
-    Reads IsPart wording words o → o ≡ None → Err e ≡ ok_or o Syntax → IsErrAnd r (λ d. d ≡ e) →
-    ((x : X) → IsIn x → text ≡ spelling x → (y : Y) × IsPart y × (words ≡ wording y)) → Makes IsIn spelling text r
-refused IsIn spelling text IsPart wording words o e r reads n is h needs =
-    let none = subst (Reads IsPart wording words) n reads in
-    refused_so IsIn spelling text o e r n is h (λ x hx s. let part = needs x hx s in none part.0 part.1 part.2)
-
 -- a refusal of a part, handed on by the whole
 handed : {X Y S U : Type 0} (IsIn : X → Type 0) (spelling : X → S) (text : S) (IsPart : Y → Type 0) (wording : Y → U) (words : U) (e : Refusal) → Makes IsPart wording words (Err e) →
     ((x : X) → IsIn x → text ≡ spelling x → (y : Y) × IsPart y × (words ≡ wording y)) →
@@ -67,3 +59,15 @@ at_none P o is h = subst (λ o. IfNone o P) is h
 
 pub at_some : {X : Type 0} (P : X → Type 0) (o : Option X) (x : X) → o ≡ Some x → IfSome o P → P x
 at_some P o x is h = subst (λ o. IfSome o P) is h
+
+-- where nothing is read of some words, nothing is read of a text that needs them
+pub unread : {X Y S U : Type 0} (IsIn : X → Type 0) (spelling : X → S) (text : S) (IsPart : Y → Type 0) (wording : Y → U) (words : U) (r : Option X) → r ≡ None →
+    ((y : Y) → IsPart y → words ≡ wording y → ⊥) → ((x : X) → IsIn x → text ≡ spelling x → (y : Y) × IsPart y × (words ≡ wording y)) → Reads IsIn spelling text r
+unread IsIn spelling text IsPart wording words r is none needs =
+    subst (Reads IsIn spelling text) (sym is) (λ x h s. let part = needs x h s in none part.0 part.1 part.2)
+
+pub unspelled : {X S : Type 0} (IsIn : X → Type 0) (spelling : X → S) (text : S) (r : Option X) → r ≡ None → ((x : X) → IsIn x → text ≡ spelling x → ⊥) → Reads IsIn spelling text r
+unspelled IsIn spelling text r is none = subst (Reads IsIn spelling text) (sym is) none
+
+pub when_none : {X : Type 0} (P : Type 0) (o : Option X) → o ≡ None → P → IfNone o P
+when_none P o is h = subst (λ o. IfNone o P) (sym is) h

@@ -1,11 +1,15 @@
 -- The words after the first one of a command, by their shapes.
-use Rattle.std.specs.Prelude.{ℕ, List, [], ◌∷◌}
+use Rattle.std.specs.Prelude.{ℕ, Bool, List, [], ◌∷◌}
 use Rattle.std.specs.Fmt.{decimal}
 use Rattle.igp_cost.specs.Metric.{IsMetric}
 use Rattle.net_prefix.specs.declared.addr.Addr.{Addr}
 use Rattle.net_prefix.specs.Address.{addr_text}
 use Rattle.net_prefix.specs.Block.{Block, block_text}
+use Rattle.route_policy.specs.declared.rule.Rule.{Rule}
+use Rattle.net_conf.specs.declared.tables.Way.{Way}
 use Rattle.sim_event.specs.Events.{IsAddress, IsAsNumber, IsPrefix}
+use Rattle.command_text.specs.Words.{switch_word, way_word}
+use Rattle.command_text.specs.Rules.{IsRule, rule_words}
 
 abbrev pub address_words : Addr → List (List ℕ)
 address_words a = addr_text a ∷ []
@@ -33,3 +37,18 @@ IsAddressAndPrefix v = IsAddress v.0 × IsPrefix v.1
 
 abbrev pub prefix_words : Addr × Block → List (List ℕ)
 prefix_words v = addr_text v.0 ∷ block_text v.1 ∷ []
+
+abbrev pub AreEnds : {X : Type 0} → Addr × Addr × X → Type 0
+AreEnds v = IsAddress v.0 × IsAddress v.1
+
+abbrev pub switch_words : Addr × Addr × Bool → List (List ℕ)
+switch_words v = addr_text v.0 ∷ addr_text v.1 ∷ switch_word v.2 ∷ []
+
+abbrev pub way_words : Addr × Addr × Way → List (List ℕ)
+way_words v = addr_text v.0 ∷ addr_text v.1 ∷ way_word v.2 ∷ []
+
+abbrev pub IsAddedRule : Addr × Addr × Way × Rule → Type 0
+IsAddedRule v = IsAddress v.0 × IsAddress v.1 × IsRule v.3
+
+abbrev pub added_words : Addr × Addr × Way × Rule → List (List ℕ)
+added_words v = addr_text v.0 ∷ addr_text v.1 ∷ way_word v.2 ∷ rule_words v.3

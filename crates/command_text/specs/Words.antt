@@ -1,24 +1,65 @@
 -- The command language, apart from any reader: each event is spelled by one list of words.
-use Rattle.std.specs.Prelude.{ℕ, List, [], ◌∷◌, codes}
+use Rattle.std.specs.Prelude.{ℕ, Bool, true, false, List, [], ◌∷◌, ◌++◌, codes, Option, Some, None}
 use Rattle.std.specs.Fmt.{decimal}
 use Rattle.net_prefix.specs.Address.{addr_text}
 use Rattle.net_prefix.specs.Block.{block_text}
+use Rattle.route_policy.specs.declared.rule.Match.{Match}
+use Rattle.route_policy.specs.declared.rule.Match.TheVariants.{Any, Is, Under, Path, First}
+use Rattle.route_policy.specs.declared.rule.Action.{Action}
+use Rattle.route_policy.specs.declared.rule.Action.TheVariants.{Deny, Permit}
+use Rattle.net_conf.specs.declared.tables.Way.{Way}
+use Rattle.net_conf.specs.declared.tables.Way.TheVariants.{In as WayIn, Out as WayOut}
 use Rattle.net_conf.specs.declared.edit.Edit.{Edit}
-use Rattle.net_conf.specs.declared.edit.Edit.TheVariants.{Router, Virtual, Link, Join, Origin}
+use Rattle.net_conf.specs.declared.edit.Edit.TheVariants.{Router, Virtual, Link, Metric, Fail, Mend, Join, Stop, Start, Client, OwnNext, Cluster, Rule as AddRule, Clear, Origin, NoOrigin}
 use Rattle.sim_event.specs.declared.event.Event.{Event}
 use Rattle.sim_event.specs.declared.event.Event.TheVariants.{Edit as AnEdit, Feed as AFeed, Deliver, Ask as AnAsk}
 use Rattle.sim_event.specs.declared.event.News.{News}
 use Rattle.sim_event.specs.declared.event.News.TheVariants.{Update, Withdraw}
 use Rattle.sim_event.specs.declared.event.Ask.{Ask}
-use Rattle.sim_event.specs.declared.event.Ask.TheVariants.{Routes}
+use Rattle.sim_event.specs.declared.event.Ask.TheVariants.{Routes, Best, Why, In, Out, Queue, Quiet, Cost, Trace}
 use Rattle.sim_event.specs.Wording.{maybe_number_text, origin_text, path_text}
+
+abbrev pub switch_word : Bool → List ℕ
+switch_word true = codes "on"
+switch_word false = codes "off"
+
+abbrev pub way_word : Way → List ℕ
+way_word WayIn = codes "in"
+way_word WayOut = codes "out"
+
+abbrev pub match_words : Match → List (List ℕ)
+match_words Any = codes "any" ∷ []
+match_words (Is p) = codes "is" ∷ block_text p ∷ []
+match_words (Under p) = codes "under" ∷ block_text p ∷ []
+match_words (Path n) = codes "path" ∷ decimal n ∷ []
+match_words (First n) = codes "first" ∷ decimal n ∷ []
+
+-- a setting by its name, where it is made
+abbrev pub setting_words : List ℕ → Option ℕ → List (List ℕ)
+setting_words name None = []
+setting_words name (Some n) = (name ++ decimal n) ∷ []
+
+abbrev pub action_words : Action → List (List ℕ)
+action_words Deny = codes "deny" ∷ []
+action_words (Permit pref med prepend) = codes "permit" ∷ setting_words (codes "pref=") pref ++ setting_words (codes "med=") med ++ setting_words (codes "prepend=") prepend
 
 abbrev pub edit_words : Edit → List (List ℕ)
 edit_words (Router a n) = codes "router" ∷ addr_text a ∷ decimal n ∷ []
 edit_words (Virtual a n) = codes "virtual" ∷ addr_text a ∷ decimal n ∷ []
 edit_words (Link a b m) = codes "link" ∷ addr_text a ∷ addr_text b ∷ decimal m ∷ []
+edit_words (Metric a b m) = codes "metric" ∷ addr_text a ∷ addr_text b ∷ decimal m ∷ []
+edit_words (Fail a b) = codes "fail" ∷ addr_text a ∷ addr_text b ∷ []
+edit_words (Mend a b) = codes "mend" ∷ addr_text a ∷ addr_text b ∷ []
 edit_words (Join a b) = codes "join" ∷ addr_text a ∷ addr_text b ∷ []
+edit_words (Stop a b) = codes "stop" ∷ addr_text a ∷ addr_text b ∷ []
+edit_words (Start a b) = codes "start" ∷ addr_text a ∷ addr_text b ∷ []
+edit_words (Client a b on) = codes "client" ∷ addr_text a ∷ addr_text b ∷ switch_word on ∷ []
+edit_words (OwnNext a b on) = codes "self" ∷ addr_text a ∷ addr_text b ∷ switch_word on ∷ []
+edit_words (Cluster a id) = codes "cluster" ∷ addr_text a ∷ addr_text id ∷ []
+edit_words (AddRule a b way rule) = codes "rule" ∷ addr_text a ∷ addr_text b ∷ way_word way ∷ match_words rule.cond ++ action_words rule.act
+edit_words (Clear a b way) = codes "clear" ∷ addr_text a ∷ addr_text b ∷ way_word way ∷ []
 edit_words (Origin a p) = codes "origin" ∷ addr_text a ∷ block_text p ∷ []
+edit_words (NoOrigin a p) = codes "noorigin" ∷ addr_text a ∷ block_text p ∷ []
 
 abbrev pub news_words : News → List (List ℕ)
 news_words (Update p path origin med) = codes "update" ∷ block_text p ∷ path_text path ∷ origin_text origin ∷ maybe_number_text med ∷ []
@@ -26,6 +67,14 @@ news_words (Withdraw p) = codes "withdraw" ∷ block_text p ∷ []
 
 abbrev pub ask_words : Ask → List (List ℕ)
 ask_words (Routes r) = codes "routes" ∷ addr_text r ∷ []
+ask_words (Best r p) = codes "best" ∷ addr_text r ∷ block_text p ∷ []
+ask_words (Why r p) = codes "why" ∷ addr_text r ∷ block_text p ∷ []
+ask_words (In r x) = codes "in" ∷ addr_text r ∷ addr_text x ∷ []
+ask_words (Out r x) = codes "out" ∷ addr_text r ∷ addr_text x ∷ []
+ask_words (Queue a b) = codes "queue" ∷ addr_text a ∷ addr_text b ∷ []
+ask_words Quiet = codes "quiet" ∷ []
+ask_words (Cost r x) = codes "cost" ∷ addr_text r ∷ addr_text x ∷ []
+ask_words (Trace r d) = codes "trace" ∷ addr_text r ∷ addr_text d ∷ []
 
 -- the words that spell the event
 abbrev pub words_of : Event → List (List ℕ)

@@ -1,9 +1,10 @@
 // Worked examples: each command, and lines that spell nothing.
 
 use super::*;
-use net_conf::{Edit, Metric, Refusal};
+use net_conf::{Edit, Metric, Refusal, Way};
 use net_prefix::{Addr, Prefix};
 use path_attr::{Asn, Origin, Segment};
+use route_policy::{Action, Match, Repeat, Rule};
 use sim_event::{Ask, Event, Feed, News};
 use std::alloc::Global;
 use std::process::Abort;
@@ -42,11 +43,31 @@ fn is_fault(alloc: Global, line: &[u8]) -> bool {
     }
 }
 
+fn ask(alloc: Global, line: &[u8]) -> Option<Ask> {
+    match &read_line(alloc, line) {
+        Ok(Some(Event::Ask(ask))) => Some(*ask),
+        _ => None,
+    }
+}
+
 // Whether `routes 1.0.0.1` is read.
 fn asks_routes(alloc: Global, line: &[u8]) -> bool {
-    match read_line(alloc, line) {
-        Ok(Some(Event::Ask(ask))) => ask == Ask::Routes(Addr(0x0100_0001)),
-        _ => false,
+    ask(alloc, line) == Some(Ask::Routes(Addr(0x0100_0001)))
+}
+
+// `any permit` with these settings.
+fn permit(pref: Option<u32>, med: Option<u32>, prepend: Option<Repeat>) -> Rule {
+    Rule {
+        cond: Match::Any,
+        act: Action::Permit { pref, med, prepend },
+    }
+}
+
+// The rule that a line adds for what 1.0.0.1 sends to 2.0.0.1.
+fn added(alloc: Global, line: &[u8]) -> Option<Rule> {
+    match edit(alloc, line) {
+        Some(Edit::Rule(Addr(0x0100_0001), Addr(0x0200_0001), Way::Out, rule)) => Some(rule),
+        _ => None,
     }
 }
 
@@ -72,16 +93,104 @@ fn edits_are_read(rt: HostRuntime) {
 }
 
 #[test]
-fn deliveries_and_questions_are_read(rt: HostRuntime) {
+fn edits_of_two_ends_are_read(rt: HostRuntime) {
     let alloc = rt.alloc();
-    match read_line(alloc, b"deliver 1.0.0.1 2.0.0.1") {
+    let (one, two) = (Addr(0x0100_0001), Addr(0x0200_0001));
+    let cost = Metric::new(1).expect(&rt, "a metric");
+    let ten = Prefix::new(Addr(0x0a00_0000), 8).expect(&rt, "a prefix");
+    for (line, expected) in [
+        (
+            b"metric 1.0.0.1 2.0.0.1 1".as_slice(),
+            Edit::Metric(one, two, cost),
+        ),
+        (b"fail 1.0.0.1 2.0.0.1", Edit::Fail(one, two)),
+        (b"mend 1.0.0.1 2.0.0.1", Edit::Mend(one, two)),
+        (b"stop 1.0.0.1 2.0.0.1", Edit::Stop(one, two)),
+        (b"start 1.0.0.1 2.0.0.1", Edit::Start(one, two)),
+        (b"client 1.0.0.1 2.0.0.1 on", Edit::Client(one, two, true)),
+        (b"self 1.0.0.1 2.0.0.1 off", Edit::OwnNext(one, two, false)),
+        (b"cluster 1.0.0.1 2.0.0.1", Edit::Cluster(one, two)),
+        (b"clear 1.0.0.1 2.0.0.1 in", Edit::Clear(one, two, Way::In)),
+        (b"noorigin 1.0.0.1 10.0.0.0/8", Edit::NoOrigin(one, ten)),
+    ] {
+        assert_eq!(rt; edit(alloc, line), Some(expected), "{line:?}");
+    }
+}
+
+#[test]
+fn rules_are_read(rt: HostRuntime) {
+    let alloc = rt.alloc();
+    let all = Prefix::new(Addr(0), 0).expect(&rt, "a prefix");
+    let ten = Prefix::new(Addr(0x0a00_0000), 8).expect(&rt, "a prefix");
+    let (far, near) = (asn(&rt, 4_294_967_295), asn(&rt, 7));
+    for (line, cond) in [
+        (b"rule 1.0.0.1 2.0.0.1 out any deny".as_slice(), Match::Any),
+        (
+            b"rule 1.0.0.1 2.0.0.1 out is 10.0.0.0/8 deny",
+            Match::Is(ten),
+        ),
+        (
+            b"rule 1.0.0.1 2.0.0.1 out under 0.0.0.0/0 deny",
+            Match::Under(all),
+        ),
+        (
+            b"rule 1.0.0.1 2.0.0.1 out path 4294967295 deny",
+            Match::Path(far),
+        ),
+        (b"rule 1.0.0.1 2.0.0.1 out first 7 deny", Match::First(near)),
+    ] {
+        let act = Action::Deny;
+        assert_eq!(rt; added(alloc, line), Some(Rule { cond, act }), "{line:?}");
+    }
+}
+
+#[test]
+fn settings_are_read(rt: HostRuntime) {
+    let alloc = rt.alloc();
+    let plain = added(alloc, b"rule 1.0.0.1 2.0.0.1 out any permit");
+    assert_eq!(rt; plain, Some(permit(None, None, None)));
+    let most = added(
+        alloc,
+        b"rule 1.0.0.1 2.0.0.1 out any permit pref=0 med=4294967295 prepend=16",
+    );
+    let sixteen = Repeat::new(16);
+    assert_eq!(rt; most, Some(permit(Some(0), Some(4_294_967_295), sixteen)));
+    let outer = added(
+        alloc,
+        b"rule 1.0.0.1 2.0.0.1 out any permit pref=200 prepend=1",
+    );
+    assert_eq!(rt; outer, Some(permit(Some(200), None, Repeat::new(1))));
+}
+
+#[test]
+fn deliveries_are_read(rt: HostRuntime) {
+    match read_line(rt.alloc(), b"deliver 1.0.0.1 2.0.0.1") {
         Ok(Some(Event::Deliver(from, to))) => {
             assert_eq!(rt; from, Addr(0x0100_0001));
             assert_eq!(rt; to, Addr(0x0200_0001));
         }
         _ => panic!(rt; "no delivery"),
     }
-    assert!(rt; asks_routes(alloc, b"routes 1.0.0.1"));
+}
+
+#[test]
+fn questions_are_read(rt: HostRuntime) {
+    let alloc = rt.alloc();
+    let (one, two) = (Addr(0x0100_0001), Addr(0x0200_0001));
+    let ten = Prefix::new(Addr(0x0a00_0000), 8).expect(&rt, "a prefix");
+    for (line, expected) in [
+        (b"routes 1.0.0.1".as_slice(), Ask::Routes(one)),
+        (b"best 1.0.0.1 10.0.0.0/8", Ask::Best(one, ten)),
+        (b"why 1.0.0.1 10.0.0.0/8", Ask::Why(one, ten)),
+        (b"in 1.0.0.1 2.0.0.1", Ask::In(one, two)),
+        (b"out 1.0.0.1 2.0.0.1", Ask::Out(one, two)),
+        (b"queue 1.0.0.1 2.0.0.1", Ask::Queue(one, two)),
+        (b"quiet", Ask::Quiet),
+        (b"cost 1.0.0.1 2.0.0.1", Ask::Cost(one, two)),
+        (b"trace 1.0.0.1 2.0.0.1", Ask::Trace(one, two)),
+    ] {
+        assert_eq!(rt; ask(alloc, line), Some(expected), "{line:?}");
+    }
 }
 
 #[test]
@@ -170,6 +279,77 @@ fn other_commands_are_faults(rt: HostRuntime) {
         b"\xff",
         b"\xff 1.0.0.1",
         b"routes 1.0.0.1\xff",
+    ] {
+        assert!(rt; is_fault(rt.alloc(), line), "{line:?}");
+    }
+}
+
+#[test]
+fn other_arguments_are_faults(rt: HostRuntime) {
+    for line in [
+        b"metric 1.0.0.1 2.0.0.1".as_slice(),
+        b"fail 1.0.0.1",
+        b"fail 1.0.0.1 2.0.0.1 3.0.0.1",
+        b"client 1.0.0.1 2.0.0.1",
+        b"client 1.0.0.1 2.0.0.1 yes",
+        b"self 1.0.0.1 2.0.0.1 ON",
+        b"clear 1.0.0.1 2.0.0.1",
+        b"clear 1.0.0.1 2.0.0.1 both",
+        b"cluster 1.0.0.1 7",
+        b"noorigin 1.0.0.1 10.0.0.0/33",
+        b"best 1.0.0.1",
+        b"why 1.0.0.1 10.0.0.1/8",
+        b"in 1.0.0.1",
+        b"trace 1.0.0.1 2.0.0.1 3.0.0.1",
+        b"quiet 1.0.0.1",
+        b"QUIET",
+        b"routes",
+    ] {
+        assert!(rt; is_fault(rt.alloc(), line), "{line:?}");
+    }
+}
+
+#[test]
+fn other_rules_are_faults(rt: HostRuntime) {
+    for line in [
+        b"rule 1.0.0.1 2.0.0.1 out".as_slice(),
+        b"rule 1.0.0.1 2.0.0.1 out any",
+        b"rule 1.0.0.1 2.0.0.1 any deny",
+        b"rule 1.0.0.1 2.0.0.1 out deny",
+        b"rule 1.0.0.1 2.0.0.1 out any any deny",
+        b"rule 1.0.0.1 2.0.0.1 out is deny",
+        b"rule 1.0.0.1 2.0.0.1 out is 10.0.0.1/8 deny",
+        b"rule 1.0.0.1 2.0.0.1 out path 0 deny",
+        b"rule 1.0.0.1 2.0.0.1 out first 4294967296 deny",
+        b"rule 1.0.0.1 2.0.0.1 OUT any deny",
+        b"rule 1.0.0.1 2.0.0.1 out ANY deny",
+        b"rule 1.0.0.1 2.0.0.1 out any DENY",
+        b"rule 1.0.0.1 2.0.0.1 out any deny pref=1",
+        b"rule 1.0.0.1 2.0.0.1 out any deny deny",
+    ] {
+        assert!(rt; is_fault(rt.alloc(), line), "{line:?}");
+    }
+}
+
+#[test]
+fn other_settings_are_faults(rt: HostRuntime) {
+    for line in [
+        b"rule 1.0.0.1 2.0.0.1 out any permit med=1 pref=1".as_slice(),
+        b"rule 1.0.0.1 2.0.0.1 out any permit prepend=1 med=1",
+        b"rule 1.0.0.1 2.0.0.1 out any permit pref=1 pref=1",
+        b"rule 1.0.0.1 2.0.0.1 out any permit med=1 med=2",
+        b"rule 1.0.0.1 2.0.0.1 out any permit prepend=1 prepend=1",
+        b"rule 1.0.0.1 2.0.0.1 out any permit prepend=0",
+        b"rule 1.0.0.1 2.0.0.1 out any permit prepend=17",
+        b"rule 1.0.0.1 2.0.0.1 out any permit prepend=272",
+        b"rule 1.0.0.1 2.0.0.1 out any permit pref=",
+        b"rule 1.0.0.1 2.0.0.1 out any permit pref",
+        b"rule 1.0.0.1 2.0.0.1 out any permit pref= 1",
+        b"rule 1.0.0.1 2.0.0.1 out any permit pref=4294967296",
+        b"rule 1.0.0.1 2.0.0.1 out any permit med=01",
+        b"rule 1.0.0.1 2.0.0.1 out any permit med=-",
+        b"rule 1.0.0.1 2.0.0.1 out any permit PREF=1",
+        b"rule 1.0.0.1 2.0.0.1 out any permit permit",
     ] {
         assert!(rt; is_fault(rt.alloc(), line), "{line:?}");
     }

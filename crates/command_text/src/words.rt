@@ -1,6 +1,6 @@
 //! The words of a line, one after another.
 
-ghost use Rattle.std.specs.Prelude.{◌≡◌, ℕ, ◌+◌, ◌<◌, ◌≤◌, List, [], ◌∷◌, length, IfSome, IfNone};
+ghost use Rattle.std.specs.Prelude.{◌≡◌, ◌↔◌, ℕ, ◌+◌, ◌<◌, ◌≤◌, List, [], ◌∷◌, length, IfSome, IfNone, IsTrue};
 ghost use Rattle.command_text.specs.Lines.{tokens};
 
 use decimal::cut_at;
@@ -23,6 +23,13 @@ pub(crate) fn next_word(text: &[u8]) -> Option<(&[u8], &[u8])>
         return None;
     }
     Some((rest, &[]))
+}
+
+/// Whether the text has no word.
+pub(crate) fn is_blank(text: &[u8]) -> bool
+    ensures { IsTrue result ↔ (tokens text.now ≡ []) }
+{
+    next_word(text).is_none()
 }
 
 /// The one word of a text.

@@ -1,6 +1,7 @@
 mod Exact
 mod Hops
 mod Kernel
+mod Codes
 mod Certificate
 mod Places
 mod Rows

@@ -1,5 +1,5 @@
 -- Labels of nodes by their places in the list of nodes, and what holds of them while they are improved. No public contract cites this file.
-use Rattle.std.specs.Prelude.{◌≡◌, ℕ, ◌+◌, ◌*◌, ◌<◌, ◌≤◌, ◌⊎◌, ◌==◌, List, Bool, true, false, length, Contains, if◌then◌else◌, slice_index_or, Some, None, Option, IfSome, IsSomeAnd, sum_by, All}
+use Rattle.std.specs.Prelude.{◌≡◌, ℕ, ◌+◌, ◌*◌, ◌<◌, ◌≤◌, ◌⊎◌, ◌==◌, List, length, Contains, if◌then◌else◌, slice_index_or, Some, None, Option, IfSome, IsSomeAnd, sum_by, All}
 use Rattle.net_prefix.specs.declared.addr.Addr.{Addr}
 use Rattle.igp_cost.specs.declared.label.Label.{Label}
 use Rattle.igp_cost.specs.declared.link.Link.{Link}
@@ -68,6 +68,11 @@ one (Some l) = 1
 abbrev pub reached : Labels → ℕ
 reached labels = sum_by one labels
 
+-- the costs are bounded by how many nodes have a label
+pub record IsBounded (nodes : Nodes) (labels : Labels) : Type 0 where
+  pub same_length : length labels ≡ length nodes
+  pub bounded : (v : ℕ) (l : Label) → label_at labels v ≡ Some l → l.cost ≤ 268435456 + 65535 * reached labels
+
 pub record IsSound (nodes : Nodes) (s : ℕ) (links : List Link) (labels : Labels) : Type 0 where
   pub same_length : length labels ≡ length nodes
   pub start : label_at labels s ≡ Some (record { cost = 0; hop = addr_at nodes s })
@@ -98,20 +103,6 @@ pub record IsIndexed (nodes : Nodes) (links : List Link) (starts : List ℕ) : T
 -- each label is within a limit, from which sums still fit
 abbrev pub AreLimited : Labels → Type 0
 AreLimited labels = (v : ℕ) (l : Label) → label_at labels v ≡ Some l → l.cost ≤ 268435456
-
-abbrev pub is_marked : List Bool → ℕ → Bool
-is_marked marks v = slice_index_or marks v false
-
--- where there is a mark, a link backs the label
-abbrev pub AreBacked : Nodes → ℕ → List Link → Labels → List Bool → Type 0
-AreBacked nodes s links labels marks = (v : ℕ) (l : Label) → is_marked marks v ≡ true → label_at labels v ≡ Some l → IsBacked nodes s links labels v l
-
--- the label of a node other than the source is marked
-abbrev pub IsMarkedAt : ℕ → Labels → List Bool → ℕ → Type 0
-IsMarkedAt s labels marks v = (l : Label) → label_at labels v ≡ Some l → (v ≡ s) ⊎ (is_marked marks v ≡ true)
-
-abbrev pub AreMarked : ℕ → Labels → List Bool → Type 0
-AreMarked s labels marks = (v : ℕ) → v < length labels → IsMarkedAt s labels marks v
 
 -- each label but the source's is backed
 abbrev pub AllBacked : Nodes → ℕ → List Link → Labels → Type 0

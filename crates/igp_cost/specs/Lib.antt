@@ -6,3 +6,5 @@ pub mod Trees
 pub mod Laws
 pub mod Labels
 pub mod Wired
+pub mod Codes
+pub mod Changes

@@ -1,5 +1,8 @@
 //! What has changed between two graphs.
 
+ghost use Rattle.std.specs.Prelude.{◌≡◌};
+ghost use Rattle.igp_cost.specs.Changes.{ends_of};
+
 use crate::metric::Metric;
 use net_prefix::Addr;
 
@@ -13,7 +16,9 @@ pub enum Change {
 
 impl Change {
     /// The ends of the edge.
-    pub(crate) fn ends(self) -> (Addr, Addr) {
+    pub(crate) fn ends(self) -> (Addr, Addr)
+        ensures { result ≡ ends_of self }
+    {
         match self {
             Change::Added(one, other, _) => (one, other),
             Change::Removed(one, other) => (one, other),

@@ -3,17 +3,18 @@
 ghost use Rattle.std.specs.Prelude.{◌≡◌, ◌<◌, ◌≤◌, length, IsTrue, IfOk, IfSome};
 ghost use Rattle.net_prefix.specs.declared.addr.Addr.{Addr};
 ghost use Rattle.igp_cost.specs.Costs.{cost, first_hop};
-ghost use Rattle.igp_cost.specs.Labels.{addr_at, IsWithin, IsIndexed, IsSound, IsClosed, AreLimited, Starts};
+ghost use Rattle.igp_cost.specs.Labels.{IsWithin, IsIndexed, IsSound, IsClosed, AreLimited, Starts};
 ghost use Rattle.igp_cost.specs.Topology.{is_node, IsTopology};
 ghost use Rattle.igp_cost.specs.Trees.{source_of, cost_in, first_hop_in, IsTreeOf, tree_of};
 ghost use Rattle.igp_cost.specs.Wired.{IsRising};
 
+use crate::certify::are_least;
 use crate::change::Change;
 use crate::conditions::{has_node, place_of};
 use crate::label::Label;
 use crate::link::Link;
 use crate::metric::Metric;
-use crate::repair::relabel;
+use crate::repair::mend;
 use crate::search::labels_from;
 use crate::tree::Tree;
 use crate::wiring::{links_of, place, starts_of};
@@ -86,8 +87,8 @@ impl Graph {
     }
 
     /// The least costs and first hops from the source of an old tree, the same as `tree` gives, made from what the old tree says.
-    /// It is faster than `tree` where the old tree was made before one change, this one, and where that moved little. The change only
-    /// says where to look first.
+    /// It is faster than `tree` where the old tree was made before one change, this one, and where that moved little: it mends the labels
+    /// near the change and looks once at each edge. Where that does not do, it makes the tree afresh.
     pub fn retouch(&self, alloc: Global, old: &Tree, change: Change) -> Result<Tree, AllocError>
         requires { IsTrue (is_node self.now.nodes (source_of old.now)) }
         ensures least { IfOk result (λ t. IsTreeOf self.now.nodes self.now.edges (source_of old.now) t) }
@@ -98,7 +99,7 @@ impl Graph {
         let nodes = self.nodes.as_slice();
         let source = old.source();
         let at = place(nodes, source);
-        let labels = new_labels(
+        let mended = mended_labels(
             alloc,
             nodes,
             &self.links,
@@ -107,7 +108,10 @@ impl Graph {
             old.rows(),
             change,
         )?;
-        Tree::from_labels(alloc, source, nodes, &labels)
+        match mended {
+            Some(labels) => Tree::from_labels(alloc, source, nodes, &labels),
+            None => self.tree(alloc, source),
+        }
     }
 }
 
@@ -123,8 +127,8 @@ fn place_or(nodes: &[(Addr, Asn)], addr: Addr, other: usize) -> usize
     }
 }
 
-// The least labels from a node, from those of an old tree.
-fn new_labels(
+// The least labels from a node, mended from those of an old tree. None where mending them did not do.
+fn mended_labels(
     alloc: Global,
     nodes: &[(Addr, Asn)],
     links: &[Link],
@@ -132,20 +136,24 @@ fn new_labels(
     source: usize,
     old: &[(Addr, Label)],
     change: Change,
-) -> Result<Vec<Option<Label>>, AllocError>
+) -> Result<Option<Vec<Option<Label>>>, AllocError>
     requires size { length nodes.now ≤ 4096 }
     requires rising { IsRising nodes.now }
     requires source { source < length nodes.now }
     requires within { IsWithin nodes.now links.now }
     requires starts { IsIndexed nodes.now links.now starts.now }
-    ensures sound { IfOk result (λ v. IsSound nodes.now source links.now v.items) }
-    ensures closed { IfOk result (λ v. IsClosed nodes.now source links.now v.items) }
+    ensures sound { IfOk result (λ o. IfSome o (λ v. IsSound nodes.now source links.now v.items)) }
+    ensures closed { IfOk result (λ o. IfSome o (λ v. IsClosed nodes.now source links.now v.items)) }
 {
-    let mut labels = old_labels(alloc, nodes, source, old)?;
     let (one, other) = change.ends();
     let ends = [place_or(nodes, one, source), place_or(nodes, other, source)];
-    relabel(alloc, nodes, links, starts, source, &mut labels, &ends)?;
-    Ok(labels)
+    let mut labels = old_labels(alloc, nodes, source, old)?;
+    mend(alloc, nodes, links, starts, source, &mut labels, &ends)?;
+    if are_least(alloc, nodes, links, source, &labels)? {
+        Ok(Some(labels))
+    } else {
+        Ok(None)
+    }
 }
 
 // The labels of an old tree at the places of their nodes, as far as they can be used, and the source's own.

@@ -1,6 +1,7 @@
 //! Interior costs: the least cost and the first hop from a router to every other, over the edges of one network.
 #![tactic(auto)]
 
+mod certify;
 mod change;
 mod conditions;
 mod graph;
@@ -18,6 +19,7 @@ mod wiring;
 pub use change::Change;
 pub use conditions::is_topology;
 pub use graph::Graph;
+pub use label::Label;
 pub use laws::{
     costs_are_least, costs_are_one, first_hops_are_least, first_hops_are_one, trees_are_one,
 };

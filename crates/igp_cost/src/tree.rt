@@ -115,7 +115,7 @@ fn labelled(
     requires same_length { length labels.now ≡ length nodes.now }
     ensures { IfOk result (λ v. v.items ≡ rows_of nodes.now labels.now) }
 {
-    let mut rows = Vec::new(alloc);
+    let mut rows = Vec::with_capacity(alloc, nodes.len())?;
     for at in 0..nodes.len() {
         add(&mut rows, nodes[at].0, labels[at])?;
     }

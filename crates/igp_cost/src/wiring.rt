@@ -40,13 +40,13 @@ fn both_ways(
         let from = place(nodes, *one);
         let to = place(nodes, *other);
         let metric = metric.cost();
-        add_both(&mut links, from, to, metric)?;
+        add_both(&mut links, from as u16, to as u16, metric as u16)?;
     }
     Ok(links)
 }
 
 // Adds the two links of an edge.
-fn add_both(links: &mut Vec<Link>, from: usize, to: usize, metric: u32) -> Result<(), AllocError>
+fn add_both(links: &mut Vec<Link>, from: u16, to: u16, metric: u16) -> Result<(), AllocError>
     ensures { OnOk result (links.new.items ≡ (links.old.items ++ record { from = from; to = to; metric = metric } ∷ []) ++ record { from = to; to = from; metric = metric } ∷ []) }
 {
     links.push(Link { from, to, metric })?;
@@ -81,7 +81,7 @@ pub fn starts_of(
 {
     let mut starts = Vec::with_capacity(alloc, nodes.len() + 1)?;
     for at in 0..nodes.len() + 1 {
-        starts.push(links.partition_point(|link| link.from < at))?;
+        starts.push(links.partition_point(|link| (link.from as usize) < at))?;
     }
     Ok(starts)
 }

@@ -1,0 +1,4 @@
+mod Nodes
+mod TreeList
+mod Soundness
+mod KeptTrees

@@ -1,11 +1,16 @@
 //! When an edit is refused: one test for each refusal, and their order.
 
-ghost use Rattle.std.specs.Prelude.{◌≡◌, MatchResult};
-ghost use Rattle.net_conf.specs.Edits.{lacks_node, repeats_node, has_one_end, has_bad_end, is_inside, repeats_link, lacks_link, repeats_session, repeats_origin, is_past_limit, refusal_of};
+ghost use Rattle.std.specs.Prelude.{◌≡◌, MatchResult, length};
+ghost use Rattle.net_conf.specs.Configuration.{rules_at};
+ghost use Rattle.net_conf.specs.Edits.{lacks_either, lacks_node, repeats_node, has_one_end, has_bad_end, has_virtual_inside, is_inside, lacks_link, repeats_link, is_unlinked, lacks_session, repeats_session, needs_internal, sets_too_much, breaks_rule, repeats_origin, lacks_origin, rules_of, is_past_limit, refusal_of};
 
-use crate::conf::Conf;
+use crate::configured::Configured;
 use crate::edit::Edit;
 use crate::refusal::Refusal;
+use crate::tables::{End, Way};
+use net_prefix::Addr;
+use route_policy::{Action, Policy};
+use std::collections::BTreeMap;
 
 /// How many routers and virtual peers there may be.
 pub const MAX_NODES: usize = 4096;
@@ -16,7 +21,10 @@ pub const MAX_LINKS: usize = 16384;
 /// How many sessions an address may have.
 pub const MAX_SESSIONS: usize = 256;
 
-impl Conf {
+/// How many rules a policy may have.
+const MAX_RULES: usize = 256;
+
+impl Configured {
     /// Whether the edit may be made: the first test that holds refuses it. It takes no memory.
     #[tactic(auto, unfolding(crate::specs::Edits::refusal_of))]
     pub fn check(&self, edit: &Edit) -> Result<(), Refusal>
@@ -32,19 +40,35 @@ impl Conf {
             Err(Refusal::BadEnd)
         } else if self.is_inside(edit) {
             Err(Refusal::VirtualInside)
+        } else if self.lacks_link(edit) {
+            Err(Refusal::NoLink)
         } else if self.repeats_link(edit) {
             Err(Refusal::LinkExists)
-        } else if self.lacks_link(edit) {
+        } else if self.is_unlinked(edit) {
             Err(Refusal::NotLinked)
+        } else if self.lacks_session(edit) {
+            Err(Refusal::NoSession)
         } else if self.repeats_session(edit) {
             Err(Refusal::SessionExists)
+        } else if self.needs_internal(edit) {
+            Err(Refusal::InternalOnly)
+        } else if self.breaks_rule(edit) {
+            Err(Refusal::RuleNotAllowed)
         } else if self.repeats_origin(edit) {
             Err(Refusal::OriginExists)
+        } else if self.lacks_origin(edit) {
+            Err(Refusal::NoOrigin)
         } else if self.is_past_limit(edit) {
             Err(Refusal::Limit)
         } else {
             Ok(())
         }
+    }
+
+    fn lacks_either(&self, one: Addr, other: Addr) -> bool
+        ensures { result ≡ lacks_either self.now one other }
+    {
+        !self.has_node(one) || !self.has_node(other)
     }
 
     /// 2: a router or peer that the edit names is not there.
@@ -53,9 +77,20 @@ impl Conf {
     {
         match *edit {
             Edit::Router(_, _) | Edit::Virtual(_, _) => false,
-            Edit::Link(one, other, _) | Edit::Join(one, other) => !self.has_node(one)
-                || !self.has_node(other),
-            Edit::Origin(router, _) => !self.has_node(router),
+            Edit::Link(one, other, _) | Edit::Metric(one, other, _) => self.lacks_either(
+                one, other,
+            ),
+            Edit::Fail(one, other) | Edit::Mend(one, other) => self.lacks_either(one, other),
+            Edit::Join(one, other) | Edit::Stop(one, other) | Edit::Start(one, other) => {
+                self.lacks_either(one, other)
+            }
+            Edit::Client(router, peer, _) | Edit::OwnNext(router, peer, _) => {
+                self.lacks_either(router, peer)
+            }
+            Edit::Rule(router, peer, _, _) => self.lacks_either(router, peer),
+            Edit::Clear(router, peer, _) => self.lacks_either(router, peer),
+            Edit::Cluster(router, _) => !self.has_node(router),
+            Edit::Origin(router, _) | Edit::NoOrigin(router, _) => !self.has_node(router),
         }
     }
 
@@ -65,7 +100,7 @@ impl Conf {
     {
         match *edit {
             Edit::Router(addr, _) | Edit::Virtual(addr, _) => self.has_node(addr),
-            Edit::Link(_, _, _) | Edit::Join(_, _) | Edit::Origin(_, _) => false,
+            _ => false,
         }
     }
 
@@ -74,21 +109,41 @@ impl Conf {
         ensures { result ≡ has_bad_end self.now edit.now }
     {
         match *edit {
-            Edit::Router(_, _) | Edit::Virtual(_, _) => false,
-            Edit::Link(one, other, _) | Edit::Join(one, other) => self.is_virtual(one)
-                && self.is_virtual(other),
-            Edit::Origin(router, _) => self.is_virtual(router),
+            Edit::Link(one, other, _) => self.is_virtual(one) && self.is_virtual(other),
+            Edit::Join(one, other) => self.is_virtual(one) && self.is_virtual(other),
+            Edit::Client(router, _, _) | Edit::OwnNext(router, _, _) => self.is_virtual(router),
+            Edit::Cluster(router, _) => self.is_virtual(router),
+            Edit::Rule(router, _, _, _) | Edit::Clear(router, _, _) => self.is_virtual(router),
+            Edit::Origin(router, _) | Edit::NoOrigin(router, _) => self.is_virtual(router),
+            _ => false,
         }
     }
 
-    /// 6: both ends are in one AS.
+    fn has_virtual_inside(&self, one: Addr, other: Addr) -> bool
+        ensures { result ≡ has_virtual_inside self.now one other }
+    {
+        (self.is_virtual(one) || self.is_virtual(other)) && !self.is_external(one, other)
+    }
+
+    /// 6: a virtual peer would be linked or joined within its own AS.
     fn is_inside(&self, edit: &Edit) -> bool
         ensures { result ≡ is_inside self.now edit.now }
     {
         match *edit {
-            Edit::Link(one, other, _) | Edit::Join(one, other) => self.asn_at(one)
-                == self.asn_at(other),
-            Edit::Router(_, _) | Edit::Virtual(_, _) | Edit::Origin(_, _) => false,
+            Edit::Link(one, other, _) => self.has_virtual_inside(one, other),
+            Edit::Join(one, other) => self.has_virtual_inside(one, other),
+            _ => false,
+        }
+    }
+
+    /// 7: the two have no link.
+    fn lacks_link(&self, edit: &Edit) -> bool
+        ensures { result ≡ lacks_link self.now edit.now }
+    {
+        match *edit {
+            Edit::Metric(one, other, _) => !self.has_link(one, other),
+            Edit::Fail(one, other) | Edit::Mend(one, other) => !self.has_link(one, other),
+            _ => false,
         }
     }
 
@@ -98,20 +153,32 @@ impl Conf {
     {
         match *edit {
             Edit::Link(one, other, _) => self.has_link(one, other),
-            Edit::Router(_, _) | Edit::Virtual(_, _) | Edit::Join(_, _) | Edit::Origin(_, _) =>
-                false,
+            _ => false,
         }
     }
 
     /// 9: the two are in different ASes and have no link.
-    fn lacks_link(&self, edit: &Edit) -> bool
-        ensures { result ≡ lacks_link self.now edit.now }
+    fn is_unlinked(&self, edit: &Edit) -> bool
+        ensures { result ≡ is_unlinked self.now edit.now }
     {
         match *edit {
-            Edit::Join(one, other) => self.asn_at(one) != self.asn_at(other)
-                && !self.has_link(one, other),
-            Edit::Router(_, _) | Edit::Virtual(_, _) | Edit::Link(_, _, _) | Edit::Origin(_, _) =>
-                false,
+            Edit::Join(one, other) => self.is_external(one, other) && !self.has_link(one, other),
+            _ => false,
+        }
+    }
+
+    /// 10: the two have no session.
+    fn lacks_session(&self, edit: &Edit) -> bool
+        ensures { result ≡ lacks_session self.now edit.now }
+    {
+        match *edit {
+            Edit::Stop(one, other) | Edit::Start(one, other) => !self.has_session(one, other),
+            Edit::Client(router, peer, _) | Edit::OwnNext(router, peer, _) => {
+                !self.has_session(router, peer)
+            }
+            Edit::Rule(router, peer, _, _) => !self.has_session(router, peer),
+            Edit::Clear(router, peer, _) => !self.has_session(router, peer),
+            _ => false,
         }
     }
 
@@ -121,8 +188,31 @@ impl Conf {
     {
         match *edit {
             Edit::Join(one, other) => self.has_session(one, other),
-            Edit::Router(_, _) | Edit::Virtual(_, _) | Edit::Link(_, _, _) | Edit::Origin(_, _) =>
-                false,
+            _ => false,
+        }
+    }
+
+    /// 12: a setting of internal sessions, on an external one.
+    fn needs_internal(&self, edit: &Edit) -> bool
+        ensures { result ≡ needs_internal self.now edit.now }
+    {
+        match *edit {
+            Edit::Client(router, peer, _) | Edit::OwnNext(router, peer, _) => {
+                self.is_external(router, peer)
+            }
+            _ => false,
+        }
+    }
+
+    /// 13: the rule sets what it may not set there.
+    fn breaks_rule(&self, edit: &Edit) -> bool
+        ensures { result ≡ breaks_rule self.now edit.now }
+    {
+        match *edit {
+            Edit::Rule(router, peer, way, rule) => {
+                sets_too_much(self.is_external(router, peer), way, rule.act)
+            }
+            _ => false,
         }
     }
 
@@ -132,21 +222,41 @@ impl Conf {
     {
         match *edit {
             Edit::Origin(router, prefix) => self.originates(router, prefix),
-            Edit::Router(_, _) | Edit::Virtual(_, _) | Edit::Link(_, _, _) | Edit::Join(_, _) =>
-                false,
+            _ => false,
         }
     }
 
-    /// 19: there are as many routers and peers, links, or sessions at an end as there may be.
+    /// 15: the router does not originate the prefix.
+    fn lacks_origin(&self, edit: &Edit) -> bool
+        ensures { result ≡ lacks_origin self.now edit.now }
+    {
+        match *edit {
+            Edit::NoOrigin(router, prefix) => !self.originates(router, prefix),
+            _ => false,
+        }
+    }
+
+    /// How many rules the router has for what comes from the peer, or goes to it.
+    fn rule_count(&self, router: Addr, peer: Addr, way: Way) -> usize
+        ensures { result ≡ length (rules_of self.now router peer way) }
+    {
+        match way {
+            Way::In => count_at(&self.imports, End { router, peer }),
+            Way::Out => count_at(&self.exports, End { router, peer }),
+        }
+    }
+
+    /// 19: there are as many routers and peers, links, sessions at an end, or rules as there may be.
     fn is_past_limit(&self, edit: &Edit) -> bool
         ensures { result ≡ is_past_limit self.now edit.now }
     {
         match *edit {
-            Edit::Router(_, _) | Edit::Virtual(_, _) => self.node_count() >= MAX_NODES,
-            Edit::Link(_, _, _) => self.link_count() >= MAX_LINKS,
+            Edit::Router(_, _) | Edit::Virtual(_, _) => self.nodes.len() >= MAX_NODES,
+            Edit::Link(_, _, _) => self.links.len() >= MAX_LINKS,
             Edit::Join(one, other) => self.session_count(one) >= MAX_SESSIONS
                 || self.session_count(other) >= MAX_SESSIONS,
-            Edit::Origin(_, _) => false,
+            Edit::Rule(router, peer, way, _) => self.rule_count(router, peer, way) >= MAX_RULES,
+            _ => false,
         }
     }
 }
@@ -157,6 +267,35 @@ fn has_one_end(edit: &Edit) -> bool
 {
     match *edit {
         Edit::Link(one, other, _) | Edit::Join(one, other) => one == other,
-        Edit::Router(_, _) | Edit::Virtual(_, _) | Edit::Origin(_, _) => false,
+        _ => false,
+    }
+}
+
+/// Whether a rule may not do this there.
+fn sets_too_much(external: bool, way: Way, action: Action) -> bool
+    ensures { result ≡ sets_too_much external way action }
+{
+    match action {
+        Action::Deny => false,
+        Action::Permit { pref, med, prepend } => {
+            if !external {
+                pref.is_some() || med.is_some() || prepend.is_some()
+            } else {
+                match way {
+                    Way::In => prepend.is_some(),
+                    Way::Out => pref.is_some(),
+                }
+            }
+        }
+    }
+}
+
+/// How many rules the policy of the end has.
+fn count_at(policies: &BTreeMap<End, Policy>, end: End) -> usize
+    ensures { result ≡ length (rules_at policies.now.entries end) }
+{
+    match policies.get(&end) {
+        None => 0,
+        Some(policy) => policy.len(),
     }
 }

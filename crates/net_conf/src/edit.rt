@@ -1,8 +1,10 @@
 //! Changes of a configuration.
 
+use crate::tables::Way;
 use igp_cost::Metric;
 use net_prefix::{Addr, Prefix};
 use path_attr::Asn;
+use route_policy::Rule;
 
 /// A change of the configuration, one variant a kind of command.
 #[derive(Clone, Copy, Debug, PartialEq, Eq)]
@@ -11,10 +13,32 @@ pub enum Edit {
     Router(Addr, Asn),
     /// A new virtual peer in an AS.
     Virtual(Addr, Asn),
-    /// A new link of this cost.
+    /// A new link of this cost, up.
     Link(Addr, Addr, Metric),
-    /// A new session.
+    /// Another cost of a link.
+    Metric(Addr, Addr, Metric),
+    /// A link goes down.
+    Fail(Addr, Addr),
+    /// A link comes up.
+    Mend(Addr, Addr),
+    /// A new session, enabled.
     Join(Addr, Addr),
+    /// A session is disabled.
+    Stop(Addr, Addr),
+    /// A session is enabled.
+    Start(Addr, Addr),
+    /// Whether the second is a client of the first (RFC 4456, 6).
+    Client(Addr, Addr, bool),
+    /// Whether the first puts itself as NEXT_HOP towards the second.
+    OwnNext(Addr, Addr, bool),
+    /// The CLUSTER_ID of the router (RFC 4456, 7).
+    Cluster(Addr, Addr),
+    /// A rule at the end of the policy of the first for what comes from the second, or goes to it.
+    Rule(Addr, Addr, Way, Rule),
+    /// That policy is emptied.
+    Clear(Addr, Addr, Way),
     /// The router originates the prefix.
     Origin(Addr, Prefix),
+    /// The router originates the prefix no more.
+    NoOrigin(Addr, Prefix),
 }

@@ -1,17 +1,21 @@
-//! What is configured: routers, links, sessions and originated prefixes; and the edits that change it.
+//! What is configured: routers, links, sessions and their settings, originated prefixes; the edits that change it; and
+//! what follows from it: interior costs, which sessions are up, and each router's site.
 #![tactic(auto)]
 
+mod apply;
 mod checks;
 mod conf;
+mod configured;
 mod edit;
 mod refusal;
+mod site;
 mod tables;
-#[cfg(test)]
-mod tests;
+mod trees;
 
 pub use checks::{MAX_LINKS, MAX_NODES, MAX_SESSIONS};
 pub use conf::Conf;
 pub use edit::Edit;
 pub use igp_cost::Metric;
 pub use refusal::Refusal;
-pub use tables::{Ends, Kind, Node, Origination};
+pub use site::{SiteConf, SiteSession};
+pub use tables::{End, Ends, Kind, Link, Node, Origination, Way};

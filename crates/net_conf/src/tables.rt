@@ -1,5 +1,6 @@
 //! The rows of a configuration.
 
+use igp_cost::Metric;
 use net_prefix::{Addr, Prefix};
 use path_attr::Asn;
 
@@ -47,6 +48,29 @@ impl Ends {
             }
         }
     }
+}
+
+/// A link between two addresses, the same both ways.
+#[derive(Clone, Copy, Debug, PartialEq, Eq)]
+pub struct Link {
+    pub metric: Metric,
+    pub up: bool,
+}
+
+/// One end of a session: the router whose end it is, and the peer at the other.
+#[derive(Clone, Copy, Debug, PartialEq, Eq, PartialOrd, Ord)]
+pub struct End {
+    pub router: Addr,
+    pub peer: Addr,
+}
+
+/// Which routes a policy judges (RFC 4271, 9.1.1 and 9.1.3).
+#[derive(Clone, Copy, Debug, PartialEq, Eq)]
+pub enum Way {
+    /// Those that come in from the peer.
+    In,
+    /// Those that go out to it.
+    Out,
 }
 
 /// A prefix that a router originates.

@@ -101,3 +101,11 @@ impl PartialEq for Attr {
         self.is_same(other)
     }
 }
+
+impl Clone for Attr {
+    ghost is_clone = { λ attr again. again ≡ attr };
+
+    fn clone(&self) -> Result<Attr, AllocError> {
+        self.copy(self.clusters.allocator())
+    }
+}

@@ -1,45 +1,28 @@
--- What a router offers its peers, and what it sends when that changes (RFC 4271, 5.1, 9.1.3 and 9.2).
-use Rattle.std.specs.Prelude.{ℕ, Bool, false, not, ◌&&◌, List, [], ◌∷◌, ◌++◌, map, fold, Option, Some, None, option_and_then, option_map, if◌then◌else◌}
+-- What a router offers its peers, and what it sends when that changes (RFC 4271, 9.1.3 and 9.2).
+use Rattle.std.specs.Prelude.{ℕ, Bool, not, ◌&&◌, List, [], ◌++◌, map, fold, Option, Some, None, option_and_then, if◌then◌else◌}
 use Rattle.std.specs.List.{filter_map}
 use Rattle.std.specs.BTreeSet.{insert_key}
 use Rattle.net_prefix.specs.declared.addr.Addr.{Addr}
 use Rattle.net_prefix.specs.Block.{Block, block_cmp}
 use Rattle.path_attr.specs.declared.attr.Attr.{Attr}
-use Rattle.path_attr.specs.Path.{prepended}
 use Rattle.path_attr.specs.Attribute.{same_attr}
-use Rattle.net_conf.specs.Configuration.{Configuration, has_node, is_virtual, is_up, origins_of}
-use Rattle.route_select.specs.declared.candidate.Source.{Source}
-use Rattle.route_select.specs.declared.candidate.Source.TheVariants.{Own, Peer as FromPeer}
+use Rattle.net_conf.specs.Configuration.{Configuration, has_node, is_virtual, origins_of}
+use Rattle.net_conf.specs.Costs.{is_up}
+use Rattle.net_conf.specs.Sites.{site_of}
 use Rattle.route_select.specs.declared.candidate.Candidate.{Candidate}
+use Rattle.reflect_out.specs.Advertising.{advert}
 use Rattle.session_queue.specs.declared.message.Message.{Message}
 use Rattle.session_queue.specs.declared.message.Message.TheVariants.{Update, Withdraw}
-use Rattle.reference_machine.specs.Network.{Network, same_addr, received_by}
-use Rattle.reference_machine.specs.Decision.{as_of, best}
+use Rattle.reference_machine.specs.Network.{Network, received_by}
+use Rattle.reference_machine.specs.Decision.{best}
 
-abbrev pub is_from : Addr → Source → Bool
-is_from t Own = false
-is_from t (FromPeer u) = same_addr u t
-
--- the attributes towards another AS: the own AS in front, the router as NEXT_HOP, no MED, LOCAL_PREF, ORIGINATOR_ID
--- or CLUSTER_LIST, ORIGIN kept (RFC 4271, 5.1.1 to 5.1.5; RFC 4456, 8)
-abbrev pub to_other_as : ℕ → Addr → Attr → Attr
-to_other_as n r attr = record {
-  path = prepended n attr.path;
-  origin = attr.origin;
-  next = r;
-  med = None;
-  pref = None;
-  oid = None;
-  clusters = [];
-}
-
--- what the router offers a peer of its choice: nothing where it has that from the peer itself
-abbrev pub advert : Configuration → Addr → Addr → Candidate → Option Attr
-advert c r t b = if is_from t b.source then None else option_map (λ n. to_other_as n r b.attr) (as_of c r)
+-- what is offered the peer of the route that was chosen
+abbrev pub offer_of : Configuration → Addr → Addr → Block → Candidate → Option Attr
+offer_of c r t p b = option_and_then (λ site. advert site p b t) (site_of c r)
 
 -- the router's Adj-RIB-Out for the peer (RFC 4271, 3.2), decided afresh: nothing while the session is down
 unfoldable pub advertised : Network → Addr → Addr → Block → Option Attr
-advertised s r t p = if is_up s.conf r t then option_and_then (advert s.conf r t) (best s r p) else None
+advertised s r t p = if is_up s.conf r t then option_and_then (offer_of s.conf r t p) (best s r p) else None
 
 -- the message that leads from what was offered to what is offered now: none where that is the same
 abbrev pub change_of : Block → Option Attr → Option Attr → Option Message
@@ -50,7 +33,7 @@ change_of p (Some old) (Some new) = if same_attr old new then None else Some (Up
 
 -- the prefixes that the router originates or has received, as they come
 abbrev pub prefixes_at : Network → Addr → List Block
-prefixes_at s r = origins_of s.conf r ++ map (λ e. e.key.prefix) (received_by r s.received)
+prefixes_at s r = origins_of s.conf r ++ map (λ e. e.0.prefix) (received_by r s.received)
 
 -- each prefix once, in order of address, then length
 abbrev pub in_order : List Block → List Block

@@ -1,101 +1,146 @@
--- What a router decides, afresh, from what is configured and received (RFC 4271, 9.1.1 and 9.1.2).
-use Rattle.std.specs.Prelude.{ℕ, Bool, true, false, not, ◌&&◌, List, [], ◌∷◌, map, filter, fold, Option, Some, None, option_map, is_none, if◌then◌else◌}
+-- What a router decides, afresh, from what is configured and received (RFC 4271, 9.1.1 and 9.1.2; RFC 4456, 8 and 9).
+use Rattle.std.specs.Prelude.{ℕ, Bool, true, false, ◌&&◌, List, [], ◌∷◌, ◌++◌, fold, Option, Some, None, option_and_then, is_none, if◌then◌else◌}
 use Rattle.std.specs.Option.{unwrap_or}
+use Rattle.std.specs.List.{filter_map, list_any}
+use Rattle.std.specs.Map.{lookup}
+use Rattle.std.specs.BTreeMap.{is_at}
 use Rattle.std.specs.FinMap as finite
 use Rattle.net_prefix.specs.declared.addr.Addr.{Addr}
 use Rattle.net_prefix.specs.Block.{Block, same_block}
-use Rattle.path_attr.specs.declared.path.Segment.{Segment}
 use Rattle.path_attr.specs.Path.{holds}
-use Rattle.path_attr.specs.Number.{same_number}
 use Rattle.path_attr.specs.declared.attr.Attr.{Attr}
+use Rattle.path_attr.specs.Attribute.{same_maybe_addr}
 use Rattle.path_attr.specs.declared.origin.Origin.TheVariants.{Igp}
-use Rattle.net_conf.specs.Configuration.{Configuration, node_at, link_between, is_up, originates}
+use Rattle.igp_cost.specs.Trees.{cost_in}
+use Rattle.route_policy.specs.declared.rule.Action.{Action}
+use Rattle.route_policy.specs.declared.rule.Action.TheVariants.{Deny, Permit}
+use Rattle.route_policy.specs.Judging.{judged}
+use Rattle.net_conf.specs.declared.site.SiteConf.{SiteConf}
+use Rattle.net_conf.specs.declared.site.SiteSession.{SiteSession}
+use Rattle.net_conf.specs.Sites.{site_of}
 use Rattle.route_select.specs.declared.candidate.Source.{Source}
 use Rattle.route_select.specs.declared.candidate.Source.TheVariants.{Own, Peer as FromPeer}
 use Rattle.route_select.specs.declared.candidate.Candidate.{Candidate}
 use Rattle.route_select.specs.declared.candidate.Reason.{Reason}
-use Rattle.route_select.specs.declared.candidate.Reason.TheVariants.{Loop, Unresolved}
+use Rattle.route_select.specs.declared.candidate.Reason.TheVariants.{Loop, Originator, Cluster, Denied, Unresolved}
 use Rattle.route_select.specs.declared.candidate.Standing.{Standing}
 use Rattle.route_select.specs.declared.candidate.Standing.TheVariants.{Excluded, Considered}
-use Rattle.route_select.specs.Selection.{source_cmp, Standings, best_of, reason_in}
-use Rattle.reference_machine.specs.declared.rows.Received.{Received}
-use Rattle.reference_machine.specs.Network.{Network, same_addr}
+use Rattle.route_select.specs.Selection.{Standings, best_of}
+use Rattle.reference_machine.specs.declared.rows.RouteKey.{RouteKey}
+use Rattle.reference_machine.specs.Network.{Network, same_addr, route_cmp}
 
--- the preference of a route that no policy sets
+-- the preference of a route that nothing sets
 abbrev pub default_preference : ℕ
 default_preference = 100
 
--- the cost from the router to an address: 0 to itself, else that of the direct link (RFC 4271, 9.1.2.1)
-abbrev pub cost_to : Configuration → Addr → Addr → Option ℕ
-cost_to c r x = if same_addr r x then Some 0 else link_between c r x
+-- THE ROUTER'S OWN ROUTE
 
--- the attributes of a route that the router originates
 abbrev pub own_attr : Addr → Attr
 own_attr r = record { path = []; origin = Igp; next = r; med = None; pref = Some default_preference; oid = None; clusters = [] }
 
+-- it counts with the external ones, and its cost is 0
 abbrev pub own_candidate : Addr → Candidate
 own_candidate r = record { source = Own; attr = own_attr r; pref = default_preference; external = true; cost = 0; ident = r }
 
--- the AS of the router or peer, where there is one
-abbrev pub as_of : Configuration → Addr → Option ℕ
-as_of c r = option_map (λ n. n.asn) (node_at c r)
+abbrev pub is_originated : SiteConf → Block → Bool
+is_originated site p = list_any (same_block p) site.origins
 
-abbrev pub has_loop : Option ℕ → List Segment → Bool
-has_loop None path = false
-has_loop (Some n) path = holds n path
+abbrev pub own_standings : SiteConf → Block → List (Source × Standing)
+own_standings site p = if is_originated site p then (Own, Considered (own_candidate site.me)) ∷ [] else []
 
--- why the router may not choose a route: the first test that holds (RFC 4271, 9.1.2: an AS loop; a next hop that is not reached)
-abbrev pub exclusion : Configuration → Addr → Attr → Option Reason
-exclusion c r attr = if has_loop (as_of c r) attr.path then Some Loop else if is_none (cost_to c r attr.next) then Some Unresolved else None
+-- A PEER'S ROUTE
 
--- the attributes after import: LOCAL_PREF is the preference
-abbrev pub imported : Attr → Attr
-imported attr = record attr { pref = Some default_preference }
+-- the router is a reflector, and its CLUSTER_ID stands in the CLUSTER_LIST
+abbrev pub has_cluster_loop : SiteConf → Attr → Bool
+has_cluster_loop site attr = site.reflector && list_any (same_addr site.cluster) attr.clusters
+
+abbrev pub is_denial : Action → Bool
+is_denial Deny = true
+is_denial (Permit pref med prepend) = false
+
+-- why the router may not choose a peer's route: the first test that holds
+abbrev pub exclusion : SiteConf → Action → Attr → Option Reason
+exclusion site action attr =
+    -- its AS_PATH holds the router's AS (RFC 4271, 9.1.2)
+    if holds site.asn attr.path then Some Loop
+    -- its ORIGINATOR_ID is the router's address (RFC 4456, 8)
+    else if same_maybe_addr attr.oid (Some site.me) then Some Originator
+    -- it has been in the router's cluster (RFC 4456, 8)
+    else if has_cluster_loop site attr then Some Cluster
+    -- the import policy denies it (RFC 4271, 9.1.1)
+    else if is_denial action then Some Denied
+    -- there is no way to its NEXT_HOP (RFC 4271, 9.1.2)
+    else if is_none (cost_in site.costs attr.next) then Some Unresolved
+    else None
+
+-- what the import policy sets
+abbrev pub set_preference : Action → Option ℕ
+set_preference Deny = None
+set_preference (Permit pref med prepend) = pref
+
+abbrev pub set_med : Action → Option ℕ → Option ℕ
+set_med Deny med = med
+set_med (Permit pref None prepend) med = med
+set_med (Permit pref (Some m) prepend) med = Some m
+
+-- the degree of preference: of an external route what the import policy sets, of an internal one its LOCAL_PREF
+-- (RFC 4271, 9.1.1)
+abbrev pub preference : Bool → Action → Attr → ℕ
+preference true action attr = unwrap_or (set_preference action) default_preference
+preference false action attr = unwrap_or attr.pref default_preference
+
+-- the attributes after import: MED as the policy left it, and the preference as LOCAL_PREF
+abbrev pub imported : Bool → Action → Attr → Attr
+imported external action attr = record attr { med = set_med action attr.med; pref = Some (preference external action attr) }
 
 -- a peer's route as a candidate; its identifier is its ORIGINATOR_ID, or the peer's address where it has none (RFC 4456, 9)
-abbrev pub peer_candidate : Configuration → Addr → Addr → Attr → Candidate
-peer_candidate c r u attr = record {
-  source = FromPeer u;
-  attr = imported attr;
-  pref = default_preference;
-  external = not (same_number (as_of c u) (as_of c r));
-  cost = unwrap_or (cost_to c r attr.next) 0;
-  ident = unwrap_or attr.oid u;
+abbrev pub peer_candidate : SiteConf → SiteSession → Action → Attr → Candidate
+peer_candidate site from action attr = record {
+  source = FromPeer from.peer;
+  attr = imported from.external action attr;
+  pref = preference from.external action attr;
+  external = from.external;
+  cost = unwrap_or (cost_in site.costs attr.next) 0;
+  ident = unwrap_or attr.oid from.peer;
 }
 
 abbrev pub standing_by : Option Reason → Candidate → Standing
 standing_by (Some reason) candidate = Excluded reason
 standing_by None candidate = Considered candidate
 
--- how a peer's route stands at the router
-abbrev pub peer_standing : Configuration → Addr → Addr → Attr → Standing
-peer_standing c r u attr = standing_by (exclusion c r attr) (peer_candidate c r u attr)
+abbrev pub judged_standing : SiteConf → SiteSession → Action → Attr → Standing
+judged_standing site from action attr = standing_by (exclusion site action attr) (peer_candidate site from action attr)
 
-abbrev pub own_standings : Configuration → Addr → Block → List (Source × Standing)
-own_standings c r p = if originates c r p then (Own, Considered (own_candidate r)) ∷ [] else []
+-- how a route from the peer of the session stands at the router
+abbrev pub peer_standing : SiteConf → Block → SiteSession → Attr → Standing
+peer_standing site p from attr = judged_standing site from (judged from.policy_in p attr) attr
 
--- the router received the route of the prefix, from a peer with which its session is up
-abbrev pub counts : Configuration → Addr → Block → Received → Bool
-counts c r p e = same_addr e.key.to r && same_block e.key.prefix p && is_up c e.key.from r
+-- the route that the router has received from the peer for the prefix
+abbrev pub route_from : List (RouteKey × Attr) → Addr → Block → Addr → Option Attr
+route_from es r p u = lookup (is_at (route_cmp (record { to = r; prefix = p; from = u }))) es
 
-abbrev pub standing_of : Configuration → Addr → Received → Source × Standing
-standing_of c r e = (FromPeer e.key.from, peer_standing c r e.key.from e.attr)
+-- a route counts while the session that it came over is up
+abbrev pub standing_over : SiteConf → Block → SiteSession → Option Attr → Option (Source × Standing)
+standing_over site p from None = None
+standing_over site p from (Some attr) = if from.up then Some (FromPeer from.peer, peer_standing site p from attr) else None
 
-abbrev pub peer_standings : Configuration → Addr → Block → List Received → List (Source × Standing)
-peer_standings c r p es = map (standing_of c r) (filter (counts c r p) es)
+abbrev pub standing_from : SiteConf → Block → List (RouteKey × Attr) → SiteSession → Option (Source × Standing)
+standing_from site p es from = standing_over site p from (route_from es site.me p from.peer)
+
+-- DECISIONS
+
+-- the routes to the prefix: the router's own first, then those of its peers, by address
+abbrev pub routes_at : SiteConf → Block → List (RouteKey × Attr) → List (Source × Standing)
+routes_at site p es = own_standings site p ++ filter_map (standing_from site p es) site.sessions
 
 -- the map to which these entries were added
 abbrev pub added : Standings → List (Source × Standing) → Standings
 added m es = fold (λ n e. finite.insert n e.0 e.1) m es
 
 -- how each source's route to the prefix stands at the router
-abbrev pub standings : Network → Addr → Block → Standings
-standings s r p = added (added finite.empty (own_standings s.conf r p)) (peer_standings s.conf r p s.received)
+abbrev pub standings : SiteConf → Block → List (RouteKey × Attr) → Standings
+standings site p es = added finite.empty (routes_at site p es)
 
 -- the route that the router chooses (RFC 4271, 9.1.2.2; RFC 4456, 9)
 unfoldable pub best : Network → Addr → Block → Option Candidate
-best s r p = best_of (standings s r p)
-
--- why a source's route was chosen or dropped
-unfoldable pub reason : Network → Addr → Block → Source → Option Reason
-reason s r p source = reason_in (standings s r p) source
+best s r p = option_and_then (λ site. best_of (standings site p s.received)) (site_of s.conf r)

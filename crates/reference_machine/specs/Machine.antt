@@ -1,5 +1,5 @@
 -- The machine: what each event does, and runs of events.
-use Rattle.std.specs.Prelude.{◌≡◌, ℕ, Bool, true, false, not, ◌==◌, ◌&&◌, ◌||◌, nat_lt, ◌⊎◌, List, [], ◌∷◌, map, Option, Some, None, Result, Ok, Err, is_none, if◌then◌else◌}
+use Rattle.std.specs.Prelude.{◌≡◌, ℕ, Bool, true, false, not, ◌==◌, ◌&&◌, ◌||◌, nat_lt, ◌⊎◌, List, [], ◌∷◌, map, filter, Option, Some, None, Result, Ok, Err, is_none, if◌then◌else◌}
 use Rattle.net_prefix.specs.declared.addr.Addr.{Addr}
 use Rattle.net_prefix.specs.Block.{Block}
 use Rattle.path_attr.specs.declared.attr.Attr.{Attr}
@@ -8,9 +8,10 @@ use Rattle.path_attr.specs.Number.{same_number}
 use Rattle.session_queue.specs.declared.message.Message.{Message}
 use Rattle.session_queue.specs.declared.message.Message.TheVariants.{Update as AnUpdate, Withdraw as AWithdrawal}
 use Rattle.session_queue.specs.Telling.{prefix_of, kind_of}
-use Rattle.net_conf.specs.Configuration.{Configuration, unconfigured, has_node, is_virtual, has_session, is_up}
+use Rattle.net_conf.specs.Configuration.{Configuration, unconfigured, has_node, is_virtual, as_of, has_session}
+use Rattle.net_conf.specs.Costs.{is_up}
 use Rattle.net_conf.specs.declared.edit.Edit.{Edit}
-use Rattle.net_conf.specs.declared.edit.Edit.TheVariants.{Router, Virtual, Link, Join, Origin}
+use Rattle.net_conf.specs.declared.edit.Edit.TheVariants.{Join}
 use Rattle.net_conf.specs.declared.refusal.Refusal.{Refusal}
 use Rattle.net_conf.specs.declared.refusal.Refusal.TheVariants.{NoRouter, BadEnd, NoSession, SessionDown, QueueEmpty, FirstAs, Limit, Memory}
 use Rattle.net_conf.specs.Edits.{first_of, refusal_of, edited}
@@ -20,18 +21,18 @@ use Rattle.sim_event.specs.declared.event.Feed.{Feed}
 use Rattle.sim_event.specs.declared.event.News.{News}
 use Rattle.sim_event.specs.declared.event.News.TheVariants.{Update, Withdraw}
 use Rattle.sim_event.specs.declared.event.Ask.{Ask}
-use Rattle.sim_event.specs.declared.event.Ask.TheVariants.{Routes}
+use Rattle.sim_event.specs.declared.event.Ask.TheVariants.{Routes, Best, Why, In, Out, Queue as QueueOf, Quiet, Cost, Trace}
 use Rattle.sim_event.specs.declared.reply.Report.{Report}
-use Rattle.sim_event.specs.declared.reply.Report.TheVariants.{Routes as RoutesOf}
+use Rattle.sim_event.specs.declared.reply.Report.TheVariants.{Routes as TheRoutes, Best as TheBest, Why as TheReasons, Rib, Queue as TheQueue, Quiet as IsQuiet, Cost as TheWay, Trace as TheTrace}
 use Rattle.sim_event.specs.declared.reply.Reply.{Reply}
 use Rattle.sim_event.specs.declared.reply.Reply.TheVariants.{Done, Took, Report as AReport, Refused}
-use Rattle.reference_machine.specs.declared.rows.Direction.{Direction}
-use Rattle.reference_machine.specs.declared.rows.Received.{Received}
+use Rattle.session_queue.specs.declared.direction.Direction.{Direction}
+use Rattle.reference_machine.specs.declared.rows.RouteKey.{RouteKey}
 use Rattle.reference_machine.specs.declared.rows.Queue.{Queue}
 use Rattle.reference_machine.specs.Network.{Network, with_route, without_route, messages_in, with_direction, with_more, with_message, without_head}
-use Rattle.reference_machine.specs.Decision.{as_of}
 use Rattle.reference_machine.specs.Advertising.{sent}
-use Rattle.reference_machine.specs.Reports.{loc_rib}
+use Rattle.reference_machine.specs.Reports.{loc_rib, choice, reasons, adj_rib_in, adj_rib_out, queue, is_quiet, way}
+use Rattle.reference_machine.specs.Tracing.{trace}
 
 -- nothing is configured, received or on its way
 abbrev pub nothing : Network
@@ -54,13 +55,22 @@ with_sent s s' = record s' { queues = map (λ q. with_more q (sent s s' q.of.fro
 -- a new session has a queue each way
 abbrev pub with_queues : Edit → List Queue → List Queue
 with_queues (Join a b) qs = with_direction (record { from = a; to = b }) (with_direction (record { from = b; to = a }) qs)
-with_queues (Router a n) qs = qs
-with_queues (Virtual a n) qs = qs
-with_queues (Link a b m) qs = qs
-with_queues (Origin a p) qs = qs
+with_queues _ qs = qs
+
+-- the queue, without its messages where the session is down
+abbrev pub emptied : Configuration → Queue → Queue
+emptied c q = if is_up c q.of.from q.of.to then q else record { of = q.of; messages = [] }
+
+abbrev pub is_kept : Configuration → (RouteKey × Attr) → Bool
+is_kept c e = is_up c e.0.from e.0.to
+
+-- the state with this configuration: nothing received, and nothing on its way, over a session that is down in it
+-- (RFC 4271, 6.7 and 8)
+unfoldable pub reconfigured : Configuration → List (RouteKey × Attr) → List Queue → Network
+reconfigured c received queues = record { conf = c; received = filter (is_kept c) received; queues = map (emptied c) queues }
 
 abbrev pub configured : Network → Edit → Network
-configured s e = record s { conf = edited s.conf e; queues = with_queues e s.queues }
+configured s e = reconfigured (edited s.conf e) s.received (with_queues e s.queues)
 
 abbrev pub edit_outcome : Network → Edit → Option Refusal → Outcome
 edit_outcome s e (Some r) = refused r s
@@ -107,7 +117,7 @@ feeds s f = feed_outcome s f (feed_refusal s.conf f)
 -- DELIVERIES
 
 -- an update replaces the route, a withdrawal removes it (RFC 4271, 9)
-abbrev pub received_after : Direction → Message → List Received → List Received
+abbrev pub received_after : Direction → Message → List (RouteKey × Attr) → List (RouteKey × Attr)
 received_after d (AnUpdate p attr) es = with_route (record { to = d.to; prefix = p; from = d.from }) attr es
 received_after d (AWithdrawal p) es = without_route (record { to = d.to; prefix = p; from = d.from }) es
 
@@ -136,18 +146,52 @@ delivers s d = deliver_outcome s d (delivery_refusal s.conf d)
 
 -- QUESTIONS
 
--- the router that is asked
-abbrev pub asked : Ask → Addr
-asked (Routes r) = r
+-- 2: a router or peer that the question names is not there
+abbrev pub asks_nobody : Configuration → Ask → Bool
+asks_nobody c (Routes r) = not (has_node c r)
+asks_nobody c (Best r p) = not (has_node c r)
+asks_nobody c (Why r p) = not (has_node c r)
+asks_nobody c (In r u) = not (has_node c r && has_node c u)
+asks_nobody c (Out r t) = not (has_node c r && has_node c t)
+asks_nobody c (QueueOf a b) = not (has_node c a && has_node c b)
+asks_nobody c Quiet = false
+asks_nobody c (Cost r x) = not (has_node c r && has_node c x)
+asks_nobody c (Trace r d) = not (has_node c r)
+
+-- 5: a virtual peer is asked what only a router knows
+abbrev pub asks_peer : Configuration → Ask → Bool
+asks_peer c (Routes r) = is_virtual c r
+asks_peer c (Best r p) = is_virtual c r
+asks_peer c (Why r p) = is_virtual c r
+asks_peer c (Out r t) = is_virtual c r
+asks_peer c (Cost r x) = is_virtual c r
+asks_peer c (Trace r d) = is_virtual c r
+asks_peer c _ = false
+
+-- 10: the two have no session
+abbrev pub asks_strangers : Configuration → Ask → Bool
+asks_strangers c (In r u) = not (has_session c r u)
+asks_strangers c (Out r t) = not (has_session c r t)
+asks_strangers c (QueueOf a b) = not (has_session c a b)
+asks_strangers c _ = false
 
 unfoldable pub ask_refusal : Configuration → Ask → Option Refusal
 ask_refusal c q = first_of (
-    (not (has_node c (asked q)), NoRouter)
-    ∷ (is_virtual c (asked q), BadEnd)
+    (asks_nobody c q, NoRouter)
+    ∷ (asks_peer c q, BadEnd)
+    ∷ (asks_strangers c q, NoSession)
     ∷ [])
 
 abbrev pub report_of : Network → Ask → Report
-report_of s (Routes r) = RoutesOf (loc_rib s r)
+report_of s (Routes r) = TheRoutes (loc_rib s r)
+report_of s (Best r p) = TheBest (choice s r p)
+report_of s (Why r p) = TheReasons (reasons s r p)
+report_of s (In r u) = Rib (adj_rib_in s r u)
+report_of s (Out r t) = Rib (adj_rib_out s r t)
+report_of s (QueueOf a b) = TheQueue (queue s (record { from = a; to = b }))
+report_of s Quiet = IsQuiet (is_quiet s)
+report_of s (Cost r x) = TheWay (way s r x)
+report_of s (Trace r d) = let t = trace s r d in TheTrace t.hops t.ending
 
 abbrev pub ask_outcome : Network → Ask → Option Refusal → Outcome
 ask_outcome s q (Some r) = refused r s
@@ -176,10 +220,15 @@ abbrev pub Tries : {E : Type 0} → Outcome → Network → Result Reply E → N
 Tries o s (Ok r) s' = (r ≡ o.reply) × (s' ≡ o.next)
 Tries o s (Err e) s' = (s' ≡ s) × (is_refusal o.reply ≡ false)
 
+-- the question whether all queues are empty, which takes no memory
+abbrev pub asks_quiet : Event → Bool
+asks_quiet (AnAsk Quiet) = true
+asks_quiet _ = false
+
 -- the machine's own step; or, where that is no refusal, no step at all for want of memory
 abbrev pub IsStep : Network → Event → Reply → Network → Type 0
 IsStep s e r s' = ((r ≡ (step s e).reply) × (s' ≡ (step s e).next))
-    ⊎ ((r ≡ Refused Memory) × (s' ≡ s) × (is_refusal (step s e).reply ≡ false))
+    ⊎ ((r ≡ Refused Memory) × (s' ≡ s) × (is_refusal (step s e).reply ≡ false) × (asks_quiet e ≡ false))
 
 -- the replies and the state after the events are those of the machine, event by event
 abbrev pub IsRun : Network → List Event → List Reply → Network → Type 0

@@ -1,54 +1,56 @@
 -- The state of a network: what is configured, what each router has received, and what is on its way. Nothing else.
-use Rattle.std.specs.Prelude.{ℕ, Bool, not, ◌==◌, ◌&&◌, ◌||◌, List, [], ◌∷◌, ◌++◌, map, filter, Option, option_map, find, if◌then◌else◌}
+use Rattle.std.specs.Prelude.{ℕ, Bool, ◌==◌, ◌&&◌, List, [], ◌∷◌, ◌++◌, map, filter, Option, option_map, find, if◌then◌else◌}
+use Rattle.std.specs.Map.{remove_entry}
+use Rattle.std.specs.BTreeMap.{insert_entry, is_at}
 use Rattle.std.specs.declared.cmp.Ordering.{Ordering}
-use Rattle.std.specs.Ordering.{is_lt, is_eq, is_gt, ordering_then}
+use Rattle.std.specs.Ordering.{is_lt, is_gt, ordering_then}
 use Rattle.net_prefix.specs.declared.addr.Addr.{Addr}
 use Rattle.net_prefix.specs.Address.{addr_cmp}
-use Rattle.net_prefix.specs.Block.{Block, block_cmp, same_block}
+use Rattle.net_prefix.specs.Block.{block_cmp}
 use Rattle.path_attr.specs.declared.attr.Attr.{Attr}
 use Rattle.session_queue.specs.declared.message.Message.{Message}
+use Rattle.session_queue.specs.Waiting.{direction_cmp}
 use Rattle.net_conf.specs.Configuration.{Configuration}
 use Rattle.reference_machine.specs.declared.rows.RouteKey.{RouteKey}
-use Rattle.reference_machine.specs.declared.rows.Received.{Received}
-use Rattle.reference_machine.specs.declared.rows.Direction.{Direction}
+use Rattle.session_queue.specs.declared.direction.Direction.{Direction}
 use Rattle.reference_machine.specs.declared.rows.Queue.{Queue}
 
 -- received: the Adj-RIBs-In of all routers, unprocessed (RFC 4271, 3.2), by receiver, prefix and sender;
 -- queues: the messages on their way, by sender and receiver, the head first
 pub record Network : Type 0 where
   pub conf : Configuration
-  pub received : List Received
+  pub received : List (RouteKey × Attr)
   pub queues : List Queue
 
 abbrev pub same_addr : Addr → Addr → Bool
 same_addr a b = a.0 == b.0
 
+-- RECEIVED ROUTES
+
 -- by receiver, then by prefix, then by sender
 abbrev pub route_cmp : RouteKey → RouteKey → Ordering
 route_cmp k l = ordering_then (addr_cmp k.to l.to) (ordering_then (block_cmp k.prefix l.prefix) (addr_cmp k.from l.from))
 
--- what stands before the key, and what after it
-abbrev pub before : RouteKey → List Received → List Received
-before k es = filter (λ e. is_gt (route_cmp k e.key)) es
-
-abbrev pub after : RouteKey → List Received → List Received
-after k es = filter (λ e. is_lt (route_cmp k e.key)) es
-
 -- what was received, with this route in place of any of its key
-abbrev pub with_route : RouteKey → Attr → List Received → List Received
-with_route k attr es = before k es ++ (record { key = k; attr = attr } ∷ after k es)
+abbrev pub with_route : RouteKey → Attr → List (RouteKey × Attr) → List (RouteKey × Attr)
+with_route k attr es = insert_entry route_cmp es k attr
 
--- what was received, with no route of the key
-abbrev pub without_route : RouteKey → List Received → List Received
-without_route k es = filter (λ e. not (is_eq (route_cmp k e.key))) es
+-- what was received, without the route of the key
+abbrev pub without_route : RouteKey → List (RouteKey × Attr) → List (RouteKey × Attr)
+without_route k es = remove_entry (is_at (route_cmp k)) es
 
 -- what the router has received
-abbrev pub received_by : Addr → List Received → List Received
-received_by r es = filter (λ e. same_addr e.key.to r) es
+abbrev pub received_by : Addr → List (RouteKey × Attr) → List (RouteKey × Attr)
+received_by r es = filter (λ e. same_addr e.0.to r) es
 
--- by sender, then by receiver
-abbrev pub direction_cmp : Direction → Direction → Ordering
-direction_cmp d e = ordering_then (addr_cmp d.from e.from) (addr_cmp d.to e.to)
+abbrev pub is_between : Addr → Addr → (RouteKey × Attr) → Bool
+is_between r u e = same_addr e.0.to r && same_addr e.0.from u
+
+-- what the router has received from the peer
+abbrev pub routes_from : Addr → Addr → List (RouteKey × Attr) → List (RouteKey × Attr)
+routes_from r u es = filter (is_between r u) es
+
+-- QUEUES
 
 abbrev pub is_of : Direction → Queue → Bool
 is_of d q = same_addr q.of.from d.from && same_addr q.of.to d.to

@@ -1,30 +1,25 @@
-//! What a router decides, over what is configured and received.
+//! What a router decides, over its site and what it received.
 
-ghost use Rattle.std.specs.Prelude.{◌≡◌, OnOk, IfOk};
+ghost use Rattle.std.specs.Prelude.{◌≡◌, Some, OnOk, IfOk};
 ghost use Rattle.std.specs.FinMap as finite;
-ghost use Rattle.reference_machine.specs.Decision.{cost_to, own_candidate, as_of, has_loop, exclusion, peer_candidate, peer_standing, own_standings, counts, standing_of, peer_standings, added};
+ghost use Rattle.std.specs.List.{filter_map, list_any};
+ghost use Rattle.reference_machine.specs.Network.{same_addr};
+ghost use Rattle.reference_machine.specs.Decision.{own_candidate, is_originated, own_standings, has_cluster_loop, is_denial, exclusion, set_preference, set_med, preference, imported, peer_candidate, judged_standing, peer_standing, route_from, standing_over, standing_from, added, standings};
+ghost use Rattle.route_select.specs.Selection.{best_of};
+ghost use Rattle.std.specs.Option.{option_to_list, option_copied};
 
-use crate::rows::Received;
-use net_conf::Conf;
+use crate::rows::RouteKey;
+use net_conf::{SiteConf, SiteSession};
 use net_prefix::{Addr, Prefix};
-use path_attr::{AsPath, Asn, Attr, Origin};
+use path_attr::{AsPath, Attr, Origin};
+use route_policy::{Action, judge};
 use route_select::{Candidate, Reason, Selector, Source, Standing};
 use seq::{Copied, Seq};
 use std::alloc::{AllocError, Global};
+use std::collections::BTreeMap;
 
-/// The preference of a route that no policy sets.
+/// The preference of a route that nothing sets.
 const DEFAULT_PREFERENCE: u32 = 100;
-
-/// The cost from the router to an address.
-fn cost_to(conf: &Conf, router: Addr, target: Addr) -> Option<u32>
-    ensures { result ≡ cost_to conf.now router target }
-{
-    if router == target {
-        Some(0)
-    } else {
-        conf.link_cost(router, target).map(|metric| metric.cost())
-    }
-}
 
 /// The route that the router originates.
 fn own_candidate(alloc: Global, router: Addr) -> Candidate
@@ -48,129 +43,274 @@ fn own_candidate(alloc: Global, router: Addr) -> Candidate
     }
 }
 
-/// The AS of the router or peer, where there is one.
-pub fn as_of(conf: &Conf, addr: Addr) -> Option<Asn>
-    ensures { result ≡ as_of conf.now addr }
+/// Whether the router originates the prefix.
+pub fn is_originated(site: &SiteConf, prefix: Prefix) -> bool
+    ensures { result ≡ is_originated site.now prefix }
 {
-    conf.node(addr).map(|node| node.asn)
+    site.origins.as_slice().iter().any(|p| prefix == *p)
 }
 
-fn has_loop(asn: Option<Asn>, path: &AsPath) -> bool
-    ensures { result ≡ has_loop asn path.now }
+/// Whether the route has been in the router's cluster.
+fn has_cluster_loop(site: &SiteConf, attr: &Attr) -> bool
+    ensures { result ≡ has_cluster_loop site.now attr.now }
 {
-    match asn {
-        None => false,
-        Some(asn) => path.holds(asn),
+    site.reflector && is_among(site.cluster, attr.clusters.as_slice())
+}
+
+fn is_among(id: Addr, ids: &[Addr]) -> bool
+    ensures { result ≡ list_any (same_addr id) ids.now }
+{
+    ids.iter().any(|other| id == *other)
+}
+
+fn is_denial(action: Action) -> bool
+    ensures { result ≡ is_denial action }
+{
+    match action {
+        Action::Deny => true,
+        Action::Permit { .. } => false,
     }
 }
 
-/// Why the router may not choose a route.
-fn exclusion(conf: &Conf, router: Addr, attr: &Attr) -> Option<Reason>
-    ensures { result ≡ exclusion conf.now router attr.now }
+/// Why the router may not choose a peer's route: the first test that holds.
+fn exclusion(site: &SiteConf, action: Action, attr: &Attr) -> Option<Reason>
+    ensures { result ≡ exclusion site.now action attr.now }
 {
-    if has_loop(as_of(conf, router), &attr.path) {
+    if attr.path.holds(site.asn) {
         Some(Reason::Loop)
-    } else if cost_to(conf, router, attr.next).is_none() {
+    } else if attr.oid == Some(site.me) {
+        Some(Reason::Originator)
+    } else if has_cluster_loop(site, attr) {
+        Some(Reason::Cluster)
+    } else if is_denial(action) {
+        Some(Reason::Denied)
+    } else if site.costs.cost(attr.next).is_none() {
         Some(Reason::Unresolved)
     } else {
         None
     }
 }
 
-/// A peer's route as a candidate.
-fn peer_candidate(
-    alloc: Global,
-    conf: &Conf,
-    router: Addr,
-    peer: Addr,
-    attr: &Attr,
-) -> Result<Candidate, AllocError>
-    ensures { IfOk result (λ c. c ≡ peer_candidate conf.now router peer attr.now) }
+fn set_preference(action: Action) -> Option<u32>
+    ensures { result ≡ set_preference action }
 {
-    let mut imported = attr.copy(alloc)?;
-    imported.pref = Some(DEFAULT_PREFERENCE);
-    Ok(Candidate {
-        source: Source::Peer(peer),
-        attr: imported,
-        pref: DEFAULT_PREFERENCE,
-        external: as_of(conf, peer) != as_of(conf, router),
-        cost: cost_to(conf, router, attr.next).unwrap_or(0),
-        ident: attr.oid.unwrap_or(peer),
-    })
-}
-
-/// How a peer's route stands at the router.
-fn peer_standing(
-    alloc: Global,
-    conf: &Conf,
-    router: Addr,
-    peer: Addr,
-    attr: &Attr,
-) -> Result<Standing, AllocError>
-    ensures { IfOk result (λ standing. standing ≡ peer_standing conf.now router peer attr.now) }
-{
-    match exclusion(conf, router, attr) {
-        Some(reason) => Ok(Standing::Excluded(reason)),
-        None => Ok(Standing::Considered(peer_candidate(alloc, conf, router, peer, attr)?)),
+    match action {
+        Action::Deny => None,
+        Action::Permit { pref, .. } => pref,
     }
 }
 
+fn set_med(action: Action, med: Option<u32>) -> Option<u32>
+    ensures { result ≡ set_med action med }
+{
+    match action {
+        Action::Deny => med,
+        Action::Permit { med: None, .. } => med,
+        Action::Permit { med: Some(set), .. } => Some(set),
+    }
+}
+
+/// The degree of preference.
+fn preference(external: bool, action: Action, attr: &Attr) -> u32
+    ensures { result ≡ preference external action attr.now }
+{
+    if external {
+        set_preference(action).unwrap_or(DEFAULT_PREFERENCE)
+    } else {
+        attr.pref.unwrap_or(DEFAULT_PREFERENCE)
+    }
+}
+
+/// The attributes after import.
+fn imported(alloc: Global, external: bool, action: Action, attr: &Attr) -> Result<Attr, AllocError>
+    ensures { IfOk result (λ a. a ≡ imported external action attr.now) }
+{
+    Ok(Attr {
+        path: attr.path.copy(alloc)?,
+        origin: attr.origin,
+        next: attr.next,
+        med: set_med(action, attr.med),
+        pref: Some(preference(external, action, attr)),
+        oid: attr.oid,
+        clusters: Seq::copy_of(alloc, attr.clusters.as_slice())?,
+    })
+}
+
+/// A peer's route as a candidate.
+fn peer_candidate(
+    alloc: Global,
+    site: &SiteConf,
+    from: &SiteSession,
+    action: Action,
+    attr: &Attr,
+) -> Result<Candidate, AllocError>
+    ensures { IfOk result (λ c. c ≡ peer_candidate site.now from.now action attr.now) }
+{
+    Ok(Candidate {
+        source: Source::Peer(from.peer),
+        attr: imported(alloc, from.external, action, attr)?,
+        pref: preference(from.external, action, attr),
+        external: from.external,
+        cost: site.costs.cost(attr.next).unwrap_or(0),
+        ident: attr.oid.unwrap_or(from.peer),
+    })
+}
+
+/// How a route that the import policy judged stands at the router.
+fn judged_standing(
+    alloc: Global,
+    site: &SiteConf,
+    from: &SiteSession,
+    action: Action,
+    attr: &Attr,
+) -> Result<Standing, AllocError>
+    ensures { IfOk result (λ standing. standing ≡ judged_standing site.now from.now action attr.now) }
+{
+    match exclusion(site, action, attr) {
+        Some(reason) => Ok(Standing::Excluded(reason)),
+        None => Ok(Standing::Considered(peer_candidate(alloc, site, from, action, attr)?)),
+    }
+}
+
+/// How a route from the peer of the session stands at the router.
+fn peer_standing(
+    alloc: Global,
+    site: &SiteConf,
+    prefix: Prefix,
+    from: &SiteSession,
+    attr: &Attr,
+) -> Result<Standing, AllocError>
+    ensures { IfOk result (λ standing. standing ≡ peer_standing site.now prefix from.now attr.now) }
+{
+    judged_standing(
+        alloc,
+        site,
+        from,
+        judge(&from.policy_in, prefix, attr),
+        attr,
+    )
+}
+
 /// Adds the router's own route, if it originates the prefix.
-pub fn add_own<S: Selector>(
+fn add_own<S: Selector>(
     alloc: Global,
     chosen: &mut S,
-    conf: &Conf,
-    router: Addr,
+    site: &SiteConf,
     prefix: Prefix,
 ) -> Result<(), AllocError>
-    ensures { OnOk result (S.standings chosen.new ≡ added (S.standings chosen.old) (own_standings conf.now router prefix)) }
+    ensures { OnOk result (S.standings chosen.new ≡ added (S.standings chosen.old) (own_standings site.now prefix)) }
 {
-    if conf.originates(router, prefix) {
+    if is_originated(site, prefix) {
         chosen.put(
             Source::Own,
-            Standing::Considered(own_candidate(alloc, router)),
+            Standing::Considered(own_candidate(alloc, site.me)),
         )?;
     }
     Ok(())
 }
 
-/// Whether the router received the route of the prefix, over a session that is up.
-fn counts(conf: &Conf, router: Addr, prefix: Prefix, entry: &Received) -> bool
-    ensures { result ≡ counts conf.now router prefix entry.now }
+/// The route that the router has received from the peer for the prefix.
+pub fn route_from(
+    received: &BTreeMap<RouteKey, Attr>,
+    router: Addr,
+    prefix: Prefix,
+    peer: Addr,
+) -> Option<&Attr>
+    ensures { option_copied result ≡ route_from received.now.entries router prefix peer }
 {
-    entry.key.to == router && entry.key.prefix == prefix && conf.is_up(entry.key.from, router)
+    received.get(&RouteKey {
+        to: router,
+        prefix,
+        from: peer,
+    })
 }
 
-/// Adds a route that was received.
+/// Adds the route that was received over the session, if there is one and the session is up.
 fn add_peer<S: Selector>(
     alloc: Global,
     chosen: &mut S,
-    conf: &Conf,
-    router: Addr,
-    entry: &Received,
+    site: &SiteConf,
+    prefix: Prefix,
+    received: &BTreeMap<RouteKey, Attr>,
+    from: &SiteSession,
 ) -> Result<(), AllocError>
-    ensures { OnOk result (S.standings chosen.new ≡ finite.insert (S.standings chosen.old) (standing_of conf.now router entry.now).0 (standing_of conf.now router entry.now).1) }
+    ensures { OnOk result (S.standings chosen.new ≡ added (S.standings chosen.old) (option_to_list (standing_from site.now prefix received.now.entries from.now))) }
 {
-    let peer = entry.key.from;
-    let standing = peer_standing(alloc, conf, router, peer, &entry.attr)?;
-    chosen.put(Source::Peer(peer), standing)
+    match route_from(received, site.me, prefix, from.peer) {
+        None => Ok(()),
+        Some(attr) => add_route(alloc, chosen, site, prefix, attr, from),
+    }
 }
 
-/// Adds the routes to the prefix that the router received.
-pub fn add_peers<S: Selector>(
+/// Adds a route that was received over the session, if that is up.
+fn add_route<S: Selector>(
     alloc: Global,
     chosen: &mut S,
-    conf: &Conf,
-    router: Addr,
+    site: &SiteConf,
     prefix: Prefix,
-    received: &[Received],
+    attr: &Attr,
+    from: &SiteSession,
 ) -> Result<(), AllocError>
-    ensures { OnOk result (S.standings chosen.new ≡ added (S.standings chosen.old) (peer_standings conf.now router prefix received.now)) }
+    ensures { OnOk result (S.standings chosen.new ≡ added (S.standings chosen.old) (option_to_list (standing_over site.now prefix from.now (Some attr.now)))) }
 {
-    for entry in received {
-        if counts(conf, router, prefix, entry) {
-            add_peer(alloc, chosen, conf, router, entry)?;
-        }
+    if from.up {
+        let standing = peer_standing(alloc, site, prefix, from, attr)?;
+        chosen.put(Source::Peer(from.peer), standing)?;
     }
     Ok(())
+}
+
+/// Adds the routes that were received over these sessions of the router.
+fn add_peers<S: Selector>(
+    alloc: Global,
+    chosen: &mut S,
+    site: &SiteConf,
+    sessions: &[SiteSession],
+    prefix: Prefix,
+    received: &BTreeMap<RouteKey, Attr>,
+) -> Result<(), AllocError>
+    ensures { OnOk result (S.standings chosen.new ≡ added (S.standings chosen.old) (filter_map (standing_from site.now prefix received.now.entries) sessions.now)) }
+{
+    for from in sessions {
+        add_peer(alloc, chosen, site, prefix, received, from)?;
+    }
+    Ok(())
+}
+
+/// How each source's route to the prefix stands at the router.
+pub fn standings<S: Selector + Drop>(
+    alloc: Global,
+    site: &SiteConf,
+    prefix: Prefix,
+    received: &BTreeMap<RouteKey, Attr>,
+) -> Result<S, AllocError>
+    ensures { IfOk result (λ chosen. S.standings chosen ≡ standings site.now prefix received.now.entries) }
+{
+    let mut chosen = S::new(alloc);
+    add_own(alloc, &mut chosen, site, prefix)?;
+    add_peers(
+        alloc,
+        &mut chosen,
+        site,
+        site.sessions.as_slice(),
+        prefix,
+        received,
+    )?;
+    Ok(chosen)
+}
+
+/// The route that the router chooses.
+pub fn best<S: Selector + Drop>(
+    alloc: Global,
+    site: &SiteConf,
+    prefix: Prefix,
+    received: &BTreeMap<RouteKey, Attr>,
+) -> Result<Option<Candidate>, AllocError>
+    ensures { IfOk result (λ route. route ≡ best_of (standings site.now prefix received.now.entries)) }
+{
+    let chosen: S = standings(alloc, site, prefix, received)?;
+    match chosen.best() {
+        None => Ok(None),
+        Some(candidate) => Ok(Some(candidate.copy(alloc)?)),
+    }
 }

@@ -3,17 +3,23 @@
 
 mod advertise;
 mod decide;
+mod laws;
 mod machine;
 mod queues;
-mod routes;
+mod reasons;
+mod reports;
 mod rows;
 mod simulator;
 mod state;
 mod steps;
+mod trace;
+mod turns;
 
+pub use laws::sessions_agree;
 pub use machine::Machine;
-pub use rows::{Direction, Queue, Received, RouteKey};
-pub use sim_event::{Ask, Event, Feed, Held, News, Reply, Report};
+pub use rows::{Queue, RouteKey};
+pub use session_queue::Direction;
+pub use sim_event::{Ask, Event, Feed, Held, News, Reply, Report, TraceEnd};
 pub use simulator::Simulator;
 
 #[cfg(test)]

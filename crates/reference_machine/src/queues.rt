@@ -2,11 +2,12 @@
 
 ghost use Rattle.std.specs.Prelude.{◌≡◌, ◌++◌, IfOk, OnOk, option_map, filter};
 ghost use Rattle.std.specs.Ordering.{is_gt, is_lt};
-ghost use Rattle.reference_machine.specs.Network.{direction_cmp, messages_in, with_direction, with_more, with_message, rest_of, without_head, less, more};
+ghost use Rattle.session_queue.specs.Waiting.{direction_cmp};
+ghost use Rattle.reference_machine.specs.Network.{messages_in, with_direction, with_more, with_message, rest_of, without_head, less, more};
 
-use crate::rows::{Direction, Queue};
+use crate::rows::Queue;
 use seq::{Copied, Seq, copy_all};
-use session_queue::Message;
+use session_queue::{Direction, Message};
 use std::alloc::{AllocError, Global};
 
 /// The messages on their way in the direction, where there is a session.

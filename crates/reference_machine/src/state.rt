@@ -1,32 +1,33 @@
-//! The state, as plain lists.
+//! The state: what is configured, what was received, and what is on its way.
 
 ghost use Rattle.std.specs.Prelude.{◌≡◌, ◌++◌, IfOk, OnOk, map, fold};
-ghost use Rattle.std.specs.List.{filter_map};
-ghost use Rattle.std.specs.Option.{option_to_list};
 ghost use Rattle.std.specs.BTreeSet.{insert_key};
 ghost use Rattle.net_prefix.specs.Block.{block_cmp};
-ghost use Rattle.reference_machine.specs.Network.{with_more};
-ghost use Rattle.reference_machine.specs.Decision.{best, standings};
-ghost use Rattle.reference_machine.specs.Advertising.{advertised, change_of, prefixes_at, in_order, changes, sent};
+ghost use Rattle.net_conf.specs.Sites.{site_of};
+ghost use Rattle.reference_machine.specs.Network.{received_by, with_more};
+ghost use Rattle.reference_machine.specs.Decision.{best};
+ghost use Rattle.reference_machine.specs.Advertising.{prefixes_at, in_order, sent};
 ghost use Rattle.reference_machine.specs.Machine.{nothing, with_sent};
+ghost use Rattle.reference_machine.specs.Turns.{turns_of};
 
-use crate::rows::{Queue, Received};
+use crate::rows::{Queue, RouteKey};
+use crate::turns::{Turns, messages_of, turns_at};
 use crate::{advertise, decide, queues};
-use net_conf::Conf;
+use net_conf::{Conf, SiteConf};
 use net_prefix::{Addr, Prefix};
 use path_attr::Attr;
 use route_select::{Candidate, Selector};
-use seq::{Copied, copy_all};
+use seq::Copied;
 use session_queue::Message;
 use std::alloc::{AllocError, Global};
-use std::collections::BTreeSet;
+use std::collections::{BTreeMap, BTreeSet};
 use std::marker::Model;
 
 /// What is configured, what was received, and what is on its way.
 #[derive(Drop)]
 pub struct State {
     pub(crate) conf: Conf,
-    pub(crate) received: Vec<Received>,
+    pub(crate) received: BTreeMap<RouteKey, Attr>,
     pub(crate) queues: Vec<Queue>,
 }
 
@@ -35,44 +36,40 @@ impl Model for State {
 
     ghost Value = { Network };
 
-    ghost view = { λ s. record { conf = s.conf; received = s.received.items; queues = s.queues.items } };
+    ghost view = { λ s. record { conf = s.conf; received = s.received.entries; queues = s.queues.items } };
 }
 
 impl State {
+    /// Nothing. It takes no memory.
     pub fn new(alloc: Global) -> Self
         ensures { result ≡ nothing }
     {
         State {
             conf: Conf::new(alloc),
-            received: Vec::new(alloc),
+            received: BTreeMap::new(alloc),
             queues: Vec::new(alloc),
         }
     }
 
-    /// How each source's route to the prefix stands at the router.
-    pub fn standings<S: Selector + Drop>(
+    /// The route that the router of the site chooses.
+    #[tactic(auto, unfolding(crate::specs::Decision::best))]
+    pub fn best_at<S: Selector + Drop>(
         &self,
         alloc: Global,
+        site: &Option<SiteConf>,
         router: Addr,
         prefix: Prefix,
-    ) -> Result<S, AllocError>
-        ensures { IfOk result (λ chosen. S.standings chosen ≡ standings self.now router prefix) }
+    ) -> Result<Option<Candidate>, AllocError>
+        requires { site.now ≡ site_of self.now.conf router }
+        ensures { IfOk result (λ route. route ≡ best self.now router prefix) }
     {
-        let mut chosen = S::new(alloc);
-        decide::add_own(alloc, &mut chosen, &self.conf, router, prefix)?;
-        decide::add_peers(
-            alloc,
-            &mut chosen,
-            &self.conf,
-            router,
-            prefix,
-            &self.received,
-        )?;
-        Ok(chosen)
+        match site {
+            None => Ok(None),
+            Some(site) => decide::best::<S>(alloc, site, prefix, &self.received),
+        }
     }
 
     /// The route that the router chooses.
-    #[tactic(auto, unfolding(crate::specs::Decision::best))]
     pub fn best<S: Selector + Drop>(
         &self,
         alloc: Global,
@@ -81,31 +78,19 @@ impl State {
     ) -> Result<Option<Candidate>, AllocError>
         ensures { IfOk result (λ route. route ≡ best self.now router prefix) }
     {
-        let chosen: S = self.standings(alloc, router, prefix)?;
-        match chosen.best() {
-            None => Ok(None),
-            Some(candidate) => Ok(Some(candidate.copy(alloc)?)),
-        }
+        let site = self.conf.site_at(alloc, router)?;
+        self.best_at::<S>(alloc, &site, router, prefix)
     }
 
-    /// What the router offers the peer.
-    #[tactic(auto, unfolding(crate::specs::Advertising::advertised))]
-    pub fn advertised<S: Selector + Drop>(
-        &self,
-        alloc: Global,
-        router: Addr,
-        peer: Addr,
-        prefix: Prefix,
-    ) -> Result<Option<Attr>, AllocError>
-        ensures { IfOk result (λ attr. attr ≡ advertised self.now router peer prefix) }
+    /// The prefixes that the router has received, as they come.
+    fn heard(&self, alloc: Global, router: Addr) -> Result<Vec<Prefix>, AllocError>
+        ensures { IfOk result (λ heard. heard.items ≡ map (λ e. e.0.prefix) (received_by router self.now.received)) }
     {
-        if !self.conf.is_up(router, peer) {
-            return Ok(None);
-        }
-        match self.best::<S>(alloc, router, prefix)? {
-            None => Ok(None),
-            Some(best) => advertise::advert(alloc, &self.conf, router, peer, &best),
-        }
+        self.received
+            .iter()
+            .filter(|(key, _)| key.to == router)
+            .map(|(key, _)| key.prefix)
+            .collect(alloc)
     }
 
     /// Adds the prefixes that the router originates or has received, each in its place.
@@ -118,8 +103,9 @@ impl State {
         ensures { OnOk result (found.new.keys ≡ fold (λ qs p. insert_key block_cmp qs p) found.old.keys (prefixes_at self.now router)) }
     {
         let originated = self.conf.origins_of(alloc, router)?;
+        let heard = self.heard(alloc, router)?;
         advertise::add_prefixes(found, &originated)?;
-        advertise::add_received(found, router, &self.received)
+        advertise::add_prefixes(found, &heard)
     }
 
     /// The prefixes that the router originates or has received, each once, in order.
@@ -133,7 +119,7 @@ impl State {
 }
 
 /// The prefixes of the router in both states, each once, in order.
-fn prefixes_of(
+pub fn prefixes_of(
     alloc: Global,
     earlier: &State,
     later: &State,
@@ -147,65 +133,23 @@ fn prefixes_of(
     found.iter().copied().collect(alloc)
 }
 
-/// Adds the message, if there is one.
-fn add(messages: &mut Vec<Message>, message: Option<Message>) -> Result<(), AllocError>
-    ensures { OnOk result (messages.new.items ≡ messages.old.items ++ option_to_list message) }
-{
-    if let Some(message) = message {
-        messages.push(message)?;
-    }
-    Ok(())
-}
-
-/// What the router sends the peer, of these prefixes, when the state changes.
-fn messages_of<S: Selector + Drop>(
-    alloc: Global,
-    earlier: &State,
-    later: &State,
-    prefixes: &[Prefix],
-    router: Addr,
-    peer: Addr,
-) -> Result<Vec<Message>, AllocError>
-    ensures { IfOk result (λ messages. messages.items ≡ filter_map
-        (λ p. change_of p (advertised earlier.now router peer p) (advertised later.now router peer p)) prefixes.now) }
-{
-    let mut messages = Vec::new(alloc);
-    for prefix in prefixes {
-        let old = earlier.advertised::<S>(alloc, router, peer, *prefix)?;
-        let new = later.advertised::<S>(alloc, router, peer, *prefix)?;
-        add(&mut messages, advertise::change_of(*prefix, old, new))?;
-    }
-    Ok(messages)
-}
-
-/// A message for each prefix at which the router's offer to the peer changes.
-#[tactic(auto, unfolding(crate::specs::Advertising::changes))]
-fn changes<S: Selector + Drop>(
-    alloc: Global,
-    earlier: &State,
-    later: &State,
-    router: Addr,
-    peer: Addr,
-) -> Result<Vec<Message>, AllocError>
-    ensures { IfOk result (λ messages. messages.items ≡ changes earlier.now later.now router peer) }
-{
-    let prefixes = prefixes_of(alloc, earlier, later, router)?;
-    messages_of::<S>(alloc, earlier, later, &prefixes, router, peer)
-}
-
-/// What is sent in the direction when the state changes.
+/// What is sent in the direction when the state changes, by the sender's choices.
 #[tactic(auto, unfolding(crate::specs::Advertising::sent))]
-fn sent<S: Selector + Drop>(
+fn sent(
     alloc: Global,
     earlier: &State,
     later: &State,
+    turns: &Turns,
     router: Addr,
     peer: Addr,
 ) -> Result<Vec<Message>, AllocError>
+    requires { turns.now ≡ turns_of earlier.now later.now router }
     ensures { IfOk result (λ messages. messages.items ≡ sent earlier.now later.now router peer) }
 {
     if advertise::sends(&later.conf, router, peer) {
-        changes::<S>(alloc, earlier, later, router, peer)
+        let was_up = earlier.conf.is_up(router, peer);
+        let is_up = later.conf.is_up(router, peer);
+        messages_of(alloc, was_up, is_up, turns, peer)
     } else {
         Ok(Vec::new(alloc))
     }
@@ -220,9 +164,12 @@ fn queues_after<S: Selector + Drop>(
     ensures { IfOk result (λ queues. queues.items ≡ map (λ q. with_more q (sent earlier.now later.now q.of.from q.of.to)) later.now.queues) }
 {
     let mut queues = Vec::new(alloc);
+    let mut kept = None;
     for queue in &later.queues {
-        let messages = sent::<S>(alloc, earlier, later, queue.of.from, queue.of.to)?;
+        let turns = turns_at::<S>(alloc, earlier, later, kept, queue.of.from)?;
+        let messages = sent(alloc, earlier, later, &turns, queue.of.from, queue.of.to)?;
         queues.push(queues::with_more(alloc, queue, messages)?)?;
+        kept = Some(turns);
     }
     Ok(queues)
 }
@@ -239,14 +186,4 @@ pub fn with_sent<S: Selector + Drop>(
     let queues = queues_after::<S>(alloc, earlier, &later)?;
     later.queues = queues;
     Ok(later)
-}
-
-impl Copied for State {
-    fn copy(&self, alloc: Global) -> Result<State, AllocError> {
-        Ok(State {
-            conf: self.conf.copy(alloc)?,
-            received: copy_all(alloc, &self.received)?,
-            queues: copy_all(alloc, &self.queues)?,
-        })
-    }
 }

@@ -1,25 +1,24 @@
 //! What each kind of event does to the state. A step builds what it needs beside the state, and moves it in at the end.
 
-ghost use Rattle.std.specs.Prelude.{◌≡◌, ◌++◌, None, IfOk, OnOk};
-ghost use Rattle.std.specs.List.{filter_map};
-ghost use Rattle.std.specs.Option.{option_to_list};
+ghost use Rattle.std.specs.Prelude.{◌≡◌, None, false, map, filter, IfOk, OnOk, OnErr};
+ghost use Rattle.net_conf.specs.Costs.{is_up};
 ghost use Rattle.net_conf.specs.Edits.{refusal_of};
-ghost use Rattle.reference_machine.specs.Decision.{best};
-ghost use Rattle.reference_machine.specs.Reports.{held_of, loc_rib};
-ghost use Rattle.reference_machine.specs.Machine.{step, edits, with_queues, configured, has_foreign_first, is_too_long, feed_refusal, fed_message, feeds, received_after, taken, delivery_refusal, delivers, ask_refusal, report_of, asks, Tries};
+ghost use Rattle.reference_machine.specs.Network.{with_route, without_route};
+ghost use Rattle.reference_machine.specs.Machine.{step, edits, with_queues, configured, reconfigured, is_kept, emptied, asks_quiet, has_foreign_first, is_too_long, feed_refusal, fed_message, feeds, received_after, taken, delivery_refusal, delivers, asks, Tries};
 
-use crate::decide::as_of;
-use crate::rows::{Direction, Queue, Received, RouteKey};
+use crate::queues;
+use crate::reports::ask_refusal;
+use crate::rows::{Queue, RouteKey};
 use crate::state::{State, with_sent};
-use crate::{queues, routes};
 use net_conf::{Conf, Edit, Refusal};
-use net_prefix::{Addr, Prefix};
+use net_prefix::Addr;
 use path_attr::Attr;
-use route_select::{Candidate, Selector};
+use route_select::Selector;
 use seq::{Copied, Seq, copy_all};
-use session_queue::Message;
-use sim_event::{Ask, Event, Feed, Held, News, Reply, Report};
+use session_queue::{Direction, Message};
+use sim_event::{Ask, Event, Feed, News, Reply};
 use std::alloc::{AllocError, Global};
+use std::collections::BTreeMap;
 
 /// The most AS numbers in a path that is fed.
 const MOST_FED_NUMBERS: u64 = 255;
@@ -31,7 +30,8 @@ impl State {
         alloc: Global,
         event: &Event,
     ) -> Result<Reply, AllocError>
-        ensures { Tries (step self.old event.now) self.old result self.new }
+        ensures tries { Tries (step self.old event.now) self.old result self.new }
+        ensures quiet { OnErr result (asks_quiet event.now ≡ false) }
     {
         match event {
             Event::Edit(edit) => self.edit::<S>(alloc, edit),
@@ -100,73 +100,14 @@ impl State {
 
     #[tactic(auto, unfolding(crate::specs::Machine::asks))]
     fn ask<S: Selector + Drop>(&mut self, alloc: Global, ask: &Ask) -> Result<Reply, AllocError>
-        ensures { Tries (asks self.old ask.now) self.old result self.new }
+        ensures tries { Tries (asks self.old ask.now) self.old result self.new }
+        ensures quiet { OnErr result (asks_quiet (Event.Ask ask.now) ≡ false) }
     {
         if let Some(refusal) = ask_refusal(&self.conf, ask) {
             return Ok(Reply::Refused(refusal));
         }
         Ok(Reply::Report(self.report::<S>(alloc, ask)?))
     }
-
-    fn report<S: Selector + Drop>(&self, alloc: Global, ask: &Ask) -> Result<Report, AllocError>
-        ensures { IfOk result (λ report. report ≡ report_of self.now ask.now) }
-    {
-        match ask {
-            Ask::Routes(router) => Ok(Report::Routes(Seq::of(self.loc_rib::<S>(alloc, *router)?))),
-        }
-    }
-
-    /// The router's choices, in order of prefix.
-    #[tactic(auto, unfolding(crate::specs::Reports::loc_rib))]
-    fn loc_rib<S: Selector + Drop>(
-        &self,
-        alloc: Global,
-        router: Addr,
-    ) -> Result<Vec<Held>, AllocError>
-        ensures { IfOk result (λ routes. routes.items ≡ loc_rib self.now router) }
-    {
-        let prefixes = self.prefixes(alloc, router)?;
-        self.held::<S>(alloc, router, &prefixes)
-    }
-
-    /// The router's choices for these prefixes.
-    fn held<S: Selector + Drop>(
-        &self,
-        alloc: Global,
-        router: Addr,
-        prefixes: &[Prefix],
-    ) -> Result<Vec<Held>, AllocError>
-        ensures { IfOk result (λ routes. routes.items ≡ filter_map (λ p. held_of p (best self.now router p)) prefixes.now) }
-    {
-        let mut routes = Vec::new(alloc);
-        for prefix in prefixes {
-            let route = self.best::<S>(alloc, router, *prefix)?;
-            add_held(&mut routes, held_of(*prefix, route))?;
-        }
-        Ok(routes)
-    }
-}
-
-fn held_of(prefix: Prefix, route: Option<Candidate>) -> Option<Held>
-    ensures { result ≡ held_of prefix route }
-{
-    match route {
-        None => None,
-        Some(route) => Some(Held {
-            prefix,
-            source: route.source,
-            attr: route.attr,
-        }),
-    }
-}
-
-fn add_held(routes: &mut Vec<Held>, held: Option<Held>) -> Result<(), AllocError>
-    ensures { OnOk result (routes.new.items ≡ routes.old.items ++ option_to_list held) }
-{
-    if let Some(held) = held {
-        routes.push(held)?;
-    }
-    Ok(())
 }
 
 /// The state after the edit, before anything is sent. The edit is one that is not refused.
@@ -175,14 +116,87 @@ fn configured(alloc: Global, state: &State, edit: &Edit) -> Result<State, AllocE
     ensures { IfOk result (λ later. later ≡ configured state.now edit.now) }
 {
     let mut conf = state.conf.copy(alloc)?;
-    if conf.edit(edit).is_err() {
+    if conf.edit(alloc, edit).is_err() {
         return Err(AllocError);
     }
+    let queues = with_queues(alloc, &state.queues, edit)?;
+    reconfigured(alloc, conf, &state.received, queues)
+}
+
+/// The state with this configuration: nothing received, and nothing on its way, over a session that is down in it.
+#[tactic(auto, unfolding(crate::specs::Machine::reconfigured))]
+fn reconfigured(
+    alloc: Global,
+    conf: Conf,
+    received: &BTreeMap<RouteKey, Attr>,
+    queues: Vec<Queue>,
+) -> Result<State, AllocError>
+    ensures { IfOk result (λ later. later ≡ reconfigured conf received.now.entries queues.items) }
+{
+    let received = kept(&conf, received)?;
+    let queues = emptied(alloc, &conf, queues)?;
     Ok(State {
         conf,
-        received: copy_all(alloc, &state.received)?,
-        queues: with_queues(alloc, &state.queues, edit)?,
+        received,
+        queues,
     })
+}
+
+/// What was received over sessions that are up.
+fn kept(
+    conf: &Conf,
+    received: &BTreeMap<RouteKey, Attr>,
+) -> Result<BTreeMap<RouteKey, Attr>, AllocError>
+    ensures { IfOk result (λ after. after.entries ≡ filter (is_kept conf.now) received.now.entries) }
+{
+    let mut after = copied(received)?;
+    keep(conf, &mut after);
+    Ok(after)
+}
+
+/// Keeps what was received over sessions that are up.
+fn keep(conf: &Conf, received: &mut BTreeMap<RouteKey, Attr>)
+    ensures { received.new.entries ≡ filter (is_kept conf.now) received.old.entries }
+{
+    received.retain(
+        |key, _attr|
+            ensures kept { result ≡ is_up conf.entry.now key.now.from key.now.to }
+            ensures attr { _attr.new ≡ _attr.old }
+            ensures conf { conf.exit ≡ conf.entry }
+        { conf.is_up(key.from, key.to) },
+    );
+}
+
+/// What was received, again.
+fn copied(received: &BTreeMap<RouteKey, Attr>) -> Result<BTreeMap<RouteKey, Attr>, AllocError>
+    ensures { IfOk result (λ after. after.entries ≡ received.now.entries) }
+{
+    received.clone()
+}
+
+/// The queue, without its messages where the session is down.
+fn emptied_one(alloc: Global, conf: &Conf, queue: Queue) -> Queue
+    ensures { result ≡ emptied conf.now queue }
+{
+    if conf.is_up(queue.of.from, queue.of.to) {
+        queue
+    } else {
+        Queue {
+            of: queue.of,
+            messages: Seq::new(alloc),
+        }
+    }
+}
+
+/// The queues, each without its messages where its session is down.
+fn emptied(alloc: Global, conf: &Conf, queues: Vec<Queue>) -> Result<Vec<Queue>, AllocError>
+    ensures { IfOk result (λ after. after.items ≡ map (emptied conf.now) queues.items) }
+{
+    let mut after = Vec::new(alloc);
+    for queue in queues {
+        after.push(emptied_one(alloc, conf, queue))?;
+    }
+    Ok(after)
 }
 
 /// The queues, with those that the edit adds.
@@ -202,9 +216,7 @@ fn with_queues(alloc: Global, queues: &[Queue], edit: &Edit) -> Result<Vec<Queue
             };
             queues::with_direction(alloc, &more, forth)
         }
-        Edit::Router(_, _) | Edit::Virtual(_, _) | Edit::Link(_, _, _) | Edit::Origin(_, _) => {
-            copy_all(alloc, queues)
-        }
+        _ => copy_all(alloc, queues),
     }
 }
 
@@ -213,7 +225,7 @@ fn has_foreign_first(conf: &Conf, feeder: Addr, news: &News) -> bool
     ensures { result ≡ has_foreign_first conf.now feeder news.now }
 {
     match news {
-        News::Update(_, path, _, _) => path.neighbour() != as_of(conf, feeder),
+        News::Update(_, path, _, _) => path.neighbour() != conf.as_of(feeder),
         News::Withdraw(_) => false,
     }
 }
@@ -288,12 +300,12 @@ fn delivery_refusal(conf: &Conf, direction: Direction) -> Option<Refusal>
 
 /// What was received, once the message has been taken.
 fn received_after(
+    received: &BTreeMap<RouteKey, Attr>,
     alloc: Global,
-    received: &[Received],
     direction: Direction,
     message: &Message,
-) -> Result<Vec<Received>, AllocError>
-    ensures { IfOk result (λ after. after.items ≡ received_after direction message.now received.now) }
+) -> Result<BTreeMap<RouteKey, Attr>, AllocError>
+    ensures { IfOk result (λ after. after.entries ≡ received_after direction message.now received.now.entries) }
 {
     let key = RouteKey {
         to: direction.to,
@@ -301,9 +313,41 @@ fn received_after(
         from: direction.from,
     };
     match message {
-        Message::Update(_, attr) => routes::with_route(alloc, received, key, attr),
-        Message::Withdraw(_) => routes::without_route(alloc, received, key),
+        Message::Update(_, attr) => with_route(received, key, attr.copy(alloc)?),
+        Message::Withdraw(_) => without_route(received, key),
     }
+}
+
+/// What was received, with this route in place of any of its key.
+fn with_route(
+    received: &BTreeMap<RouteKey, Attr>,
+    key: RouteKey,
+    attr: Attr,
+) -> Result<BTreeMap<RouteKey, Attr>, AllocError>
+    ensures { IfOk result (λ after. after.entries ≡ with_route key attr received.now.entries) }
+{
+    let mut after = copied(received)?;
+    put(&mut after, key, attr)?;
+    Ok(after)
+}
+
+/// What was received, without the route of the key.
+fn without_route(
+    received: &BTreeMap<RouteKey, Attr>,
+    key: RouteKey,
+) -> Result<BTreeMap<RouteKey, Attr>, AllocError>
+    ensures { IfOk result (λ after. after.entries ≡ without_route key received.now.entries) }
+{
+    let mut after = copied(received)?;
+    after.remove(&key);
+    Ok(after)
+}
+
+fn put(received: &mut BTreeMap<RouteKey, Attr>, key: RouteKey, attr: Attr) -> Result<(), AllocError>
+    ensures { OnOk result (received.new.entries ≡ with_route key attr received.old.entries) }
+{
+    received.insert(key, attr)?;
+    Ok(())
 }
 
 /// The state once the message at the head has been taken, before anything is sent.
@@ -318,22 +362,7 @@ fn taken(
 {
     Ok(State {
         conf: state.conf.copy(alloc)?,
-        received: received_after(alloc, &state.received, direction, message)?,
+        received: received_after(&state.received, alloc, direction, message)?,
         queues: queues::without_head(alloc, &state.queues, direction)?,
     })
-}
-
-/// Why the question is refused, if it is.
-#[tactic(auto, unfolding(crate::specs::Machine::ask_refusal))]
-fn ask_refusal(conf: &Conf, ask: &Ask) -> Option<Refusal>
-    ensures { result ≡ ask_refusal conf.now ask.now }
-{
-    let Ask::Routes(router) = *ask;
-    if !conf.has_node(router) {
-        Some(Refusal::NoRouter)
-    } else if conf.is_virtual(router) {
-        Some(Refusal::BadEnd)
-    } else {
-        None
-    }
 }

@@ -61,6 +61,11 @@ impl<T> Seq<T> {
         self.vec
     }
 
+    /// The allocator that it was made with.
+    pub fn allocator(&self) -> Global {
+        *self.vec.allocator()
+    }
+
     /// The elements, borrowed.
     pub fn as_slice(&self) -> &[T]
         ensures { result.now ≡ self.now }

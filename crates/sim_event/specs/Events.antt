@@ -5,14 +5,20 @@ use Rattle.net_prefix.specs.Block.{Block, IsBlock}
 use Rattle.path_attr.specs.declared.path.Segment.{Segment}
 use Rattle.path_attr.specs.Path.{IsPath, numbers_of}
 use Rattle.igp_cost.specs.Metric.{IsMetric}
+use Rattle.route_policy.specs.Repeats.{IsRepeat}
+use Rattle.route_policy.specs.declared.rule.Match.{Match}
+use Rattle.route_policy.specs.declared.rule.Match.TheVariants.{Any, Is, Under, Path, First}
+use Rattle.route_policy.specs.declared.rule.Action.{Action}
+use Rattle.route_policy.specs.declared.rule.Action.TheVariants.{Deny, Permit}
+use Rattle.route_policy.specs.declared.rule.Rule.{Rule}
 use Rattle.net_conf.specs.declared.edit.Edit.{Edit}
-use Rattle.net_conf.specs.declared.edit.Edit.TheVariants.{Router, Virtual, Link, Join, Origin}
+use Rattle.net_conf.specs.declared.edit.Edit.TheVariants.{Router, Virtual, Link, Metric, Fail, Mend, Join, Stop, Start, Client, OwnNext, Cluster, Rule as AddRule, Clear, Origin, NoOrigin}
 use Rattle.sim_event.specs.declared.event.Event.{Event}
 use Rattle.sim_event.specs.declared.event.Event.TheVariants.{Edit as AnEdit, Feed as AFeed, Deliver, Ask as AnAsk}
 use Rattle.sim_event.specs.declared.event.News.{News}
 use Rattle.sim_event.specs.declared.event.News.TheVariants.{Update, Withdraw}
 use Rattle.sim_event.specs.declared.event.Ask.{Ask}
-use Rattle.sim_event.specs.declared.event.Ask.TheVariants.{Routes}
+use Rattle.sim_event.specs.declared.event.Ask.TheVariants.{Routes, Best, Why, In, Out, Queue, Quiet, Cost, Trace}
 
 abbrev pub IsAddress : Addr → Type 0
 IsAddress a = a.0 < 2 ^ 32
@@ -28,12 +34,34 @@ abbrev pub HasAsNumbers : List Segment → Type 0
 HasAsNumbers [] = Unit {0}
 HasAsNumbers (s ∷ ss) = All IsAsNumber (numbers_of s) × HasAsNumbers ss
 
+abbrev pub IsMatch : Match → Type 0
+IsMatch Any = Unit {0}
+IsMatch (Is p) = IsPrefix p
+IsMatch (Under p) = IsPrefix p
+IsMatch (Path n) = IsAsNumber n
+IsMatch (First n) = IsAsNumber n
+
+abbrev pub IsAction : Action → Type 0
+IsAction Deny = Unit {0}
+IsAction (Permit pref med prepend) = IfSome pref (λ n. n < 2 ^ 32) × IfSome med (λ n. n < 2 ^ 32) × IfSome prepend IsRepeat
+
 abbrev pub IsEdit : Edit → Type 0
 IsEdit (Router a n) = IsAddress a × IsAsNumber n
 IsEdit (Virtual a n) = IsAddress a × IsAsNumber n
 IsEdit (Link a b m) = IsAddress a × IsAddress b × IsMetric m
+IsEdit (Metric a b m) = IsAddress a × IsAddress b × IsMetric m
+IsEdit (Fail a b) = IsAddress a × IsAddress b
+IsEdit (Mend a b) = IsAddress a × IsAddress b
 IsEdit (Join a b) = IsAddress a × IsAddress b
+IsEdit (Stop a b) = IsAddress a × IsAddress b
+IsEdit (Start a b) = IsAddress a × IsAddress b
+IsEdit (Client a b on) = IsAddress a × IsAddress b
+IsEdit (OwnNext a b on) = IsAddress a × IsAddress b
+IsEdit (Cluster a id) = IsAddress a × IsAddress id
+IsEdit (AddRule a b way rule) = IsAddress a × IsAddress b × IsMatch rule.cond × IsAction rule.act
+IsEdit (Clear a b way) = IsAddress a × IsAddress b
 IsEdit (Origin a p) = IsAddress a × IsPrefix p
+IsEdit (NoOrigin a p) = IsAddress a × IsPrefix p
 
 abbrev pub IsNews : News → Type 0
 IsNews (Update p path origin med) = IsPrefix p × IsPath path × HasAsNumbers path × IfSome med (λ m. m < 2 ^ 32)
@@ -41,6 +69,14 @@ IsNews (Withdraw p) = IsPrefix p
 
 abbrev pub IsAsk : Ask → Type 0
 IsAsk (Routes r) = IsAddress r
+IsAsk (Best r p) = IsAddress r × IsPrefix p
+IsAsk (Why r p) = IsAddress r × IsPrefix p
+IsAsk (In a b) = IsAddress a × IsAddress b
+IsAsk (Out a b) = IsAddress a × IsAddress b
+IsAsk (Queue a b) = IsAddress a × IsAddress b
+IsAsk Quiet = Unit {0}
+IsAsk (Cost r x) = IsAddress r × IsAddress x
+IsAsk (Trace r d) = IsAddress r × IsAddress d
 
 -- the values are in their ranges
 abbrev pub IsEvent : Event → Type 0

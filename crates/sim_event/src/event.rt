@@ -43,6 +43,22 @@ pub enum News {
 pub enum Ask {
     /// The router's Loc-RIB.
     Routes(Addr),
+    /// The route that the router chose for the prefix.
+    Best(Addr, Prefix),
+    /// All routes of the router to the prefix, and why each was chosen or dropped.
+    Why(Addr, Prefix),
+    /// What the first has received from the second.
+    In(Addr, Addr),
+    /// What the first offers the second.
+    Out(Addr, Addr),
+    /// The messages on their way from the first to the second.
+    Queue(Addr, Addr),
+    /// Whether no message is on its way.
+    Quiet,
+    /// The cost from the first to the second, and the first hop.
+    Cost(Addr, Addr),
+    /// The way of what the router forwards to the address.
+    Trace(Addr, Addr),
 }
 
 impl Copied for News {

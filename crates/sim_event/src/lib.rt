@@ -7,4 +7,4 @@ mod reply;
 mod tests;
 
 pub use event::{Ask, Event, Feed, News};
-pub use reply::{Held, Reply, Report};
+pub use reply::{Held, Reply, Report, TraceEnd};

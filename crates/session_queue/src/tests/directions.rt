@@ -44,147 +44,97 @@ const GONE: Told = Told::Gone { length: 8 };
 
 const OTHER: Told = Told::Gone { length: 24 };
 
-/// Nothing is said in the direction, which has as many spare places.
-fn check_silent(rt: &impl Abort, queues: &Queues, from: Addr, to: Addr, spare: usize) {
-    check_row(
-        rt,
-        queues,
-        Row {
-            from,
-            to,
-            spare,
-            told: &[],
-        },
-    );
+/// A direction with these messages, and as many spare places.
+fn row(from: Addr, to: Addr, spare: usize, told: &[Told]) -> Row<'_> {
+    Row {
+        from,
+        to,
+        spare,
+        told,
+    }
+}
+
+/// Four directions with messages, one of them with six.
+fn four_directions(alloc: Global) -> Result<Queues, Fail> {
+    let mut queues = Queues::new(alloc);
+    let six = [ROUTE, BETTER, GONE, GONE, OTHER, ROUTE];
+    say(alloc, &mut queues, C, A, &six)?;
+    say(alloc, &mut queues, B, C, &[OTHER])?;
+    say(alloc, &mut queues, B, A, &[GONE])?;
+    say(alloc, &mut queues, A, C, &[BETTER, ROUTE])?;
+    Ok(queues)
 }
 
 #[test]
 fn keeps_each_message_in_order(rt: HostRuntime) -> Result<(), Fail> {
     let alloc = rt.alloc();
-    let mut queues = Queues::new(alloc);
-    check_walk(&rt, &queues, &[]);
-    say(
-        alloc,
-        &mut queues,
-        C,
-        A,
-        &[ROUTE, BETTER, GONE, GONE, OTHER, ROUTE],
-    )?;
-    say(alloc, &mut queues, B, C, &[OTHER])?;
-    say(alloc, &mut queues, B, A, &[GONE])?;
-    say(alloc, &mut queues, A, C, &[BETTER, ROUTE])?;
+    check_walk(&rt, &Queues::new(alloc), &[]);
+    let queues = four_directions(alloc)?;
     check_walk(&rt, &queues, &[(A, C), (B, A), (B, C), (C, A)]);
-    let told = &[ROUTE, BETTER, GONE, GONE, OTHER, ROUTE];
-    check_row(
-        &rt,
-        &queues,
-        Row {
-            from: C,
-            to: A,
-            spare: 0,
-            told,
-        },
-    );
-    check_row(
-        &rt,
-        &queues,
-        Row {
-            from: A,
-            to: C,
-            spare: 0,
-            told: &[BETTER, ROUTE],
-        },
-    );
-    check_silent(&rt, &queues, A, B, 0);
+    let six = [ROUTE, BETTER, GONE, GONE, OTHER, ROUTE];
+    check_row(&rt, &queues, row(C, A, 0, &six));
+    check_row(&rt, &queues, row(A, C, 0, &[BETTER, ROUTE]));
+    check_row(&rt, &queues, row(A, B, 0, &[]));
+    Ok(())
+}
+
+#[test]
+fn removes_heads_and_whole_queues(rt: HostRuntime) -> Result<(), Fail> {
+    let alloc = rt.alloc();
+    let mut queues = four_directions(alloc)?;
     assert!(rt; queues.pop(C, A));
     assert!(rt; queues.pop(B, A));
     assert!(rt; !queues.pop(B, A));
     assert!(rt; !queues.pop(A, B));
-    let told = &[BETTER, GONE, GONE, OTHER, ROUTE];
-    check_row(
-        &rt,
-        &queues,
-        Row {
-            from: C,
-            to: A,
-            spare: 0,
-            told,
-        },
-    );
-    check_silent(&rt, &queues, B, A, 0);
-    check_row(
-        &rt,
-        &queues,
-        Row {
-            from: B,
-            to: C,
-            spare: 0,
-            told: &[OTHER],
-        },
-    );
+    let five = [BETTER, GONE, GONE, OTHER, ROUTE];
+    check_row(&rt, &queues, row(C, A, 0, &five));
+    check_row(&rt, &queues, row(B, A, 0, &[]));
+    check_row(&rt, &queues, row(B, C, 0, &[OTHER]));
     check_walk(&rt, &queues, &[(A, C), (B, C), (C, A)]);
     assert_eq!(rt; queues.next_full(Some((A, A))), Some((A, C)));
     assert_eq!(rt; queues.next_full(Some((B, A))), Some((B, C)));
     assert_eq!(rt; queues.next_full(Some((C, B))), None);
     queues.clear(C, A);
     queues.clear(A, B);
-    check_silent(&rt, &queues, C, A, 0);
+    check_row(&rt, &queues, row(C, A, 0, &[]));
     check_walk(&rt, &queues, &[(A, C), (B, C)]);
     Ok(())
 }
 
 #[test]
-fn counts_spare_places(rt: HostRuntime) -> Result<(), Fail> {
+fn reserves_spare_places(rt: HostRuntime) -> Result<(), Fail> {
     let alloc = rt.alloc();
     let mut queues = Queues::new(alloc);
     make_room(&mut queues, A, B, 3)?;
     make_room(&mut queues, A, B, 2)?;
-    check_silent(&rt, &queues, A, B, 3);
-    check_silent(&rt, &queues, B, A, 0);
+    check_row(&rt, &queues, row(A, B, 3, &[]));
+    check_row(&rt, &queues, row(B, A, 0, &[]));
     check_walk(&rt, &queues, &[]);
+    say(alloc, &mut queues, A, B, &[OTHER])?;
+    check_row(&rt, &queues, row(A, B, 2, &[OTHER]));
+    make_room(&mut queues, A, B, 4)?;
+    check_row(&rt, &queues, row(A, B, 4, &[OTHER]));
+    Ok(())
+}
+
+#[test]
+fn takes_a_spare_place_for_each_message(rt: HostRuntime) -> Result<(), Fail> {
+    let alloc = rt.alloc();
+    let mut queues = Queues::new(alloc);
     let first = message(alloc, ROUTE)?;
     let second = message(alloc, GONE)?;
     let third = message(alloc, OTHER)?;
     make_room(&mut queues, A, B, 3)?;
     queues.push(A, B, first);
-    check_row(
-        &rt,
-        &queues,
-        Row {
-            from: A,
-            to: B,
-            spare: 2,
-            told: &[ROUTE],
-        },
-    );
+    check_row(&rt, &queues, row(A, B, 2, &[ROUTE]));
     let _ = queues.pop(A, B);
-    check_silent(&rt, &queues, A, B, 2);
+    check_row(&rt, &queues, row(A, B, 2, &[]));
     queues.push(A, B, second);
     queues.clear(A, B);
-    check_silent(&rt, &queues, A, B, 1);
+    check_row(&rt, &queues, row(A, B, 1, &[]));
     queues.push(A, B, third);
-    check_row(
-        &rt,
-        &queues,
-        Row {
-            from: A,
-            to: B,
-            spare: 0,
-            told: &[OTHER],
-        },
-    );
+    check_row(&rt, &queues, row(A, B, 0, &[OTHER]));
     check_walk(&rt, &queues, &[(A, B)]);
-    make_room(&mut queues, A, B, 4)?;
-    check_row(
-        &rt,
-        &queues,
-        Row {
-            from: A,
-            to: B,
-            spare: 4,
-            told: &[OTHER],
-        },
-    );
     Ok(())
 }
 

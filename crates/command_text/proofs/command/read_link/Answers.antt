@@ -1,11 +1,9 @@
 use Rattle.sim_event.specs.Events.{IsEvent}
 use Rattle.command_text.specs.Words.{words_of}
 use Rattle.command_text.specs.Arguments.{AreEndsAndMetric, metric_words}
-use Rattle.command_text.proofs.FirstWords.{link_only}
-use Rattle.command_text.proofs.Readings.{refused}
+use Rattle.command_text.proofs.FirstWords.{link_follows}
+use Rattle.command_text.proofs.Readings.{unread}
 use Rattle.command_text.proofs.command.read_link.Goals as goal
 
 pub returns-in_err-first : goal.returns-in_err-first
-returns-in_err-first c =
-    refused IsEvent words_of _ AreEndsAndMetric metric_words _ _ _ _ c.ends_and_metric.ensures c.in_err-first.ensures.ok_part c.in_err-first.ensures.value c.from_residual.ensures.1
-    (λ e h s. link_only e _ h s)
+returns-in_err-first c = unread IsEvent words_of _ AreEndsAndMetric metric_words _ _ c.from_residual.ensures c.in_err-first.ensures (link_follows c.args.verb _)

@@ -1,7 +1,8 @@
 use Rattle.std.proofs.Common.{◌≡◌, take}
-use Rattle.reference_machine.specs.Decision.{added, peer_standings}
+use Rattle.std.specs.List.{filter_map}
+use Rattle.reference_machine.specs.Decision.{added, standing_from}
 use Rattle.reference_machine.proofs.decide.add_peers.Given as goal
 
--- the routes of the entries so far are added
-abbrev pub invariant-loop-entry : goal.invariant-loop-entry
-invariant-loop-entry g l = g.S.Chosen.standings l.chosen ≡ added (g.S.Chosen.standings l.fn.chosen) (peer_standings l.conf l.router l.prefix (take l.entry-index l.received))
+-- the routes over the sessions so far are added
+abbrev pub invariant-loop-from : goal.invariant-loop-from
+invariant-loop-from g l = g.S.Chosen.standings l.chosen ≡ added (g.S.Chosen.standings l.fn.chosen) (filter_map (standing_from l.site l.prefix l.received.entries) (take l.from-index l.sessions))

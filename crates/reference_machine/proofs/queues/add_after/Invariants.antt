@@ -1,6 +1,6 @@
 use Rattle.std.proofs.Common.{◌≡◌, ◌++◌, take, filter}
 use Rattle.std.specs.Ordering.{is_lt}
-use Rattle.reference_machine.specs.Network.{direction_cmp}
+use Rattle.session_queue.specs.Waiting.{direction_cmp}
 use Rattle.reference_machine.proofs.queues.add_after.Given as goal
 
 -- those of the queues so far are added

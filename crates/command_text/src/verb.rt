@@ -1,0 +1,195 @@
+//! The first words of the commands that take no memory, by what follows them.
+
+ghost use Rattle.std.specs.Prelude.{◌≡◌, ◌∷◌, ⊤};
+ghost use Rattle.sim_event.specs.Events.{IsEvent};
+ghost use Rattle.command_text.specs.Words.{words_of};
+ghost use Rattle.command_text.specs.Verbs.{verb_word, node_word, link_word, pair_word, setting_word, prefix_word};
+ghost use Rattle.command_text.specs.Reading.{Reads};
+ghost use Rattle.command_text.specs.Arguments.{numbered_words, metric_words, addresses_words, switch_words, prefix_words};
+
+use net_conf::{Edit, Metric};
+use net_prefix::{Addr, Prefix};
+use path_attr::Asn;
+use sim_event::{Ask, Event};
+
+/// The first word of a command that takes no memory.
+#[derive(Clone, Copy)]
+pub(crate) enum Verb {
+    /// An address and an AS number follow.
+    Node(NodeVerb),
+    /// Two addresses and a cost follow.
+    Link(LinkVerb),
+    /// Two addresses follow.
+    Pair(PairVerb),
+    /// Two addresses and `on` or `off` follow.
+    Switch(SwitchVerb),
+    /// An address and a prefix follow.
+    Prefix(PrefixVerb),
+    /// Two addresses, a way and the words of a rule follow.
+    Rule,
+    /// Two addresses and a way follow.
+    Clear,
+    /// An address follows.
+    Routes,
+    /// Nothing follows.
+    Quiet,
+}
+
+/// The verbs of an address and an AS number.
+#[derive(Clone, Copy)]
+pub(crate) enum NodeVerb {
+    Router,
+    Virtual,
+}
+
+/// The verbs of two addresses and a cost.
+#[derive(Clone, Copy)]
+pub(crate) enum LinkVerb {
+    Link,
+    Metric,
+}
+
+/// The verbs of two addresses.
+#[derive(Clone, Copy)]
+pub(crate) enum PairVerb {
+    Fail,
+    Mend,
+    Join,
+    Stop,
+    Start,
+    Cluster,
+    Deliver,
+    In,
+    Out,
+    Queue,
+    Cost,
+    Trace,
+}
+
+/// The verbs of two addresses and a switch.
+#[derive(Clone, Copy)]
+pub(crate) enum SwitchVerb {
+    Client,
+    OwnNext,
+}
+
+/// The verbs of an address and a prefix.
+#[derive(Clone, Copy)]
+pub(crate) enum PrefixVerb {
+    Origin,
+    NoOrigin,
+    Best,
+    Why,
+}
+
+/// The verb that the word is.
+pub(crate) fn verb_of(word: &[u8]) -> Option<Verb>
+    ensures { Reads (λ _. ⊤) verb_word word.now result }
+{
+    match word {
+        b"router" => Some(Verb::Node(NodeVerb::Router)),
+        b"virtual" => Some(Verb::Node(NodeVerb::Virtual)),
+        b"link" => Some(Verb::Link(LinkVerb::Link)),
+        b"metric" => Some(Verb::Link(LinkVerb::Metric)),
+        b"fail" => Some(Verb::Pair(PairVerb::Fail)),
+        b"mend" => Some(Verb::Pair(PairVerb::Mend)),
+        b"join" => Some(Verb::Pair(PairVerb::Join)),
+        b"stop" => Some(Verb::Pair(PairVerb::Stop)),
+        b"start" => Some(Verb::Pair(PairVerb::Start)),
+        b"cluster" => Some(Verb::Pair(PairVerb::Cluster)),
+        b"deliver" => Some(Verb::Pair(PairVerb::Deliver)),
+        b"in" => Some(Verb::Pair(PairVerb::In)),
+        b"out" => Some(Verb::Pair(PairVerb::Out)),
+        b"queue" => Some(Verb::Pair(PairVerb::Queue)),
+        b"cost" => Some(Verb::Pair(PairVerb::Cost)),
+        b"trace" => Some(Verb::Pair(PairVerb::Trace)),
+        b"client" => Some(Verb::Switch(SwitchVerb::Client)),
+        b"self" => Some(Verb::Switch(SwitchVerb::OwnNext)),
+        b"origin" => Some(Verb::Prefix(PrefixVerb::Origin)),
+        b"noorigin" => Some(Verb::Prefix(PrefixVerb::NoOrigin)),
+        b"best" => Some(Verb::Prefix(PrefixVerb::Best)),
+        b"why" => Some(Verb::Prefix(PrefixVerb::Why)),
+        b"rule" => Some(Verb::Rule),
+        b"clear" => Some(Verb::Clear),
+        b"routes" => Some(Verb::Routes),
+        b"quiet" => Some(Verb::Quiet),
+        _ => None,
+    }
+}
+
+impl NodeVerb {
+    /// The event of the verb with these arguments.
+    pub(crate) fn event(self, addr: Addr, asn: Asn) -> Event
+        ensures event { IsEvent result }
+        ensures words { words_of result ≡ node_word self ∷ numbered_words (addr, asn) }
+    {
+        match self {
+            NodeVerb::Router => Event::Edit(Edit::Router(addr, asn)),
+            NodeVerb::Virtual => Event::Edit(Edit::Virtual(addr, asn)),
+        }
+    }
+}
+
+impl LinkVerb {
+    /// The event of the verb with these arguments.
+    pub(crate) fn event(self, first: Addr, second: Addr, metric: Metric) -> Event
+        ensures event { IsEvent result }
+        ensures words { words_of result ≡ link_word self ∷ metric_words (first, second, metric) }
+    {
+        match self {
+            LinkVerb::Link => Event::Edit(Edit::Link(first, second, metric)),
+            LinkVerb::Metric => Event::Edit(Edit::Metric(first, second, metric)),
+        }
+    }
+}
+
+impl PairVerb {
+    /// The event of the verb with these arguments.
+    pub(crate) fn event(self, first: Addr, second: Addr) -> Event
+        ensures event { IsEvent result }
+        ensures words { words_of result ≡ pair_word self ∷ addresses_words (first, second) }
+    {
+        match self {
+            PairVerb::Fail => Event::Edit(Edit::Fail(first, second)),
+            PairVerb::Mend => Event::Edit(Edit::Mend(first, second)),
+            PairVerb::Join => Event::Edit(Edit::Join(first, second)),
+            PairVerb::Stop => Event::Edit(Edit::Stop(first, second)),
+            PairVerb::Start => Event::Edit(Edit::Start(first, second)),
+            PairVerb::Cluster => Event::Edit(Edit::Cluster(first, second)),
+            PairVerb::Deliver => Event::Deliver(first, second),
+            PairVerb::In => Event::Ask(Ask::In(first, second)),
+            PairVerb::Out => Event::Ask(Ask::Out(first, second)),
+            PairVerb::Queue => Event::Ask(Ask::Queue(first, second)),
+            PairVerb::Cost => Event::Ask(Ask::Cost(first, second)),
+            PairVerb::Trace => Event::Ask(Ask::Trace(first, second)),
+        }
+    }
+}
+
+impl SwitchVerb {
+    /// The event of the verb with these arguments.
+    pub(crate) fn event(self, first: Addr, second: Addr, on: bool) -> Event
+        ensures event { IsEvent result }
+        ensures words { words_of result ≡ setting_word self ∷ switch_words (first, second, on) }
+    {
+        match self {
+            SwitchVerb::Client => Event::Edit(Edit::Client(first, second, on)),
+            SwitchVerb::OwnNext => Event::Edit(Edit::OwnNext(first, second, on)),
+        }
+    }
+}
+
+impl PrefixVerb {
+    /// The event of the verb with these arguments.
+    pub(crate) fn event(self, addr: Addr, prefix: Prefix) -> Event
+        ensures event { IsEvent result }
+        ensures words { words_of result ≡ prefix_word self ∷ prefix_words (addr, prefix) }
+    {
+        match self {
+            PrefixVerb::Origin => Event::Edit(Edit::Origin(addr, prefix)),
+            PrefixVerb::NoOrigin => Event::Edit(Edit::NoOrigin(addr, prefix)),
+            PrefixVerb::Best => Event::Ask(Ask::Best(addr, prefix)),
+            PrefixVerb::Why => Event::Ask(Ask::Why(addr, prefix)),
+        }
+    }
+}

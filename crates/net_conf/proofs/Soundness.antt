@@ -1,0 +1,165 @@
+-- Edits that are not refused keep a configuration sound.
+use Rattle.std.proofs.Common.{◌≡◌, ℕ, ◌+◌, ◌≤◌, ◌<◌, Bool, true, false, not, ◌&&◌, ◌||◌, nat_le, cond, List, [], ◌∷◌, length, get_or, Option, Some, None, Result, Ok, Err, OnOk, OnErr, All, is_some, if◌then◌else◌, refl, sym, ap, ◌∙◌, subst, arith}
+use Rattle.std.specs.declared.cmp.Ordering.{Ordering}
+use Rattle.std.specs.declared.cmp.Ordering.TheVariants.{Less, Equal, Greater}
+use Rattle.std.specs.Ordering.{match_ordering}
+use Rattle.std.specs.List.{AllByRecursion}
+use Rattle.std.specs.Map.{keys_of, lookup}
+use Rattle.std.specs.BTreeMap.{is_at, insert_entry}
+use Rattle.std.proofs.lemmas.Map.Views.{All-keys-insert_entry}
+use Rattle.std.proofs.lemmas.Bool.{true≢false}
+use Rattle.std.proofs.lemmas.Bool.Decides.{nat_tests}
+use Rattle.net_prefix.specs.declared.addr.Addr.{Addr}
+use Rattle.net_prefix.specs.Address.{addr_cmp}
+use Rattle.net_conf.specs.declared.tables.Ends.{Ends}
+use Rattle.net_conf.specs.declared.tables.Link.{Link as TheLink}
+use Rattle.net_conf.specs.declared.tables.Node.{Node}
+use Rattle.net_conf.specs.declared.edit.Edit.{Edit}
+use Rattle.net_conf.specs.declared.edit.Edit.TheVariants.{Router, Virtual, Link, Metric, Fail, Mend, Join, Stop, Start, Client, OwnNext, Cluster, Rule as AddRule, Clear, Origin, NoOrigin}
+use Rattle.net_conf.specs.declared.tables.Way.TheVariants.{In, Out}
+use Rattle.net_conf.specs.declared.refusal.Refusal.{Refusal}
+use Rattle.net_conf.specs.Configuration.{Configuration, has_node, ends_of, ends_cmp, link_between}
+use Rattle.net_conf.specs.Edits.{first_of, tests_of, refusal_of, edited, lacks_node, lacks_either, is_past_limit, with_link, with_link_changed, with_session}
+use Rattle.net_conf.specs.Kept.{HasEnds, IsSound, trees_of, is_setting}
+
+-- what is found is found still, once an entry is put in
+module _ {K X : Type 0} (cmp : K → K → Ordering) (test : K → Bool) (k : K) (v : X) where
+  found_before : (t u : Bool) (x : X) (later : Option X) → is_some (cond t (Some x) later) ≡ true → is_some (cond u (Some v) (cond t (Some x) later)) ≡ true
+  found_before t true x later is = refl
+  found_before t false x later is = is
+
+  found_at : (t : Bool) (x : X) (later : Option X) → is_some (cond t (Some x) later) ≡ true → is_some (cond t (Some v) later) ≡ true
+  found_at true x later is = refl
+  found_at false x later is = is
+
+  found_after : (t : Bool) (x : X) (later more : Option X) → (is_some later ≡ true → is_some more ≡ true) → is_some (cond t (Some x) later) ≡ true → is_some (cond t (Some x) more) ≡ true
+  found_after true x later more still is = refl
+  found_after false x later more still is = still is
+
+  found_in : (o : Ordering) (e : K × X) (es more : List (K × X)) → (is_some (lookup test es) ≡ true → is_some (lookup test more) ≡ true) → is_some (lookup test (e ∷ es)) ≡ true → is_some (lookup test (match_ordering o ((k, v) ∷ e ∷ es) ((e.0, v) ∷ es) (e ∷ more))) ≡ true
+  found_in Less e es more still is = found_before (test e.0) (test k) e.1 (lookup test es) is
+  found_in Equal e es more still is = found_at (test e.0) e.1 (lookup test es) is
+  found_in Greater e es more still is = found_after (test e.0) e.1 (lookup test es) (lookup test more) still is
+
+  pub found_still : (es : List (K × X)) → is_some (lookup test es) ≡ true → is_some (lookup test (insert_entry cmp es k v)) ≡ true
+  found_still [] is = absurd (true≢false (sym is))
+  found_still (e ∷ es) is = found_in (cmp k e.0) e es (insert_entry cmp es k v) (found_still es) is
+
+-- one entry more at most
+module _ {K X : Type 0} (cmp : K → K → Ordering) (k : K) (v : X) where
+  longer : (o : Ordering) (e : K × X) (es more : List (K × X)) → length more ≤ length es + 1 → length (match_ordering o ((k, v) ∷ e ∷ es) ((e.0, v) ∷ es) (e ∷ more)) ≤ length (e ∷ es) + 1
+  longer Less e es more le = omega arith
+  longer Equal e es more le = omega arith
+  longer Greater e es more le = omega (arith, le)
+
+  pub one_longer : (es : List (K × X)) → length (insert_entry cmp es k v) ≤ length es + 1
+  one_longer [] = omega arith
+  one_longer (e ∷ es) = longer (cmp k e.0) e es (insert_entry cmp es k v) (one_longer es)
+
+some_none : (r : Refusal) → Some r ≡ None → ⊥
+some_none r e = cc
+
+passed : (b : Bool) (r : Refusal) (ts : List (Bool × Refusal)) → first_of ((b, r) ∷ ts) ≡ None → (b ≡ false) × (first_of ts ≡ None)
+passed false r ts none = (refl, none)
+passed true r ts none = absurd (some_none r none)
+
+-- each test of a list without a first one fails
+all_fail : (ts : List (Bool × Refusal)) → first_of ts ≡ None → AllByRecursion (λ t. t.0 ≡ false) ts
+all_fail [] none = tt
+all_fail ((b, r) ∷ ts) none = let rest = passed b r ts none in (rest.0, all_fail ts rest.1)
+
+both_there : (p q : Bool) → not (p && q) ≡ false → (p ≡ true) × (q ≡ true)
+both_there true true is = (refl, refl)
+both_there true false is = absurd (true≢false is)
+both_there false q is = absurd (true≢false is)
+
+below_limit : (n : ℕ) → nat_le 4096 n ≡ false → n < 4096
+below_limit n is = grind (arith, nat_tests)
+
+-- the ends, the lower first, are the two
+ends_there : (c : Configuration) (a b : Addr) → has_node c a ≡ true → has_node c b ≡ true → HasEnds c (ends_of a b)
+ends_there c a b first second = by (nat_le a.0 b.0)
+  where
+    by : (le : Bool) → HasEnds c (if le then record { low = a; high = b } else record { low = b; high = a })
+    by true = (first, second)
+    by false = (second, first)
+
+module _ (c : Configuration) (sound : IsSound c) where
+  -- a node more
+  with_node : (a : Addr) (n : Node) → length c.nodes < 4096 → IsSound (record c { nodes = insert_entry addr_cmp c.nodes a n })
+  with_node a n room = record {
+    size = omega (arith, one_longer addr_cmp a n c.nodes, room);
+    links = λ k d lt. still (get_or (keys_of c.links) k d) (sound.links k d lt);
+    sessions = λ k d lt. still (get_or (keys_of c.sessions) k d) (sound.sessions k d lt);
+  }
+    where
+      still : (e : Ends) → HasEnds c e → HasEnds (record c { nodes = insert_entry addr_cmp c.nodes a n }) e
+      still e has = (found_still addr_cmp (is_at (addr_cmp e.low)) a n c.nodes has.0, found_still addr_cmp (is_at (addr_cmp e.high)) a n c.nodes has.1)
+
+  linked : (a b : Addr) (link : TheLink) → HasEnds c (ends_of a b) → IsSound (with_link c a b link)
+  linked a b link has = record { size = sound.size; links = All-keys-insert_entry ends_cmp (ends_of a b) link (HasEnds c) c.links sound.links has; sessions = sound.sessions }
+
+  changed : (a b : Addr) (change : TheLink → TheLink) (link : Option TheLink) → HasEnds c (ends_of a b) → IsSound (with_link_changed c a b change link)
+  changed a b change None has = sound
+  changed a b change (Some link) has = linked a b (change link) has
+
+  joined : (a b : Addr) (enabled : Bool) → HasEnds c (ends_of a b) → IsSound (with_session c a b enabled)
+  joined a b enabled has = record { size = sound.size; links = sound.links; sessions = All-keys-insert_entry ends_cmp (ends_of a b) enabled (HasEnds c) c.sessions sound.sessions has }
+
+  ends : (a b : Addr) → lacks_either c a b ≡ false → HasEnds c (ends_of a b)
+  ends a b is = let there = both_there (has_node c a) (has_node c b) is in ends_there c a b there.0 there.1
+
+  same_tables : (d : Configuration) → d.nodes ≡ c.nodes → d.links ≡ c.links → d.sessions ≡ c.sessions → IsSound d
+  same_tables d nodes links sessions = record {
+    size = subst (λ n. length n ≤ 4096) (sym nodes) sound.size;
+    links = subst (λ n. All (λ e. (is_some (lookup (is_at (addr_cmp e.low)) n) ≡ true) × (is_some (lookup (is_at (addr_cmp e.high)) n) ≡ true)) (keys_of d.links)) (sym nodes) (subst (λ l. All (HasEnds c) (keys_of l)) (sym links) sound.links);
+    sessions = subst (λ n. All (λ e. (is_some (lookup (is_at (addr_cmp e.low)) n) ≡ true) × (is_some (lookup (is_at (addr_cmp e.high)) n) ≡ true)) (keys_of d.sessions)) (sym nodes) (subst (λ l. All (HasEnds c) (keys_of l)) (sym sessions) sound.sessions);
+  }
+
+  -- an edit whose nodes are there, and that passes no limit
+  pub sound_edited : (e : Edit) → lacks_node c e ≡ false → is_past_limit c e ≡ false → IsSound (edited c e)
+  sound_edited (Router a n) there room = with_node a _ (below_limit (length c.nodes) room)
+  sound_edited (Virtual a n) there room = with_node a _ (below_limit (length c.nodes) room)
+  sound_edited (Link a b m) there room = linked a b _ (ends a b there)
+  sound_edited (Metric a b m) there room = changed a b _ (link_between c a b) (ends a b there)
+  sound_edited (Fail a b) there room = changed a b _ (link_between c a b) (ends a b there)
+  sound_edited (Mend a b) there room = changed a b _ (link_between c a b) (ends a b there)
+  sound_edited (Join a b) there room = joined a b true (ends a b there)
+  sound_edited (Stop a b) there room = joined a b false (ends a b there)
+  sound_edited (Start a b) there room = joined a b true (ends a b there)
+  sound_edited (Client a b on) there room = same_tables _ refl refl refl
+  sound_edited (OwnNext a b on) there room = same_tables _ refl refl refl
+  sound_edited (Cluster a id) there room = same_tables _ refl refl refl
+  sound_edited (AddRule a b In rule) there room = same_tables _ refl refl refl
+  sound_edited (AddRule a b Out rule) there room = same_tables _ refl refl refl
+  sound_edited (Clear a b In) there room = same_tables _ refl refl refl
+  sound_edited (Clear a b Out) there room = same_tables _ refl refl refl
+  sound_edited (Origin a p) there room = same_tables _ refl refl refl
+  sound_edited (NoOrigin a p) there room = same_tables _ refl refl refl
+
+-- an edit that is not refused has its nodes, and passes no limit
+pub not_refused : (c : Configuration) (e : Edit) → refusal_of c e ≡ None → (lacks_node c e ≡ false) × (is_past_limit c e ≡ false)
+unfolding refusal_of
+not_refused c e none = let all = all_fail (tests_of c e) none in (all.0, all.1.1.1.1.1.1.1.1.1.1.1.1.1.1.0)
+
+pub sound_after : (c : Configuration) (e : Edit) → IsSound c → refusal_of c e ≡ None → IsSound (edited c e)
+sound_after c e sound none = let tests = not_refused c e none in sound_edited c sound e tests.0 tests.1
+
+-- a setting moves no tree
+pub same_trees : (c : Configuration) (e : Edit) → is_setting e ≡ true → trees_of (edited c e) ≡ trees_of c
+unfolding trees_of
+same_trees c (Client a b on) is = refl
+same_trees c (OwnNext a b on) is = refl
+same_trees c (Cluster a id) is = refl
+same_trees c (AddRule a b In rule) is = refl
+same_trees c (AddRule a b Out rule) is = refl
+same_trees c (Clear a b In) is = refl
+same_trees c (Clear a b Out) is = refl
+same_trees c (Origin a p) is = refl
+same_trees c (NoOrigin a p) is = refl
+same_trees c _ is = absurd (true≢false (sym is))
+
+-- what holds of both outcomes holds of the one that came
+pub either_way : {E : Type 0} (P : Configuration → Type 0) (r : Result Unit E) (n d s : Configuration) → OnOk r (n ≡ d) → OnErr r (n ≡ s) → P d → P s → P n
+either_way P (Ok u) n d s ok err made kept = subst P (sym ok) made
+either_way P (Err e) n d s ok err made kept = subst P (sym err) kept

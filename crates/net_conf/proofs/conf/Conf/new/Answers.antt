@@ -1,0 +1,12 @@
+use Rattle.std.proofs.Common.{◌≡◌, ◌∙◌, sym, ap, subst, arith}
+use Rattle.std.proofs.lemmas.List.Elements.{All-nil}
+use Rattle.net_conf.specs.Configuration.{Configuration, unconfigured}
+use Rattle.net_conf.specs.Kept.{HasEnds, IsSound, trees_of}
+use Rattle.net_conf.proofs.conf.Conf.new.Goals as goal
+
+empty : IsSound unconfigured
+empty = record { size = omega arith; links = All-nil (HasEnds unconfigured); sessions = All-nil (HasEnds unconfigured) }
+
+pub invariant_of-result : goal.invariant_of-result
+unfolding trees_of
+invariant_of-result c = (subst IsSound (sym c.new.ensures) empty, c.new-2.ensures.empty ∙ sym (ap trees_of c.new.ensures))

@@ -1,0 +1,38 @@
+-- What is kept beside the tables, and what holds of every configuration that edits lead to. No public contract cites this file.
+use Rattle.std.specs.Prelude.{◌≡◌, ℕ, ◌≤◌, Bool, true, false, List, [], ◌∷◌, map, length, All, if◌then◌else◌}
+use Rattle.std.specs.Map.{keys_of}
+use Rattle.net_prefix.specs.declared.addr.Addr.{Addr}
+use Rattle.igp_cost.specs.Trees.{Reached}
+use Rattle.net_conf.specs.declared.tables.Ends.{Ends}
+use Rattle.net_conf.specs.declared.edit.Edit.{Edit}
+use Rattle.net_conf.specs.declared.edit.Edit.TheVariants.{Client, OwnNext, Cluster, Rule, Clear, Origin, NoOrigin}
+use Rattle.net_conf.specs.Configuration.{Configuration, has_node}
+use Rattle.net_conf.specs.Costs.{costs_of}
+
+-- routers or peers stand at both ends
+abbrev pub HasEnds : Configuration → Ends → Type 0
+HasEnds c e = (has_node c e.low ≡ true) × (has_node c e.high ≡ true)
+
+pub record IsSound (c : Configuration) : Type 0 where
+  pub size : length c.nodes ≤ 4096
+  pub links : All (HasEnds c) (keys_of c.links)
+  pub sessions : All (HasEnds c) (keys_of c.sessions)
+
+abbrev pub has_none : {X : Type 0} → List X → Bool
+has_none [] = true
+has_none (x ∷ xs) = false
+
+-- the tree of each router and peer, while there is a session
+unfoldable pub trees_of : Configuration → List (Addr × Reached)
+trees_of c = if has_none c.sessions then [] else map (λ e. (e.0, costs_of c e.0)) c.nodes
+
+-- the edit leaves nodes, links and sessions as they are
+abbrev pub is_setting : Edit → Bool
+is_setting (Client a b on) = true
+is_setting (OwnNext a b on) = true
+is_setting (Cluster a id) = true
+is_setting (Rule a b way rule) = true
+is_setting (Clear a b way) = true
+is_setting (Origin a p) = true
+is_setting (NoOrigin a p) = true
+is_setting _ = false

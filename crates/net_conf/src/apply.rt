@@ -1,0 +1,182 @@
+//! What an edit changes.
+
+ghost use Rattle.std.specs.Prelude.{◌≡◌, ◌∷◌, ◌++◌, [], IfOk, OnOk, OnErr};
+ghost use Rattle.std.specs.BTreeMap.{insert_entry};
+ghost use Rattle.std.specs.BTreeSet.{insert_key};
+ghost use Rattle.net_prefix.specs.Address.{addr_cmp};
+ghost use Rattle.net_conf.specs.Configuration.{end_cmp, origination_cmp, link_between, rules_at};
+ghost use Rattle.net_conf.specs.Edits.{with_link, with_link_changed, with_metric, with_state, with_session, switched, with_rule, without_rules, with_rule_of, without_rules_of, edited};
+
+use crate::configured::{Configured, policy_at};
+use crate::edit::Edit;
+use crate::tables::{End, Ends, Kind, Link, Node, Origination, Way};
+use igp_cost::Metric;
+use net_prefix::Addr;
+use path_attr::Asn;
+use route_policy::{Policy, Rule};
+use std::alloc::{AllocError, Global};
+use std::collections::{BTreeMap, BTreeSet};
+
+impl Configured {
+    /// Makes the edit, whether or not it is to be refused. An error changes nothing.
+    pub fn apply(&mut self, alloc: Global, edit: &Edit) -> Result<(), AllocError>
+        ensures ok { OnOk result (self.new ≡ edited self.old edit.now) }
+        ensures err { OnErr result (self.new ≡ self.old) }
+    {
+        match *edit {
+            Edit::Router(addr, asn) => self.add_node(addr, asn, Kind::Router),
+            Edit::Virtual(addr, asn) => self.add_node(addr, asn, Kind::Virtual),
+            Edit::Link(one, other, metric) => self.set_link(one, other, Link { metric, up: true }),
+            Edit::Metric(one, other, metric) => self.set_metric(one, other, metric),
+            Edit::Fail(one, other) => self.set_state(one, other, false),
+            Edit::Mend(one, other) => self.set_state(one, other, true),
+            Edit::Join(one, other) | Edit::Start(one, other) => self.set_session(one, other, true),
+            Edit::Stop(one, other) => self.set_session(one, other, false),
+            Edit::Client(router, peer, on) => switch(&mut self.clients, End { router, peer }, on),
+            Edit::OwnNext(router, peer, on) => switch(&mut self.own_next, End { router, peer }, on),
+            Edit::Cluster(router, id) => self.set_cluster(router, id),
+            Edit::Rule(router, peer, way, rule) => {
+                self.add_rule(alloc, End { router, peer }, way, rule)
+            }
+            Edit::Clear(router, peer, way) => {
+                self.clear_rules(End { router, peer }, way);
+                Ok(())
+            }
+            Edit::Origin(router, prefix) => self.add_origin(Origination { router, prefix }),
+            Edit::NoOrigin(router, prefix) => {
+                self.origins.remove(&Origination { router, prefix });
+                Ok(())
+            }
+        }
+    }
+
+    fn add_node(&mut self, addr: Addr, asn: Asn, kind: Kind) -> Result<(), AllocError>
+        ensures ok { OnOk result (self.new ≡ record self.old { nodes = insert_entry addr_cmp self.old.nodes addr (record { asn = asn; kind = kind }) }) }
+        ensures err { OnErr result (self.new ≡ self.old) }
+    {
+        self.nodes.insert(addr, Node { asn, kind })?;
+        Ok(())
+    }
+
+    fn set_link(&mut self, one: Addr, other: Addr, link: Link) -> Result<(), AllocError>
+        ensures ok { OnOk result (self.new ≡ with_link self.old one other link) }
+        ensures err { OnErr result (self.new ≡ self.old) }
+    {
+        self.links.insert(Ends::of(one, other), link)?;
+        Ok(())
+    }
+
+    fn set_metric(&mut self, one: Addr, other: Addr, metric: Metric) -> Result<(), AllocError>
+        ensures ok { OnOk result (self.new ≡ with_link_changed self.old one other (with_metric metric) (link_between self.old one other)) }
+        ensures err { OnErr result (self.new ≡ self.old) }
+    {
+        match self.link(one, other) {
+            None => Ok(()),
+            Some(link) => self.set_link(one, other, Link { metric, ..link }),
+        }
+    }
+
+    fn set_state(&mut self, one: Addr, other: Addr, up: bool) -> Result<(), AllocError>
+        ensures ok { OnOk result (self.new ≡ with_link_changed self.old one other (with_state up) (link_between self.old one other)) }
+        ensures err { OnErr result (self.new ≡ self.old) }
+    {
+        match self.link(one, other) {
+            None => Ok(()),
+            Some(link) => self.set_link(one, other, Link { up, ..link }),
+        }
+    }
+
+    fn set_session(&mut self, one: Addr, other: Addr, enabled: bool) -> Result<(), AllocError>
+        ensures ok { OnOk result (self.new ≡ with_session self.old one other enabled) }
+        ensures err { OnErr result (self.new ≡ self.old) }
+    {
+        self.sessions.insert(Ends::of(one, other), enabled)?;
+        Ok(())
+    }
+
+    fn set_cluster(&mut self, router: Addr, id: Addr) -> Result<(), AllocError>
+        ensures ok { OnOk result (self.new ≡ record self.old { clusters = insert_entry addr_cmp self.old.clusters router id }) }
+        ensures err { OnErr result (self.new ≡ self.old) }
+    {
+        self.clusters.insert(router, id)?;
+        Ok(())
+    }
+
+    fn add_rule(&mut self, alloc: Global, end: End, way: Way, rule: Rule) -> Result<(), AllocError>
+        ensures ok { OnOk result (self.new ≡ with_rule_of self.old end.router end.peer way rule) }
+        ensures err { OnErr result (self.new ≡ self.old) }
+    {
+        match way {
+            Way::In => append(alloc, &mut self.imports, end, rule),
+            Way::Out => append(alloc, &mut self.exports, end, rule),
+        }
+    }
+
+    fn clear_rules(&mut self, end: End, way: Way)
+        ensures { self.new ≡ without_rules_of self.old end.router end.peer way }
+    {
+        match way {
+            Way::In => forget(&mut self.imports, end),
+            Way::Out => forget(&mut self.exports, end),
+        }
+    }
+
+    fn add_origin(&mut self, origin: Origination) -> Result<(), AllocError>
+        ensures ok { OnOk result (self.new ≡ record self.old { origins = insert_key origination_cmp self.old.origins origin }) }
+        ensures err { OnErr result (self.new ≡ self.old) }
+    {
+        self.origins.insert(origin)?;
+        Ok(())
+    }
+}
+
+/// Adds the end to the set, or takes it out. An error changes nothing.
+fn switch(ends: &mut BTreeSet<End>, end: End, on: bool) -> Result<(), AllocError>
+    ensures ok { OnOk result (ends.new.keys ≡ switched on end ends.old.keys) }
+    ensures err { OnErr result (ends.new.keys ≡ ends.old.keys) }
+{
+    if on {
+        ends.insert(end)?;
+    } else {
+        ends.remove(&end);
+    }
+    Ok(())
+}
+
+/// Adds a rule to the policy of the end. An error changes nothing.
+fn append(
+    alloc: Global,
+    policies: &mut BTreeMap<End, Policy>,
+    end: End,
+    rule: Rule,
+) -> Result<(), AllocError>
+    ensures ok { OnOk result (policies.new.entries ≡ with_rule end rule policies.old.entries) }
+    ensures err { OnErr result (policies.new.entries ≡ policies.old.entries) }
+{
+    let policy = longer(alloc, policies, end, rule)?;
+    policies.insert(end, policy)?;
+    Ok(())
+}
+
+/// The policy of the end, with a rule at its end.
+fn longer(
+    alloc: Global,
+    policies: &BTreeMap<End, Policy>,
+    end: End,
+    rule: Rule,
+) -> Result<Policy, AllocError>
+    ensures { IfOk result (λ p. p ≡ rules_at policies.now.entries end ++ rule ∷ []) }
+{
+    let mut policy = policy_at(alloc, policies, end)?;
+    match policy.add(rule) {
+        Ok(()) => Ok(policy),
+        Err(_) => Err(AllocError),
+    }
+}
+
+/// Takes out the policy of the end.
+fn forget(policies: &mut BTreeMap<End, Policy>, end: End)
+    ensures { policies.new.entries ≡ without_rules end policies.old.entries }
+{
+    policies.remove(&end);
+}

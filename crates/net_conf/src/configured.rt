@@ -1,0 +1,255 @@
+//! What is configured, as plain tables.
+
+ghost use Rattle.std.specs.Prelude.{◌≡◌, IfOk, OnOk, OnErr, length};
+ghost use Rattle.std.specs.Map.{remove_entry};
+ghost use Rattle.std.specs.BTreeMap.{insert_entry, is_at};
+ghost use Rattle.net_prefix.specs.Address.{addr_cmp};
+ghost use Rattle.net_conf.specs.Configuration.{unconfigured, node_at, has_node, is_virtual, as_of, is_external, link_between, has_link, has_link_up, session_between, has_session, session_count, is_client, is_reflector, cluster_id, puts_itself, rules_at, import_rules, export_rules, originates, origins_of, end_of};
+
+use crate::tables::{End, Ends, Kind, Link, Node, Origination};
+use net_prefix::{Addr, Prefix};
+use path_attr::Asn;
+use route_policy::{Policy, Rule};
+use seq::Copied;
+use std::alloc::{AllocError, Global};
+use std::collections::{BTreeMap, BTreeSet};
+use std::marker::Model;
+
+/// Routers and virtual peers, links, sessions with the settings of their ends, CLUSTER_IDs, and who originates what.
+#[derive(Drop)]
+pub struct Configured {
+    pub(crate) nodes: BTreeMap<Addr, Node>,
+    pub(crate) links: BTreeMap<Ends, Link>,
+    pub(crate) sessions: BTreeMap<Ends, bool>,
+    pub(crate) clients: BTreeSet<End>,
+    pub(crate) own_next: BTreeSet<End>,
+    pub(crate) imports: BTreeMap<End, Policy>,
+    pub(crate) exports: BTreeMap<End, Policy>,
+    pub(crate) clusters: BTreeMap<Addr, Addr>,
+    pub(crate) origins: BTreeSet<Origination>,
+}
+
+impl Model for Configured {
+    ghost use Rattle.net_conf.specs.Configuration.{Configuration};
+
+    ghost Value = { Configuration };
+
+    ghost view = { λ c. record {
+      nodes = c.nodes.entries;
+      links = c.links.entries;
+      sessions = c.sessions.entries;
+      clients = c.clients.keys;
+      own_next = c.own_next.keys;
+      imports = c.imports.entries;
+      exports = c.exports.entries;
+      clusters = c.clusters.entries;
+      origins = c.origins.keys;
+    } };
+}
+
+impl Configured {
+    /// Nothing. It takes no memory.
+    pub fn new(alloc: Global) -> Self
+        ensures { result ≡ unconfigured }
+    {
+        Configured {
+            nodes: BTreeMap::new(alloc),
+            links: BTreeMap::new(alloc),
+            sessions: BTreeMap::new(alloc),
+            clients: BTreeSet::new(alloc),
+            own_next: BTreeSet::new(alloc),
+            imports: BTreeMap::new(alloc),
+            exports: BTreeMap::new(alloc),
+            clusters: BTreeMap::new(alloc),
+            origins: BTreeSet::new(alloc),
+        }
+    }
+
+    /// The router or virtual peer at the address.
+    pub fn node(&self, addr: Addr) -> Option<Node>
+        ensures { result ≡ node_at self.now addr }
+    {
+        self.nodes.get(&addr).copied()
+    }
+
+    /// How many routers and virtual peers there are.
+    pub fn node_count(&self) -> usize
+        ensures { result ≡ length self.now.nodes }
+    {
+        self.nodes.len()
+    }
+
+    /// Whether a router or virtual peer stands at the address.
+    pub fn has_node(&self, addr: Addr) -> bool
+        ensures { result ≡ has_node self.now addr }
+    {
+        self.nodes.contains_key(&addr)
+    }
+
+    /// Whether a virtual peer stands at the address.
+    pub fn is_virtual(&self, addr: Addr) -> bool
+        ensures { result ≡ is_virtual self.now addr }
+    {
+        self.node(addr)
+            .is_some_and(|node| node.kind == Kind::Virtual)
+    }
+
+    /// The AS of the router or peer, where there is one.
+    pub fn as_of(&self, addr: Addr) -> Option<Asn>
+        ensures { result ≡ as_of self.now addr }
+    {
+        self.node(addr).map(|node| node.asn)
+    }
+
+    /// Whether the two are in different ASes.
+    pub fn is_external(&self, one: Addr, other: Addr) -> bool
+        ensures { result ≡ is_external self.now one other }
+    {
+        self.as_of(one) != self.as_of(other)
+    }
+
+    /// The link of the two, where they have one.
+    pub fn link(&self, one: Addr, other: Addr) -> Option<Link>
+        ensures { result ≡ link_between self.now one other }
+    {
+        self.links.get(&Ends::of(one, other)).copied()
+    }
+
+    /// Whether the two have a link.
+    pub fn has_link(&self, one: Addr, other: Addr) -> bool
+        ensures { result ≡ has_link self.now one other }
+    {
+        self.links.contains_key(&Ends::of(one, other))
+    }
+
+    /// Whether the two have a link, and it is up.
+    pub fn has_link_up(&self, one: Addr, other: Addr) -> bool
+        ensures { result ≡ has_link_up self.now one other }
+    {
+        self.link(one, other).is_some_and(|link| link.up)
+    }
+
+    /// Whether the session of the two is enabled, where they have one.
+    pub fn session(&self, one: Addr, other: Addr) -> Option<bool>
+        ensures { result ≡ session_between self.now one other }
+    {
+        self.sessions.get(&Ends::of(one, other)).copied()
+    }
+
+    /// Whether the two have a session.
+    pub fn has_session(&self, one: Addr, other: Addr) -> bool
+        ensures { result ≡ has_session self.now one other }
+    {
+        self.sessions.contains_key(&Ends::of(one, other))
+    }
+
+    /// How many sessions the address has.
+    pub fn session_count(&self, addr: Addr) -> usize
+        ensures { result ≡ session_count self.now addr }
+    {
+        self.sessions
+            .iter()
+            .filter(|(ends, _)| ends.low == addr || ends.high == addr)
+            .count()
+    }
+
+    /// Whether the router takes the peer for its client.
+    pub fn is_client(&self, router: Addr, peer: Addr) -> bool
+        ensures { result ≡ is_client self.now router peer }
+    {
+        self.clients.contains(&End { router, peer })
+    }
+
+    /// Whether the router takes a peer for its client.
+    pub fn is_reflector(&self, router: Addr) -> bool
+        ensures { result ≡ is_reflector self.now router }
+    {
+        self.clients.iter().any(|end| end.router == router)
+    }
+
+    /// The router's CLUSTER_ID.
+    pub fn cluster_id(&self, router: Addr) -> Addr
+        ensures { result ≡ cluster_id self.now router }
+    {
+        self.clusters.get(&router).copied().unwrap_or(router)
+    }
+
+    /// Whether the router puts itself as NEXT_HOP towards the peer.
+    pub fn puts_itself(&self, router: Addr, peer: Addr) -> bool
+        ensures { result ≡ puts_itself self.now router peer }
+    {
+        self.own_next.contains(&End { router, peer })
+    }
+
+    /// Whether the router originates the prefix.
+    pub fn originates(&self, router: Addr, prefix: Prefix) -> bool
+        ensures { result ≡ originates self.now router prefix }
+    {
+        self.origins.contains(&Origination { router, prefix })
+    }
+
+    /// The prefixes that the router originates, in order.
+    pub fn origins_of(&self, alloc: Global, router: Addr) -> Result<Vec<Prefix>, AllocError>
+        ensures { IfOk result (λ v. v.items ≡ origins_of self.now router) }
+    {
+        self.origins
+            .iter()
+            .filter(|o| o.router == router)
+            .map(|o| o.prefix)
+            .collect(alloc)
+    }
+
+    /// The router's policy for what comes in from the peer.
+    pub fn import_policy(
+        &self,
+        alloc: Global,
+        router: Addr,
+        peer: Addr,
+    ) -> Result<Policy, AllocError>
+        ensures { IfOk result (λ policy. policy ≡ import_rules self.now router peer) }
+    {
+        policy_at(alloc, &self.imports, End { router, peer })
+    }
+
+    /// The router's policy for what goes out to the peer.
+    pub fn export_policy(
+        &self,
+        alloc: Global,
+        router: Addr,
+        peer: Addr,
+    ) -> Result<Policy, AllocError>
+        ensures { IfOk result (λ policy. policy ≡ export_rules self.now router peer) }
+    {
+        policy_at(alloc, &self.exports, End { router, peer })
+    }
+}
+
+/// The policy of the end; the one without rules where there is none.
+pub(crate) fn policy_at(
+    alloc: Global,
+    policies: &BTreeMap<End, Policy>,
+    end: End,
+) -> Result<Policy, AllocError>
+    ensures { IfOk result (λ p. p ≡ rules_at policies.now.entries end) }
+{
+    match policies.get(&end) {
+        None => Ok(Policy::new(alloc)),
+        Some(policy) => policy.copy(alloc),
+    }
+}
+
+impl Copied for Configured {
+    fn copy(&self, _alloc: Global) -> Result<Configured, AllocError> {
+        Ok(Configured {
+            nodes: self.nodes.clone()?,
+            links: self.links.clone()?,
+            sessions: self.sessions.clone()?,
+            clients: self.clients.clone()?,
+            own_next: self.own_next.clone()?,
+            imports: self.imports.clone()?,
+            exports: self.exports.clone()?,
+            clusters: self.clusters.clone()?,
+            origins: self.origins.clone()?,
+        })
+    }
+}

@@ -1,0 +1,188 @@
+//! What one router sees of the configuration.
+
+ghost use Rattle.std.specs.Prelude.{◌≡◌};
+ghost use Rattle.net_conf.specs.Sites.{peer_in};
+
+use crate::conf::Conf;
+use crate::configured::Configured;
+use crate::refusal::Refusal;
+use crate::tables::Ends;
+use igp_cost::Tree;
+use net_prefix::{Addr, Prefix};
+use path_attr::Asn;
+use route_policy::Policy;
+use seq::{Copied, Seq};
+use std::alloc::{AllocError, Global};
+
+/// One router's part of the configuration: all that its decisions and its offers depend on.
+#[derive(Drop)]
+pub struct SiteConf {
+    /// Its address, which is its BGP identifier too.
+    pub me: Addr,
+    /// Its AS.
+    pub asn: Asn,
+    /// Its CLUSTER_ID (RFC 4456, 7).
+    pub cluster: Addr,
+    /// Whether it has a client (RFC 4456, 6).
+    pub reflector: bool,
+    /// The prefixes that it originates, in order.
+    pub origins: Seq<Prefix>,
+    /// Its sessions, up or down, by the address of the peer.
+    pub sessions: Seq<SiteSession>,
+    /// Its costs and first hops.
+    pub costs: Tree,
+}
+
+/// A router's session with a peer.
+#[derive(Drop)]
+pub struct SiteSession {
+    pub peer: Addr,
+    /// The AS of the peer.
+    pub peer_asn: Option<Asn>,
+    pub up: bool,
+    /// Whether the peer is in another AS.
+    pub external: bool,
+    /// Whether the peer is the router's client (RFC 4456, 6).
+    pub client: bool,
+    /// Whether the router puts itself as NEXT_HOP towards the peer.
+    pub own_next: bool,
+    /// What is done with routes that come in from the peer.
+    pub policy_in: Policy,
+    /// What is done with routes that go out to the peer.
+    pub policy_out: Policy,
+}
+
+impl SiteConf {
+    ghost use Rattle.std.specs.Prelude.{◌≡◌, option_copied};
+    ghost use Rattle.net_conf.specs.Sites.{session_with};
+
+    /// The router's session with the peer, where it has one.
+    pub fn session(&self, peer: Addr) -> Option<&SiteSession>
+        ensures { option_copied result ≡ session_with self.now peer }
+    {
+        self.sessions
+            .as_slice()
+            .iter()
+            .find(|session| session.peer == peer)
+    }
+}
+
+impl Conf {
+    ghost use Rattle.std.specs.Prelude.{◌≡◌, true, map, IfOk};
+    ghost use Rattle.net_conf.specs.Configuration.{has_node};
+    ghost use Rattle.net_conf.specs.Costs.{costs_of};
+    ghost use Rattle.net_conf.specs.Sites.{session_of, peers_of, sessions_of, site_of, IsSite};
+
+    /// The router's own part of the configuration. It is refused where there is no router, where a virtual peer stands,
+    /// and for want of memory.
+    pub fn site(&self, alloc: Global, router: Addr) -> Result<SiteConf, Refusal>
+        ensures { IsSite self.now router result }
+    {
+        if !self.has_node(router) {
+            return Err(Refusal::NoRouter);
+        }
+        if self.is_virtual(router) {
+            return Err(Refusal::BadEnd);
+        }
+        match self.site_at(alloc, router) {
+            Ok(Some(site)) => Ok(site),
+            Ok(None) | Err(_) => Err(Refusal::Memory),
+        }
+    }
+
+    /// What the router or peer at the address sees of the configuration, where there is one.
+    #[tactic(auto, unfolding(crate::specs::Sites::site_of))]
+    pub fn site_at(&self, alloc: Global, router: Addr) -> Result<Option<SiteConf>, AllocError>
+        ensures { IfOk result (λ site. site ≡ site_of self.now router) }
+    {
+        let Some(node) = self.configured.node(router) else {
+            return Ok(None);
+        };
+        Ok(Some(SiteConf {
+            me: router,
+            asn: node.asn,
+            cluster: self.configured.cluster_id(router),
+            reflector: self.configured.is_reflector(router),
+            origins: Seq::of(self.origins_of(alloc, router)?),
+            sessions: Seq::of(self.sessions_of(alloc, router)?),
+            costs: self.costs(alloc, router)?,
+        }))
+    }
+
+    /// All costs and first hops of a router or peer.
+    pub fn costs(&self, alloc: Global, router: Addr) -> Result<Tree, AllocError>
+        requires { has_node self.now router ≡ true }
+        ensures { IfOk result (λ tree. tree ≡ costs_of self.now router) }
+    {
+        match self.trees.get(&router) {
+            Some(tree) => tree.copy(alloc),
+            None => self.configured.costs(alloc, router),
+        }
+    }
+
+    /// The router's session with the peer.
+    fn session_of(&self, alloc: Global, router: Addr, peer: Addr) -> Result<SiteSession, AllocError>
+        ensures { IfOk result (λ session. session ≡ session_of self.now router peer) }
+    {
+        Ok(SiteSession {
+            peer,
+            peer_asn: self.configured.as_of(peer),
+            up: self.is_up(router, peer),
+            external: self.configured.is_external(router, peer),
+            client: self.configured.is_client(router, peer),
+            own_next: self.configured.puts_itself(router, peer),
+            policy_in: self.configured.import_policy(alloc, router, peer)?,
+            policy_out: self.configured.export_policy(alloc, router, peer)?,
+        })
+    }
+
+    /// The router's sessions, up or down, by the address of the peer.
+    fn sessions_of(&self, alloc: Global, router: Addr) -> Result<Vec<SiteSession>, AllocError>
+        ensures { IfOk result (λ sessions. sessions.items ≡ sessions_of self.now router) }
+    {
+        let peers = self.configured.peers_of(alloc, router)?;
+        self.sessions_with(alloc, router, &peers)
+    }
+
+    fn sessions_with(
+        &self,
+        alloc: Global,
+        router: Addr,
+        peers: &[Addr],
+    ) -> Result<Vec<SiteSession>, AllocError>
+        ensures { IfOk result (λ sessions. sessions.items ≡ map (session_of self.now router) peers.now) }
+    {
+        let mut sessions = Vec::new(alloc);
+        for peer in peers {
+            sessions.push(self.session_of(alloc, router, *peer)?)?;
+        }
+        Ok(sessions)
+    }
+}
+
+impl Configured {
+    ghost use Rattle.std.specs.Prelude.{◌≡◌, IfOk};
+    ghost use Rattle.net_conf.specs.Sites.{peer_in, peers_of};
+
+    /// The peers with which the router has a session, in order of address.
+    fn peers_of(&self, alloc: Global, router: Addr) -> Result<Vec<Addr>, AllocError>
+        ensures { IfOk result (λ peers. peers.items ≡ peers_of self.now router) }
+    {
+        self.sessions
+            .iter()
+            .filter(|(ends, _)| ends.low == router || ends.high == router)
+            .map(|(ends, _)| peer_in(router, *ends))
+            .collect(alloc)
+    }
+}
+
+/// The other end.
+fn peer_in(router: Addr, ends: Ends) -> Addr
+    ensures { result ≡ peer_in router ends }
+{
+    if ends.low == router {
+        ends.high
+    } else {
+        ends.low
+    }
+}

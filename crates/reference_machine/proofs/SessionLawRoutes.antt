@@ -1,0 +1,111 @@
+-- What a router has received, after a message and after an edit.
+use Rattle.std.proofs.Common.{◌≡◌, Bool, true, false, cond, ◌&&◌, List, [], ◌∷◌, map, filter, Some, None, refl, sym, ap, ◌∙◌}
+use Rattle.std.specs.List.{list_any}
+use Rattle.std.specs.List.Sorted.{IsStrictlySortedBy}
+use Rattle.std.specs.Ordering.{eq_by_cmp}
+use Rattle.std.specs.Cmp.{IsEquivalence}
+use Rattle.std.specs.Map.{keys_of}
+use Rattle.std.specs.BTreeMap.{is_at}
+use Rattle.std.proofs.lemmas.Bool.{and_parts, and_left, and_right, or_parts}
+use Rattle.std.proofs.lemmas.Cmp.{eq_by_cmp_equiv, nat_eq_equiv}
+use Rattle.std.proofs.lemmas.Map.{lookup-remove_entry}
+use Rattle.std.proofs.lemmas.Map.Keys.{IsDistinct-from_sorted}
+use Rattle.std.proofs.lemmas.Map.Entries.{lookup-filter-keys}
+use Rattle.net_prefix.specs.declared.addr.Addr.{Addr}
+use Rattle.net_prefix.specs.Block.{Block, same_block}
+use Rattle.path_attr.specs.declared.attr.Attr.{Attr}
+use Rattle.session_queue.specs.declared.message.Message.{Message}
+use Rattle.session_queue.specs.declared.message.Message.TheVariants.{Update, Withdraw}
+use Rattle.session_queue.specs.declared.direction.Direction.{Direction}
+use Rattle.net_conf.specs.Configuration.{Configuration}
+use Rattle.net_conf.specs.Costs.{is_up}
+use Rattle.reference_machine.specs.declared.rows.RouteKey.{RouteKey}
+use Rattle.reference_machine.specs.Network.{same_addr, route_cmp, received_by}
+use Rattle.reference_machine.specs.Decision.{route_from}
+use Rattle.reference_machine.specs.Machine.{received_after, is_kept}
+use Rattle.reference_machine.specs.SessionLaw.{after_message}
+use Rattle.reference_machine.proofs.SessionLawLists.{ordered_inserted, ordered_removed, ordered_filtered, lookup_inserted}
+use Rattle.reference_machine.proofs.SessionLawKeys.{same_ends, route_tied, route_total, same_addr_true}
+
+-- what was received is in the order of its keys
+abbrev pub AreOrdered : List (RouteKey × Attr) → Type 0
+AreOrdered es = IsStrictlySortedBy route_cmp (keys_of es)
+
+abbrev at_route : Addr → Block → Addr → RouteKey
+at_route r p u = record { to = r; prefix = p; from = u }
+
+route_laws : IsEquivalence (eq_by_cmp route_cmp)
+route_laws = eq_by_cmp_equiv route_total
+
+-- A MESSAGE
+
+-- a message keeps the order
+pub ordered_after : (d : Direction) (m : Message) (es : List (RouteKey × Attr)) → AreOrdered es → AreOrdered (received_after d m es)
+ordered_after d (Update p attr) es h = ordered_inserted route_total (at_route d.to p d.from) attr es h
+ordered_after d (Withdraw p) es h = ordered_removed route_total (is_at (route_cmp (at_route d.to p d.from))) es h
+
+by_ends : {A : Type 0} (to block from : Bool) (x y : A) → cond (to && (block && from)) x y ≡ cond (from && to) (cond block x y) y
+by_ends true true true x y = refl
+by_ends true true false x y = refl
+by_ends true false true x y = refl
+by_ends true false false x y = refl
+by_ends false true true x y = refl
+by_ends false true false x y = refl
+by_ends false false true x y = refl
+by_ends false false false x y = refl
+
+-- the key of the message, seen from the key that is looked up
+seen : {A : Type 0} (d : Direction) (q p : Block) (r t : Addr) (x y : A) → cond (is_at (route_cmp (at_route t p r)) (at_route d.to q d.from)) x y ≡ cond (same_ends (record { from = r; to = t }) d) (cond (same_block p q) x y) y
+seen d q p r t x y = ap (λ b. cond b x y) (sym (route_tied (at_route t p r) (at_route d.to q d.from))) ∙ by_ends (same_addr t d.to) (same_block p q) (same_addr r d.from) x y
+
+either_way : (k l : RouteKey) → is_at (route_cmp k) l ≡ is_at (route_cmp l) k
+either_way k l = route_laws.symm k l
+
+one_key : (k x y : RouteKey) → is_at (route_cmp k) x ≡ true → is_at (route_cmp k) y ≡ eq_by_cmp route_cmp x y
+one_key k x y h = route_laws.congr k x y h
+
+-- a message changes what it says, over its own session, and nothing else
+pub route_after : (d : Direction) (m : Message) (es : List (RouteKey × Attr)) → AreOrdered es → (r t : Addr) (p : Block) → route_from (received_after d m es) t p r ≡ cond (same_ends (record { from = r; to = t }) d) (after_message p (route_from es t p r) m) (route_from es t p r)
+route_after d (Update q attr) es h r t p =
+    lookup_inserted route_total (at_route t p r) (at_route d.to q d.from) attr es ∙ seen d q p r t (Some attr) (route_from es t p r)
+route_after d (Withdraw q) es h r t p =
+    let k = at_route d.to q d.from in
+    lookup-remove_entry route_laws (is_at (route_cmp k)) (one_key k) (at_route t p r) es (IsDistinct-from_sorted route_cmp (keys_of es) h)
+    ∙ ap (λ b. cond b None (route_from es t p r)) (either_way k (at_route t p r))
+    ∙ seen d q p r t None (route_from es t p r)
+
+-- AN EDIT
+
+kept_at : (c : Configuration) (t r : Addr) (p : Block) (k : RouteKey) → is_at (route_cmp (at_route t p r)) k ≡ true → is_up c k.from k.to ≡ is_up c r t
+kept_at c t r p k h =
+    let parts = and_parts (same_addr t k.to) (same_block p k.prefix && same_addr r k.from) (route_tied (at_route t p r) k ∙ h) in
+    let to = same_addr_true t k.to parts.0 in
+    let from = same_addr_true r k.from (and_parts (same_block p k.prefix) (same_addr r k.from) parts.1).1 in
+    λ i. is_up c (sym from i) (sym to i)
+
+-- what was received over a session that is down is gone, and the rest stays
+pub route_kept : (c : Configuration) (es : List (RouteKey × Attr)) (r t : Addr) (p : Block) → route_from (filter (is_kept c) es) t p r ≡ cond (is_up c r t) (route_from es t p r) None
+route_kept c es r t p = lookup-filter-keys (is_at (route_cmp (at_route t p r))) (λ k. is_up c k.from k.to) (is_up c r t) (kept_at c t r p) es
+
+pub ordered_kept : (c : Configuration) (es : List (RouteKey × Attr)) → AreOrdered es → AreOrdered (filter (is_kept c) es)
+ordered_kept c es h = ordered_filtered route_total (is_kept c) es h
+
+-- A PREFIX THAT IS NOT AMONG THOSE RECEIVED
+
+abbrev prefixes_of : List (RouteKey × Attr) → List Block
+prefixes_of es = map (λ x. x.0.prefix) es
+
+-- the head is no route of the router to the prefix, and no later one is
+missed : (here : Bool) (u r : Addr) (p : Block) (e : RouteKey × Attr) (es : List (RouteKey × Attr)) → same_addr e.0.to r ≡ here → list_any (same_block p) (prefixes_of (received_by r (e ∷ es))) ≡ false → (is_at (route_cmp (at_route r p u)) e.0 ≡ false) × (list_any (same_block p) (prefixes_of (received_by r es)) ≡ false)
+missed true u r p e es to none =
+    let parts = or_parts (same_block p e.0.prefix) (list_any (same_block p) (prefixes_of (received_by r es))) (rw to at none) in
+    (sym (route_tied (at_route r p u) e.0) ∙ and_right (same_addr r e.0.to) (same_block p e.0.prefix && same_addr u e.0.from) (and_left (same_block p e.0.prefix) (same_addr u e.0.from) parts.0), parts.1)
+missed false u r p e es to none =
+    (sym (route_tied (at_route r p u) e.0) ∙ and_left (same_addr r e.0.to) (same_block p e.0.prefix && same_addr u e.0.from) (nat_eq_equiv.symm r.0 e.0.to.0 ∙ to), rw to at none)
+
+-- a prefix that is none of those received has no route
+pub route_none : (u r : Addr) (p : Block) (es : List (RouteKey × Attr)) → list_any (same_block p) (prefixes_of (received_by r es)) ≡ false → route_from es r p u ≡ None
+route_none u r p [] none = refl
+route_none u r p (e ∷ es) none =
+    let parts = missed (same_addr e.0.to r) u r p e es refl none in
+    ap (λ b. cond b (Some e.1) (route_from es r p u)) parts.0 ∙ route_none u r p es parts.1

@@ -1,0 +1,81 @@
+-- The way of what a router forwards (RFC 4271, 9.1.2.1 and 9.1.4: by the longest prefix that matches).
+use Rattle.std.specs.Prelude.{ℕ, zero, suc, Bool, ◌==◌, ◌&&◌, ◌/◌, ◌-◌, ◌^◌, nat_lt, List, [], ◌∷◌, ◌++◌, filter, fold, length, Option, Some, None, is_some, if◌then◌else◌}
+use Rattle.std.specs.List.{list_any}
+use Rattle.net_prefix.specs.declared.addr.Addr.{Addr}
+use Rattle.net_prefix.specs.Block.{Block}
+use Rattle.igp_cost.specs.Trees.{Reached as Costs, first_hop_in}
+use Rattle.net_conf.specs.Configuration.{Configuration, is_virtual}
+use Rattle.net_conf.specs.Costs.{costs_of}
+use Rattle.route_select.specs.declared.candidate.Candidate.{Candidate}
+use Rattle.route_select.specs.Selection.{is_own}
+use Rattle.sim_event.specs.declared.reply.TraceEnd.{TraceEnd}
+use Rattle.sim_event.specs.declared.reply.TraceEnd.TheVariants.{Reached, NoRoute, Loop}
+use Rattle.reference_machine.specs.declared.trace.Look.{Look}
+use Rattle.reference_machine.specs.declared.trace.Look.TheVariants.{Ends, Forwards}
+use Rattle.reference_machine.specs.declared.trace.Traced.{Traced}
+use Rattle.reference_machine.specs.Network.{Network, same_addr}
+use Rattle.reference_machine.specs.Decision.{best}
+use Rattle.reference_machine.specs.Advertising.{prefixes_at, in_order}
+
+-- the address shares the first bits of the prefix
+abbrev pub matches : Addr → Block → Bool
+matches d p = d.0 / 2 ^ (32 - p.len) == p.addr.0 / 2 ^ (32 - p.len)
+
+-- the longer of a prefix and one that may be missing
+abbrev pub longer : Option Block → Block → Option Block
+longer None p = Some p
+longer (Some q) p = if nat_lt q.len p.len then Some p else Some q
+
+abbrev pub longest : List Block → Option Block
+longest ps = fold longer None ps
+
+-- the prefix matches the address, and the router has chosen a route for it
+abbrev pub forwards_by : Network → Addr → Addr → Block → Bool
+forwards_by s r d p = matches d p && is_some (best s r p)
+
+-- the longest prefix that matches the address and has a chosen route at the router
+unfoldable pub longest_match : Network → Addr → Addr → Option Block
+longest_match s r d = longest (filter (forwards_by s r d) (in_order (prefixes_at s r)))
+
+abbrev pub has_passed : Addr → List (Addr × Block) → Bool
+has_passed r hops = list_any (λ h. same_addr h.0 r) hops
+
+-- over the first hop towards the NEXT_HOP, where there is one
+abbrev pub onward : Addr → Block → Option Addr → Look
+onward r p None = Ends (NoRoute r)
+onward r p (Some h) = Forwards p h
+
+-- by the chosen route: a router's own prefix is reached
+abbrev pub by_route : Costs → Addr → Block → Option Candidate → Look
+by_route costs r p None = Ends (NoRoute r)
+by_route costs r p (Some b) = if is_own b.source then Ends (Reached r) else onward r p (first_hop_in costs b.attr.next)
+
+-- by the longest prefix that matches
+abbrev pub by_prefix : Network → Addr → Option Block → Look
+by_prefix s r None = Ends (NoRoute r)
+by_prefix s r (Some p) = by_route (costs_of s.conf r) r p (best s r p)
+
+-- what becomes of it at r, where it came over the hops: a router that has forwarded it before is a loop, a virtual peer is
+-- reached, and another router looks up the address
+unfoldable pub look : Network → Addr → List (Addr × Block) → Addr → Look
+look s d hops r =
+    if has_passed r hops then Ends (Loop r)
+    else if is_virtual s.conf r then Ends (Reached r)
+    else by_prefix s r (longest_match s r d)
+
+abbrev pub ended : List (Addr × Block) → TraceEnd → Traced
+ended hops ending = record { hops = hops; ending = ending }
+
+abbrev pub after_look : (List (Addr × Block) → Addr → Traced) → List (Addr × Block) → Addr → Look → Traced
+after_look next hops r (Ends ending) = ended hops ending
+after_look next hops r (Forwards p h) = next (hops ++ (r, p) ∷ []) h
+
+-- from r on, where it came over the hops, and at most n more are looked at
+unfoldable pub trace_from : ℕ → Network → Addr → List (Addr × Block) → Addr → Traced
+trace_from zero s d hops r = ended hops (Loop r)
+trace_from (suc n) s d hops r = after_look (trace_from n s d) hops r (look s d hops r)
+
+-- the way from the router of what is for the address; each router forwards once, so where as many have as there are,
+-- the next is one of them
+unfoldable pub trace : Network → Addr → Addr → Traced
+trace s r d = trace_from (length s.conf.nodes) s d [] r

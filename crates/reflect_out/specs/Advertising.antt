@@ -1,0 +1,83 @@
+-- What a router offers a peer of the route that it chose (RFC 4271, 5.1, 9.1.3 and 9.2; RFC 4456, 6, 8 and 10).
+use Rattle.std.specs.Prelude.{ℕ, zero, suc, Bool, false, ◌||◌, ◌==◌, List, [], ◌∷◌, Option, Some, None, option_map, option_and_then, if◌then◌else◌}
+use Rattle.std.specs.Option.{unwrap_or, option_map_or}
+use Rattle.net_prefix.specs.declared.addr.Addr.{Addr}
+use Rattle.net_prefix.specs.Block.{Block}
+use Rattle.path_attr.specs.declared.path.Segment.{Segment}
+use Rattle.path_attr.specs.declared.attr.Attr.{Attr}
+use Rattle.path_attr.specs.Path.{prepended}
+use Rattle.route_policy.specs.declared.rule.Action.{Action}
+use Rattle.route_policy.specs.declared.rule.Action.TheVariants.{Deny, Permit}
+use Rattle.route_policy.specs.Judging.{judged}
+use Rattle.route_select.specs.declared.candidate.Source.{Source}
+use Rattle.route_select.specs.declared.candidate.Source.TheVariants.{Own, Peer as FromPeer}
+use Rattle.route_select.specs.declared.candidate.Candidate.{Candidate}
+use Rattle.net_conf.specs.declared.site.SiteConf.{SiteConf}
+use Rattle.net_conf.specs.declared.site.SiteSession.{SiteSession}
+use Rattle.net_conf.specs.Sites.{session_with}
+
+-- the route was learned from this peer
+abbrev pub is_from : Addr → Source → Bool
+is_from u Own = false
+is_from u (FromPeer v) = v.0 == u.0
+
+-- the path with the AS put in front n times
+abbrev pub prepended_times : ℕ → ℕ → List Segment → List Segment
+prepended_times zero asn path = path
+prepended_times (suc n) asn path = prepended asn (prepended_times n asn path)
+
+-- towards another AS: the own AS in front, once and once more for each prepend; the router as NEXT_HOP; MED only where
+-- the policy sets it; no LOCAL_PREF, ORIGINATOR_ID or CLUSTER_LIST; ORIGIN kept (RFC 4271, 5.1.1 to 5.1.5; RFC 4456, 8)
+abbrev pub to_other_as : SiteConf → Option ℕ → Option ℕ → Attr → Attr
+to_other_as site med prepend attr = record {
+  path = prepended site.asn (prepended_times (unwrap_or prepend 0) site.asn attr.path);
+  origin = attr.origin;
+  next = site.me;
+  med = med;
+  pref = None;
+  oid = None;
+  clusters = [];
+}
+
+-- inside the AS, of the router's own route or an external one: LOCAL_PREF is the preference, and NEXT_HOP stays, unless
+-- the router puts itself (RFC 4271, 5.1.3 and 5.1.5)
+abbrev pub to_own_as : SiteConf → SiteSession → Candidate → Attr
+to_own_as site to b = record {
+  path = b.attr.path;
+  origin = b.attr.origin;
+  next = if to.own_next then site.me else b.attr.next;
+  med = b.attr.med;
+  pref = Some b.pref;
+  oid = None;
+  clusters = [];
+}
+
+-- inside the AS, of an internal peer's route: the peer is its originator, unless it has one, and the router's CLUSTER_ID
+-- is put in front; all else stays (RFC 4456, 8 and 10)
+abbrev pub reflected : SiteConf → Addr → Attr → Attr
+reflected site u attr = record attr { oid = Some (unwrap_or attr.oid u); clusters = site.cluster ∷ attr.clusters }
+
+-- the peer is a client of the router
+abbrev pub is_client_of : SiteConf → Addr → Bool
+is_client_of site u = option_map_or (λ x. x.client) (session_with site u) false
+
+-- an internal peer's route, inside the AS: only from a client, or to one (RFC 4456, 6)
+abbrev pub reflected_to : SiteConf → SiteSession → Candidate → Source → Option Attr
+reflected_to site to b Own = None
+reflected_to site to b (FromPeer u) = if is_client_of site u || to.client then Some (reflected site u b.attr) else None
+
+abbrev pub inside : SiteConf → SiteSession → Candidate → Option Attr
+inside site to b = if b.external then Some (to_own_as site to b) else reflected_to site to b b.source
+
+-- what is offered over the session, as the export policy judged it
+abbrev pub permitted : SiteConf → SiteSession → Candidate → Action → Option Attr
+permitted site to b Deny = None
+permitted site to b (Permit pref med prepend) = if to.external then Some (to_other_as site med prepend b.attr) else inside site to b
+
+abbrev pub offered : SiteConf → Block → Candidate → SiteSession → Option Attr
+offered site p b to = permitted site to b (judged to.policy_out p b.attr)
+
+-- what the router offers the peer of the route that it chose for the prefix: nothing where it learned the route from
+-- that peer
+unfoldable pub advert : SiteConf → Block → Candidate → Addr → Option Attr
+advert site p b t = if is_from t b.source then None else option_and_then (offered site p b) (session_with site t)

@@ -1,0 +1,193 @@
+//! What a router offers a peer of the route that it chose (RFC 4271, 9.1.3 and 9.2; RFC 4456, 6, 8 and 10).
+#![tactic(auto)]
+
+ghost use Rattle.std.specs.Prelude.{◌≡◌, ℕ, ◌∷◌, Some, IfOk, if◌then◌else◌};
+ghost use Rattle.std.specs.Option.{unwrap_or};
+ghost use Rattle.reflect_out.specs.Advertising.{is_from, prepended_times, to_other_as, to_own_as, reflected, is_client_of, reflected_to, inside, permitted, offered, advert};
+
+use net_conf::{SiteConf, SiteSession};
+use net_prefix::{Addr, Prefix};
+use path_attr::{AsPath, Asn, Attr};
+use route_policy::{Action, Repeat, judge};
+use route_select::{Candidate, Source};
+use seq::{Copied, Seq};
+use std::alloc::{AllocError, Global};
+
+/// What the router offers the peer of the route that it chose for the prefix: nothing where it learned the route from
+/// that peer, where its export policy denies it, or where the route is an internal one that may not be reflected.
+#[tactic(auto, unfolding(crate::specs::Advertising::advert))]
+pub fn advert(
+    alloc: Global,
+    site: &SiteConf,
+    prefix: Prefix,
+    best: &Candidate,
+    to: Addr,
+) -> Result<Option<Attr>, AllocError>
+    ensures { IfOk result (λ offer. offer ≡ advert site.now prefix best.now to) }
+{
+    if is_from(to, best.source) {
+        return Ok(None);
+    }
+    match site.session(to) {
+        None => Ok(None),
+        Some(session) => offered(alloc, site, prefix, best, session),
+    }
+}
+
+/// Whether the route was learned from this peer.
+fn is_from(peer: Addr, source: Source) -> bool
+    ensures { result ≡ is_from peer source }
+{
+    match source {
+        Source::Own => false,
+        Source::Peer(addr) => addr == peer,
+    }
+}
+
+/// What is offered over the session.
+fn offered(
+    alloc: Global,
+    site: &SiteConf,
+    prefix: Prefix,
+    best: &Candidate,
+    to: &SiteSession,
+) -> Result<Option<Attr>, AllocError>
+    ensures { IfOk result (λ offer. offer ≡ offered site.now prefix best.now to.now) }
+{
+    match judge(&to.policy_out, prefix, &best.attr) {
+        Action::Deny => Ok(None),
+        Action::Permit {
+            pref: _,
+            med,
+            prepend,
+        } => permitted(alloc, site, best, to, med, prepend),
+    }
+}
+
+/// What is offered over the session of a route that the export policy permits.
+fn permitted(
+    alloc: Global,
+    site: &SiteConf,
+    best: &Candidate,
+    to: &SiteSession,
+    med: Option<u32>,
+    prepend: Option<Repeat>,
+) -> Result<Option<Attr>, AllocError>
+    ensures { IfOk result (λ offer. offer ≡ (if to.now.external then Some (to_other_as site.now med prepend best.now.attr) else inside site.now to.now best.now)) }
+{
+    if to.external {
+        Ok(Some(to_other_as(alloc, site, med, prepend, &best.attr)?))
+    } else {
+        inside(alloc, site, to, best)
+    }
+}
+
+/// The attributes towards another AS.
+fn to_other_as(
+    alloc: Global,
+    site: &SiteConf,
+    med: Option<u32>,
+    prepend: Option<Repeat>,
+    attr: &Attr,
+) -> Result<Attr, AllocError>
+    ensures { IfOk result (λ a. a ≡ to_other_as site.now med prepend attr.now) }
+{
+    let times = prepend.map_or(0, |repeat| repeat.count());
+    let mut path = prepended(alloc, &attr.path, site.asn, times)?;
+    path.prepend(alloc, site.asn)?;
+    Ok(Attr {
+        path,
+        origin: attr.origin,
+        next: site.me,
+        med,
+        pref: None,
+        oid: None,
+        clusters: Seq::new(alloc),
+    })
+}
+
+/// The path with the AS put in front so many times.
+fn prepended(alloc: Global, path: &AsPath, asn: Asn, times: u8) -> Result<AsPath, AllocError>
+    ensures { IfOk result (λ p. p ≡ prepended_times times asn path.now) }
+{
+    let mut longer = path.copy(alloc)?;
+    for _time in 0..times {
+        longer.prepend(alloc, asn)?;
+    }
+    Ok(longer)
+}
+
+/// What is offered inside the AS.
+fn inside(
+    alloc: Global,
+    site: &SiteConf,
+    to: &SiteSession,
+    best: &Candidate,
+) -> Result<Option<Attr>, AllocError>
+    ensures { IfOk result (λ offer. offer ≡ inside site.now to.now best.now) }
+{
+    if best.external {
+        Ok(Some(to_own_as(alloc, site, to, best)?))
+    } else {
+        reflected_to(alloc, site, to, best)
+    }
+}
+
+/// The attributes inside the AS, of the router's own route or an external one.
+fn to_own_as(
+    alloc: Global,
+    site: &SiteConf,
+    to: &SiteSession,
+    best: &Candidate,
+) -> Result<Attr, AllocError>
+    ensures { IfOk result (λ a. a ≡ to_own_as site.now to.now best.now) }
+{
+    Ok(Attr {
+        path: best.attr.path.copy(alloc)?,
+        origin: best.attr.origin,
+        next: if to.own_next { site.me } else { best.attr.next },
+        med: best.attr.med,
+        pref: Some(best.pref),
+        oid: None,
+        clusters: Seq::new(alloc),
+    })
+}
+
+/// An internal peer's route, inside the AS: only from a client, or to one.
+fn reflected_to(
+    alloc: Global,
+    site: &SiteConf,
+    to: &SiteSession,
+    best: &Candidate,
+) -> Result<Option<Attr>, AllocError>
+    ensures { IfOk result (λ offer. offer ≡ reflected_to site.now to.now best.now best.now.source) }
+{
+    let Source::Peer(peer) = best.source else {
+        return Ok(None);
+    };
+    if is_client_of(site, peer) || to.client {
+        Ok(Some(reflected(alloc, site, peer, &best.attr)?))
+    } else {
+        Ok(None)
+    }
+}
+
+/// Whether the peer is a client of the router.
+fn is_client_of(site: &SiteConf, peer: Addr) -> bool
+    ensures { result ≡ is_client_of site.now peer }
+{
+    match site.session(peer) {
+        None => false,
+        Some(session) => session.client,
+    }
+}
+
+/// The attributes of a route that is reflected.
+fn reflected(alloc: Global, site: &SiteConf, peer: Addr, attr: &Attr) -> Result<Attr, AllocError>
+    ensures { IfOk result (λ a. a ≡ reflected site.now peer attr.now) }
+{
+    let mut reflected = attr.copy(alloc)?;
+    reflected.oid = Some(attr.oid.unwrap_or(peer));
+    reflected.clusters.push_front(site.cluster)?;
+    Ok(reflected)
+}

@@ -1,0 +1,13 @@
+// For LD_PRELOAD. It refuses the allocation of the number REFUSED; with REFUSED=0 it refuses none, and tells on standard error at the
+// end how many there were.
+#define _GNU_SOURCE
+#include <dlfcn.h>
+#include <errno.h>
+#include <stdio.h>
+#include <stdlib.h>
+static long which = -1, count = 0;
+__attribute__((constructor)) static void begin(void) { const char *n = getenv("REFUSED"); which = n ? atol(n) : 0; }
+__attribute__((destructor)) static void end(void) { if (which == 0) dprintf(2, "%ld\n", count); }
+static int refused(void) { return ++count == which ? (errno = ENOMEM) : 0; }
+void *malloc(size_t n) { void *(*next)(size_t) = dlsym(RTLD_NEXT, "malloc"); return refused() ? 0 : next(n); }
+void *realloc(void *p, size_t n) { void *(*next)(void *, size_t) = dlsym(RTLD_NEXT, "realloc"); return refused() ? 0 : next(p, n); }
