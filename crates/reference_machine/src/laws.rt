@@ -3,8 +3,9 @@
 ghost use Rattle.reference_machine.specs.SessionLaw.{SessionLaw, QuietLaw};
 
 /// Over every session that is up, what a peer has received from a router, with what is on its way put over it in order,
-/// is what the router offers it now. So where no message is on its way, every table is the decision on what the
-/// neighbours offer now.
+/// is what the router offers it now.
+/// So where no message is on its way, what the peer has received is it. A virtual peer's feeds are no router's offers, and
+/// the law says nothing of them.
 pub fn sessions_agree()
     ensures law { SessionLaw }
     ensures quiet { QuietLaw }
