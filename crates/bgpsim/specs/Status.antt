@@ -1,5 +1,9 @@
 -- Exit statuses.
-use Rattle.std.specs.Prelude.{ℕ, Result, Ok, Err}
+use Rattle.std.specs.Prelude.{◌≡◌, ◌⊎◌, ℕ, Result, Ok, Err}
+use Rattle.std.specs.Process.{exit_status}
+use Rattle.std.specs.declared.process.ExitCode.{ExitCode}
+use Rattle.clap.specs.declared.error.kind.ErrorKind.{ErrorKind}
+use Rattle.clap.specs.declared.error.kind.ErrorKind.TheVariants.{OutOfMemory, DisplayHelp, DisplayVersion}
 use Rattle.sim_text.specs.declared.fault.ServeFault.{ServeFault}
 use Rattle.sim_text.specs.declared.fault.ServeFault.TheVariants.{Read, Write}
 
@@ -8,3 +12,18 @@ abbrev pub status_of : Result ℕ ServeFault → ℕ
 status_of (Ok lines) = 0
 status_of (Err (Read line)) = 3
 status_of (Err (Write line)) = 4
+
+-- want of memory before anything is served
+abbrev pub no_memory : ℕ
+no_memory = 5
+
+-- 0 where help or the version was asked for, 2 for a mistaken command line
+abbrev pub status_of_kind : ErrorKind → ℕ
+status_of_kind OutOfMemory = no_memory
+status_of_kind DisplayHelp = 0
+status_of_kind DisplayVersion = 0
+status_of_kind _ = 2
+
+-- how a program ends that is asked to serve
+abbrev pub IsEnd : ExitCode → Type 0
+IsEnd code = (exit_status code ≡ no_memory) ⊎ ((served : Result ℕ ServeFault) × (exit_status code ≡ status_of served))

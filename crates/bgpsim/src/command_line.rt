@@ -1,5 +1,10 @@
 //! The words of the command line.
 
+ghost use Rattle.std.specs.Prelude.{◌≡◌, ◌∷◌, [], List, ℕ, codes, map, string_bytes, IfOk, IfErr};
+ghost use Rattle.clap.specs.Words.{FailsBy, app_of, fault_of, kind_of};
+ghost use Rattle.clap.specs.declared.error.kind.ErrorKind.TheVariants.{OutOfMemory};
+ghost use Rattle.bgpsim.specs.CommandLine.{commands};
+
 use clap::{Command, Error};
 use std::alloc::{AllocError, Global};
 
@@ -11,13 +16,20 @@ pub enum Choice {
 }
 
 /// Reads the words, the program's name first. Help and the version come as an error too, as `clap` has them.
-pub fn choose<'a>(alloc: Global, words: &'a [String]) -> Result<Choice, Error> {
+/// Where there is memory, `script` alone is a choice, and whatever `clap` finds a fault in is none.
+pub fn choose<'a>(alloc: Global, words: &'a [String]) -> Result<Choice, Error>
+    ensures faults { FailsBy (fault_of commands (map string_bytes words.now)) result }
+    ensures script { (name : List ℕ) → map string_bytes words.now ≡ name ∷ codes "script" ∷ [] → IfErr result (λ e. kind_of e ≡ OutOfMemory) }
+{
     let command: Command<'a> = program(alloc)?;
     command.try_get_matches_from(words)?;
     Ok(Choice::Script)
 }
 
-fn program<'a>(alloc: Global) -> Result<Command<'a>, AllocError> {
+/// The commands, for `clap`.
+fn program<'a>(alloc: Global) -> Result<Command<'a>, AllocError>
+    ensures { IfOk result (λ c. app_of c ≡ commands) }
+{
     let script = Command::new(alloc, "script").about(
         "Reads commands from standard input and answers each on standard output",
     );

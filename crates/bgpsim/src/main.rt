@@ -4,6 +4,11 @@
 mod command_line;
 mod script;
 
+ghost use Rattle.std.specs.Prelude.{◌≡◌};
+ghost use Rattle.std.specs.Process.{exit_status};
+ghost use Rattle.clap.specs.Words.{kind_of};
+ghost use Rattle.bgpsim.specs.Status.{no_memory, status_of_kind, IsEnd};
+
 use clap::Error;
 use clap::error::ErrorKind;
 use command_line::{Choice, choose};
@@ -34,22 +39,30 @@ fn main(rt: HostRuntime) -> ExitCode {
     };
     match choose(alloc, words.as_slice()) {
         Ok(Choice::Script) => serve_streams(&rt, &mut rt.stderr()),
-        Err(error) if error.kind() == ErrorKind::OutOfMemory => without_memory(&rt),
         Err(error) => show(&rt, &error),
     }
 }
 
-/// Help and the version go to standard output, a mistake to standard error.
-fn show(rt: &(impl Print + Eprint + AllocGlobal), error: &Error) -> ExitCode {
-    let _ = error.print(rt);
-    if error.use_stderr() {
-        ExitCode::from(MISTAKEN)
-    } else {
-        ExitCode::SUCCESS
+/// Why nothing is served: help and the version go to standard output, a mistake and want of memory to standard error.
+fn show(rt: &(impl Print + Eprint + AllocGlobal), error: &Error) -> ExitCode
+    ensures { exit_status result ≡ status_of_kind (kind_of error.now) }
+{
+    match error.kind() {
+        ErrorKind::OutOfMemory => without_memory(rt),
+        ErrorKind::DisplayHelp | ErrorKind::DisplayVersion => {
+            let _ = error.print(rt);
+            ExitCode::SUCCESS
+        }
+        _ => {
+            let _ = error.print(rt);
+            ExitCode::from(MISTAKEN)
+        }
     }
 }
 
-fn without_memory(rt: &impl Eprint) -> ExitCode {
+fn without_memory(rt: &impl Eprint) -> ExitCode
+    ensures { exit_status result ≡ no_memory }
+{
     let _ = rt.eprintln("memory");
     ExitCode::from(NO_MEMORY)
 }
@@ -58,7 +71,9 @@ fn without_memory(rt: &impl Eprint) -> ExitCode {
 fn serve_streams(
     rt: &(impl Print + Eprint + Input + AllocGlobal),
     errors: &mut impl Write,
-) -> ExitCode {
+) -> ExitCode
+    ensures { IsEnd result }
+{
     let alloc = rt.alloc();
     let Ok(writer) = BufWriter::new(alloc, io::writer(rt)) else {
         return without_memory(rt);

@@ -24,7 +24,8 @@ pub fn run_script<R: Read, W: Write, E: Write>(
 ) -> u8
     requires calm_input { input.old.failed ≡ false }
     requires calm_output { output.old.failed ≡ false }
-    ensures { IfSome input.old.remaining (λ bytes. (served : Result ℕ ServeFault) × (end : Network)
+    ensures status { (served : Result ℕ ServeFault) × (result ≡ status_of served) }
+    ensures serving { IfSome input.old.remaining (λ bytes. (served : Result ℕ ServeFault) × (end : Network)
         × IsServing bytes nothing output.old served end output.new input.new × (result ≡ status_of served)) }
 {
     let mut machine: Simulator<FilterCell> = Simulator::new(alloc);

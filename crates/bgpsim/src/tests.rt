@@ -4,6 +4,7 @@ mod examples;
 mod faults;
 mod limits;
 mod lines;
+mod prompt;
 mod reflection;
 mod refusals;
 mod rows;

@@ -1,6 +1,6 @@
 //! The network of the benchmark, the same in each run.
 
-ghost use Rattle.std.specs.Prelude.{◌<◌};
+ghost use Rattle.std.specs.Prelude.{◌≡◌, ◌<◌, ◌+◌, IfOk, length};
 
 use anyhow::{Context, Result};
 use igp_cost::Metric;
@@ -15,7 +15,9 @@ pub const NODES: usize = 4096;
 pub const EDGES: usize = 16_384;
 
 /// The routers, all in one AS.
-pub fn nodes(alloc: Global) -> Result<Vec<(Addr, Asn)>> {
+pub fn nodes(alloc: Global) -> Result<Vec<(Addr, Asn)>>
+    ensures { IfOk result (λ nodes. length nodes.items ≡ 4096) }
+{
     let asn = Asn::new(64_512).context("an AS has a number")?;
     let mut nodes = Vec::new(alloc);
     for number in 0..NODES {
@@ -25,7 +27,9 @@ pub fn nodes(alloc: Global) -> Result<Vec<(Addr, Asn)>> {
 }
 
 /// The edges: from each router four, to others and with metrics of 1 to 100 that a fixed sequence of numbers gives.
-pub fn edges(alloc: Global) -> Result<Vec<(Addr, Addr, Metric)>> {
+pub fn edges(alloc: Global) -> Result<Vec<(Addr, Addr, Metric)>>
+    ensures { IfOk result (λ edges. length edges.items ≡ 16384) }
+{
     let mut edges = Vec::new(alloc);
     let mut state = 4271;
     for number in 0..EDGES {
@@ -41,6 +45,7 @@ pub fn edges(alloc: Global) -> Result<Vec<(Addr, Addr, Metric)>> {
 /// The address of a router by its number.
 pub fn addr(number: usize) -> Addr
     requires { number < 4096 }
+    ensures { result.0 ≡ 167772160 + number }
 {
     Addr(0x0A00_0000 + number as u32)
 }

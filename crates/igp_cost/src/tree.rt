@@ -96,6 +96,17 @@ impl Copied for Tree {
     }
 }
 
+impl Clone for Tree {
+    ghost is_clone = { λ tree again. again ≡ tree };
+
+    fn clone(&self) -> Result<Tree, AllocError> {
+        Ok(Tree {
+            source: self.source,
+            rows: self.rows.clone()?,
+        })
+    }
+}
+
 // Adds the row of an address, if it has a label.
 fn add(rows: &mut Vec<(Addr, Label)>, addr: Addr, label: Option<Label>) -> Result<(), AllocError>
     ensures { OnOk result (rows.new.items ≡ rows.old.items ++ row addr label) }

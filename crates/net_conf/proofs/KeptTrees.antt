@@ -1,5 +1,5 @@
 -- While there is a session, the trees of both its ends are kept.
-use Rattle.std.proofs.Common.{◌≡◌, ℕ, Bool, true, false, cond, nat_le, List, [], ◌∷◌, map, Option, Some, None, All, is_some, Contains, if◌then◌else◌, refl, sym, ap, ◌∙◌, subst}
+use Rattle.std.proofs.Common.{◌≡◌, Bool, true, false, cond, nat_le, List, [], ◌∷◌, map, Some, is_some, if◌then◌else◌, refl, sym, ap, ◌∙◌}
 use Rattle.std.specs.declared.cmp.Ordering.{Ordering}
 use Rattle.std.specs.declared.cmp.Ordering.TheVariants.{Less, Equal, Greater}
 use Rattle.std.specs.Ordering.{is_eq}
@@ -16,7 +16,7 @@ use Rattle.net_prefix.specs.Orders.{addr_exact}
 use Rattle.igp_cost.specs.Trees.{Reached}
 use Rattle.net_conf.specs.declared.tables.Ends.{Ends}
 use Rattle.net_conf.specs.declared.tables.Node.{Node}
-use Rattle.net_conf.specs.Configuration.{Configuration, has_node, ends_of, ends_cmp, session_between, has_session}
+use Rattle.net_conf.specs.Configuration.{Configuration, has_node, ends_of, ends_cmp, has_session}
 use Rattle.net_conf.specs.Costs.{costs_of}
 use Rattle.net_conf.specs.Kept.{HasEnds, IsSound, has_none, trees_of}
 

@@ -1,5 +1,5 @@
 -- What is kept beside the tables, and what holds of every configuration that edits lead to. No public contract cites this file.
-use Rattle.std.specs.Prelude.{◌≡◌, ℕ, ◌≤◌, Bool, true, false, List, [], ◌∷◌, map, length, All, if◌then◌else◌}
+use Rattle.std.specs.Prelude.{◌≡◌, ◌≤◌, Bool, true, false, List, [], ◌∷◌, map, length, All, if◌then◌else◌}
 use Rattle.std.specs.Map.{keys_of}
 use Rattle.net_prefix.specs.declared.addr.Addr.{Addr}
 use Rattle.igp_cost.specs.Trees.{Reached}

@@ -192,7 +192,7 @@ impl Conf {
 impl Copied for Conf {
     fn copy(&self, alloc: Global) -> Result<Conf, AllocError> {
         let configured = self.configured.copy(alloc)?;
-        let trees = configured.trees(alloc)?;
+        let trees = self.trees.clone()?;
         Ok(Conf { configured, trees })
     }
 }

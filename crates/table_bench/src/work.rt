@@ -1,5 +1,7 @@
 //! What is measured.
 
+ghost use Rattle.std.specs.Prelude.{◌≡◌, ◌≤◌, IfSome, length};
+
 use decimal::read_decimal;
 use net_prefix::{Addr, Prefix};
 use prefix_table::PrefixTable;
@@ -20,7 +22,9 @@ pub(crate) struct Work {
 }
 
 /// The work that the words ask for. The first word is the program's name.
-pub(crate) fn read_work(words: &[String]) -> Option<Work> {
+pub(crate) fn read_work(words: &[String]) -> Option<Work>
+    ensures { IfSome result (λ _. length words.now ≡ 4) }
+{
     let [_, kind, keys, matches] = words else {
         return None;
     };
@@ -61,14 +65,18 @@ impl Draws {
 }
 
 /// Inserts the keys, and asks for the longest matches. How many keys were new, and how many matches were found. None for want of memory.
-pub(crate) fn run<T: PrefixTable<u32>>(table: &mut T, work: &Work) -> Option<(u32, u32)> {
+pub(crate) fn run<T: PrefixTable<u32>>(table: &mut T, work: &Work) -> Option<(u32, u32)>
+    ensures { IfSome result (λ counts. (counts.0 ≤ work.now.keys) × (counts.1 ≤ work.now.matches)) }
+{
     let mut draws = Draws { state: 7 };
     let fresh = fill(table, &mut draws, work.keys)?;
     Some((fresh, ask(table, &mut draws, work.matches)))
 }
 
 /// How many of the keys were new.
-fn fill<T: PrefixTable<u32>>(table: &mut T, draws: &mut Draws, keys: u32) -> Option<u32> {
+fn fill<T: PrefixTable<u32>>(table: &mut T, draws: &mut Draws, keys: u32) -> Option<u32>
+    ensures { IfSome result (λ fresh. fresh ≤ keys) }
+{
     let mut fresh = 0u32;
     for value in 0..keys {
         match table.insert(draws.prefix()?, value) {
@@ -81,9 +89,11 @@ fn fill<T: PrefixTable<u32>>(table: &mut T, draws: &mut Draws, keys: u32) -> Opt
 }
 
 /// How many of the longest matches were found.
-fn ask<T: PrefixTable<u32>>(table: &T, draws: &mut Draws, matches: u32) -> u32 {
+fn ask<T: PrefixTable<u32>>(table: &T, draws: &mut Draws, matches: u32) -> u32
+    ensures { result ≤ matches }
+{
     let mut found = 0u32;
-    for _ in 0..matches {
+    for _turn in 0..matches {
         let addr = Addr((draws.draw() >> 32) as u32);
         if table.longest(addr, 32).is_some() {
             found = found.saturating_add(1);

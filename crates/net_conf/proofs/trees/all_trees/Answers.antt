@@ -1,10 +1,9 @@
-use Rattle.std.proofs.Common.{◌≡◌, ℕ, suc, ◌-◌, ◌+◌, ◌<◌, true, get_or, drop, length, is_some, refl, sym, ap, ◌∙◌, subst, arith}
+use Rattle.std.proofs.Common.{◌≡◌, suc, ◌-◌, ◌<◌, true, get_or, drop, length, is_some, sym, ap, ◌∙◌, subst, arith}
 use Rattle.std.specs.Map.{lookup}
 use Rattle.std.specs.BTreeMap.{is_at, insert_entry}
 use Rattle.std.proofs.lemmas.List.{drop_all}
-use Rattle.net_prefix.specs.declared.addr.Addr.{Addr}
 use Rattle.net_prefix.specs.Address.{addr_cmp}
-use Rattle.igp_cost.specs.Trees.{Reached, tree_of}
+use Rattle.igp_cost.specs.Trees.{tree_of}
 use Rattle.net_conf.proofs.TreeList.{trees, node_found, one_more}
 use Rattle.net_conf.proofs.trees.all_trees.Goals as goal
 

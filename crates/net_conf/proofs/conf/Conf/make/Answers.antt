@@ -1,5 +1,4 @@
 use Rattle.std.proofs.Common.{◌≡◌, ◌∙◌, sym, ap, subst, None}
-use Rattle.net_conf.specs.Configuration.{Configuration}
 use Rattle.net_conf.specs.Edits.{refusal_of, edited}
 use Rattle.net_conf.specs.Kept.{IsSound, trees_of}
 use Rattle.net_conf.proofs.Soundness.{sound_after, same_trees, either_way}

@@ -1,6 +1,6 @@
-use Rattle.std.proofs.Common.{◌≡◌, ◌∙◌, sym, ap, subst, arith}
+use Rattle.std.proofs.Common.{◌∙◌, sym, ap, subst, arith}
 use Rattle.std.proofs.lemmas.List.Elements.{All-nil}
-use Rattle.net_conf.specs.Configuration.{Configuration, unconfigured}
+use Rattle.net_conf.specs.Configuration.{unconfigured}
 use Rattle.net_conf.specs.Kept.{HasEnds, IsSound, trees_of}
 use Rattle.net_conf.proofs.conf.Conf.new.Goals as goal
 
