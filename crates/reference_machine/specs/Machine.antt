@@ -65,7 +65,7 @@ abbrev pub is_kept : Configuration → (RouteKey × Attr) → Bool
 is_kept c e = is_up c e.0.from e.0.to
 
 -- the state with this configuration: nothing received, and nothing on its way, over a session that is down in it
--- (RFC 4271, 6.7 and 8)
+-- (RFC 4271, 6 and 8)
 unfoldable pub reconfigured : Configuration → List (RouteKey × Attr) → List Queue → Network
 reconfigured c received queues = record { conf = c; received = filter (is_kept c) received; queues = map (emptied c) queues }
 

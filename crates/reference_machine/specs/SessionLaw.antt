@@ -1,5 +1,5 @@
 -- The session law: what a router has received from a peer, with what is on its way from there put over it, is what the
--- peer offers it now (RFC 4271, 9.2: only changes are sent, and they are sent in order).
+-- peer offers it now: only changes are sent (RFC 4271, 9.2), and they come in order.
 use Rattle.std.specs.Prelude.{◌≡◌, Bool, true, List, fold, Option, Some, None, if◌then◌else◌}
 use Rattle.net_prefix.specs.declared.addr.Addr.{Addr}
 use Rattle.net_prefix.specs.Block.{Block, same_block}
