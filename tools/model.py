@@ -504,8 +504,7 @@ def run(net, w, v):
     elif w == "why":
         return counted(["%s %s" % (s if s == "self" else show(s), r) for s, r in net.decide(v[0], v[1])[1]])
     elif w == "in":
-        found = sorted((p, a["next"], a) for (to, p, u), a in net.received.items() if to == v[0] and u == v[1]) if False else \
-            sorted([(p, a) for (to, p, u), a in net.received.items() if to == v[0] and u == v[1]], key=lambda e: e[0])
+        found = sorted(((p, a) for (to, p, u), a in net.received.items() if to == v[0] and u == v[1]), key=lambda e: e[0])
         return counted(["%s %s" % (show_prefix(p), show_attr(a)) for p, a in (found if net.up(v[0], v[1]) else [])])
     elif w == "out":
         found = [(p, net.out(v[0], v[1], p)) for p in net.prefixes(v[0])]
@@ -541,11 +540,17 @@ def answer(net, line):
 
 def main():
     net = Net()
-    for line in sys.stdin.buffer.read().decode("latin-1").split("\n"):
-        line = line[:-1] if line.endswith("\r") else line
+    # A carriage return belongs to the end of a line only before a line feed, which the last line lacks.
+    *ended, last = sys.stdin.buffer.read().decode("latin-1").split("\n")
+    lines = [line[:-1] if line.endswith("\r") else line for line in ended] + ([last] if last else [])
+    for number, line in enumerate(lines, 1):
+        if len(line) > 65536 or number > 1000000:
+            print("read fault at line %d" % number, file=sys.stderr)
+            return 3
         for reply in answer(net, line):
             print(reply)
+    return 0
 
 
 if __name__ == "__main__":
-    main()
+    sys.exit(main())
