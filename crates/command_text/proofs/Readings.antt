@@ -1,5 +1,5 @@
 -- What reading a text tells.
-use Rattle.std.proofs.Common.{◌≡◌, ℕ, List, Option, Some, None, Result, Ok, Err, sym, subst, refl, ◌∙◌}
+use Rattle.std.proofs.Common.{◌≡◌, ℕ, Bool, true, List, Option, Some, None, Result, Ok, Err, sym, subst, refl, ◌∙◌}
 use Rattle.std.specs.Option.{IsSome, IfSome, IfNone, SomeIff, ok_or}
 use Rattle.std.specs.Fmt.{decimal}
 use Rattle.std.specs.Result.{IsErrAnd}
@@ -23,9 +23,9 @@ some_if (Some y) P x h p = refl
 some_if None P x h p = absurd (h p)
 
 -- a fault of syntax, handed on
-at_fault : {X S : Type 0} (IsIn : X → Type 0) (spelling : X → S) (text : S) (r : Result X Refusal) → IsErrAnd r (λ e. e ≡ Syntax) → ((x : X) → IsIn x → text ≡ spelling x → ⊥) → Makes IsIn spelling text r
-at_fault IsIn spelling text (Err e) h none = subst (λ e. Makes IsIn spelling text (Err e)) (sym h) none
-at_fault IsIn spelling text (Ok x) h none = absurd h
+at_fault : {X S : Type 0} (IsIn : X → Type 0) (costs : X → Bool) (spelling : X → S) (text : S) (r : Result X Refusal) → IsErrAnd r (λ e. e ≡ Syntax) → ((x : X) → IsIn x → text ≡ spelling x → ⊥) → Makes IsIn costs spelling text r
+at_fault IsIn costs spelling text (Err e) h none = subst (λ e. Makes IsIn costs spelling text (Err e)) (sym h) none
+at_fault IsIn costs spelling text (Ok x) h none = absurd h
 
 fault_of : {X : Type 0} (o : Option X) (e : Refusal) → o ≡ None → Err e ≡ ok_or o Syntax → e ≡ Syntax
 fault_of None e n is = cc
@@ -35,24 +35,24 @@ same_fault : {X : Type 0} (r : Result X Refusal) (e f : Refusal) → e ≡ f →
 same_fault (Err d) e f is h = h ∙ is
 same_fault (Ok x) e f is h = h
 
-pub refused_so : {X Y S : Type 0} (IsIn : X → Type 0) (spelling : X → S) (text : S) (o : Option Y) (e : Refusal) (r : Result X Refusal) →
-    o ≡ None → Err e ≡ ok_or o Syntax → IsErrAnd r (λ d. d ≡ e) → ((x : X) → IsIn x → text ≡ spelling x → ⊥) → Makes IsIn spelling text r
-refused_so IsIn spelling text o e r n is h none = at_fault IsIn spelling text r (same_fault r e Syntax (fault_of o e n is) h) none
+pub refused_so : {X Y S : Type 0} (IsIn : X → Type 0) (costs : X → Bool) (spelling : X → S) (text : S) (o : Option Y) (e : Refusal) (r : Result X Refusal) →
+    o ≡ None → Err e ≡ ok_or o Syntax → IsErrAnd r (λ d. d ≡ e) → ((x : X) → IsIn x → text ≡ spelling x → ⊥) → Makes IsIn costs spelling text r
+refused_so IsIn costs spelling text o e r n is h none = at_fault IsIn costs spelling text r (same_fault r e Syntax (fault_of o e n is) h) none
 
 -- a refusal of a part, handed on by the whole
-handed : {X Y S U : Type 0} (IsIn : X → Type 0) (spelling : X → S) (text : S) (IsPart : Y → Type 0) (wording : Y → U) (words : U) (e : Refusal) → Makes IsPart wording words (Err e) →
+handed : {X Y S U : Type 0} (IsIn : X → Type 0) (costs : X → Bool) (spelling : X → S) (text : S) (IsPart : Y → Type 0) (part_costs : Y → Bool) (wording : Y → U) (words : U) (e : Refusal) → Makes IsPart part_costs wording words (Err e) →
     ((x : X) → IsIn x → text ≡ spelling x → (y : Y) × IsPart y × (words ≡ wording y)) →
-    ((y : Y) → IsPart y → words ≡ wording y → (x : X) × IsIn x × (text ≡ spelling x)) → Makes IsIn spelling text (Err e)
-handed IsIn spelling text IsPart wording words Syntax made needs gives = λ x hx s. let part = needs x hx s in made part.0 part.1 part.2
-handed IsIn spelling text IsPart wording words Memory made needs gives = gives made.0 made.1 made.2
-handed IsIn spelling text IsPart wording words e made needs gives = absurd made
+    ((y : Y) → IsPart y → part_costs y ≡ true → words ≡ wording y → (x : X) × IsIn x × (costs x ≡ true) × (text ≡ spelling x)) → Makes IsIn costs spelling text (Err e)
+handed IsIn costs spelling text IsPart part_costs wording words Syntax made needs gives = λ x hx s. let part = needs x hx s in made part.0 part.1 part.2
+handed IsIn costs spelling text IsPart part_costs wording words Memory made needs gives = gives made.0 made.1 made.2 made.3
+handed IsIn costs spelling text IsPart part_costs wording words e made needs gives = absurd made
 
-pub handed_on : {X Y S U : Type 0} (IsIn : X → Type 0) (spelling : X → S) (text : S) (IsPart : Y → Type 0) (wording : Y → U) (words : U) (e : Refusal) (r : Result X Refusal) → Makes IsPart wording words (Err e) → IsErrAnd r (λ d. d ≡ e) →
+pub handed_on : {X Y S U : Type 0} (IsIn : X → Type 0) (costs : X → Bool) (spelling : X → S) (text : S) (IsPart : Y → Type 0) (part_costs : Y → Bool) (wording : Y → U) (words : U) (e : Refusal) (r : Result X Refusal) → Makes IsPart part_costs wording words (Err e) → IsErrAnd r (λ d. d ≡ e) →
     ((x : X) → IsIn x → text ≡ spelling x → (y : Y) × IsPart y × (words ≡ wording y)) →
-    ((y : Y) → IsPart y → words ≡ wording y → (x : X) × IsIn x × (text ≡ spelling x)) → Makes IsIn spelling text r
-handed_on IsIn spelling text IsPart wording words e (Err d) made h needs gives =
-    subst (λ e. Makes IsIn spelling text (Err e)) (sym h) (handed IsIn spelling text IsPart wording words e made needs gives)
-handed_on IsIn spelling text IsPart wording words e (Ok x) made h needs gives = absurd h
+    ((y : Y) → IsPart y → part_costs y ≡ true → words ≡ wording y → (x : X) × IsIn x × (costs x ≡ true) × (text ≡ spelling x)) → Makes IsIn costs spelling text r
+handed_on IsIn costs spelling text IsPart part_costs wording words e (Err d) made h needs gives =
+    subst (λ e. Makes IsIn costs spelling text (Err e)) (sym h) (handed IsIn costs spelling text IsPart part_costs wording words e made needs gives)
+handed_on IsIn costs spelling text IsPart part_costs wording words e (Ok x) made h needs gives = absurd h
 
 pub at_none : {X : Type 0} (P : Type 0) (o : Option X) → o ≡ None → IfNone o P → P
 at_none P o is h = subst (λ o. IfNone o P) is h

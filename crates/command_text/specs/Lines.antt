@@ -4,6 +4,9 @@ use Rattle.std.specs.List.{slice_split}
 use Rattle.net_conf.specs.declared.refusal.Refusal.{Refusal}
 use Rattle.net_conf.specs.declared.refusal.Refusal.TheVariants.{Syntax, Memory}
 use Rattle.sim_event.specs.declared.event.Event.{Event}
+use Rattle.sim_event.specs.declared.event.Event.TheVariants.{Feed as AFeed}
+use Rattle.sim_event.specs.declared.event.News.{News}
+use Rattle.sim_event.specs.declared.event.News.TheVariants.{Update, Withdraw}
 use Rattle.sim_event.specs.Events.{IsEvent}
 use Rattle.command_text.specs.Words.{words_of}
 
@@ -29,10 +32,20 @@ Means line event = (length line ≤ 4096) × IsEvent event × (tokens line ≡ w
 abbrev pub IsFault : List ℕ → Type 0
 IsFault line = (IsSilent line → ⊥) × ((event : Event) → Means line event → ⊥)
 
--- what reading a line may answer: nothing, its event, a fault of syntax; or, where it means an event, want of memory
+-- news of a route, whose path takes memory
+abbrev pub is_route : News → Bool
+is_route (Update p path origin med) = true
+is_route (Withdraw p) = false
+
+-- the feed of a route: no other event takes memory to make
+abbrev pub feeds_route : Event → Bool
+feeds_route (AFeed f) = is_route f.news
+feeds_route _ = false
+
+-- what reading a line may answer: nothing, its event, a fault of syntax; or, where it feeds a route, want of memory
 abbrev pub IsReading : List ℕ → Result (Option Event) Refusal → Type 0
 IsReading line (Ok None) = IsSilent line
 IsReading line (Ok (Some event)) = Means line event
 IsReading line (Err Syntax) = IsFault line
-IsReading line (Err Memory) = (event : Event) × Means line event
+IsReading line (Err Memory) = (event : Event) × Means line event × (feeds_route event ≡ true)
 IsReading line (Err _) = ⊥

@@ -6,7 +6,7 @@ ghost use Rattle.sim_event.specs.declared.event.News.{News};
 ghost use Rattle.sim_event.specs.Events.{IsEvent, IsNews, IsPrefix};
 ghost use Rattle.sim_event.specs.Wording.{origin_text, maybe_number_text};
 ghost use Rattle.command_text.specs.Words.{words_of, news_words};
-ghost use Rattle.command_text.specs.Lines.{tokens};
+ghost use Rattle.command_text.specs.Lines.{tokens, is_route, feeds_route};
 ghost use Rattle.command_text.specs.Paths.{HasPath};
 ghost use Rattle.command_text.specs.Reading.{Makes};
 
@@ -23,7 +23,7 @@ use std::alloc::Global;
 /// `feed V R`, and the news
 pub(crate) fn read_feed(alloc: Global, words: &[u8]) -> Result<Event, Refusal>
     requires { length words.now ≤ 4096 }
-    ensures { Makes IsEvent words_of (codes "feed" ∷ tokens words.now) result }
+    ensures { Makes IsEvent feeds_route words_of (codes "feed" ∷ tokens words.now) result }
 {
     let (from, rest) = next_address(words).ok_or(Refusal::Syntax)?;
     let (to, rest) = next_address(rest).ok_or(Refusal::Syntax)?;
@@ -34,7 +34,7 @@ pub(crate) fn read_feed(alloc: Global, words: &[u8]) -> Result<Event, Refusal>
 /// `update P PATH ORIGIN MED` or `withdraw P`
 fn read_news(alloc: Global, words: &[u8]) -> Result<News, Refusal>
     requires { length words.now ≤ 4096 }
-    ensures { Makes IsNews news_words (tokens words.now) result }
+    ensures { Makes IsNews is_route news_words (tokens words.now) result }
 {
     let (first, rest) = next_word(words).ok_or(Refusal::Syntax)?;
     if first == b"update".as_slice() {
@@ -48,7 +48,7 @@ fn read_news(alloc: Global, words: &[u8]) -> Result<News, Refusal>
 
 /// `withdraw P`
 fn read_withdraw(words: &[u8]) -> Result<News, Refusal>
-    ensures { Makes IsNews news_words (codes "withdraw" ∷ tokens words.now) result }
+    ensures { Makes IsNews is_route news_words (codes "withdraw" ∷ tokens words.now) result }
 {
     let word = one_word(words).ok_or(Refusal::Syntax)?;
     let prefix = prefix_of(word).ok_or(Refusal::Syntax)?;
@@ -58,7 +58,7 @@ fn read_withdraw(words: &[u8]) -> Result<News, Refusal>
 /// `update P PATH ORIGIN MED`
 fn read_update(alloc: Global, words: &[u8]) -> Result<News, Refusal>
     requires { length words.now ≤ 4096 }
-    ensures { Makes IsNews news_words (codes "update" ∷ tokens words.now) result }
+    ensures { Makes IsNews is_route news_words (codes "update" ∷ tokens words.now) result }
 {
     let Some(update) = update_of(words) else {
         return Err(Refusal::Syntax);

@@ -21,14 +21,14 @@ struct Spot {
 
 /// The whole graph, its routers, and the edges to be removed.
 #[derive(Drop)]
-pub struct Work<'a> {
+pub(crate) struct Work<'a> {
     nodes: &'a [(Addr, Asn)],
     whole: Graph,
     spots: Vec<Spot>,
 }
 
 impl<'a> Work<'a> {
-    pub fn new(
+    pub(crate) fn new(
         alloc: Global,
         nodes: &'a [(Addr, Asn)],
         edges: &[(Addr, Addr, Metric)],
@@ -51,7 +51,7 @@ impl<'a> Work<'a> {
     }
 
     /// Makes so many trees, from one router after another.
-    pub fn trees(&self, alloc: Global, count: u32) -> Result<()> {
+    pub(crate) fn trees(&self, alloc: Global, count: u32) -> Result<()> {
         for turn in 0..count {
             if !self.nodes.is_empty() {
                 let source = self.nodes[turn as usize % self.nodes.len()].0;
@@ -62,7 +62,7 @@ impl<'a> Work<'a> {
     }
 
     /// Removes an edge and puts it back so often, one edge after another, and repairs the first router's tree each time.
-    pub fn repairs(&self, alloc: Global, count: u32) -> Result<()> {
+    pub(crate) fn repairs(&self, alloc: Global, count: u32) -> Result<()> {
         let Some((source, _)) = self.nodes.first() else {
             return Ok(());
         };

@@ -8,20 +8,20 @@ use Rattle.sim_event.specs.declared.event.Event.{Event}
 use Rattle.sim_event.specs.declared.reply.Reply.{Reply}
 use Rattle.reference_machine.specs.Network.{Network}
 use Rattle.reference_machine.specs.Machine.{IsStep}
-use Rattle.command_text.specs.Lines.{IsSilent, IsFault, Means}
+use Rattle.command_text.specs.Lines.{IsSilent, IsFault, Means, feeds_route}
 use Rattle.reply_text.specs.Replies.{reply_text, refusal_text}
 use Rattle.sim_text.specs.declared.fault.ServeFault.{ServeFault}
 use Rattle.sim_text.specs.declared.fault.ServeFault.TheVariants.{Read, Write}
 
 -- what a line is answered, and the state after it: nothing for a blank line or a comment; a refusal of syntax for a line
--- that spells no event; the machine's reply to the event that the line means; or, where memory was wanted to make that
--- event, a refusal that changes nothing
+-- that spells no event; the machine's reply to the event that the line means; or, where memory was wanted for the route
+-- that the line feeds, a refusal that changes nothing
 abbrev pub IsAnswer : Network → List ℕ → List ℕ → Network → Type 0
 IsAnswer s line text s' =
     (IsSilent line × (text ≡ []) × (s' ≡ s))
     ⊎ ((IsFault line × (text ≡ refusal_text Syntax) × (s' ≡ s))
     ⊎ (((event : Event) × (reply : Reply) × Means line event × IsStep s event reply s' × (text ≡ reply_text reply))
-    ⊎ ((event : Event) × Means line event × (text ≡ refusal_text Memory) × (s' ≡ s))))
+    ⊎ ((event : Event) × Means line event × (feeds_route event ≡ true) × (text ≡ refusal_text Memory) × (s' ≡ s))))
 
 -- the lines were answered one after another
 abbrev pub AreAnswers : Network → List (List ℕ) → List ℕ → Network → Type 0
