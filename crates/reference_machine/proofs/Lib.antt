@@ -2,15 +2,5 @@ mod Lists
 mod MessagesOfTurns
 mod Questions
 mod Runs
-mod SessionLawChanges
-mod SessionLawConfigs
-mod SessionLawEdits
-mod SessionLawKeys
-mod SessionLawLists
-mod SessionLawQueues
-mod SessionLawRoutes
-mod SessionLawRuns
-mod SessionLawSteps
-mod SessionLawTold
 mod Sites
 mod Traces

@@ -5,4 +5,3 @@ pub mod Reports
 pub mod Tracing
 pub mod Machine
 pub mod Turns
-pub mod SessionLaw

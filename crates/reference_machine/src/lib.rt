@@ -3,7 +3,6 @@
 
 mod advertise;
 mod decide;
-mod laws;
 mod machine;
 mod queues;
 mod reasons;
@@ -15,7 +14,6 @@ mod steps;
 mod trace;
 mod turns;
 
-pub use laws::sessions_agree;
 pub use machine::Machine;
 pub use rows::{Queue, RouteKey};
 pub use session_queue::Direction;

@@ -11,12 +11,12 @@ use Rattle.reference_machine.specs.Network.{Network, messages_in, rest_of, with_
 use Rattle.reference_machine.specs.Decision.{route_from, best}
 use Rattle.reference_machine.specs.Advertising.{advertised, sends}
 use Rattle.reference_machine.specs.Machine.{taken}
-use Rattle.reference_machine.specs.SessionLaw.{after_message, after_messages, heard}
-use Rattle.reference_machine.proofs.SessionLawLists.{some_mapped}
-use Rattle.reference_machine.proofs.SessionLawKeys.{same_ends, same_ends_true}
-use Rattle.reference_machine.proofs.SessionLawQueues.{messages_without_head, messages_with_message}
-use Rattle.reference_machine.proofs.SessionLawRoutes.{route_after, ordered_after}
-use Rattle.reference_machine.proofs.SessionLawTold.{direction, waiting, IsTidy, IsTold, IsTurned, sends_parts, heard_up}
+use Rattle.session_law.specs.SessionLaw.{after_message, after_messages, heard}
+use Rattle.session_law.proofs.Lists.{some_mapped}
+use Rattle.session_law.proofs.Keys.{same_ends, same_ends_true}
+use Rattle.session_law.proofs.Queues.{messages_without_head, messages_with_message}
+use Rattle.session_law.proofs.Routes.{route_after, ordered_after}
+use Rattle.session_law.proofs.Told.{direction, waiting, IsTidy, IsTold, IsTurned, sends_parts, heard_up}
 
 -- a direction that is down is none that is up
 other_direction : (c : Configuration) (d : Direction) (a b : Addr) → is_up c d.from d.to ≡ true → is_up c a b ≡ false → same_ends (direction a b) d ≡ false

@@ -23,10 +23,10 @@ use Rattle.reference_machine.specs.declared.rows.RouteKey.{RouteKey}
 use Rattle.reference_machine.specs.Network.{Network, received_by}
 use Rattle.reference_machine.specs.Decision.{route_from, is_originated, standing_over, standing_from, routes_at, added, standings, best}
 use Rattle.reference_machine.specs.Advertising.{advertised, change_of, prefixes_at, in_order, changes, offer_of}
-use Rattle.reference_machine.specs.SessionLaw.{after_message, after_messages}
-use Rattle.reference_machine.proofs.SessionLawLists.{any_gathered, none_of_both}
-use Rattle.reference_machine.proofs.SessionLawKeys.{same_block_true, same_block_itself, block_exact}
-use Rattle.reference_machine.proofs.SessionLawRoutes.{route_none}
+use Rattle.session_law.specs.SessionLaw.{after_message, after_messages}
+use Rattle.session_law.proofs.Lists.{any_gathered, none_of_both}
+use Rattle.session_law.proofs.Keys.{same_block_true, same_block_itself, block_exact}
+use Rattle.session_law.proofs.Routes.{route_none}
 
 -- ONE MESSAGE
 

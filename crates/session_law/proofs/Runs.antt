@@ -22,11 +22,11 @@ use Rattle.reference_machine.specs.Network.{Network, is_of, messages_in}
 use Rattle.reference_machine.specs.Decision.{route_from}
 use Rattle.reference_machine.specs.Reports.{is_empty, is_quiet}
 use Rattle.reference_machine.specs.Machine.{nothing, configured, edit_outcome, edits, has_foreign_first, is_too_long, fed_message, feed_refusal, feed_outcome, feeds, taken, take_outcome, delivery_refusal, deliver_outcome, delivers, ask_refusal, ask_outcome, asks, step, IsStep, IsRun}
-use Rattle.reference_machine.specs.SessionLaw.{after_messages, heard, SessionLaw, QuietLaw}
-use Rattle.reference_machine.proofs.SessionLawConfigs.{all_fail, passes}
-use Rattle.reference_machine.proofs.SessionLawTold.{direction, IsTold, sends_parts, heard_up, told_sent, told_nothing}
-use Rattle.reference_machine.proofs.SessionLawSteps.{turned_taken, told_fed}
-use Rattle.reference_machine.proofs.SessionLawEdits.{turned_edited}
+use Rattle.session_law.specs.SessionLaw.{after_messages, heard, SessionLaw, QuietLaw}
+use Rattle.session_law.proofs.Configs.{all_fail, passes}
+use Rattle.session_law.proofs.Told.{direction, IsTold, sends_parts, heard_up, told_sent, told_nothing}
+use Rattle.session_law.proofs.Steps.{turned_taken, told_fed}
+use Rattle.session_law.proofs.Edits.{turned_edited}
 
 -- STEPS
 

@@ -1,6 +1,7 @@
 //! What holds of every run. A function here does nothing: a call gives the caller's proof what it ensures.
+#![tactic(auto)]
 
-ghost use Rattle.reference_machine.specs.SessionLaw.{SessionLaw, QuietLaw};
+ghost use Rattle.session_law.specs.SessionLaw.{SessionLaw, QuietLaw};
 
 /// Over every session that is up, what a peer has received from a router, with what is on its way put over it in order,
 /// is what the router offers it now.

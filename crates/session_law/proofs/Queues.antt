@@ -15,8 +15,8 @@ use Rattle.reference_machine.specs.declared.rows.Queue.{Queue}
 use Rattle.reference_machine.specs.Network.{Network, is_of, messages_in, with_direction, with_more, more, with_message, rest_of, less, without_head}
 use Rattle.reference_machine.specs.Advertising.{sent}
 use Rattle.reference_machine.specs.Machine.{emptied}
-use Rattle.reference_machine.proofs.SessionLawLists.{find_kept, find_dropped, find_mapped}
-use Rattle.reference_machine.proofs.SessionLawKeys.{same_ends, same_ends_true, direction_tied}
+use Rattle.session_law.proofs.Lists.{find_kept, find_dropped, find_mapped}
+use Rattle.session_law.proofs.Keys.{same_ends, same_ends_true, direction_tied}
 
 of_direction : (d : Direction) (q : Queue) → is_of d q ≡ true → q.of ≡ d
 of_direction d q h = same_ends_true q.of d h

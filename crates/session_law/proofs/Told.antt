@@ -14,12 +14,12 @@ use Rattle.reference_machine.specs.Decision.{route_from, best}
 use Rattle.reference_machine.specs.Advertising.{advertised, sends, changes, sent}
 use Rattle.reference_machine.specs.Reports.{queue}
 use Rattle.reference_machine.specs.Machine.{nothing, with_sent}
-use Rattle.reference_machine.specs.SessionLaw.{after_message, after_messages, heard}
-use Rattle.reference_machine.proofs.SessionLawLists.{some_mapped}
-use Rattle.reference_machine.proofs.SessionLawQueues.{messages_sent}
-use Rattle.reference_machine.proofs.SessionLawRoutes.{AreOrdered}
-use Rattle.reference_machine.proofs.SessionLawChanges.{changes_lead}
-use Rattle.reference_machine.proofs.SessionLawConfigs.{session_if_up}
+use Rattle.session_law.specs.SessionLaw.{after_message, after_messages, heard}
+use Rattle.session_law.proofs.Lists.{some_mapped}
+use Rattle.session_law.proofs.Queues.{messages_sent}
+use Rattle.session_law.proofs.Routes.{AreOrdered}
+use Rattle.session_law.proofs.Changes.{changes_lead}
+use Rattle.session_law.proofs.Configs.{session_if_up}
 
 abbrev pub direction : Addr → Addr → Direction
 direction a b = record { from = a; to = b }

@@ -1,5 +1,5 @@
-use Rattle.reference_machine.proofs.SessionLawRuns.{session_law, quiet_law}
-use Rattle.reference_machine.proofs.laws.sessions_agree.Goals as goal
+use Rattle.session_law.proofs.Runs.{session_law, quiet_law}
+use Rattle.session_law.proofs.sessions_agree.Goals as goal
 
 pub returns-clause-law : goal.returns-clause-law
 returns-clause-law c = session_law

@@ -15,14 +15,14 @@ use Rattle.reference_machine.specs.Network.{Network, messages_in, with_direction
 use Rattle.reference_machine.specs.Decision.{route_from}
 use Rattle.reference_machine.specs.Advertising.{advertised, sends}
 use Rattle.reference_machine.specs.Machine.{with_queues, reconfigured, configured}
-use Rattle.reference_machine.specs.SessionLaw.{after_messages, heard}
-use Rattle.reference_machine.proofs.SessionLawLists.{some_mapped}
-use Rattle.reference_machine.proofs.SessionLawKeys.{same_ends, same_ends_true, same_ends_itself}
-use Rattle.reference_machine.proofs.SessionLawQueues.{messages_emptied, messages_other, messages_new}
-use Rattle.reference_machine.proofs.SessionLawRoutes.{route_kept, ordered_kept}
-use Rattle.reference_machine.proofs.SessionLawChanges.{advertised_down}
-use Rattle.reference_machine.proofs.SessionLawConfigs.{Passes, ArePair, Joins, node_kept, session_either, session_if_up, session_old_or_new}
-use Rattle.reference_machine.proofs.SessionLawTold.{direction, waiting, IsTold, IsTurned, sends_parts, sends_from, heard_up}
+use Rattle.session_law.specs.SessionLaw.{after_messages, heard}
+use Rattle.session_law.proofs.Lists.{some_mapped}
+use Rattle.session_law.proofs.Keys.{same_ends, same_ends_true, same_ends_itself}
+use Rattle.session_law.proofs.Queues.{messages_emptied, messages_other, messages_new}
+use Rattle.session_law.proofs.Routes.{route_kept, ordered_kept}
+use Rattle.session_law.proofs.Changes.{advertised_down}
+use Rattle.session_law.proofs.Configs.{Passes, ArePair, Joins, node_kept, session_either, session_if_up, session_old_or_new}
+use Rattle.session_law.proofs.Told.{direction, waiting, IsTold, IsTurned, sends_parts, sends_from, heard_up}
 
 -- QUEUES OF A NEW SESSION
 

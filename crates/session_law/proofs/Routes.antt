@@ -23,9 +23,9 @@ use Rattle.reference_machine.specs.declared.rows.RouteKey.{RouteKey}
 use Rattle.reference_machine.specs.Network.{same_addr, route_cmp, received_by}
 use Rattle.reference_machine.specs.Decision.{route_from}
 use Rattle.reference_machine.specs.Machine.{received_after, is_kept}
-use Rattle.reference_machine.specs.SessionLaw.{after_message}
-use Rattle.reference_machine.proofs.SessionLawLists.{ordered_inserted, ordered_removed, ordered_filtered, lookup_inserted}
-use Rattle.reference_machine.proofs.SessionLawKeys.{same_ends, route_tied, route_total, same_addr_true}
+use Rattle.session_law.specs.SessionLaw.{after_message}
+use Rattle.session_law.proofs.Lists.{ordered_inserted, ordered_removed, ordered_filtered, lookup_inserted}
+use Rattle.session_law.proofs.Keys.{same_ends, route_tied, route_total, same_addr_true}
 
 -- what was received is in the order of its keys
 abbrev pub AreOrdered : List (RouteKey × Attr) → Type 0

@@ -1,0 +1,10 @@
+mod Changes
+mod Configs
+mod Edits
+mod Keys
+mod Lists
+mod Queues
+mod Routes
+mod Runs
+mod Steps
+mod Told
