@@ -1,5 +1,5 @@
 -- Edits that are not refused keep a configuration sound.
-use Rattle.std.proofs.Common.{◌≡◌, ℕ, ◌+◌, ◌≤◌, ◌<◌, Bool, true, false, not, ◌&&◌, nat_le, cond, List, [], ◌∷◌, length, get_or, Option, Some, None, Result, Ok, Err, OnOk, OnErr, All, is_some, if◌then◌else◌, refl, sym, subst, arith}
+use Rattle.std.proofs.Common.{◌≡◌, ℕ, ◌+◌, ◌≤◌, ◌<◌, Bool, true, false, not, ◌&&◌, nat_le, cond, List, [], ◌∷◌, length, map, get_or, Option, Some, None, Result, Ok, Err, OnOk, OnErr, All, is_some, if◌then◌else◌, refl, sym, ap, subst, ◌∙◌, arith}
 use Rattle.std.specs.declared.cmp.Ordering.{Ordering}
 use Rattle.std.specs.declared.cmp.Ordering.TheVariants.{Less, Equal, Greater}
 use Rattle.std.specs.Ordering.{match_ordering}
@@ -11,6 +11,7 @@ use Rattle.std.proofs.lemmas.Bool.{true≢false}
 use Rattle.std.proofs.lemmas.Bool.Decides.{nat_tests}
 use Rattle.net_prefix.specs.declared.addr.Addr.{Addr}
 use Rattle.net_prefix.specs.Address.{addr_cmp}
+use Rattle.igp_cost.specs.Trees.{Reached}
 use Rattle.net_conf.specs.declared.tables.Ends.{Ends}
 use Rattle.net_conf.specs.declared.tables.Link.{Link as TheLink}
 use Rattle.net_conf.specs.declared.tables.Node.{Node}
@@ -20,7 +21,8 @@ use Rattle.net_conf.specs.declared.tables.Way.TheVariants.{In, Out}
 use Rattle.net_conf.specs.declared.refusal.Refusal.{Refusal}
 use Rattle.net_conf.specs.Configuration.{Configuration, has_node, ends_of, ends_cmp, link_between}
 use Rattle.net_conf.specs.Edits.{first_of, tests_of, refusal_of, edited, lacks_node, lacks_either, is_past_limit, with_link, with_link_changed, with_session}
-use Rattle.net_conf.specs.Kept.{HasEnds, IsSound, trees_of, is_setting}
+use Rattle.net_conf.specs.Costs.{costs_of}
+use Rattle.net_conf.specs.Kept.{HasEnds, IsSound, has_none, trees_of, keeps_trees}
 
 -- what is found is found still, once an entry is put in
 module _ {K X : Type 0} (cmp : K → K → Ordering) (test : K → Bool) (k : K) (v : X) where
@@ -145,9 +147,34 @@ not_refused c e none = let all = all_fail (tests_of c e) none in (all.0, all.1.1
 pub sound_after : (c : Configuration) (e : Edit) → IsSound c → refusal_of c e ≡ None → IsSound (edited c e)
 sound_after c e sound none = let tests = not_refused c e none in sound_edited c sound e tests.0 tests.1
 
--- a setting moves no tree
-pub same_trees : (c : Configuration) (e : Edit) → is_setting e ≡ true → trees_of (edited c e) ≡ trees_of c
+-- where an entry is put in, there is one
+one_put_in : {K X : Type 0} (cmp : K → K → Ordering) (es : List (K × X)) (k : K) (v : X) → has_none (insert_entry cmp es k v) ≡ false
+one_put_in cmp [] k v = refl
+one_put_in cmp (e ∷ es) k v = by (cmp k e.0)
+  where
+    by : (o : Ordering) → has_none (match_ordering o ((k, v) ∷ e ∷ es) ((e.0, v) ∷ es) (e ∷ insert_entry cmp es k v)) ≡ false
+    by Less = refl
+    by Equal = refl
+    by Greater = refl
+
+-- where there is a session, one more or a change of one moves no tree
+session_moves_none : (c : Configuration) (a b : Addr) (on : Bool) → not (has_none c.sessions) ≡ true → trees_of (with_session c a b on) ≡ trees_of c
 unfolding trees_of
+session_moves_none c a b on some = ap kept (one_put_in ends_cmp c.sessions (ends_of a b) on) ∙ sym (by (has_none c.sessions) some)
+  where
+    kept : Bool → List (Addr × Reached)
+    kept none = if none then [] else map {B = Addr × Reached} (λ e. (e.0, costs_of c e.0)) c.nodes
+
+    by : (none : Bool) → not none ≡ true → kept none ≡ kept false
+    by true is = absurd (true≢false (sym is))
+    by false is = refl
+
+-- an edit that keeps the trees moves none
+pub same_trees : (c : Configuration) (e : Edit) → keeps_trees c e ≡ true → trees_of (edited c e) ≡ trees_of c
+unfolding trees_of
+same_trees c (Join a b) is = session_moves_none c a b true is
+same_trees c (Stop a b) is = session_moves_none c a b false is
+same_trees c (Start a b) is = session_moves_none c a b true is
 same_trees c (Client a b on) is = refl
 same_trees c (OwnNext a b on) is = refl
 same_trees c (Cluster a id) is = refl

@@ -1,11 +1,11 @@
 -- What is kept beside the tables, and what holds of every configuration that edits lead to. No public contract cites this file.
-use Rattle.std.specs.Prelude.{◌≡◌, ◌≤◌, Bool, true, false, List, [], ◌∷◌, map, length, All, if◌then◌else◌}
+use Rattle.std.specs.Prelude.{◌≡◌, ◌≤◌, Bool, true, false, not, ◌&&◌, ◌||◌, List, [], ◌∷◌, map, length, All, if◌then◌else◌}
 use Rattle.std.specs.Map.{keys_of}
 use Rattle.net_prefix.specs.declared.addr.Addr.{Addr}
 use Rattle.igp_cost.specs.Trees.{Reached}
 use Rattle.net_conf.specs.declared.tables.Ends.{Ends}
 use Rattle.net_conf.specs.declared.edit.Edit.{Edit}
-use Rattle.net_conf.specs.declared.edit.Edit.TheVariants.{Client, OwnNext, Cluster, Rule, Clear, Origin, NoOrigin}
+use Rattle.net_conf.specs.declared.edit.Edit.TheVariants.{Join, Stop, Start, Client, OwnNext, Cluster, Rule, Clear, Origin, NoOrigin}
 use Rattle.net_conf.specs.Configuration.{Configuration, has_node}
 use Rattle.net_conf.specs.Costs.{costs_of}
 
@@ -36,3 +36,14 @@ is_setting (Clear a b way) = true
 is_setting (Origin a p) = true
 is_setting (NoOrigin a p) = true
 is_setting _ = false
+
+-- the edit leaves nodes and links as they are, and each session where it is
+abbrev pub is_of_session : Edit → Bool
+is_of_session (Join a b) = true
+is_of_session (Stop a b) = true
+is_of_session (Start a b) = true
+is_of_session _ = false
+
+-- the edit leaves all trees as they are: nodes and links stay, and so does whether there is a session
+abbrev pub keeps_trees : Configuration → Edit → Bool
+keeps_trees c e = is_setting e || (is_of_session e && not (has_none c.sessions))

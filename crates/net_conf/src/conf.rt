@@ -4,7 +4,7 @@ ghost use Rattle.std.specs.Prelude.{◌≡◌, true, None, Some, IfOk, OnOk, OnE
 ghost use Rattle.net_conf.specs.Configuration.{unconfigured, node_at, has_node, is_virtual, as_of, has_session, originates, origins_of};
 ghost use Rattle.net_conf.specs.Costs.{cost, is_connected, session_up, is_up};
 ghost use Rattle.net_conf.specs.Edits.{refusal_of, edited, IsEdit};
-ghost use Rattle.net_conf.specs.Kept.{is_setting};
+ghost use Rattle.net_conf.specs.Kept.{is_setting, is_of_session, keeps_trees};
 
 use crate::configured::Configured;
 use crate::edit::Edit;
@@ -69,7 +69,7 @@ impl Conf {
         ensures ok { OnOk result (self.new ≡ edited self.old edit.now) }
         ensures err { OnErr result (self.new ≡ self.old) }
     {
-        if is_setting(edit) {
+        if self.keeps_trees(edit) {
             self.configured.apply(alloc, edit)
         } else {
             let mut configured = self.configured.copy(alloc)?;
@@ -78,6 +78,13 @@ impl Conf {
             *self = Conf { configured, trees };
             Ok(())
         }
+    }
+
+    /// Whether the edit leaves all trees as they are.
+    fn keeps_trees(&self, edit: &Edit) -> bool
+        ensures { result ≡ keeps_trees self.now edit.now }
+    {
+        is_setting(edit) || is_of_session(edit) && !self.configured.has_no_session()
     }
 
     /// The AS and the kind of the router or virtual peer at the address.
@@ -207,4 +214,14 @@ fn is_setting(edit: &Edit) -> bool
         Edit::Origin(_, _) | Edit::NoOrigin(_, _) => true,
         _ => false,
     }
+}
+
+/// Whether the edit leaves nodes and links as they are, and each session where it is.
+fn is_of_session(edit: &Edit) -> bool
+    ensures { result ≡ is_of_session edit.now }
+{
+    matches!(
+        edit,
+        Edit::Join(_, _) | Edit::Stop(_, _) | Edit::Start(_, _)
+    )
 }

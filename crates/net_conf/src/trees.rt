@@ -72,7 +72,8 @@ impl Configured {
         }
     }
 
-    fn has_no_session(&self) -> bool
+    /// Whether there is no session.
+    pub fn has_no_session(&self) -> bool
         ensures { result ≡ has_none self.now.sessions }
     {
         self.sessions.is_empty()
