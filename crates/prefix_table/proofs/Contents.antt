@@ -16,7 +16,7 @@ use Rattle.net_prefix.specs.Block.{Block, IsBlock, Covers, block_cmp}
 use Rattle.net_prefix.specs.Orders.{block_total, block_exact}
 use Rattle.prefix_table.specs.declared.node.Node.{Node}
 use Rattle.prefix_table.specs.Places.{block_at}
-use Rattle.prefix_table.specs.Tables.{Table, seen, Matches, IsKey, IsLongestMatch, HasNoMatch, is_after, first_after}
+use Rattle.prefix_table.specs.Tables.{Table, seen, Matches, IsKey, IsMatch, IsLongestMatch, HasNoMatch, is_after, first_after}
 use Rattle.prefix_table.specs.Trie.{whole, IsUnder, child_of, prefix_at, value_at, child_at, IsBelow, IsTrie, HasPrefix, IsCover, IsDeepest, IsLater, IsFirstLater, entry_or_not, node_entries, prefixes, valued, with_value, IsStored}
 use Rattle.prefix_table.proofs.Blocks.{covers_trans, block_at_covers, lower_lengths}
 use Rattle.prefix_table.proofs.Entries.{first, second, less_of}
@@ -174,21 +174,26 @@ module _ {V : Type 0} where
   pub key_node : (ns : List (Node V)) (q : Block) → IsKey (table_of ns) q → (j : ℕ) × (j < length ns) × (prefix_at ns j ≡ q) × IsTrue (is_some (value_at ns j))
   key_node ns q h = node_of ns q (ap is_some (sym (get_of_nodes ns q)) ∙ h)
 
+  -- the node of a key that matches
+  match_node : (ns : List (Node V)) (a : Addr) (most : ℕ) (q : Block) → IsMatch (table_of ns) a most q → (w : (j : ℕ) × (j < length ns) × (prefix_at ns j ≡ q) × IsTrue (is_some (value_at ns j))) → IsCover ns 0 (block_at a (min most 32)) w.0
+  match_node ns a most q m w = record { in_range = w.1; valued = w.3; covers = subst (λ p. Covers p (block_at a (min most 32))) (sym w.2) (match_covers a most q m.0); long = omega arith }
+
+  longest_value : (ns : List (Node V)) (t : IsTrie ns) (at : ℕ) (v : V) {q : Block} → IsDeepest ns 0 q at → value_at ns at ≡ Some v → fin.get (table_of ns) (prefix_at ns at) ≡ Some v
+  longest_value ns t at v deep is = get_of_nodes ns (prefix_at ns at) ∙ find_at_node ns t (prefix_at ns at) at (deep.cover.in_range, refl) ∙ is
+
   pub longest_is : (ns : List (Node V)) (t : IsTrie ns) (a : Addr) (most at : ℕ) (v : V) → IsDeepest ns 0 (block_at a (min most 32)) at → value_at ns at ≡ Some v → IsLongestMatch (table_of ns) a most (prefix_at ns at) v
   longest_is ns t a most at v deep is = record {
-    entry = get_of_nodes ns (prefix_at ns at) ∙ find_at_node ns t (prefix_at ns at) at (deep.cover.in_range, refl) ∙ is;
-    matches = covers_match a most (prefix_at ns at) (t.blocks at deep.cover.in_range) deep.cover.covers;
-    longest = λ q m key.
-        let w = key_node ns q key in
-        subst (λ p. p.len ≤ (prefix_at ns at).len) w.2 (deep.longest w.0 (record { in_range = w.1; valued = w.3; covers = subst (λ p. Covers p (block_at a (min most 32))) (sym w.2) (match_covers a most q m); long = omega arith }));
+    value = longest_value ns t at v deep is;
+    match = record {
+      has = (covers_match a most (prefix_at ns at) (t.blocks at deep.cover.in_range) deep.cover.covers, ap is_some (longest_value ns t at v deep is));
+      longest = λ q m.
+          let w = key_node ns q m.1 in
+          subst (λ p. p.len ≤ (prefix_at ns at).len) w.2 (deep.longest w.0 (match_node ns a most q m w));
+    };
   }
 
-  not_key : (t : Table V) (q : Block) → (IsKey t q → ⊥) → fin.get t q ≡ None
-  not_key t q missing = elim (fin.get t q) as (λ o. fin.get t q ≡ o → o ≡ None) [ None ↦ λ e. refl | Some v ↦ λ e. absurd (missing (ap is_some e)) ] refl
-
   pub no_longest : (ns : List (Node V)) (a : Addr) (most : ℕ) → ((j : ℕ) → IsCover ns 0 (block_at a (min most 32)) j → ⊥) → HasNoMatch (table_of ns) a most
-  no_longest ns a most none q m =
-      not_key (table_of ns) q (λ key. let w = key_node ns q key in none w.0 (record { in_range = w.1; valued = w.3; covers = subst (λ p. Covers p (block_at a (min most 32))) (sym w.2) (match_covers a most q m); long = omega arith }))
+  no_longest ns a most none q m = let w = key_node ns q m.1 in none w.0 (match_node ns a most q m w)
 
   below_found : (x p : Block) (v : V) (es : List (Block × V)) → T (below_all block_cmp x es) → find block_cmp p es ≡ Some v → block_cmp x p ≡ Less
   below_found x p v [] h is = cc

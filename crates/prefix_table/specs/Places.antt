@@ -1,10 +1,11 @@
+-- No public contract cites this file.
 -- Where a key's entry stands in a list in the order of its keys, and where it would go.
-use Rattle.std.specs.Prelude.{◌≡◌, ℕ, ◌-◌, ◌*◌, ◌/◌, ◌^◌, ◌<◌, ◌≤◌, List, length, Some, None, slice_get}
+use Rattle.std.specs.Prelude.{◌≡◌, ℕ, ◌*◌, ◌/◌, ◌<◌, ◌≤◌, List, length, Some, None, slice_get}
 use Rattle.std.proofs.Common.{set}
 use Rattle.std.specs.List.{insert}
 use Rattle.std.specs.FinMap.Entries.{put, find}
 use Rattle.net_prefix.specs.declared.addr.Addr.{Addr}
-use Rattle.net_prefix.specs.Block.{Block, block_cmp}
+use Rattle.net_prefix.specs.Block.{Block, block_cmp, size}
 
 -- the key's entry stands at this place
 pub record IsAt {V : Type 0} (es : List (Block × V)) (p : Block) (place : ℕ) : Type 0 where
@@ -21,4 +22,4 @@ pub record IsFor {V : Type 0} (es : List (Block × V)) (p : Block) (place : ℕ)
 
 -- the prefix of this length that contains the address
 abbrev pub block_at : Addr → ℕ → Block
-block_at a len = record { addr = record { 0 = (a.0 / (2 ^ (32 - len))) * (2 ^ (32 - len)) }; len = len }
+block_at a len = record { addr = record { 0 = a.0 / size len * size len }; len = len }

@@ -8,12 +8,13 @@ use Rattle.std.specs.FinMap as map
 use Rattle.std.specs.Ordering.{is_lt}
 use Rattle.net_prefix.specs.declared.addr.Addr.{Addr}
 use Rattle.net_prefix.specs.Block.{Block, IsBlock, Contains, block_cmp}
+use Rattle.net_prefix.specs.LongestMatch.{IsLongest, HasNone}
 
 -- values by prefix, in the order of address, then length
 abbrev pub Table : Type 0 → Type 0
 Table V = map.FinMap block_cmp V
 
--- an entry, with the value behind its reference
+-- an entry, with the value that its reference shows
 abbrev pub seen : {V : Type 0} → Option (Block × Bor V) → Option (Block × V)
 seen found = option_map (λ e. (e.0, e.1.now)) found
 
@@ -21,28 +22,32 @@ seen found = option_map (λ e. (e.0, e.1.now)) found
 abbrev pub Matches : Addr → ℕ → Block → Type 0
 Matches a most p = IsBlock p.addr p.len × (p.len ≤ most) × Contains p a
 
+-- the prefix has a value
 abbrev pub IsKey : {V : Type 0} → Table V → Block → Type 0
 IsKey t p = IsTrue (is_some (map.get t p))
 
--- the prefix has this value, it matches, and no key that matches is longer
+-- a key that matches
+abbrev pub IsMatch : {V : Type 0} → Table V → Addr → ℕ → Block → Type 0
+IsMatch t a most p = Matches a most p × IsKey t p
+
+-- the prefix is the longest key that matches, and has this value
 pub record IsLongestMatch {V : Type 0} (t : Table V) (a : Addr) (most : ℕ) (p : Block) (v : V) : Type 0 where
-  pub entry : map.get t p ≡ Some v
-  pub matches : Matches a most p
-  pub longest : (q : Block) → Matches a most q → IsKey t q → q.len ≤ p.len
+  pub match : IsLongest (IsMatch t a most) p
+  pub value : map.get t p ≡ Some v
 
--- no prefix that matches is a key
+-- no key matches
 abbrev pub HasNoMatch : {V : Type 0} → Table V → Addr → ℕ → Type 0
-HasNoMatch t a most = (q : Block) → Matches a most q → map.get t q ≡ None
+HasNoMatch t a most = HasNone (IsMatch t a most)
 
--- whether the prefix comes after this one, if there is one
+-- whether the second prefix comes after the first, if there is a first
 abbrev pub is_after : Option Block → Block → Bool
 is_after None q = true
 is_after (Some p) q = is_lt (block_cmp p q)
 
--- the first entry whose prefix comes after this one, or the first of all
+-- the first entry whose prefix comes after this one, or with none the first of all
 abbrev pub first_after : {V : Type 0} → Table V → Option Block → Option (Block × V)
 first_after t after = find (λ e. is_after after e.0) (map.entries t)
 
--- a prefix is stored as the pair of its numbers
+-- the pair of a prefix's numbers, from which the prover knows it again (the table's Model asks for it)
 abbrev pub coded_block : Coded Block
 coded_block = code_by (ℕ × ℕ) (coded× coded_ℕ coded_ℕ) (λ p. (p.addr.0, p.len)) (λ n. record { addr = record { 0 = n.0 }; len = n.1 }) (λ _. refl)

@@ -1,3 +1,4 @@
+-- No public contract cites this file.
 -- A binary trie in a list of nodes: what its nodes say of one another.
 use Rattle.std.specs.Prelude.{◌≡◌, ℕ, zero, suc, ◌-◌, ◌/◌, ◌%◌, ◌^◌, ◌<◌, ◌≤◌, ◌==◌, Bool, true, false, cond, List, [], ◌∷◌, length, map, Option, Some, None, IsTrue, is_some}
 use Rattle.std.proofs.Common.{get_or}

@@ -8,7 +8,7 @@ ghost use Rattle.prefix_table.specs.Trie.{IsTrie, HasPrefix, IsNearer, IsLast, I
 
 use crate::cut::comes_after;
 use crate::node::{Node, NodeId, bit, child_below, has_value, prefix_of};
-use net_prefix::Prefix;
+use net_prefix::{MAX_LEN, Prefix};
 
 /// The next node on the way to the prefix.
 fn nearer<V>(nodes: &[Node<V>], at: NodeId, prefix: Prefix) -> Option<NodeId>
@@ -87,7 +87,7 @@ fn is_past(prefix: Prefix, after: Option<Prefix>) -> bool
     match after {
         None => false,
         Some(other) => {
-            let shift = 32 - prefix.len();
+            let shift = MAX_LEN - prefix.len();
             u64::from(other.addr().0) >> shift > u64::from(prefix.addr().0) >> shift
         }
     }

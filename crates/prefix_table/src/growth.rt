@@ -1,8 +1,9 @@
 //! New nodes of the trie.
 
-ghost use Rattle.std.specs.Prelude.{◌≡◌, ◌<◌, ◌≤◌, ◌≢◌, ◌++◌, ◌∷◌, [], length, Some, IfOk, OnOk, OnErr};
+ghost use Rattle.std.specs.Prelude.{◌≡◌, ◌<◌, ◌≤◌, ◌≢◌, ◌++◌, ◌∷◌, [], ℕ, length, Some, IfOk, OnOk, OnErr};
 ghost use Rattle.std.specs.Option.{IfSome, IfNone};
 ghost use Rattle.net_prefix.specs.Block.{IsBlock, Covers};
+ghost use Rattle.net_prefix.specs.declared.prefix.TheConstants.{MAX_LEN};
 ghost use Rattle.prefix_table.specs.declared.node.NodeId.{NodeId};
 ghost use Rattle.prefix_table.specs.Places.{block_at};
 ghost use Rattle.prefix_table.specs.Trie.{bit_at, IsTrie, IsGap, IsLeafOf, HasPrefix, prefix_at, prefixes, node_entries, linked};
@@ -34,7 +35,7 @@ fn shared(first: Prefix, second: Prefix, from: u8) -> u8
 
 /// The child, if it lies in this half of a prefix of this length.
 fn on_side<V>(nodes: &[Node<V>], child: Option<NodeId>, len: u8, upper: bool) -> Option<NodeId>
-    requires { IfSome child (λ k. (k.0 < length nodes.now) × (len < 32)) }
+    requires { IfSome child (λ k. (k.0 < length nodes.now) × (len < MAX_LEN)) }
     ensures some { IfSome result (λ k. (child ≡ Some k) × (bit_at (prefix_at nodes.now k.0).addr len ≡ upper)) }
     ensures none { IfNone result ((k : NodeId) → child ≡ Some k → bit_at (prefix_at nodes.now k.0).addr len ≡ upper → ⊥) }
 {
@@ -159,6 +160,7 @@ fn plant<V: Drop>(nodes: &mut Vec<Node<V>>) -> Result<(), AllocError>
 }
 
 /// The node of the prefix, made where it is missing. The room for new nodes is taken before any is linked.
+/// An error leaves the entries as they are.
 pub(crate) fn node_for<V: Drop>(
     nodes: &mut Vec<Node<V>>,
     prefix: Prefix,
@@ -167,6 +169,7 @@ pub(crate) fn node_for<V: Drop>(
     ensures trie { IsTrie nodes.new.items }
     ensures entries { node_entries nodes.new.items ≡ node_entries nodes.old.items }
     ensures found { IfOk result (λ at. HasPrefix nodes.new.items at.0 prefix) }
+    ensures missing { OnErr result ((j : ℕ) → j < length nodes.old.items → prefix_at nodes.old.items j ≡ prefix → ⊥) }
 {
     if let Some(at) = find_node(nodes, prefix) {
         return Ok(at);

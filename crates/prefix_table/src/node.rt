@@ -1,6 +1,7 @@
 //! One node of the trie.
 
 ghost use Rattle.std.specs.Prelude.{◌≡◌, ◌<◌, length, is_some};
+ghost use Rattle.net_prefix.specs.declared.prefix.TheConstants.{MAX_LEN};
 ghost use Rattle.prefix_table.specs.Trie.{bit_at, child_of, prefix_at, value_at, child_at};
 
 use net_prefix::{Addr, Prefix};
@@ -55,7 +56,7 @@ pub(crate) fn child_below<V>(nodes: &[Node<V>], at: NodeId, upper: bool) -> Opti
 
 /// Whether this bit of the address is set, from 0 for the highest.
 pub(crate) fn bit(addr: Addr, place: u8) -> bool
-    requires { place < 32 }
+    requires { place < MAX_LEN }
     ensures { result ≡ bit_at addr place }
 {
     (addr.0 >> (31 - place)) % 2 == 1

@@ -11,7 +11,7 @@ ghost use Rattle.prefix_table.specs.Places.{IsAt, IsFor};
 
 use crate::cut::{comes_after, cut};
 use crate::table::PrefixTable;
-use net_prefix::{Addr, Prefix};
+use net_prefix::{Addr, MAX_LEN, Prefix};
 use std::alloc::Global;
 use std::marker::Model;
 
@@ -77,6 +77,7 @@ fn put_in<V: Drop>(entries: &mut Vec<(Prefix, V)>, prefix: Prefix, value: V) -> 
     requires { IsTrue (is_sorted block_cmp entries.old.items) }
     ensures before { IfOk result (λ before. before ≡ find block_cmp prefix entries.old.items) }
     ensures inserted { OnOk result (entries.new.items ≡ put block_cmp prefix value entries.old.items) }
+    ensures absent { OnErr result (find block_cmp prefix entries.old.items ≡ None) }
     ensures back { IfErr result (λ back. back ≡ value) }
     ensures same { OnErr result (entries.new.items ≡ entries.old.items) }
 {
@@ -132,7 +133,7 @@ impl<V: Drop> PrefixTable<V> for SortedTable<V> {
     }
 
     fn longest(&self, addr: Addr, most: u8) -> Option<(Prefix, &V)> {
-        let mut lengths = most.min(32) + 1;
+        let mut lengths = most.min(MAX_LEN) + 1;
         while lengths > 0 {
             lengths -= 1;
             let prefix = cut(addr, lengths);

@@ -21,11 +21,12 @@ pub trait PrefixTable<V> {
     fn get(&self, prefix: Prefix) -> Option<&V>
         ensures { option_copied result ≡ map.get (table self.now) prefix };
 
-    /// Gives the prefix this value, and hands back the one that it had. For want of memory the error hands back this value, and
-    /// nothing changes.
+    /// Gives the prefix this value, and hands back the one that it had. It takes memory only where the prefix has none. For want of
+    /// memory the error hands back this value, and nothing changes.
     fn insert(&mut self, prefix: Prefix, value: V) -> Result<Option<V>, V>
         ensures before { IfOk result (λ before. before ≡ map.get (table self.old) prefix) }
         ensures inserted { IfOk result (λ _. table self.new ≡ map.insert (table self.old) prefix value) }
+        ensures absent { IfErr result (λ _. map.get (table self.old) prefix ≡ None) }
         ensures back { IfErr result (λ back. back ≡ value) }
         ensures same { IfErr result (λ _. table self.new ≡ table self.old) };
 

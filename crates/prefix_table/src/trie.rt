@@ -13,7 +13,7 @@ use crate::descent::{deepest, find_node, first_later};
 use crate::growth::node_for;
 use crate::node::{Node, NodeId, has_value};
 use crate::table::PrefixTable;
-use net_prefix::{Addr, Prefix};
+use net_prefix::{Addr, MAX_LEN, Prefix};
 use std::alloc::Global;
 use std::marker::Model;
 
@@ -85,6 +85,7 @@ fn put_in<V: Drop>(nodes: &mut Vec<Node<V>>, prefix: Prefix, value: V) -> Result
     ensures trie { IsTrie nodes.new.items }
     ensures before { IfOk result (λ before. before ≡ find block_cmp prefix (node_entries nodes.old.items)) }
     ensures inserted { OnOk result (IsStored nodes.old.items nodes.new.items prefix value) }
+    ensures absent { OnErr result (find block_cmp prefix (node_entries nodes.old.items) ≡ None) }
     ensures back { IfErr result (λ back. back ≡ value) }
     ensures same { OnErr result (node_entries nodes.new.items ≡ node_entries nodes.old.items) }
 {
@@ -125,7 +126,7 @@ fn longest_in<V>(nodes: &[Node<V>], addr: Addr, most: u8) -> Option<(Prefix, &V)
     if nodes.is_empty() {
         return None;
     }
-    match deepest(nodes, NodeId(0), cut(addr, most.min(32))) {
+    match deepest(nodes, NodeId(0), cut(addr, most.min(MAX_LEN))) {
         Some(at) => entry_in(nodes, at),
         None => None,
     }

@@ -22,3 +22,6 @@ returns-in-Ok-insert-clause-before g c = let is = rw c.deref.ensures.value at c.
 
 pub returns-in-Ok-insert-clause-inserted : goal.returns-in-Ok-insert-clause-inserted
 returns-in-Ok-insert-clause-inserted g c = let is = rw c.deref.ensures.value at c.in-Err.ensures.absent in c.in-Ok-insert.ensures.items ∙ is.added c.args.value
+
+pub returns-in-Err-insert-clause-absent : goal.returns-in-Err-insert-clause-absent
+returns-in-Err-insert-clause-absent g c = let is = rw c.deref.ensures.value at c.in-Err.ensures.absent in is.absent

@@ -3,7 +3,7 @@ use Rattle.std.specs.Ordering.{eq_by_cmp}
 use Rattle.std.specs.FinMap.Entries.{find}
 use Rattle.net_prefix.specs.Block.{block_cmp}
 use Rattle.prefix_table.specs.Trie.{IsTrie, node_entries}
-use Rattle.prefix_table.proofs.Contents.{find_at_node, stored, valued_trie}
+use Rattle.prefix_table.proofs.Contents.{find_missing, find_at_node, stored, valued_trie}
 use Rattle.prefix_table.proofs.trie.put_in.Goals as goal
 
 pub returns-in-Ok-clause-trie : goal.returns-in-Ok-clause-trie
@@ -19,3 +19,6 @@ returns-in-Ok-clause-inserted g c p =
     ap (λ ns. find block_cmp p (node_entries ns)) c.set_value.ensures.written
     ∙ stored c.node_for.new.nodes.items c.node_for.ensures.trie c.in-Ok.at.0 c.args.value c.args.prefix c.in-Ok.ensures.found p
     ∙ ap (λ es. cond (eq_by_cmp block_cmp p c.args.prefix) (Some c.args.value) (find block_cmp p es)) c.node_for.ensures.entries
+
+pub returns-in-Err-clause-absent : goal.returns-in-Err-clause-absent
+returns-in-Err-clause-absent g c = find_missing c.args.nodes.now.items c.args.prefix c.in-Err.ensures.missing
