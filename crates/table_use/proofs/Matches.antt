@@ -1,18 +1,16 @@
 -- The longest match is known from the map.
-use Rattle.std.proofs.Common.{◌≡◌, ◌≢◌, ℕ, ◌<◌, ◌≤◌, ◌-◌, ◌/◌, ◌^◌, Bool, true, false, cond, Option, Some, None, IsTrue, is_some, refl, sym, ap, subst, ◌∙◌, arith}
-use Rattle.std.proofs.lemmas.Bool.{false≢true}
+use Rattle.std.proofs.Common.{◌≡◌, ◌≢◌, ℕ, ◌≤◌, ◌-◌, ◌/◌, ◌^◌, true, false, cond, Option, Some, None, is_some, refl, sym, ap, ◌∙◌, arith}
 use Rattle.std.proofs.lemmas.Option.{same_Some}
 use Rattle.std.specs.Option.{IfSome, IfNone}
 use Rattle.std.specs.FinMap as map
-use Rattle.std.specs.declared.cmp.Ordering.{Ordering}
 use Rattle.std.specs.declared.cmp.Ordering.TheVariants.{Less, Equal, Greater}
 use Rattle.std.specs.Ordering.{is_eq, eq_by_cmp}
 use Rattle.std.specs.Cmp.{tied_itself}
 use Rattle.net_prefix.specs.declared.addr.Addr.{Addr}
-use Rattle.net_prefix.specs.Block.{Block, IsBlock, Contains, block_cmp}
+use Rattle.net_prefix.specs.Block.{Block, IsBlock, block_cmp}
 use Rattle.net_prefix.specs.Orders.{block_total, block_exact}
 use Rattle.prefix_table.specs.Places.{block_at}
-use Rattle.prefix_table.specs.Tables.{Table, Matches, IsKey, IsLongestMatch, HasNoMatch}
+use Rattle.prefix_table.specs.Tables.{Table, Matches, IsLongestMatch, HasNoMatch}
 use Rattle.prefix_table.proofs.Lengths.{match_is_block_at}
 
 pub other_keys : (p q : Block) → p ≢ q → eq_by_cmp block_cmp p q ≡ false
@@ -32,18 +30,15 @@ same_key : (p : Block) → eq_by_cmp block_cmp p p ≡ true
 same_key p = ap is_eq (tied_itself block_total p)
 
 module _ {V : Type 0} where
-  key_of : (t : Table V) (p : Block) (v : V) → map.get t p ≡ Some v → IsKey t p
-  key_of t p v e = ap is_some e
-
   one_longest : (t : Table V) (a : Addr) (most : ℕ) (p q : Block) (v w : V) → IsLongestMatch t a most p v → IsLongestMatch t a most q w → (p ≡ q) × (v ≡ w)
   one_longest t a most p q v w hp hq =
-      let le : q.len ≤ p.len = hp.longest q hq.matches (key_of t q w hq.entry) in
-      let ge : p.len ≤ q.len = hq.longest p hp.matches (key_of t p v hp.entry) in
-      let same = one_match a most p q hp.matches hq.matches ge le in
-      (same, same_Some v w (sym hp.entry ∙ ap (map.get t) same ∙ hq.entry))
+      let le : q.len ≤ p.len = hp.match.longest q hq.match.has in
+      let ge : p.len ≤ q.len = hq.match.longest p hp.match.has in
+      let same = one_match a most p q hp.match.has.0 hq.match.has.0 ge le in
+      (same, same_Some v w (sym hp.value ∙ ap (map.get t) same ∙ hq.value))
 
   not_none : (t : Table V) (a : Addr) (most : ℕ) (p : Block) (v : V) → IsLongestMatch t a most p v → HasNoMatch t a most → ⊥
-  not_none t a most p v h none = false≢true (ap is_some (sym (none p h.matches)) ∙ ap is_some h.entry)
+  not_none t a most p v h none = none p h.match.has
 
   -- an answer of either kind
   pub record IsAnswer (t : Table V) (a : Addr) (most : ℕ) (r : Option (Block × V)) : Type 0 where
@@ -61,10 +56,10 @@ module _ {V : Type 0} where
       let entry : map.get new p ≡ Some v = ap (λ m. map.get m p) is ∙ map.get-insert block_total t p v p ∙ ap (λ b. cond b (Some v) (map.get t p)) (same_key p) in
       let matches : Matches a len p = (block, omega (arith, el), ap (λ b. b.0 / 2 ^ (32 - p.len)) ea) in
       elim r as (λ o. IsAnswer new a len o → o ≡ Some (p, v)) [
-        | None ↦ λ x. absurd (false≢true (ap is_some (sym (x.none p matches)) ∙ ap is_some entry))
+        | None ↦ λ x. absurd (x.none p (matches, ap is_some entry))
         | Some e ↦ λ x.
-            let longer : p.len ≤ e.0.len = x.found.longest p matches (key_of new p v entry) in
-            let same : e.0 ≡ p = one_match a len e.0 p x.found.matches matches (omega (arith, x.found.matches.1, el)) longer in
-            let value : e.1 ≡ v = same_Some e.1 v (sym x.found.entry ∙ ap (map.get new) same ∙ entry) in
+            let longer : p.len ≤ e.0.len = x.found.match.longest p (matches, ap is_some entry) in
+            let same : e.0 ≡ p = one_match a len e.0 p x.found.match.has.0 matches (omega (arith, x.found.match.has.0.1, el)) longer in
+            let value : e.1 ≡ v = same_Some e.1 v (sym x.found.value ∙ ap (map.get new) same ∙ entry) in
             λ i. Some (same i, value i)
       ] answer

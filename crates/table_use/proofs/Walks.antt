@@ -1,16 +1,16 @@
 -- A walk by the first entry after the last one comes by each entry once.
-use Rattle.std.proofs.Common.{◌≡◌, ℕ, ◌+◌, Bool, true, false, cond, ◌&&◌, T, List, [], ◌∷◌, ◌++◌, map, filter, Option, Some, None, unwrap_or, refl, sym, ap, subst, ◌∙◌, append_assoc}
+use Rattle.std.proofs.Common.{◌≡◌, Bool, true, false, cond, ◌&&◌, T, List, [], ◌∷◌, filter, Option, Some, None, unwrap_or, refl, sym, ap, subst, ◌∙◌}
 use Rattle.std.specs.List.{find}
 use Rattle.std.specs.declared.cmp.Ordering.{Ordering}
 use Rattle.std.specs.declared.cmp.Ordering.TheVariants.{Less, Equal, Greater}
-use Rattle.std.specs.Ordering.{is_lt, is_eq, is_gt, ordering_reverse}
+use Rattle.std.specs.Ordering.{is_lt, ordering_reverse}
 use Rattle.std.specs.Cmp.{tied_itself}
 use Rattle.std.specs.FinMap as fin
 use Rattle.std.specs.FinMap.Entries.{below_all, is_sorted}
 use Rattle.net_prefix.specs.Block.{Block, block_cmp}
 use Rattle.prefix_table.specs.Tables.{Table, is_after, first_after}
 use Rattle.net_prefix.specs.Orders.{block_total}
-use Rattle.table_use.specs.Walks.{keys_of, rest_after}
+use Rattle.table_use.specs.Walks.{rest_after}
 
 less_of : (o : Ordering) → T (is_lt o) → o ≡ Less
 less_of Less e = refl

@@ -1,7 +1,7 @@
 //! Callers of any table: what can be relied on, whatever the table is.
 #![tactic(auto)]
 
-ghost use Rattle.std.specs.Prelude.{◌≡◌, ◌≢◌, Some, IfOk, OnOk, OnErr};
+ghost use Rattle.std.specs.Prelude.{◌≡◌, ◌≢◌, Some, None, IfOk, OnOk, OnErr};
 ghost use Rattle.std.specs.Option.{IfSome, IfNone};
 ghost use Rattle.std.specs.FinMap as map;
 ghost use Rattle.prefix_table.specs.Tables.{IsLongestMatch, HasNoMatch};
@@ -11,7 +11,7 @@ use net_prefix::{Addr, Prefix};
 use prefix_table::PrefixTable;
 use std::alloc::{AllocError, Global};
 
-/// Inserts a value and reads it. It is the value that is read.
+/// Inserts a value and reads it. It is the value that is read. Where the prefix had a value, memory is never wanted.
 pub fn put_and_get<V: Copy, T: PrefixTable<V>>(
     table: &mut T,
     prefix: Prefix,
@@ -19,6 +19,7 @@ pub fn put_and_get<V: Copy, T: PrefixTable<V>>(
 ) -> Result<Option<V>, V>
     ensures value { IfOk result (λ read. read ≡ Some value) }
     ensures table { OnOk result (T.table table.new ≡ map.insert (T.table table.old) prefix value) }
+    ensures absent { OnErr result (map.get (T.table table.old) prefix ≡ None) }
     ensures same { OnErr result (T.table table.new ≡ T.table table.old) }
 {
     table.insert(prefix, value)?;

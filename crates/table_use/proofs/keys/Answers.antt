@@ -1,6 +1,6 @@
-use Rattle.std.proofs.Common.{Some, None, ◌++◌, ◌∷◌, [], map, length, ap, sym, ◌∙◌, append_assoc, arith}
+use Rattle.std.proofs.Common.{Some, ◌++◌, ◌∷◌, [], map, length, ap, sym, ◌∙◌, append_assoc, arith}
 use Rattle.std.proofs.lemmas.List.{append-nil}
-use Rattle.table_use.specs.Walks.{keys_of, rest_after}
+use Rattle.table_use.specs.Walks.{rest_after}
 use Rattle.table_use.proofs.Walks.{walk_step, none_after, all_first}
 use Rattle.std.specs.FinMap as fin
 use Rattle.table_use.proofs.keys.Goals as goal
