@@ -40,9 +40,10 @@ impl Queue {
         })
     }
 
-    /// Sees to it that there are places for n more. An error changes nothing.
+    /// Sees to it that there are places for n more. It takes memory only where fewer are spare. An error changes nothing.
     pub fn reserve(&mut self, n: usize) -> Result<(), AllocError>
         ensures ok { OnOk result (self.new ≡ record self.old { spare = max n self.old.spare }) }
+        ensures short { OnErr result (self.old.spare < n) }
         ensures err { OnErr result (self.new ≡ self.old) }
     {
         if self.spare < n {

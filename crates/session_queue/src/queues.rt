@@ -1,6 +1,6 @@
 //! The queues of all directions.
 
-ghost use Rattle.std.specs.Prelude.{◌≡◌, ℕ, ◌+◌, ◌<◌, ◌↔◌, [], ◌∷◌, ◌++◌, length, max, drop, slice_get, option_map, option_copied, find, IsTrue, IfSome, OnOk, OnErr};
+ghost use Rattle.std.specs.Prelude.{◌≡◌, ℕ, ◌+◌, ◌<◌, ◌≤◌, ◌↔◌, [], ◌∷◌, ◌++◌, length, max, drop, slice_get, option_map, option_copied, find, IsTrue, IfSome, OnOk, OnErr};
 
 use crate::direction::Direction;
 use crate::message::Message;
@@ -54,11 +54,14 @@ impl Queues {
         }
     }
 
-    /// Sees to it that the direction has places for n more messages. Only this call takes memory. An error changes nothing.
+    /// Sees to it that the direction has places for n more messages. Only this call takes memory, and only where fewer places
+    /// are spare: where n are, it changes nothing and cannot fail. An error changes nothing.
     pub fn reserve(&mut self, from: Addr, to: Addr, n: usize) -> Result<(), AllocError>
         ensures spare { OnOk result (spare_at self.new from to ≡ max n (spare_at self.old from to)) }
         ensures queue { queue_at self.new from to ≡ queue_at self.old from to }
         ensures others { KeepsOthers from to self.old self.new }
+        ensures enough { n ≤ spare_at self.old from to → self.new ≡ self.old }
+        ensures short { OnErr result (spare_at self.old from to < n) }
         ensures err { OnErr result (self.new ≡ self.old) }
     {
         if n == 0 {
