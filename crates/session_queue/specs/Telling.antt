@@ -1,4 +1,4 @@
--- Messages (RFC 4271, 3.1 and 4.3). One message carries one prefix.
+-- Messages (RFC 4271, 3.1 and 4.3). One message carries one prefix (own).
 use Rattle.net_prefix.specs.Block.{Block}
 use Rattle.session_queue.specs.declared.message.Message.{Message}
 use Rattle.session_queue.specs.declared.message.Message.TheVariants.{Update, Withdraw}

@@ -1,12 +1,13 @@
--- The queues of sessions: in each direction the messages on their way, the head first, and its spare places.
-use Rattle.std.specs.Prelude.{◌≡◌, ℕ, Bool, false, ◌==◌, ◌&&◌, List, [], Option, Some, None}
+-- The queues of sessions: in each direction the messages on their way, the head first, and its spare places (own).
+-- Messages are received in the order in which they were sent (RFC 4271, 3), and none is merged with another (own).
+use Rattle.std.specs.Prelude.{◌≡◌, ℕ, Bool, false, ◌&&◌, List, [], Option, Some, None}
 use Rattle.std.specs.Map.{lookup}
 use Rattle.std.specs.BTreeMap.{is_at}
 use Rattle.std.specs.declared.cmp.Ordering.{Ordering}
 use Rattle.std.specs.declared.cmp.Ordering.TheVariants.{Less}
 use Rattle.std.specs.Ordering.{ordering_then}
 use Rattle.net_prefix.specs.declared.addr.Addr.{Addr}
-use Rattle.net_prefix.specs.Address.{addr_cmp}
+use Rattle.net_prefix.specs.Address.{same_addr, addr_cmp}
 use Rattle.session_queue.specs.declared.message.Message.{Message}
 use Rattle.session_queue.specs.declared.direction.Direction.{Direction}
 
@@ -15,7 +16,7 @@ pub record Waiting : Type 0 where
   pub messages : List Message
   pub spare : ℕ
 
--- by sender, then by receiver
+-- by sender, then by receiver (own)
 abbrev pub direction_cmp : Direction → Direction → Ordering
 direction_cmp d e = ordering_then (addr_cmp d.from e.from) (addr_cmp d.to e.to)
 
@@ -45,7 +46,7 @@ spare_at q from to = spare_of (waiting_at q from to)
 
 -- both ends are the same
 abbrev pub same_direction : Addr → Addr → Addr → Addr → Bool
-same_direction from to f t = (f.0 == from.0) && (t.0 == to.0)
+same_direction from to f t = same_addr f from && same_addr t to
 
 -- each other direction keeps its messages and its spare places
 pub record KeepsOthers (from to : Addr) (q r : WaitingByDirection) : Type 0 where

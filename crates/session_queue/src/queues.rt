@@ -187,7 +187,7 @@ impl Queues {
         }
     }
 
-    /// The first direction with a message, from the start on.
+    /// The first direction with a message, from the start on. The order is said for `next_full`, which reads no field itself.
     fn first_full(&self, start: Bound<Direction>) -> Option<Direction>
         ensures ordered { IsStrictlySortedBy direction_cmp (keys_of self.now) }
         ensures first { result ≡ option_map (λ e. e.0) (find (λ e. has_message e.1) (entries_between direction_cmp start Bound.Unbounded self.now)) }
