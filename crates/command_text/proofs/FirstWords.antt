@@ -25,7 +25,7 @@ use Rattle.command_text.specs.declared.verb.PrefixVerb.{PrefixVerb}
 use Rattle.command_text.specs.declared.verb.PrefixVerb.TheVariants as prefix
 use Rattle.command_text.specs.Words.{words_of, news_words}
 use Rattle.command_text.specs.Verbs.{verb_word, node_word, link_word, pair_word, setting_word, prefix_word}
-use Rattle.command_text.specs.Arguments.{AreAddresses, addresses_words, IsNumberedAddress, numbered_words, AreEndsAndMetric, metric_words, IsAddressAndPrefix, prefix_words, AreEnds, switch_words, way_words, IsAddedRule, added_words}
+use Rattle.command_text.specs.Arguments.{AreAddresses, addresses_words, IsNumberedAddress, numbered_words, AreEndsAndMetric, metric_words, IsAddressAndPrefix, prefix_words, AreEnds, switch_words, side_words, IsAddedRule, added_words}
 
 -- two words that a test tells apart
 pub differ : (a b : List ℕ) → bytes_eq a b ≡ false → a ≡ b → ⊥
@@ -70,7 +70,7 @@ Follows pairs words = Shaped AreAddresses addresses_words words
 Follows switches words = Shaped AreEnds switch_words words
 Follows prefixes words = Shaped IsAddressAndPrefix prefix_words words
 Follows rules words = Shaped IsAddedRule added_words words
-Follows clears words = Shaped AreEnds way_words words
+Follows clears words = Shaped AreEnds side_words words
 Follows feeds words = Shaped IsFeed feed_words words
 Follows others words = Unit {0}
 
@@ -103,8 +103,8 @@ event_follows (AnEdit (Start a b)) h = ((a, b), h, refl)
 event_follows (AnEdit (Client a b on)) h = ((a, b, on), h, refl)
 event_follows (AnEdit (OwnNext a b on)) h = ((a, b, on), h, refl)
 event_follows (AnEdit (Cluster a id)) h = ((a, id), h, refl)
-event_follows (AnEdit (AddRule a b way rule)) h = ((a, b, way, rule), (h.0, h.1, (h.2, h.3)), refl)
-event_follows (AnEdit (Clear a b way)) h = ((a, b, way), h, refl)
+event_follows (AnEdit (AddRule a b side rule)) h = ((a, b, side, rule), (h.0, h.1, (h.2, h.3)), refl)
+event_follows (AnEdit (Clear a b side)) h = ((a, b, side), h, refl)
 event_follows (AnEdit (Origin a p)) h = ((a, p), h, refl)
 event_follows (AnEdit (NoOrigin a p)) h = ((a, p), h, refl)
 event_follows (AFeed f) h = (f, h, refl)
@@ -151,7 +151,7 @@ pub rule_follows : (words : List (List ℕ)) (e : Event) → IsEvent e → codes
 unfolding Follows shape_of is_one
 rule_follows = follows (codes "rule")
 
-pub clear_follows : (words : List (List ℕ)) (e : Event) → IsEvent e → codes "clear" ∷ words ≡ words_of e → Shaped AreEnds way_words words
+pub clear_follows : (words : List (List ℕ)) (e : Event) → IsEvent e → codes "clear" ∷ words ≡ words_of e → Shaped AreEnds side_words words
 unfolding Follows shape_of is_one
 clear_follows = follows (codes "clear")
 
@@ -173,8 +173,8 @@ event_verb (AnEdit (Start a b)) other = (verb.Pair pair.Start, refl)
 event_verb (AnEdit (Client a b on)) other = (verb.Switch switch.Client, refl)
 event_verb (AnEdit (OwnNext a b on)) other = (verb.Switch switch.OwnNext, refl)
 event_verb (AnEdit (Cluster a id)) other = (verb.Pair pair.Cluster, refl)
-event_verb (AnEdit (AddRule a b way rule)) other = (verb.Rule, refl)
-event_verb (AnEdit (Clear a b way)) other = (verb.Clear, refl)
+event_verb (AnEdit (AddRule a b side rule)) other = (verb.Rule, refl)
+event_verb (AnEdit (Clear a b side)) other = (verb.Clear, refl)
 event_verb (AnEdit (Origin a p)) other = (verb.Prefix prefix.Origin, refl)
 event_verb (AnEdit (NoOrigin a p)) other = (verb.Prefix prefix.NoOrigin, refl)
 event_verb (AFeed f) other = absurd (other refl)

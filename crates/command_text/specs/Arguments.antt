@@ -6,9 +6,9 @@ use Rattle.net_prefix.specs.declared.addr.Addr.{Addr}
 use Rattle.net_prefix.specs.Address.{addr_text}
 use Rattle.net_prefix.specs.Block.{Block, block_text}
 use Rattle.route_policy.specs.declared.rule.Rule.{Rule}
-use Rattle.net_conf.specs.declared.tables.Way.{Way}
+use Rattle.net_conf.specs.declared.tables.PolicySide.{PolicySide}
 use Rattle.sim_event.specs.Events.{IsAddress, IsAsNumber, IsPrefix}
-use Rattle.command_text.specs.Words.{switch_word, way_word}
+use Rattle.command_text.specs.Words.{switch_word, side_word}
 use Rattle.command_text.specs.Rules.{IsRule, rule_words}
 
 abbrev pub address_words : Addr → List (List ℕ)
@@ -44,11 +44,11 @@ AreEnds v = IsAddress v.0 × IsAddress v.1
 abbrev pub switch_words : Addr × Addr × Bool → List (List ℕ)
 switch_words v = addr_text v.0 ∷ addr_text v.1 ∷ switch_word v.2 ∷ []
 
-abbrev pub way_words : Addr × Addr × Way → List (List ℕ)
-way_words v = addr_text v.0 ∷ addr_text v.1 ∷ way_word v.2 ∷ []
+abbrev pub side_words : Addr × Addr × PolicySide → List (List ℕ)
+side_words v = addr_text v.0 ∷ addr_text v.1 ∷ side_word v.2 ∷ []
 
-abbrev pub IsAddedRule : Addr × Addr × Way × Rule → Type 0
+abbrev pub IsAddedRule : Addr × Addr × PolicySide × Rule → Type 0
 IsAddedRule v = IsAddress v.0 × IsAddress v.1 × IsRule v.3
 
-abbrev pub added_words : Addr × Addr × Way × Rule → List (List ℕ)
-added_words v = addr_text v.0 ∷ addr_text v.1 ∷ way_word v.2 ∷ rule_words v.3
+abbrev pub added_words : Addr × Addr × PolicySide × Rule → List (List ℕ)
+added_words v = addr_text v.0 ∷ addr_text v.1 ∷ side_word v.2 ∷ rule_words v.3

@@ -7,8 +7,8 @@ use Rattle.route_policy.specs.declared.rule.Match.{Match}
 use Rattle.route_policy.specs.declared.rule.Match.TheVariants.{Any, Is, Under, Path, First}
 use Rattle.route_policy.specs.declared.rule.Action.{Action}
 use Rattle.route_policy.specs.declared.rule.Action.TheVariants.{Deny, Permit}
-use Rattle.net_conf.specs.declared.tables.Way.{Way}
-use Rattle.net_conf.specs.declared.tables.Way.TheVariants.{In as WayIn, Out as WayOut}
+use Rattle.net_conf.specs.declared.tables.PolicySide.{PolicySide}
+use Rattle.net_conf.specs.declared.tables.PolicySide.TheVariants.{Import, Export}
 use Rattle.net_conf.specs.declared.edit.Edit.{Edit}
 use Rattle.net_conf.specs.declared.edit.Edit.TheVariants.{Router, Virtual, Link, Metric, Fail, Mend, Join, Stop, Start, Client, OwnNext, Cluster, Rule as AddRule, Clear, Origin, NoOrigin}
 use Rattle.sim_event.specs.declared.event.Event.{Event}
@@ -23,9 +23,9 @@ abbrev pub switch_word : Bool → List ℕ
 switch_word true = codes "on"
 switch_word false = codes "off"
 
-abbrev pub way_word : Way → List ℕ
-way_word WayIn = codes "in"
-way_word WayOut = codes "out"
+abbrev pub side_word : PolicySide → List ℕ
+side_word Import = codes "in"
+side_word Export = codes "out"
 
 abbrev pub match_words : Match → List (List ℕ)
 match_words Any = codes "any" ∷ []
@@ -56,8 +56,8 @@ edit_words (Start a b) = codes "start" ∷ addr_text a ∷ addr_text b ∷ []
 edit_words (Client a b on) = codes "client" ∷ addr_text a ∷ addr_text b ∷ switch_word on ∷ []
 edit_words (OwnNext a b on) = codes "self" ∷ addr_text a ∷ addr_text b ∷ switch_word on ∷ []
 edit_words (Cluster a id) = codes "cluster" ∷ addr_text a ∷ addr_text id ∷ []
-edit_words (AddRule a b way rule) = codes "rule" ∷ addr_text a ∷ addr_text b ∷ way_word way ∷ match_words rule.cond ++ action_words rule.act
-edit_words (Clear a b way) = codes "clear" ∷ addr_text a ∷ addr_text b ∷ way_word way ∷ []
+edit_words (AddRule a b side rule) = codes "rule" ∷ addr_text a ∷ addr_text b ∷ side_word side ∷ match_words rule.cond ++ action_words rule.act
+edit_words (Clear a b side) = codes "clear" ∷ addr_text a ∷ addr_text b ∷ side_word side ∷ []
 edit_words (Origin a p) = codes "origin" ∷ addr_text a ∷ block_text p ∷ []
 edit_words (NoOrigin a p) = codes "noorigin" ∷ addr_text a ∷ block_text p ∷ []
 

@@ -6,12 +6,12 @@ ghost use Rattle.net_prefix.specs.Address.{addr_text};
 ghost use Rattle.sim_event.specs.Events.{IsAddress};
 ghost use Rattle.command_text.specs.Lines.{tokens};
 ghost use Rattle.command_text.specs.Reading.{Reads};
-ghost use Rattle.command_text.specs.Arguments.{address_words, AreAddresses, addresses_words, IsNumberedAddress, numbered_words, AreEndsAndMetric, metric_words, IsAddressAndPrefix, prefix_words, AreEnds, switch_words, way_words, IsAddedRule, added_words};
+ghost use Rattle.command_text.specs.Arguments.{address_words, AreAddresses, addresses_words, IsNumberedAddress, numbered_words, AreEndsAndMetric, metric_words, IsAddressAndPrefix, prefix_words, AreEnds, switch_words, side_words, IsAddedRule, added_words};
 
 use crate::rule::rule_of;
-use crate::values::{addr_of, asn_of, metric_of, prefix_of, switch_of, way_of};
+use crate::values::{addr_of, asn_of, metric_of, prefix_of, side_of, switch_of};
 use crate::words::{next_word, one_word, three_words, two_words};
-use net_conf::{Metric, Way};
+use net_conf::{Metric, PolicySide};
 use net_prefix::{Addr, Prefix};
 use path_attr::Asn;
 use route_policy::Rule;
@@ -64,21 +64,21 @@ pub(crate) fn ends_and_switch(words: &[u8]) -> Option<(Addr, Addr, bool)>
 }
 
 /// `A B in|out`
-pub(crate) fn ends_and_way(words: &[u8]) -> Option<(Addr, Addr, Way)>
-    ensures { Reads AreEnds way_words (tokens words.now) result }
+pub(crate) fn ends_and_side(words: &[u8]) -> Option<(Addr, Addr, PolicySide)>
+    ensures { Reads AreEnds side_words (tokens words.now) result }
 {
-    let (first, second, way) = three_words(words)?;
-    Some((addr_of(first)?, addr_of(second)?, way_of(way)?))
+    let (first, second, side) = three_words(words)?;
+    Some((addr_of(first)?, addr_of(second)?, side_of(side)?))
 }
 
 /// `A B in|out MATCH ACT`
-pub(crate) fn added_rule(words: &[u8]) -> Option<(Addr, Addr, Way, Rule)>
+pub(crate) fn added_rule(words: &[u8]) -> Option<(Addr, Addr, PolicySide, Rule)>
     ensures { Reads IsAddedRule added_words (tokens words.now) result }
 {
     let (first, rest) = next_address(words)?;
     let (second, rest) = next_address(rest)?;
-    let (way, rest) = next_word(rest)?;
-    Some((first, second, way_of(way)?, rule_of(rest)?))
+    let (side, rest) = next_word(rest)?;
+    Some((first, second, side_of(side)?, rule_of(rest)?))
 }
 
 /// The address that stands first, and the text after it.

@@ -8,7 +8,7 @@ ghost use Rattle.command_text.specs.Lines.{tokens, feeds_route};
 ghost use Rattle.command_text.specs.Reading.{Reads, Makes};
 
 use crate::arguments::{
-    added_rule, address, address_and_prefix, ends_and_metric, ends_and_switch, ends_and_way,
+    added_rule, address, address_and_prefix, ends_and_metric, ends_and_side, ends_and_switch,
     numbered_address, two_addresses,
 };
 use crate::feed::read_feed;
@@ -93,16 +93,16 @@ fn read_prefix(verb: PrefixVerb, words: &[u8]) -> Option<Event>
 fn read_rule(words: &[u8]) -> Option<Event>
     ensures { Reads IsEvent words_of (codes "rule" ∷ tokens words.now) result }
 {
-    let (first, second, way, rule) = added_rule(words)?;
-    Some(Event::Edit(Edit::Rule(first, second, way, rule)))
+    let (first, second, side, rule) = added_rule(words)?;
+    Some(Event::Edit(Edit::Rule(first, second, side, rule)))
 }
 
 /// `clear A B in|out`
 fn read_clear(words: &[u8]) -> Option<Event>
     ensures { Reads IsEvent words_of (codes "clear" ∷ tokens words.now) result }
 {
-    let (first, second, way) = ends_and_way(words)?;
-    Some(Event::Edit(Edit::Clear(first, second, way)))
+    let (first, second, side) = ends_and_side(words)?;
+    Some(Event::Edit(Edit::Clear(first, second, side)))
 }
 
 /// `routes R`

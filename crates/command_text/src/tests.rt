@@ -1,7 +1,7 @@
 // Worked examples: each command, and lines that spell nothing.
 
 use super::*;
-use net_conf::{Edit, Metric, Refusal, Way};
+use net_conf::{Edit, Metric, PolicySide, Refusal};
 use net_prefix::{Addr, Prefix};
 use path_attr::{Asn, Origin, Segment};
 use route_policy::{Action, Match, Repeat, Rule};
@@ -66,7 +66,9 @@ fn permit(pref: Option<u32>, med: Option<u32>, prepend: Option<Repeat>) -> Rule 
 // The rule that a line adds for what 1.0.0.1 sends to 2.0.0.1.
 fn added(alloc: Global, line: &[u8]) -> Option<Rule> {
     match edit(alloc, line) {
-        Some(Edit::Rule(Addr(0x0100_0001), Addr(0x0200_0001), Way::Out, rule)) => Some(rule),
+        Some(Edit::Rule(Addr(0x0100_0001), Addr(0x0200_0001), PolicySide::Export, rule)) => Some(
+            rule,
+        ),
         _ => None,
     }
 }
@@ -110,7 +112,10 @@ fn edits_of_two_ends_are_read(rt: HostRuntime) {
         (b"client 1.0.0.1 2.0.0.1 on", Edit::Client(one, two, true)),
         (b"self 1.0.0.1 2.0.0.1 off", Edit::OwnNext(one, two, false)),
         (b"cluster 1.0.0.1 2.0.0.1", Edit::Cluster(one, two)),
-        (b"clear 1.0.0.1 2.0.0.1 in", Edit::Clear(one, two, Way::In)),
+        (
+            b"clear 1.0.0.1 2.0.0.1 in",
+            Edit::Clear(one, two, PolicySide::Import),
+        ),
         (b"noorigin 1.0.0.1 10.0.0.0/8", Edit::NoOrigin(one, ten)),
     ] {
         assert_eq!(rt; edit(alloc, line), Some(expected), "{line:?}");

@@ -8,11 +8,11 @@ ghost use Rattle.net_prefix.specs.Block.{block_text};
 ghost use Rattle.route_policy.specs.Repeats.{IsRepeat};
 ghost use Rattle.sim_event.specs.Events.{IsAddress, IsAsNumber, IsPrefix};
 ghost use Rattle.sim_event.specs.Wording.{none_text, maybe_number_text, origin_text};
-ghost use Rattle.command_text.specs.Words.{switch_word, way_word};
+ghost use Rattle.command_text.specs.Words.{switch_word, side_word};
 ghost use Rattle.command_text.specs.Reading.{Reads};
 
 use decimal::read_decimal;
-use net_conf::{Metric, Way};
+use net_conf::{Metric, PolicySide};
 use net_prefix::{Addr, Prefix, read_addr, read_prefix};
 use path_attr::{Asn, Origin};
 use route_policy::Repeat;
@@ -92,13 +92,13 @@ pub(crate) fn switch_of(word: &[u8]) -> Option<bool>
     }
 }
 
-/// Which routes a policy judges: in or out.
-pub(crate) fn way_of(word: &[u8]) -> Option<Way>
-    ensures { Reads (λ _. ⊤) way_word word.now result }
+/// Which policy of an end: `in`, for what comes from the peer, or `out`, for what goes to it.
+pub(crate) fn side_of(word: &[u8]) -> Option<PolicySide>
+    ensures { Reads (λ _. ⊤) side_word word.now result }
 {
     match word {
-        b"in" => Some(Way::In),
-        b"out" => Some(Way::Out),
+        b"in" => Some(PolicySide::Import),
+        b"out" => Some(PolicySide::Export),
         _ => None,
     }
 }

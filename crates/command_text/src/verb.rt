@@ -25,9 +25,9 @@ pub(crate) enum Verb {
     Switch(SwitchVerb),
     /// An address and a prefix follow.
     Prefix(PrefixVerb),
-    /// Two addresses, a way and the words of a rule follow.
+    /// Two addresses, `in` or `out`, and the words of a rule follow.
     Rule,
-    /// Two addresses and a way follow.
+    /// Two addresses follow, and `in` or `out`.
     Clear,
     /// An address follows.
     Routes,

@@ -17,7 +17,7 @@ use Rattle.net_conf.specs.declared.tables.Link.{Link as TheLink}
 use Rattle.net_conf.specs.declared.tables.Node.{Node}
 use Rattle.net_conf.specs.declared.edit.Edit.{Edit}
 use Rattle.net_conf.specs.declared.edit.Edit.TheVariants.{Router, Virtual, Link, Metric, Fail, Mend, Join, Stop, Start, Client, OwnNext, Cluster, Rule as AddRule, Clear, Origin, NoOrigin}
-use Rattle.net_conf.specs.declared.tables.Way.TheVariants.{In, Out}
+use Rattle.net_conf.specs.declared.tables.PolicySide.TheVariants.{Import, Export}
 use Rattle.net_conf.specs.declared.refusal.Refusal.{Refusal}
 use Rattle.net_conf.specs.Configuration.{Configuration, has_node, ends_of, ends_cmp, link_between}
 use Rattle.net_conf.specs.Edits.{first_of, tests_of, refusal_of, edited, lacks_node, lacks_either, is_past_limit, with_link, with_link_changed, with_session}
@@ -132,10 +132,10 @@ module _ (c : Configuration) (sound : IsSound c) where
   sound_edited (Client a b on) there room = same_tables _ refl refl refl
   sound_edited (OwnNext a b on) there room = same_tables _ refl refl refl
   sound_edited (Cluster a id) there room = same_tables _ refl refl refl
-  sound_edited (AddRule a b In rule) there room = same_tables _ refl refl refl
-  sound_edited (AddRule a b Out rule) there room = same_tables _ refl refl refl
-  sound_edited (Clear a b In) there room = same_tables _ refl refl refl
-  sound_edited (Clear a b Out) there room = same_tables _ refl refl refl
+  sound_edited (AddRule a b Import rule) there room = same_tables _ refl refl refl
+  sound_edited (AddRule a b Export rule) there room = same_tables _ refl refl refl
+  sound_edited (Clear a b Import) there room = same_tables _ refl refl refl
+  sound_edited (Clear a b Export) there room = same_tables _ refl refl refl
   sound_edited (Origin a p) there room = same_tables _ refl refl refl
   sound_edited (NoOrigin a p) there room = same_tables _ refl refl refl
 
@@ -178,10 +178,10 @@ same_trees c (Start a b) is = session_moves_none c a b true is
 same_trees c (Client a b on) is = refl
 same_trees c (OwnNext a b on) is = refl
 same_trees c (Cluster a id) is = refl
-same_trees c (AddRule a b In rule) is = refl
-same_trees c (AddRule a b Out rule) is = refl
-same_trees c (Clear a b In) is = refl
-same_trees c (Clear a b Out) is = refl
+same_trees c (AddRule a b Import rule) is = refl
+same_trees c (AddRule a b Export rule) is = refl
+same_trees c (Clear a b Import) is = refl
+same_trees c (Clear a b Export) is = refl
 same_trees c (Origin a p) is = refl
 same_trees c (NoOrigin a p) is = refl
 same_trees c _ is = absurd (true≢false (sym is))

@@ -11,8 +11,8 @@ use Rattle.route_policy.specs.declared.rule.Action.{Action}
 use Rattle.route_policy.specs.declared.rule.Action.TheVariants.{Deny, Permit}
 use Rattle.net_conf.specs.declared.tables.End.{End}
 use Rattle.net_conf.specs.declared.tables.Link.{Link as TheLink}
-use Rattle.net_conf.specs.declared.tables.Way.{Way}
-use Rattle.net_conf.specs.declared.tables.Way.TheVariants.{In, Out}
+use Rattle.net_conf.specs.declared.tables.PolicySide.{PolicySide}
+use Rattle.net_conf.specs.declared.tables.PolicySide.TheVariants.{Import, Export}
 use Rattle.net_conf.specs.declared.tables.Kind.TheVariants.{Router as AsRouter, Virtual as AsVirtual}
 use Rattle.net_conf.specs.declared.edit.Edit.{Edit}
 use Rattle.net_conf.specs.declared.edit.Edit.TheVariants.{Router, Virtual, Link, Metric, Fail, Mend, Join, Stop, Start, Client, OwnNext, Cluster, Rule as AddRule, Clear, Origin, NoOrigin}
@@ -39,8 +39,8 @@ lacks_node c (Start a b) = lacks_either c a b
 lacks_node c (Client a b on) = lacks_either c a b
 lacks_node c (OwnNext a b on) = lacks_either c a b
 lacks_node c (Cluster a id) = not (has_node c a)
-lacks_node c (AddRule a b way rule) = lacks_either c a b
-lacks_node c (Clear a b way) = lacks_either c a b
+lacks_node c (AddRule a b side rule) = lacks_either c a b
+lacks_node c (Clear a b side) = lacks_either c a b
 lacks_node c (Origin a p) = not (has_node c a)
 lacks_node c (NoOrigin a p) = not (has_node c a)
 
@@ -63,8 +63,8 @@ has_bad_end c (Join a b) = is_virtual c a && is_virtual c b
 has_bad_end c (Client a b on) = is_virtual c a
 has_bad_end c (OwnNext a b on) = is_virtual c a
 has_bad_end c (Cluster a id) = is_virtual c a
-has_bad_end c (AddRule a b way rule) = is_virtual c a
-has_bad_end c (Clear a b way) = is_virtual c a
+has_bad_end c (AddRule a b side rule) = is_virtual c a
+has_bad_end c (Clear a b side) = is_virtual c a
 has_bad_end c (Origin a p) = is_virtual c a
 has_bad_end c (NoOrigin a p) = is_virtual c a
 has_bad_end c _ = false
@@ -102,8 +102,8 @@ lacks_session c (Stop a b) = not (has_session c a b)
 lacks_session c (Start a b) = not (has_session c a b)
 lacks_session c (Client a b on) = not (has_session c a b)
 lacks_session c (OwnNext a b on) = not (has_session c a b)
-lacks_session c (AddRule a b way rule) = not (has_session c a b)
-lacks_session c (Clear a b way) = not (has_session c a b)
+lacks_session c (AddRule a b side rule) = not (has_session c a b)
+lacks_session c (Clear a b side) = not (has_session c a b)
 lacks_session c _ = false
 
 -- 11: the two have a session
@@ -119,15 +119,15 @@ needs_internal c _ = false
 
 -- what a rule may not set: anything on an internal session; on an external one a prepend on the way in, and a
 -- preference on the way out
-abbrev pub sets_too_much : Bool → Way → Action → Bool
-sets_too_much external way Deny = false
-sets_too_much false way (Permit pref med prepend) = is_some pref || is_some med || is_some prepend
-sets_too_much true In (Permit pref med prepend) = is_some prepend
-sets_too_much true Out (Permit pref med prepend) = is_some pref
+abbrev pub sets_too_much : Bool → PolicySide → Action → Bool
+sets_too_much external side Deny = false
+sets_too_much false side (Permit pref med prepend) = is_some pref || is_some med || is_some prepend
+sets_too_much true Import (Permit pref med prepend) = is_some prepend
+sets_too_much true Export (Permit pref med prepend) = is_some pref
 
 -- 13: the rule sets what it may not set there
 abbrev pub breaks_rule : Configuration → Edit → Bool
-breaks_rule c (AddRule a b way rule) = sets_too_much (is_external c a b) way rule.act
+breaks_rule c (AddRule a b side rule) = sets_too_much (is_external c a b) side rule.act
 breaks_rule c _ = false
 
 -- 14: the router originates the prefix
@@ -141,9 +141,9 @@ lacks_origin c (NoOrigin a p) = not (originates c a p)
 lacks_origin c _ = false
 
 -- the rules of the router for what comes from the peer, or goes to it
-abbrev pub rules_of : Configuration → Addr → Addr → Way → List Rule
-rules_of c a b In = import_rules c a b
-rules_of c a b Out = export_rules c a b
+abbrev pub rules_of : Configuration → Addr → Addr → PolicySide → List Rule
+rules_of c a b Import = import_rules c a b
+rules_of c a b Export = export_rules c a b
 
 -- 19: there are 4,096 routers and peers, 16,384 links, 256 sessions at an end, or 256 rules in the policy
 abbrev pub is_past_limit : Configuration → Edit → Bool
@@ -151,7 +151,7 @@ is_past_limit c (Router a n) = nat_le 4096 (length c.nodes)
 is_past_limit c (Virtual a n) = nat_le 4096 (length c.nodes)
 is_past_limit c (Link a b m) = nat_le 16384 (length c.links)
 is_past_limit c (Join a b) = nat_le 256 (session_count c a) || nat_le 256 (session_count c b)
-is_past_limit c (AddRule a b way rule) = nat_le 256 (length (rules_of c a b way))
+is_past_limit c (AddRule a b side rule) = nat_le 256 (length (rules_of c a b side))
 is_past_limit c _ = false
 
 -- the first refusal whose test holds
@@ -218,14 +218,14 @@ abbrev pub without_rules : End → List (End × List Rule) → List (End × List
 without_rules e policies = remove_entry (is_at (end_cmp e)) policies
 
 -- what is configured, with one more rule of the router's for what comes from the peer, or goes to it
-abbrev pub with_rule_of : Configuration → Addr → Addr → Way → Rule → Configuration
-with_rule_of c a b In rule = record c { imports = with_rule (end_of a b) rule c.imports }
-with_rule_of c a b Out rule = record c { exports = with_rule (end_of a b) rule c.exports }
+abbrev pub with_rule_of : Configuration → Addr → Addr → PolicySide → Rule → Configuration
+with_rule_of c a b Import rule = record c { imports = with_rule (end_of a b) rule c.imports }
+with_rule_of c a b Export rule = record c { exports = with_rule (end_of a b) rule c.exports }
 
 -- what is configured, with no rule of the router's for what comes from the peer, or goes to it
-abbrev pub without_rules_of : Configuration → Addr → Addr → Way → Configuration
-without_rules_of c a b In = record c { imports = without_rules (end_of a b) c.imports }
-without_rules_of c a b Out = record c { exports = without_rules (end_of a b) c.exports }
+abbrev pub without_rules_of : Configuration → Addr → Addr → PolicySide → Configuration
+without_rules_of c a b Import = record c { imports = without_rules (end_of a b) c.imports }
+without_rules_of c a b Export = record c { exports = without_rules (end_of a b) c.exports }
 
 -- what is configured after an edit that is not refused
 abbrev pub edited : Configuration → Edit → Configuration
@@ -241,8 +241,8 @@ edited c (Start a b) = with_session c a b true
 edited c (Client a b on) = record c { clients = switched on (end_of a b) c.clients }
 edited c (OwnNext a b on) = record c { own_next = switched on (end_of a b) c.own_next }
 edited c (Cluster a id) = record c { clusters = insert_entry addr_cmp c.clusters a id }
-edited c (AddRule a b way rule) = with_rule_of c a b way rule
-edited c (Clear a b way) = without_rules_of c a b way
+edited c (AddRule a b side rule) = with_rule_of c a b side rule
+edited c (Clear a b side) = without_rules_of c a b side
 edited c (Origin a p) = record c { origins = insert_key origination_cmp c.origins (record { router = a; prefix = p }) }
 edited c (NoOrigin a p) = record c { origins = remove_key (is_at (origination_cmp (record { router = a; prefix = p }))) c.origins }
 

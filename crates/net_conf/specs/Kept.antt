@@ -31,8 +31,8 @@ abbrev pub is_setting : Edit → Bool
 is_setting (Client a b on) = true
 is_setting (OwnNext a b on) = true
 is_setting (Cluster a id) = true
-is_setting (Rule a b way rule) = true
-is_setting (Clear a b way) = true
+is_setting (Rule a b side rule) = true
+is_setting (Clear a b side) = true
 is_setting (Origin a p) = true
 is_setting (NoOrigin a p) = true
 is_setting _ = false

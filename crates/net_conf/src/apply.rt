@@ -9,7 +9,7 @@ ghost use Rattle.net_conf.specs.Edits.{with_link, with_link_changed, with_metric
 
 use crate::configured::{Configured, policy_at};
 use crate::edit::Edit;
-use crate::tables::{End, Ends, Kind, Link, Node, Origination, Way};
+use crate::tables::{End, Ends, Kind, Link, Node, Origination, PolicySide};
 use igp_cost::Metric;
 use net_prefix::Addr;
 use path_attr::Asn;
@@ -35,11 +35,11 @@ impl Configured {
             Edit::Client(router, peer, on) => switch(&mut self.clients, End { router, peer }, on),
             Edit::OwnNext(router, peer, on) => switch(&mut self.own_next, End { router, peer }, on),
             Edit::Cluster(router, id) => self.set_cluster(router, id),
-            Edit::Rule(router, peer, way, rule) => {
-                self.add_rule(alloc, End { router, peer }, way, rule)
+            Edit::Rule(router, peer, side, rule) => {
+                self.add_rule(alloc, End { router, peer }, side, rule)
             }
-            Edit::Clear(router, peer, way) => {
-                self.clear_rules(End { router, peer }, way);
+            Edit::Clear(router, peer, side) => {
+                self.clear_rules(End { router, peer }, side);
                 Ok(())
             }
             Edit::Origin(router, prefix) => self.add_origin(Origination { router, prefix }),
@@ -102,22 +102,28 @@ impl Configured {
         Ok(())
     }
 
-    fn add_rule(&mut self, alloc: Global, end: End, way: Way, rule: Rule) -> Result<(), AllocError>
-        ensures ok { OnOk result (self.new ≡ with_rule_of self.old end.router end.peer way rule) }
+    fn add_rule(
+        &mut self,
+        alloc: Global,
+        end: End,
+        side: PolicySide,
+        rule: Rule,
+    ) -> Result<(), AllocError>
+        ensures ok { OnOk result (self.new ≡ with_rule_of self.old end.router end.peer side rule) }
         ensures err { OnErr result (self.new ≡ self.old) }
     {
-        match way {
-            Way::In => append(alloc, &mut self.imports, end, rule),
-            Way::Out => append(alloc, &mut self.exports, end, rule),
+        match side {
+            PolicySide::Import => append(alloc, &mut self.imports, end, rule),
+            PolicySide::Export => append(alloc, &mut self.exports, end, rule),
         }
     }
 
-    fn clear_rules(&mut self, end: End, way: Way)
-        ensures { self.new ≡ without_rules_of self.old end.router end.peer way }
+    fn clear_rules(&mut self, end: End, side: PolicySide)
+        ensures { self.new ≡ without_rules_of self.old end.router end.peer side }
     {
-        match way {
-            Way::In => forget(&mut self.imports, end),
-            Way::Out => forget(&mut self.exports, end),
+        match side {
+            PolicySide::Import => forget(&mut self.imports, end),
+            PolicySide::Export => forget(&mut self.exports, end),
         }
     }
 

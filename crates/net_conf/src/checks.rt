@@ -7,7 +7,7 @@ ghost use Rattle.net_conf.specs.Edits.{lacks_either, lacks_node, repeats_node, h
 use crate::configured::Configured;
 use crate::edit::Edit;
 use crate::refusal::Refusal;
-use crate::tables::{End, Way};
+use crate::tables::{End, PolicySide};
 use net_prefix::Addr;
 use route_policy::{Action, Policy};
 use std::collections::BTreeMap;
@@ -209,8 +209,8 @@ impl Configured {
         ensures { result ≡ breaks_rule self.now edit.now }
     {
         match *edit {
-            Edit::Rule(router, peer, way, rule) => {
-                sets_too_much(self.is_external(router, peer), way, rule.act)
+            Edit::Rule(router, peer, side, rule) => {
+                sets_too_much(self.is_external(router, peer), side, rule.act)
             }
             _ => false,
         }
@@ -237,12 +237,12 @@ impl Configured {
     }
 
     /// How many rules the router has for what comes from the peer, or goes to it.
-    fn rule_count(&self, router: Addr, peer: Addr, way: Way) -> usize
-        ensures { result ≡ length (rules_of self.now router peer way) }
+    fn rule_count(&self, router: Addr, peer: Addr, side: PolicySide) -> usize
+        ensures { result ≡ length (rules_of self.now router peer side) }
     {
-        match way {
-            Way::In => count_at(&self.imports, End { router, peer }),
-            Way::Out => count_at(&self.exports, End { router, peer }),
+        match side {
+            PolicySide::Import => count_at(&self.imports, End { router, peer }),
+            PolicySide::Export => count_at(&self.exports, End { router, peer }),
         }
     }
 
@@ -255,7 +255,7 @@ impl Configured {
             Edit::Link(_, _, _) => self.links.len() >= MAX_LINKS,
             Edit::Join(one, other) => self.session_count(one) >= MAX_SESSIONS
                 || self.session_count(other) >= MAX_SESSIONS,
-            Edit::Rule(router, peer, way, _) => self.rule_count(router, peer, way) >= MAX_RULES,
+            Edit::Rule(router, peer, side, _) => self.rule_count(router, peer, side) >= MAX_RULES,
             _ => false,
         }
     }
@@ -272,8 +272,8 @@ fn has_one_end(edit: &Edit) -> bool
 }
 
 /// Whether a rule may not do this there.
-fn sets_too_much(external: bool, way: Way, action: Action) -> bool
-    ensures { result ≡ sets_too_much external way action }
+fn sets_too_much(external: bool, side: PolicySide, action: Action) -> bool
+    ensures { result ≡ sets_too_much external side action }
 {
     match action {
         Action::Deny => false,
@@ -281,9 +281,9 @@ fn sets_too_much(external: bool, way: Way, action: Action) -> bool
             if !external {
                 pref.is_some() || med.is_some() || prepend.is_some()
             } else {
-                match way {
-                    Way::In => prepend.is_some(),
-                    Way::Out => pref.is_some(),
+                match side {
+                    PolicySide::Import => prepend.is_some(),
+                    PolicySide::Export => pref.is_some(),
                 }
             }
         }

@@ -1,6 +1,6 @@
 //! Changes of a configuration.
 
-use crate::tables::Way;
+use crate::tables::PolicySide;
 use igp_cost::Metric;
 use net_prefix::{Addr, Prefix};
 use path_attr::Asn;
@@ -34,9 +34,9 @@ pub enum Edit {
     /// The CLUSTER_ID of the router (RFC 4456, 7).
     Cluster(Addr, Addr),
     /// A rule at the end of the policy of the first for what comes from the second, or goes to it.
-    Rule(Addr, Addr, Way, Rule),
+    Rule(Addr, Addr, PolicySide, Rule),
     /// That policy is emptied.
-    Clear(Addr, Addr, Way),
+    Clear(Addr, Addr, PolicySide),
     /// The router originates the prefix.
     Origin(Addr, Prefix),
     /// The router originates the prefix no more.

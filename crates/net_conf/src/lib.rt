@@ -18,4 +18,4 @@ pub use edit::Edit;
 pub use igp_cost::Metric;
 pub use refusal::Refusal;
 pub use site::{SiteConf, SiteSession};
-pub use tables::{End, Ends, Kind, Link, Node, Origination, Way};
+pub use tables::{End, Ends, Kind, Link, Node, Origination, PolicySide};

@@ -64,13 +64,13 @@ pub struct End {
     pub peer: Addr,
 }
 
-/// Which routes a policy judges (RFC 4271, 9.1.1 and 9.1.3).
+/// Which of the two policies of a session's end (RFC 4271, 9.1.1 and 9.1.3).
 #[derive(Clone, Copy, Debug, PartialEq, Eq)]
-pub enum Way {
-    /// Those that come in from the peer.
-    In,
-    /// Those that go out to it.
-    Out,
+pub enum PolicySide {
+    /// The import policy, for the routes that come in from the peer.
+    Import,
+    /// The export policy, for those that go out to it.
+    Export,
 }
 
 /// A prefix that a router originates.

@@ -11,8 +11,8 @@ use Rattle.net_prefix.specs.Address.{addr_cmp}
 use Rattle.net_conf.specs.declared.tables.Ends.{Ends}
 use Rattle.net_conf.specs.declared.tables.Link.{Link as TheLink}
 use Rattle.net_conf.specs.declared.tables.Node.{Node}
-use Rattle.net_conf.specs.declared.tables.Way.{Way}
-use Rattle.net_conf.specs.declared.tables.Way.TheVariants.{In, Out}
+use Rattle.net_conf.specs.declared.tables.PolicySide.{PolicySide}
+use Rattle.net_conf.specs.declared.tables.PolicySide.TheVariants.{Import, Export}
 use Rattle.net_conf.specs.declared.edit.Edit.{Edit}
 use Rattle.net_conf.specs.declared.edit.Edit.TheVariants.{Router, Virtual, Metric, Fail, Mend, Join, Stop, Start, Rule as AddRule, Clear}
 use Rattle.net_conf.specs.declared.refusal.Refusal.{Refusal}
@@ -128,13 +128,13 @@ link_keeps_nodes : (c : Configuration) (x y : Addr) (change : TheLink → TheLin
 link_keeps_nodes c x y change None = refl
 link_keeps_nodes c x y change (Some l) = refl
 
-rule_keeps_nodes : (c : Configuration) (x y : Addr) (way : Way) (rule : Rule) → (with_rule_of c x y way rule).nodes ≡ c.nodes
-rule_keeps_nodes c x y In rule = refl
-rule_keeps_nodes c x y Out rule = refl
+rule_keeps_nodes : (c : Configuration) (x y : Addr) (side : PolicySide) (rule : Rule) → (with_rule_of c x y side rule).nodes ≡ c.nodes
+rule_keeps_nodes c x y Import rule = refl
+rule_keeps_nodes c x y Export rule = refl
 
-clear_keeps_nodes : (c : Configuration) (x y : Addr) (way : Way) → (without_rules_of c x y way).nodes ≡ c.nodes
-clear_keeps_nodes c x y In = refl
-clear_keeps_nodes c x y Out = refl
+clear_keeps_nodes : (c : Configuration) (x y : Addr) (side : PolicySide) → (without_rules_of c x y side).nodes ≡ c.nodes
+clear_keeps_nodes c x y Import = refl
+clear_keeps_nodes c x y Export = refl
 
 -- a node that is there stays as it is
 pub node_kept : (c : Configuration) (e : Edit) → Passes c e → (a : Addr) → has_node c a ≡ true → node_at (edited c e) a ≡ node_at c a
@@ -143,8 +143,8 @@ node_kept c (Virtual x n) ok a there = node_added c a x _ there ok.fresh
 node_kept c (Metric x y m) ok a there = ap (lookup (is_at (addr_cmp a))) (link_keeps_nodes c x y _ (link_between c x y))
 node_kept c (Fail x y) ok a there = ap (lookup (is_at (addr_cmp a))) (link_keeps_nodes c x y _ (link_between c x y))
 node_kept c (Mend x y) ok a there = ap (lookup (is_at (addr_cmp a))) (link_keeps_nodes c x y _ (link_between c x y))
-node_kept c (AddRule x y way rule) ok a there = ap (lookup (is_at (addr_cmp a))) (rule_keeps_nodes c x y way rule)
-node_kept c (Clear x y way) ok a there = ap (lookup (is_at (addr_cmp a))) (clear_keeps_nodes c x y way)
+node_kept c (AddRule x y side rule) ok a there = ap (lookup (is_at (addr_cmp a))) (rule_keeps_nodes c x y side rule)
+node_kept c (Clear x y side) ok a there = ap (lookup (is_at (addr_cmp a))) (clear_keeps_nodes c x y side)
 node_kept c e ok a there = refl
 
 -- SESSIONS THAT STAY
@@ -153,13 +153,13 @@ link_keeps_sessions : (c : Configuration) (x y : Addr) (change : TheLink → The
 link_keeps_sessions c x y change None = refl
 link_keeps_sessions c x y change (Some l) = refl
 
-rule_keeps_sessions : (c : Configuration) (x y : Addr) (way : Way) (rule : Rule) → (with_rule_of c x y way rule).sessions ≡ c.sessions
-rule_keeps_sessions c x y In rule = refl
-rule_keeps_sessions c x y Out rule = refl
+rule_keeps_sessions : (c : Configuration) (x y : Addr) (side : PolicySide) (rule : Rule) → (with_rule_of c x y side rule).sessions ≡ c.sessions
+rule_keeps_sessions c x y Import rule = refl
+rule_keeps_sessions c x y Export rule = refl
 
-clear_keeps_sessions : (c : Configuration) (x y : Addr) (way : Way) → (without_rules_of c x y way).sessions ≡ c.sessions
-clear_keeps_sessions c x y In = refl
-clear_keeps_sessions c x y Out = refl
+clear_keeps_sessions : (c : Configuration) (x y : Addr) (side : PolicySide) → (without_rules_of c x y side).sessions ≡ c.sessions
+clear_keeps_sessions c x y Import = refl
+clear_keeps_sessions c x y Export = refl
 
 either_session : (b here : Bool) (o : Option Bool) → is_some (cond here (Some b) o) ≡ true → (here ≡ true) ⊎ (is_some o ≡ true)
 either_session b true o h = inl refl
@@ -198,6 +198,6 @@ session_old_or_new c (Mend x y) ok a b h = inl (kept_sessions c _ a b (link_keep
 session_old_or_new c (Join x y) ok a b h = ⊎_elim (λ is. inr (x, y, refl, pair_from_ends a b x y is)) (λ was. inl was) (session_set c x y a b true h)
 session_old_or_new c (Stop x y) ok a b h = inl (session_stays c x y a b false ok.session h)
 session_old_or_new c (Start x y) ok a b h = inl (session_stays c x y a b true ok.session h)
-session_old_or_new c (AddRule x y way rule) ok a b h = inl (kept_sessions c _ a b (rule_keeps_sessions c x y way rule) h)
-session_old_or_new c (Clear x y way) ok a b h = inl (kept_sessions c _ a b (clear_keeps_sessions c x y way) h)
+session_old_or_new c (AddRule x y side rule) ok a b h = inl (kept_sessions c _ a b (rule_keeps_sessions c x y side rule) h)
+session_old_or_new c (Clear x y side) ok a b h = inl (kept_sessions c _ a b (clear_keeps_sessions c x y side) h)
 session_old_or_new c e ok a b h = inl h

@@ -57,8 +57,8 @@ IsEdit (Start a b) = IsAddress a × IsAddress b
 IsEdit (Client a b on) = IsAddress a × IsAddress b
 IsEdit (OwnNext a b on) = IsAddress a × IsAddress b
 IsEdit (Cluster a id) = IsAddress a × IsAddress id
-IsEdit (AddRule a b way rule) = IsAddress a × IsAddress b × IsMatch rule.cond × IsAction rule.act
-IsEdit (Clear a b way) = IsAddress a × IsAddress b
+IsEdit (AddRule a b side rule) = IsAddress a × IsAddress b × IsMatch rule.cond × IsAction rule.act
+IsEdit (Clear a b side) = IsAddress a × IsAddress b
 IsEdit (Origin a p) = IsAddress a × IsPrefix p
 IsEdit (NoOrigin a p) = IsAddress a × IsPrefix p
 
