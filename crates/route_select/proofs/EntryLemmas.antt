@@ -26,7 +26,7 @@ Entries = List (Source × Standing)
 T_of : (b : Bool) → b ≡ true → T b
 T_of b e = subst T (sym e) tt
 
-of_T : (b : Bool) → T b → b ≡ true
+pub of_T : (b : Bool) → T b → b ≡ true
 of_T true t = refl
 of_T false t = absurd t
 
@@ -168,28 +168,55 @@ tied : (s : Source) → source_cmp s s ≡ Equal
 tied Own = refl
 tied (FromPeer a) = tied_itself nat_cmp_total a.0
 
-later_by : (o : Ordering) (es : Entries) (n : Candidate) (s : Source) (v : Standing) → source_cmp n.source s ≡ o → below_all source_cmp s es ≡ true → find source_cmp n.source es ≡ Some (Considered n) → find source_cmp n.source ((s, v) ∷ es) ≡ Some (Considered n)
-later_by Less es n s v p below is = rw p is
-later_by Greater es n s v p below is = rw p is
-later_by Equal es n s v p below is =
-    let gone = find_below n.source es (subst (λ k. below_all source_cmp k es ≡ true) (sym (same_source n.source s p)) below) in
+later_by : (o : Ordering) (es : Entries) (q : Source) (w : Standing) (s : Source) (v : Standing) → source_cmp q s ≡ o → below_all source_cmp s es ≡ true → find source_cmp q es ≡ Some w → find source_cmp q ((s, v) ∷ es) ≡ Some w
+later_by Less es q w s v p below is = rw p is
+later_by Greater es q w s v p below is = rw p is
+later_by Equal es q w s v p below is =
+    let gone = find_below q es (subst (λ k. below_all source_cmp k es ≡ true) (sym (same_source q s p)) below) in
     absurd (cc (gone, is))
 
-later : (es : Entries) (n : Candidate) (s : Source) (v : Standing) → below_all source_cmp s es ≡ true → find source_cmp n.source es ≡ Some (Considered n) → find source_cmp n.source ((s, v) ∷ es) ≡ Some (Considered n)
-later es n s v below is = later_by (source_cmp n.source s) es n s v refl below is
+-- what is found after the first entry is found with it too
+later : (es : Entries) (q : Source) (w : Standing) (s : Source) (v : Standing) → below_all source_cmp s es ≡ true → find source_cmp q es ≡ Some w → find source_cmp q ((s, v) ∷ es) ≡ Some w
+later es q w s v below is = later_by (source_cmp q s) es q w s v refl below is
 
 -- what is considered is what its source has
 pub find_considered : (es : Entries) (n : Candidate) → is_sorted source_cmp es ≡ true → EachIsFrom es → In n (considered_in es) → find source_cmp n.source es ≡ Some (Considered n)
 find_considered [] n sorted each i = absurd i
 find_considered ((s, Excluded r) ∷ es) n sorted each i =
     let w = both_true (below_all source_cmp s es) (is_sorted source_cmp es) sorted in
-    later es n s (Excluded r) w.0 (find_considered es n w.1 each.1 i)
+    later es n.source (Considered n) s (Excluded r) w.0 (find_considered es n w.1 each.1 i)
 find_considered ((s, Considered c) ∷ es) n sorted each (inl e) =
     let h : source_cmp n.source s ≡ Equal = subst (λ k. source_cmp n.source k ≡ Equal) (ap (λ (x : Candidate). x.source) (sym e) ∙ each.0) (tied n.source) in
     rw h (ap (λ x. Some (Considered x)) e)
 find_considered ((s, Considered c) ∷ es) n sorted each (inr i) =
     let w = both_true (below_all source_cmp s es) (is_sorted source_cmp es) sorted in
-    later es n s (Considered c) w.0 (find_considered es n w.1 each.1 i)
+    later es n.source (Considered n) s (Considered c) w.0 (find_considered es n w.1 each.1 i)
+
+-- where each source's standing is its own, the entries are
+pub each_from : (es : Entries) → is_sorted source_cmp es ≡ true → ((q : Source) (w : Standing) → find source_cmp q es ≡ Some w → IsFrom q w) → EachIsFrom es
+each_from [] sorted f = tt
+each_from ((s, v) ∷ es) sorted f =
+    let w = both_true (below_all source_cmp s es) (is_sorted source_cmp es) sorted in
+    (f s v (rw (tied s) refl), each_from es w.1 (λ q x is. f q x (later es q x s v w.0 is)))
+
+-- no two of the list have one source
+abbrev pub AreApart : List Candidate → Type 0
+AreApart [] = Unit {0}
+AreApart (m ∷ ms) = ((n : Candidate) → In n ms → m.source ≡ n.source → ⊥) × AreApart ms
+
+pub considered_apart : (es : Entries) → is_sorted source_cmp es ≡ true → EachIsFrom es → AreApart (considered_in es)
+considered_apart [] sorted each = tt
+considered_apart ((s, Excluded r) ∷ es) sorted each =
+    let w = both_true (below_all source_cmp s es) (is_sorted source_cmp es) sorted in
+    considered_apart es w.1 each.1
+considered_apart ((s, Considered c) ∷ es) sorted each =
+    let w = both_true (below_all source_cmp s es) (is_sorted source_cmp es) sorted in (
+      λ n i e.
+          let is = find_considered es n w.1 each.1 i in
+          let gone : find source_cmp n.source es ≡ None = find_below n.source es (subst (λ k. below_all source_cmp k es ≡ true) (sym each.0 ∙ e) w.0) in
+          absurd (cc (gone, is)),
+      considered_apart es w.1 each.1,
+    )
 
 -- no source comes twice
 pub own_sources : (es : Entries) → AreEntries es → HaveOwnSources (considered_in es)

@@ -1,5 +1,6 @@
 pub mod EntryLemmas
-mod Keeping
+mod Filtering
 mod Leading
 mod Ranks
+pub mod Sole
 mod Scan

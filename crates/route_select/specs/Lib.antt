@@ -1,3 +1,4 @@
 pub mod Selection
+pub mod Laws
 pub mod Leaders
 pub mod Entries

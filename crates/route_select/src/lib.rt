@@ -6,9 +6,11 @@ mod chosen;
 mod entries;
 mod filter;
 mod filter_cell;
+mod laws;
 #[cfg(test)]
 mod tests;
 
 pub use candidate::{Candidate, Reason, Source, Standing};
 pub use chosen::{Chosen, Selector};
 pub use filter_cell::FilterCell;
+pub use laws::{none_is_left, one_is_left};
