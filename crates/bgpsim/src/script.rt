@@ -7,7 +7,7 @@ ghost use Rattle.sim_text.specs.declared.fault.ServeFault.{ServeFault};
 ghost use Rattle.sim_text.specs.Serving.{IsServing};
 ghost use Rattle.bgpsim.specs.Status.{status_of};
 
-use reference_machine::Simulator;
+use plain_simulator::Simulator;
 use route_select::FilterCell;
 use sim_text::{ServeFault, serve};
 use std::alloc::Global;

@@ -1,6 +1,0 @@
-mod Lists
-mod MessagesOfTurns
-mod Questions
-mod Runs
-mod Sites
-mod Traces

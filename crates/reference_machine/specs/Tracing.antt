@@ -10,9 +10,9 @@ use Rattle.route_select.specs.declared.candidate.Candidate.{Candidate}
 use Rattle.route_select.specs.Selection.{is_own}
 use Rattle.sim_event.specs.declared.reply.TraceEnd.{TraceEnd}
 use Rattle.sim_event.specs.declared.reply.TraceEnd.TheVariants.{Reached, NoRoute, Loop}
-use Rattle.reference_machine.specs.declared.trace.Look.{Look}
-use Rattle.reference_machine.specs.declared.trace.Look.TheVariants.{Ends, Forwards}
-use Rattle.reference_machine.specs.declared.trace.Traced.{Traced}
+use Rattle.reference_machine.specs.declared.tracing.Look.{Look}
+use Rattle.reference_machine.specs.declared.tracing.Look.TheVariants.{Ends, Forwards}
+use Rattle.reference_machine.specs.declared.tracing.Traced.{Traced}
 use Rattle.reference_machine.specs.Network.{Network, same_addr}
 use Rattle.reference_machine.specs.Decision.{best}
 use Rattle.reference_machine.specs.Advertising.{prefixes_at, in_order}

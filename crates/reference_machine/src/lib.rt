@@ -1,24 +1,13 @@
-//! The definitions of the whole, and the plain simulator that computes them.
+//! The definitions of the whole: what is decided, advertised, reported and done at each event; and the trait that every
+//! machine keeps. No program stands here.
 #![tactic(auto)]
 
-mod advertise;
-mod decide;
 mod machine;
-mod queues;
-mod reasons;
-mod reports;
 mod rows;
-mod simulator;
-mod state;
-mod steps;
-mod trace;
-mod turns;
+mod tracing;
 
 pub use machine::Machine;
 pub use rows::{Queue, RouteKey};
 pub use session_queue::Direction;
 pub use sim_event::{Ask, Event, Feed, Held, News, Reply, Report, TraceEnd};
-pub use simulator::Simulator;
-
-#[cfg(test)]
-mod tests;
+pub use tracing::{Look, Traced};

@@ -1,7 +1,7 @@
 //! Readers and writers that fail midway, and memory that is refused once.
 
 use super::check_bytes;
-use reference_machine::Simulator;
+use plain_simulator::Simulator;
 use route_select::FilterCell;
 use sim_text::{ServeFault, serve};
 use std::alloc::Global;

@@ -1,6 +1,6 @@
 //! A user at a terminal: each reply stands there before the next line is typed.
 
-use reference_machine::Simulator;
+use plain_simulator::Simulator;
 use route_select::FilterCell;
 use sim_text::serve;
 use std::cell::Cell;

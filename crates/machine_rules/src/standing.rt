@@ -1,0 +1,224 @@
+//! How routes to a prefix stand at a router, over its site.
+
+ghost use Rattle.std.specs.Prelude.{◌≡◌, Some, OnOk, OnErr, IfOk};
+ghost use Rattle.std.specs.List.{list_any};
+ghost use Rattle.std.specs.Option.{option_to_list};
+ghost use Rattle.reference_machine.specs.Network.{same_addr};
+ghost use Rattle.reference_machine.specs.Decision.{own_candidate, is_originated, own_standings, has_cluster_loop, is_denial, exclusion, set_preference, set_med, preference, imported, peer_candidate, judged_standing, peer_standing, standing_over, added};
+
+use net_conf::{SiteConf, SiteSession};
+use net_prefix::{Addr, Prefix};
+use path_attr::{AsPath, Attr, Origin};
+use route_policy::{Action, judge};
+use route_select::{Candidate, Reason, Selector, Source, Standing};
+use seq::{Copied, Seq};
+use std::alloc::{AllocError, Global};
+
+/// The preference of a route that nothing sets.
+const DEFAULT_PREFERENCE: u32 = 100;
+
+/// The route that the router originates.
+pub fn own_candidate(alloc: Global, router: Addr) -> Candidate
+    ensures { result ≡ own_candidate router }
+{
+    Candidate {
+        source: Source::Own,
+        attr: Attr {
+            path: AsPath::empty(alloc),
+            origin: Origin::Igp,
+            next: router,
+            med: None,
+            pref: Some(DEFAULT_PREFERENCE),
+            oid: None,
+            clusters: Seq::new(alloc),
+        },
+        pref: DEFAULT_PREFERENCE,
+        external: true,
+        cost: 0,
+        ident: router,
+    }
+}
+
+/// Whether the router originates the prefix.
+pub fn is_originated(site: &SiteConf, prefix: Prefix) -> bool
+    ensures { result ≡ is_originated site.now prefix }
+{
+    site.origins.as_slice().iter().any(|p| prefix == *p)
+}
+
+/// Whether the route has been in the router's cluster.
+fn has_cluster_loop(site: &SiteConf, attr: &Attr) -> bool
+    ensures { result ≡ has_cluster_loop site.now attr.now }
+{
+    site.reflector && is_among(site.cluster, attr.clusters.as_slice())
+}
+
+fn is_among(id: Addr, ids: &[Addr]) -> bool
+    ensures { result ≡ list_any (same_addr id) ids.now }
+{
+    ids.iter().any(|other| id == *other)
+}
+
+fn is_denial(action: Action) -> bool
+    ensures { result ≡ is_denial action }
+{
+    match action {
+        Action::Deny => true,
+        Action::Permit { .. } => false,
+    }
+}
+
+/// Why the router may not choose a peer's route: the first test that holds.
+pub fn exclusion(site: &SiteConf, action: Action, attr: &Attr) -> Option<Reason>
+    ensures { result ≡ exclusion site.now action attr.now }
+{
+    if attr.path.holds(site.asn) {
+        Some(Reason::Loop)
+    } else if attr.oid == Some(site.me) {
+        Some(Reason::Originator)
+    } else if has_cluster_loop(site, attr) {
+        Some(Reason::Cluster)
+    } else if is_denial(action) {
+        Some(Reason::Denied)
+    } else if site.costs.cost(attr.next).is_none() {
+        Some(Reason::Unresolved)
+    } else {
+        None
+    }
+}
+
+fn set_preference(action: Action) -> Option<u32>
+    ensures { result ≡ set_preference action }
+{
+    match action {
+        Action::Deny => None,
+        Action::Permit { pref, .. } => pref,
+    }
+}
+
+fn set_med(action: Action, med: Option<u32>) -> Option<u32>
+    ensures { result ≡ set_med action med }
+{
+    match action {
+        Action::Deny => med,
+        Action::Permit { med: None, .. } => med,
+        Action::Permit { med: Some(set), .. } => Some(set),
+    }
+}
+
+/// The degree of preference.
+fn preference(external: bool, action: Action, attr: &Attr) -> u32
+    ensures { result ≡ preference external action attr.now }
+{
+    if external {
+        set_preference(action).unwrap_or(DEFAULT_PREFERENCE)
+    } else {
+        attr.pref.unwrap_or(DEFAULT_PREFERENCE)
+    }
+}
+
+/// The attributes after import.
+fn imported(alloc: Global, external: bool, action: Action, attr: &Attr) -> Result<Attr, AllocError>
+    ensures { IfOk result (λ a. a ≡ imported external action attr.now) }
+{
+    Ok(Attr {
+        path: attr.path.copy(alloc)?,
+        origin: attr.origin,
+        next: attr.next,
+        med: set_med(action, attr.med),
+        pref: Some(preference(external, action, attr)),
+        oid: attr.oid,
+        clusters: Seq::copy_of(alloc, attr.clusters.as_slice())?,
+    })
+}
+
+/// A peer's route as a candidate.
+pub fn peer_candidate(
+    alloc: Global,
+    site: &SiteConf,
+    from: &SiteSession,
+    action: Action,
+    attr: &Attr,
+) -> Result<Candidate, AllocError>
+    ensures { IfOk result (λ c. c ≡ peer_candidate site.now from.now action attr.now) }
+{
+    Ok(Candidate {
+        source: Source::Peer(from.peer),
+        attr: imported(alloc, from.external, action, attr)?,
+        pref: preference(from.external, action, attr),
+        external: from.external,
+        cost: site.costs.cost(attr.next).unwrap_or(0),
+        ident: attr.oid.unwrap_or(from.peer),
+    })
+}
+
+/// How a route that the import policy judged stands at the router.
+fn judged_standing(
+    alloc: Global,
+    site: &SiteConf,
+    from: &SiteSession,
+    action: Action,
+    attr: &Attr,
+) -> Result<Standing, AllocError>
+    ensures { IfOk result (λ standing. standing ≡ judged_standing site.now from.now action attr.now) }
+{
+    match exclusion(site, action, attr) {
+        Some(reason) => Ok(Standing::Excluded(reason)),
+        None => Ok(Standing::Considered(peer_candidate(alloc, site, from, action, attr)?)),
+    }
+}
+
+/// How a route from the peer of the session stands at the router.
+pub fn peer_standing(
+    alloc: Global,
+    site: &SiteConf,
+    prefix: Prefix,
+    from: &SiteSession,
+    attr: &Attr,
+) -> Result<Standing, AllocError>
+    ensures { IfOk result (λ standing. standing ≡ peer_standing site.now prefix from.now attr.now) }
+{
+    judged_standing(
+        alloc,
+        site,
+        from,
+        judge(&from.policy_in, prefix, attr),
+        attr,
+    )
+}
+
+/// Adds the router's own route, if it originates the prefix.
+pub fn put_own<S: Selector>(
+    alloc: Global,
+    chosen: &mut S,
+    site: &SiteConf,
+    prefix: Prefix,
+) -> Result<(), AllocError>
+    ensures { OnOk result (S.standings chosen.new ≡ added (S.standings chosen.old) (own_standings site.now prefix)) }
+{
+    if is_originated(site, prefix) {
+        chosen.put(
+            Source::Own,
+            Standing::Considered(own_candidate(alloc, site.me)),
+        )?;
+    }
+    Ok(())
+}
+
+/// Adds a route that was received over the session, if that is up.
+pub fn put_received<S: Selector>(
+    alloc: Global,
+    chosen: &mut S,
+    site: &SiteConf,
+    prefix: Prefix,
+    attr: &Attr,
+    from: &SiteSession,
+) -> Result<(), AllocError>
+    ensures { OnOk result (S.standings chosen.new ≡ added (S.standings chosen.old) (option_to_list (standing_over site.now prefix from.now (Some attr.now)))) }
+{
+    if from.up {
+        let standing = peer_standing(alloc, site, prefix, from, attr)?;
+        chosen.put(Source::Peer(from.peer), standing)?;
+    }
+    Ok(())
+}

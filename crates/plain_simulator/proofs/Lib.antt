@@ -1,0 +1,6 @@
+mod Lists
+mod MessagesOfTurns
+mod Questions
+mod Runs
+mod Sites
+mod Traces

@@ -1,0 +1,15 @@
+use Rattle.std.proofs.Common.{◌≡◌, ◌∙◌, sym, ap}
+use Rattle.reference_machine.specs.Network.{with_more}
+use Rattle.reference_machine.specs.Advertising.{sent}
+use Rattle.plain_simulator.proofs.Lists.{map_pushed}
+use Rattle.plain_simulator.proofs.MessagesOfTurns.{kept_turns}
+use Rattle.plain_simulator.proofs.state.queues_after.Goals as goal
+
+pub loop-queue-preserved : goal.loop-queue-preserved
+loop-queue-preserved g c = record {
+  done = map_pushed (λ q. with_more q (sent c.args.earlier.now c.args.later.now q.of.from q.of.to)) _ _ c.queue-item.result _ _ _ c.loop-queue-test.true c.queue-item.is
+      (c.in_ok-with_more.ensures ∙ ap (with_more c.queue-item.result) c.in_ok-messages.ensures)
+      c.loop-queue.invariant.done
+      c.in_ok-push.ensures.items;
+  kept = kept_turns c.args.earlier.now c.args.later.now c.queue-item.result.of.from c.in_ok-turns.turns c.in_ok-turns.ensures;
+}

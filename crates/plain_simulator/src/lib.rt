@@ -1,0 +1,17 @@
+//! The definitions of `reference_machine` made to run: everything is decided afresh, before and after each step.
+#![tactic(auto)]
+
+mod decide;
+mod queues;
+mod reasons;
+mod reports;
+mod simulator;
+mod state;
+mod steps;
+mod trace;
+mod turns;
+
+pub use simulator::Simulator;
+
+#[cfg(test)]
+mod tests;

@@ -1,0 +1,286 @@
+//! What each kind of event does to the state. A step builds what it needs beside the state, and moves it in at the end.
+
+ghost use Rattle.std.specs.Prelude.{◌≡◌, None, false, map, filter, IfOk, OnOk, OnErr};
+ghost use Rattle.net_conf.specs.Costs.{is_up};
+ghost use Rattle.net_conf.specs.Edits.{refusal_of};
+ghost use Rattle.reference_machine.specs.Network.{with_route, without_route};
+ghost use Rattle.reference_machine.specs.Machine.{step, edits, with_queues, configured, reconfigured, is_kept, emptied, asks_quiet, feeds, received_after, taken, delivers, asks, Tries};
+
+use crate::queues;
+use crate::state::{State, with_sent};
+use machine_rules::{ask_refusal, delivery_refusal, fed_message, feed_refusal};
+use net_conf::{Conf, Edit, Refusal};
+use path_attr::Attr;
+use reference_machine::{Queue, RouteKey};
+use route_select::Selector;
+use seq::{Copied, Seq, copy_all};
+use session_queue::{Direction, Message};
+use sim_event::{Ask, Event, Feed, Reply};
+use std::alloc::{AllocError, Global};
+use std::collections::BTreeMap;
+
+impl State {
+    /// Takes an event. Where memory is wanted, nothing has changed.
+    pub fn try_step<S: Selector + Drop>(
+        &mut self,
+        alloc: Global,
+        event: &Event,
+    ) -> Result<Reply, AllocError>
+        ensures tries { Tries (step self.old event.now) self.old result self.new }
+        ensures quiet { OnErr result (asks_quiet event.now ≡ false) }
+    {
+        match event {
+            Event::Edit(edit) => self.edit::<S>(alloc, edit),
+            Event::Feed(feed) => self.feed(alloc, feed),
+            Event::Deliver(from, to) => self.deliver::<S>(
+                alloc,
+                Direction {
+                    from: *from,
+                    to: *to,
+                },
+            ),
+            Event::Ask(ask) => self.ask::<S>(alloc, ask),
+        }
+    }
+
+    #[tactic(auto, unfolding(reference_machine::specs::Machine::edits))]
+    fn edit<S: Selector + Drop>(&mut self, alloc: Global, edit: &Edit) -> Result<Reply, AllocError>
+        ensures { Tries (edits self.old edit.now) self.old result self.new }
+    {
+        if let Err(refusal) = self.conf.check(edit) {
+            return Ok(Reply::Refused(refusal));
+        }
+        let later = configured(alloc, self, edit)?;
+        *self = with_sent::<S>(alloc, self, later)?;
+        Ok(Reply::Done)
+    }
+
+    #[tactic(auto, unfolding(reference_machine::specs::Machine::feeds))]
+    fn feed(&mut self, alloc: Global, feed: &Feed) -> Result<Reply, AllocError>
+        ensures { Tries (feeds self.old feed.now) self.old result self.new }
+    {
+        if let Some(refusal) = feed_refusal(&self.conf, feed) {
+            return Ok(Reply::Refused(refusal));
+        }
+        let direction = Direction {
+            from: feed.from,
+            to: feed.to,
+        };
+        let message = fed_message(alloc, feed.from, &feed.news)?;
+        self.queues = queues::with_message(alloc, &self.queues, direction, &message)?;
+        Ok(Reply::Done)
+    }
+
+    #[tactic(auto, unfolding(reference_machine::specs::Machine::delivers))]
+    fn deliver<S: Selector + Drop>(
+        &mut self,
+        alloc: Global,
+        direction: Direction,
+    ) -> Result<Reply, AllocError>
+        ensures { Tries (delivers self.old direction) self.old result self.new }
+    {
+        if let Some(refusal) = delivery_refusal(&self.conf, direction) {
+            return Ok(Reply::Refused(refusal));
+        }
+        let Some(messages) = queues::messages_in(&self.queues, direction) else {
+            return Ok(Reply::Refused(Refusal::QueueEmpty));
+        };
+        let [message, ..] = messages else {
+            return Ok(Reply::Refused(Refusal::QueueEmpty));
+        };
+        let reply = Reply::Took(message.prefix(), message.kind());
+        let later = taken(alloc, self, direction, message)?;
+        *self = with_sent::<S>(alloc, self, later)?;
+        Ok(reply)
+    }
+
+    #[tactic(auto, unfolding(reference_machine::specs::Machine::asks))]
+    fn ask<S: Selector + Drop>(&mut self, alloc: Global, ask: &Ask) -> Result<Reply, AllocError>
+        ensures tries { Tries (asks self.old ask.now) self.old result self.new }
+        ensures quiet { OnErr result (asks_quiet (Event.Ask ask.now) ≡ false) }
+    {
+        if let Some(refusal) = ask_refusal(&self.conf, ask) {
+            return Ok(Reply::Refused(refusal));
+        }
+        Ok(Reply::Report(self.report::<S>(alloc, ask)?))
+    }
+}
+
+/// The state after the edit, before anything is sent. The edit is one that is not refused.
+fn configured(alloc: Global, state: &State, edit: &Edit) -> Result<State, AllocError>
+    requires { refusal_of state.now.conf edit.now ≡ None }
+    ensures { IfOk result (λ later. later ≡ configured state.now edit.now) }
+{
+    let mut conf = state.conf.copy(alloc)?;
+    if conf.edit(alloc, edit).is_err() {
+        return Err(AllocError);
+    }
+    let queues = with_queues(alloc, &state.queues, edit)?;
+    reconfigured(alloc, conf, &state.received, queues)
+}
+
+/// The state with this configuration: nothing received, and nothing on its way, over a session that is down in it.
+#[tactic(auto, unfolding(reference_machine::specs::Machine::reconfigured))]
+fn reconfigured(
+    alloc: Global,
+    conf: Conf,
+    received: &BTreeMap<RouteKey, Attr>,
+    queues: Vec<Queue>,
+) -> Result<State, AllocError>
+    ensures { IfOk result (λ later. later ≡ reconfigured conf received.now.entries queues.items) }
+{
+    let received = kept(&conf, received)?;
+    let queues = emptied(alloc, &conf, queues)?;
+    Ok(State {
+        conf,
+        received,
+        queues,
+    })
+}
+
+/// What was received over sessions that are up.
+fn kept(
+    conf: &Conf,
+    received: &BTreeMap<RouteKey, Attr>,
+) -> Result<BTreeMap<RouteKey, Attr>, AllocError>
+    ensures { IfOk result (λ after. after.entries ≡ filter (is_kept conf.now) received.now.entries) }
+{
+    let mut after = copied(received)?;
+    keep(conf, &mut after);
+    Ok(after)
+}
+
+/// Keeps what was received over sessions that are up.
+fn keep(conf: &Conf, received: &mut BTreeMap<RouteKey, Attr>)
+    ensures { received.new.entries ≡ filter (is_kept conf.now) received.old.entries }
+{
+    received.retain(
+        |key, _attr|
+            ensures kept { result ≡ is_up conf.entry.now key.now.from key.now.to }
+            ensures attr { _attr.new ≡ _attr.old }
+            ensures conf { conf.exit ≡ conf.entry }
+        { conf.is_up(key.from, key.to) },
+    );
+}
+
+/// What was received, again.
+fn copied(received: &BTreeMap<RouteKey, Attr>) -> Result<BTreeMap<RouteKey, Attr>, AllocError>
+    ensures { IfOk result (λ after. after.entries ≡ received.now.entries) }
+{
+    received.clone()
+}
+
+/// The queue, without its messages where the session is down.
+fn emptied_one(alloc: Global, conf: &Conf, queue: Queue) -> Queue
+    ensures { result ≡ emptied conf.now queue }
+{
+    if conf.is_up(queue.of.from, queue.of.to) {
+        queue
+    } else {
+        Queue {
+            of: queue.of,
+            messages: Seq::new(alloc),
+        }
+    }
+}
+
+/// The queues, each without its messages where its session is down.
+fn emptied(alloc: Global, conf: &Conf, queues: Vec<Queue>) -> Result<Vec<Queue>, AllocError>
+    ensures { IfOk result (λ after. after.items ≡ map (emptied conf.now) queues.items) }
+{
+    let mut after = Vec::new(alloc);
+    for queue in queues {
+        after.push(emptied_one(alloc, conf, queue))?;
+    }
+    Ok(after)
+}
+
+/// The queues, with those that the edit adds.
+fn with_queues(alloc: Global, queues: &[Queue], edit: &Edit) -> Result<Vec<Queue>, AllocError>
+    ensures { IfOk result (λ more. more.items ≡ with_queues edit.now queues.now) }
+{
+    match *edit {
+        Edit::Join(one, other) => {
+            let back = Direction {
+                from: other,
+                to: one,
+            };
+            let more = queues::with_direction(alloc, queues, back)?;
+            let forth = Direction {
+                from: one,
+                to: other,
+            };
+            queues::with_direction(alloc, &more, forth)
+        }
+        _ => copy_all(alloc, queues),
+    }
+}
+
+/// What was received, once the message has been taken.
+fn received_after(
+    received: &BTreeMap<RouteKey, Attr>,
+    alloc: Global,
+    direction: Direction,
+    message: &Message,
+) -> Result<BTreeMap<RouteKey, Attr>, AllocError>
+    ensures { IfOk result (λ after. after.entries ≡ received_after direction message.now received.now.entries) }
+{
+    let key = RouteKey {
+        to: direction.to,
+        prefix: message.prefix(),
+        from: direction.from,
+    };
+    match message {
+        Message::Update(_, attr) => with_route(received, key, attr.copy(alloc)?),
+        Message::Withdraw(_) => without_route(received, key),
+    }
+}
+
+/// What was received, with this route in place of any of its key.
+fn with_route(
+    received: &BTreeMap<RouteKey, Attr>,
+    key: RouteKey,
+    attr: Attr,
+) -> Result<BTreeMap<RouteKey, Attr>, AllocError>
+    ensures { IfOk result (λ after. after.entries ≡ with_route key attr received.now.entries) }
+{
+    let mut after = copied(received)?;
+    put(&mut after, key, attr)?;
+    Ok(after)
+}
+
+/// What was received, without the route of the key.
+fn without_route(
+    received: &BTreeMap<RouteKey, Attr>,
+    key: RouteKey,
+) -> Result<BTreeMap<RouteKey, Attr>, AllocError>
+    ensures { IfOk result (λ after. after.entries ≡ without_route key received.now.entries) }
+{
+    let mut after = copied(received)?;
+    after.remove(&key);
+    Ok(after)
+}
+
+fn put(received: &mut BTreeMap<RouteKey, Attr>, key: RouteKey, attr: Attr) -> Result<(), AllocError>
+    ensures { OnOk result (received.new.entries ≡ with_route key attr received.old.entries) }
+{
+    received.insert(key, attr)?;
+    Ok(())
+}
+
+/// The state once the message at the head has been taken, before anything is sent.
+#[tactic(auto, unfolding(reference_machine::specs::Machine::taken))]
+fn taken(
+    alloc: Global,
+    state: &State,
+    direction: Direction,
+    message: &Message,
+) -> Result<State, AllocError>
+    ensures { IfOk result (λ after. after ≡ taken state.now direction message.now) }
+{
+    Ok(State {
+        conf: state.conf.copy(alloc)?,
+        received: received_after(&state.received, alloc, direction, message)?,
+        queues: queues::without_head(alloc, &state.queues, direction)?,
+    })
+}

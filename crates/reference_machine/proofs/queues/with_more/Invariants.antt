@@ -1,6 +1,0 @@
-use Rattle.std.proofs.Common.{◌≡◌, ◌++◌}
-use Rattle.reference_machine.proofs.queues.with_more.Given as goal
-
--- the messages so far are at the end
-abbrev pub invariant-loop-message : goal.invariant-loop-message
-invariant-loop-message l = l.all ≡ l.queue.messages ++ l.yielded
