@@ -1,15 +1,8 @@
-//! Whole scripts, served without a process.
+//! What only a call can show: readers and writers that fail, memory that is refused, a reader that waits for its replies. Whole scripts are
+//! data, in cases/ at the top of the repository.
 
-mod examples;
 mod faults;
-mod limits;
-mod lines;
 mod prompt;
-mod reflection;
-mod refusals;
-mod rows;
-mod selection;
-mod whole;
 
 use crate::command_line::{Choice, choose};
 use crate::script::run_script;
@@ -36,23 +29,6 @@ fn check_bytes(
     assert_eq!(rt; written.as_slice(), replies.as_bytes());
     assert_eq!(rt; errors.as_slice(), told.as_bytes());
     assert_eq!(rt; answered, status);
-    Ok(())
-}
-
-fn check(
-    rt: &(impl Abort + AllocGlobal),
-    script: &str,
-    replies: &str,
-    status: u8,
-) -> Result<(), Fail> {
-    check_bytes(rt, script.as_bytes(), replies, "", status)
-}
-
-/// Adds the text so many times.
-fn push_times(to: &mut String, text: &str, count: usize) -> Result<(), Fail> {
-    for _ in 0..count {
-        to.push_str(text)?;
-    }
     Ok(())
 }
 
