@@ -19,6 +19,3 @@ pub use rows::{Queue, RouteKey};
 pub use session_queue::Direction;
 pub use sim_event::{Ask, Event, Feed, Held, News, Reply, Report, TraceEnd};
 pub use simulator::Simulator;
-
-#[cfg(test)]
-mod tests;

@@ -6,8 +6,6 @@ mod chosen;
 mod entries;
 mod filter;
 mod filter_cell;
-#[cfg(test)]
-mod tests;
 
 pub use candidate::{Candidate, Reason, Source, Standing};
 pub use chosen::{Chosen, Selector};

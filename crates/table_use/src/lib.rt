@@ -96,6 +96,3 @@ pub fn keys<V, T: PrefixTable<V>>(alloc: Global, table: &T) -> Result<Vec<Prefix
         }
     }
 }
-
-#[cfg(test)]
-mod tests;
