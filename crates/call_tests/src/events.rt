@@ -1,12 +1,12 @@
 //! Copies with ample memory, and where memory is refused once.
 
-use sim_event::{Ask, Event, Feed, Held, News, Reply, Report};
 use net_conf::{Edit, Refusal};
 use net_prefix::{Addr, Prefix};
 use path_attr::{AsPath, Asn, Attr, Origin};
 use route_select::Source;
 use seq::{Copied, Seq};
 use session_queue::MessageKind;
+use sim_event::{Ask, Event, Feed, Held, News, Reply, Report};
 use std::alloc::{AllocError, Global};
 use std::process::Abort;
 use std::test::Fail;

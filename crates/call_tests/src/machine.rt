@@ -1,10 +1,10 @@
 //! Runs of the plain simulator, with the replies that the worked examples give.
 
 use crate::common::asn;
-use reference_machine::{Ask, Event, Machine, Reply, Report, Simulator};
 use net_conf::{Edit, Metric, Refusal};
 use net_prefix::{Addr, Prefix};
 use path_attr::Asn;
+use reference_machine::{Ask, Event, Machine, Reply, Report, Simulator};
 use route_select::{FilterCell, Source};
 use session_queue::MessageKind;
 use std::test::Fail;

@@ -1,8 +1,8 @@
 //! Worked paths and attributes, with ample memory and where memory is refused once.
 
 use crate::common::{again, asn};
-use path_attr::{AsPath, Asn, Attr, Origin, Segment};
 use net_prefix::Addr;
+use path_attr::{AsPath, Asn, Attr, Origin, Segment};
 use seq::{Copied, Seq};
 use std::alloc::{AllocError, Global};
 use std::process::Abort;

@@ -1,9 +1,9 @@
 //! Worked policies, with ample memory and where memory is refused once.
 
 use crate::common::{again, asn};
-use route_policy::{Action, AddFault, MAX_RULES, Match, Policy, Repeat, Rule, judge};
 use net_prefix::{Addr, Prefix, read_prefix};
 use path_attr::{AsPath, Asn, Attr, Origin, Segment};
+use route_policy::{Action, AddFault, MAX_RULES, Match, Policy, Repeat, Rule, judge};
 use seq::{Copied, Seq};
 use std::alloc::{AllocError, Global};
 use std::process::Abort;

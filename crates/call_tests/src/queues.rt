@@ -4,10 +4,10 @@ mod directions;
 mod refusals;
 
 use crate::common::again;
-use session_queue::{Message, MessageKind, Queues, View};
 use net_prefix::{Addr, Prefix};
 use path_attr::{AsPath, Asn, Attr, Origin};
 use seq::{Copied, Seq};
+use session_queue::{Message, MessageKind, Queues, View};
 use std::alloc::{AllocError, Global};
 use std::process::Abort;
 use std::test::Fail;

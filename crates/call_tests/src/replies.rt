@@ -1,9 +1,9 @@
 //! Whole texts, byte by byte.
 
-use reply_text::{write_refusal, write_reply};
 use net_conf::Refusal;
 use net_prefix::{Addr, Prefix};
 use path_attr::{AsPath, Asn, Attr, Origin, Segment};
+use reply_text::{write_refusal, write_reply};
 use route_select::Source;
 use seq::Seq;
 use session_queue::MessageKind;

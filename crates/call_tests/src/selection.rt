@@ -5,9 +5,9 @@ ghost use Rattle.std.specs.FinMap as map;
 ghost use Rattle.std.specs.Option.{option_map};
 ghost use Rattle.route_select.specs.Selection.{best_of, reason_in};
 
-use route_select::{Candidate, Chosen, FilterCell, Reason, Selector, Source, Standing};
 use net_prefix::Addr;
 use path_attr::{AsPath, Asn, Attr, Origin, Segment};
+use route_select::{Candidate, Chosen, FilterCell, Reason, Selector, Source, Standing};
 use seq::{Copied, Seq};
 use std::alloc::{AllocError, Global};
 use std::test::Fail;

@@ -3,12 +3,12 @@
 ghost use Rattle.std.specs.Prelude.{◌<◌};
 
 use super::{addr, graph, metric, retouch, says, tree};
+use crate::common::asn;
 use igp_cost::{Change, Metric, Tree};
 use net_prefix::Addr;
 use path_attr::Asn;
 use std::alloc::Global;
 use std::process::Abort;
-use crate::common::asn;
 use std::test::Fail;
 
 const COUNT: usize = 30;

@@ -4,8 +4,8 @@ ghost use Rattle.std.specs.Prelude.{◌≤◌, OnOk};
 ghost use Rattle.session_queue.specs.Waiting.{spare_at};
 
 use super::{Row, Told, check_row, check_walk, message};
-use session_queue::Queues;
 use net_prefix::Addr;
+use session_queue::Queues;
 use std::process::Abort;
 use std::test::Fail;
 

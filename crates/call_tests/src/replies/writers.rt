@@ -1,8 +1,8 @@
 //! Writers that fail.
 
 use super::{PEER, plain, report, sequence_and_set, ten};
-use reply_text::write_reply;
 use net_prefix::Addr;
+use reply_text::write_reply;
 use route_select::{Reason, Source};
 use seq::Seq;
 use session_queue::MessageKind;
