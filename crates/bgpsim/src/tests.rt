@@ -1,19 +1,10 @@
-//! Whole scripts, served without a process.
+//! What only a call can show: readers and writers that fail, memory that is refused, a reader that waits for its replies. Whole scripts are
+//! data, in cases/ at the top of the repository.
 
-mod examples;
 mod faults;
-mod limits;
-mod lines;
 mod prompt;
-mod reflection;
-mod refusals;
-mod rows;
-mod selection;
-mod whole;
 
-use crate::command_line::{Choice, choose};
 use crate::script::run_script;
-use clap::error::ErrorKind;
 use std::process::Abort;
 use std::test::Fail;
 use watched::{Input, Output};
@@ -36,63 +27,5 @@ fn check_bytes(
     assert_eq!(rt; written.as_slice(), replies.as_bytes());
     assert_eq!(rt; errors.as_slice(), told.as_bytes());
     assert_eq!(rt; answered, status);
-    Ok(())
-}
-
-fn check(
-    rt: &(impl Abort + AllocGlobal),
-    script: &str,
-    replies: &str,
-    status: u8,
-) -> Result<(), Fail> {
-    check_bytes(rt, script.as_bytes(), replies, "", status)
-}
-
-/// Adds the text so many times.
-fn push_times(to: &mut String, text: &str, count: usize) -> Result<(), Fail> {
-    for _ in 0..count {
-        to.push_str(text)?;
-    }
-    Ok(())
-}
-
-#[test]
-fn the_command_line(rt: HostRuntime) -> Result<(), Fail> {
-    let alloc = rt.alloc();
-    let words = |text: &str| -> Result<Vec<String>, Fail> {
-        let mut all = Vec::new(alloc);
-        for word in text.split(' ') {
-            all.push(String::from_str(alloc, word)?)?;
-        }
-        Ok(all)
-    };
-    assert!(rt;
-        matches!(
-            choose(alloc, words("bgpsim script")?.as_slice()),
-            Ok(Choice::Script)
-        )
-    );
-    for mistaken in [
-        "bgpsim",
-        "bgpsim scripts",
-        "bgpsim script more",
-        "bgpsim --loud script",
-    ] {
-        let error = choose(alloc, words(mistaken)?.as_slice())
-            .err()
-            .ok_or("taken")?;
-        assert!(rt; error.use_stderr());
-    }
-    for shown in [
-        "bgpsim --help",
-        "bgpsim --version",
-        "bgpsim script --help",
-        "bgpsim help",
-    ] {
-        let error = choose(alloc, words(shown)?.as_slice())
-            .err()
-            .ok_or("taken")?;
-        assert!(rt; !error.use_stderr());
-    }
     Ok(())
 }

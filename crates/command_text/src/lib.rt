@@ -12,6 +12,3 @@ mod verb;
 mod words;
 
 pub use line::read_line;
-
-#[cfg(test)]
-mod tests;

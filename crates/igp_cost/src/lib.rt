@@ -11,8 +11,6 @@ mod link;
 mod metric;
 mod repair;
 mod search;
-#[cfg(test)]
-mod tests;
 mod tree;
 mod wiring;
 

@@ -13,5 +13,3 @@ mod turns;
 
 pub use simulator::Simulator;
 
-#[cfg(test)]
-mod tests;

@@ -7,8 +7,6 @@ mod growth;
 mod node;
 mod sorted;
 mod table;
-#[cfg(test)]
-mod tests;
 mod trie;
 
 pub use sorted::SortedTable;

@@ -10,6 +10,3 @@ mod report;
 mod text;
 
 pub use reply::{write_refusal, write_reply};
-
-#[cfg(test)]
-mod tests;

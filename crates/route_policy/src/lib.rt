@@ -4,8 +4,6 @@
 mod policy;
 mod repeat;
 mod rule;
-#[cfg(test)]
-mod tests;
 
 pub use policy::{AddFault, MAX_RULES, Policy, judge};
 pub use repeat::Repeat;

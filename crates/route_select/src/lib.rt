@@ -7,8 +7,6 @@ mod entries;
 mod filter;
 mod filter_cell;
 mod laws;
-#[cfg(test)]
-mod tests;
 
 pub use candidate::{Candidate, Reason, Source, Standing};
 pub use chosen::{Chosen, Selector};

@@ -5,8 +5,6 @@ mod direction;
 mod message;
 mod queue;
 mod queues;
-#[cfg(test)]
-mod tests;
 mod view;
 
 pub use direction::Direction;

@@ -3,8 +3,6 @@
 
 mod event;
 mod reply;
-#[cfg(test)]
-mod tests;
 
 pub use event::{Ask, Event, Feed, News};
 pub use reply::{Held, Reply, Report, TraceEnd};

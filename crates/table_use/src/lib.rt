@@ -97,6 +97,3 @@ pub fn keys<V, T: PrefixTable<V>>(alloc: Global, table: &T) -> Result<Vec<Prefix
         }
     }
 }
-
-#[cfg(test)]
-mod tests;

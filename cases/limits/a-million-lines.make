@@ -1,0 +1,4 @@
+#!/usr/bin/env python3
+import sys
+
+sys.stdout.write(1000000 * "\n")

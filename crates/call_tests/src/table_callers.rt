@@ -1,0 +1,37 @@
+//! Each caller at both tables.
+
+use net_prefix::{Addr, Prefix};
+use prefix_table::{PrefixTable, SortedTable, TrieTable};
+use std::alloc::AllocError;
+use std::process::Abort;
+use table_use::{keys, longest_of_both, put_and_get, put_and_get_other, put_and_match};
+
+fn prefix(rt: &impl Abort, addr: u32, len: u8) -> Prefix {
+    Prefix::new(Addr(addr), len).expect(rt, "a prefix")
+}
+
+// 0.0.0.0/0, 10.0.0.0/8 and 10.0.0.0/16, the last first.
+fn filled<T: PrefixTable<u8> + Drop>(rt: &impl Abort, mut table: T) -> T {
+    let ten = prefix(rt, 0x0a00_0000, 8);
+    let part = prefix(rt, 0x0a00_0000, 16);
+    let all = prefix(rt, 0, 0);
+    assert_eq!(rt; put_and_get(&mut table, part, 3), Ok(Some(3)));
+    assert_eq!(rt; put_and_get_other(&mut table, ten, 2, part), Ok(Some(3)));
+    assert_eq!(rt; put_and_match(&mut table, all, 1), Ok(Some((all, 1))));
+    table
+}
+
+#[test]
+fn callers_use_either_table(rt: HostRuntime) -> Result<(), AllocError> {
+    let plain = filled(&rt, SortedTable::new(rt.alloc()));
+    let trie = filled(&rt, TrieTable::new(rt.alloc()));
+    let ten = prefix(&rt, 0x0a00_0000, 8);
+    let part = prefix(&rt, 0x0a00_0000, 16);
+    let all = prefix(&rt, 0, 0);
+    let walk = [all, ten, part];
+    assert_eq!(rt; keys(rt.alloc(), &plain)?.as_slice(), walk.as_slice());
+    assert_eq!(rt; keys(rt.alloc(), &trie)?.as_slice(), walk.as_slice());
+    let both = longest_of_both(&plain, &trie, Addr(0x0a00_0501), 15);
+    assert_eq!(rt; both, (Some((ten, 2)), Some((ten, 2))));
+    Ok(())
+}
