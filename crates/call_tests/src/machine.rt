@@ -1,21 +1,13 @@
 //! Runs of the plain simulator, with the replies that the worked examples give.
 
-<<<<<<<< HEAD:crates/plain_simulator/src/tests.rt
-use crate::Simulator;
-use net_conf::{Edit, Metric, Refusal};
-use net_prefix::{Addr, Prefix};
-use path_attr::Asn;
-use reference_machine::Machine;
-========
 use crate::common::asn;
 use net_conf::{Edit, Metric, Refusal};
 use net_prefix::{Addr, Prefix};
 use path_attr::Asn;
-use reference_machine::{Ask, Event, Machine, Reply, Report, Simulator};
->>>>>>>> c074901ee3e2d76271b2e70f111fec2f1d50d1f5:crates/call_tests/src/machine.rt
+use plain_simulator::Simulator;
+use reference_machine::{Ask, Event, Machine, Reply, Report};
 use route_select::{FilterCell, Source};
 use session_queue::MessageKind;
-use sim_event::{Ask, Event, Reply, Report};
 use std::test::Fail;
 
 const ONE: Addr = Addr(0x0100_0001);

@@ -1,11 +1,11 @@
 -- While there is a session, the trees of both its ends are kept.
-use Rattle.std.proofs.Common.{◌≡◌, Bool, true, false, cond, nat_le, List, [], ◌∷◌, map, Some, is_some, if◌then◌else◌, refl, sym, ap, ◌∙◌}
+use Rattle.std.proofs.Common.{◌≡◌, Bool, true, false, cond, nat_le, List, [], ◌∷◌, map, Some, is_some, if◌then◌else◌, refl, sym, ap, ◌∙◌, subst, arith}
 use Rattle.std.specs.declared.cmp.Ordering.{Ordering}
 use Rattle.std.specs.declared.cmp.Ordering.TheVariants.{Less, Equal, Greater}
 use Rattle.std.specs.Ordering.{is_eq}
 use Rattle.std.specs.Map.{keys_of, lookup}
 use Rattle.std.specs.BTreeMap.{is_at}
-use Rattle.std.proofs.lemmas.Bool.{true≢false}
+use Rattle.std.proofs.lemmas.Bool.{true≢false, leb-true, leb-false}
 use Rattle.std.proofs.lemmas.Option.{none-some, same_Some}
 use Rattle.std.proofs.lemmas.List.Elements.{All-contains}
 use Rattle.std.proofs.lemmas.Map.Lookups.{CmpEqualImpliesEq, exact_pairs}
@@ -65,17 +65,29 @@ kept_is c a t is = by (has_none c.sessions) is
     by true it = absurd (none-some t it)
     by false it = found_value (costs_of c) a t c.nodes it
 
+ends_by : (t u : Bool) (a b : Addr) → nat_le a.0 b.0 ≡ t → nat_le b.0 a.0 ≡ u → ends_of a b ≡ ends_of b a
+ends_by true true a b is is' =
+    let same : a ≡ b = ap (λ n. record { 0 = n }) (omega (arith, leb-true a.0 b.0 is, leb-true b.0 a.0 is')) in
+    subst (λ x. ends_of a x ≡ ends_of x a) same refl
+ends_by true false a b is is' = rw is (rw is' refl)
+ends_by false true a b is is' = rw is (rw is' refl)
+ends_by false false a b is is' = absurd (omega (arith, leb-false a.0 b.0 is, leb-false b.0 a.0 is'))
+
+-- a session of the two is one of the two in the other order
+pub session_turned : (c : Configuration) (a b : Addr) → has_session c a b ≡ true → has_session c b a ≡ true
+session_turned c a b is = ap (λ e. is_some (lookup (is_at (ends_cmp e)) c.sessions)) (ends_by (nat_le b.0 a.0) (nat_le a.0 b.0) b a refl refl) ∙ is
+
 module _ (c : Configuration) (sound : IsSound c) where
-  -- both ends of a session are nodes
-  both_nodes : (a b : Addr) → has_session c a b ≡ true → (has_node c a ≡ true) × (has_node c b ≡ true)
-  both_nodes a b is = by (nat_le a.0 b.0) there
+  -- the first end of a session is a node
+  first_node : (a b : Addr) → has_session c a b ≡ true → has_node c a ≡ true
+  first_node a b is = by (nat_le a.0 b.0) there
     where
       there : HasEnds c (ends_of a b)
       there = All-contains (HasEnds c) (keys_of c.sessions) (ends_of a b) sound.sessions (Contains-keys_from_lookup {eq = λ x. is_at (ends_cmp x)} same_ends (ends_of a b) c.sessions is)
 
-      by : (le : Bool) → HasEnds c (if le then record { low = a; high = b } else record { low = b; high = a }) → (has_node c a ≡ true) × (has_node c b ≡ true)
-      by true has = has
-      by false has = (has.1, has.0)
+      by : (le : Bool) → HasEnds c (if le then record { low = a; high = b } else record { low = b; high = a }) → has_node c a ≡ true
+      by true has = has.0
+      by false has = has.1
 
   some_session : (sessions : List (Ends × Bool)) (e : Ends) → is_some (lookup (is_at (ends_cmp e)) sessions) ≡ true → has_none sessions ≡ false
   some_session [] e is = absurd (true≢false (sym is))
@@ -85,8 +97,5 @@ module _ (c : Configuration) (sound : IsSound c) where
   unfolding trees_of
   kept_tree a some there = ap (λ none. lookup (is_at (addr_cmp a)) (if none then [] else map {B = Addr × Reached} (λ e. (e.0, costs_of c e.0)) c.nodes)) some ∙ found_tree (costs_of c) a c.nodes there
 
-  pub first_tree : (a b : Addr) → has_session c a b ≡ true → lookup (is_at (addr_cmp a)) (trees_of c) ≡ Some (costs_of c a)
-  first_tree a b is = kept_tree a (some_session c.sessions (ends_of a b) is) (both_nodes a b is).0
-
-  pub second_tree : (a b : Addr) → has_session c a b ≡ true → lookup (is_at (addr_cmp b)) (trees_of c) ≡ Some (costs_of c b)
-  second_tree a b is = kept_tree b (some_session c.sessions (ends_of a b) is) (both_nodes a b is).1
+  pub tree_kept : (a b : Addr) → has_session c a b ≡ true → lookup (is_at (addr_cmp a)) (trees_of c) ≡ Some (costs_of c a)
+  tree_kept a b is = kept_tree a (some_session c.sessions (ends_of a b) is) (first_node a b is)

@@ -10,6 +10,7 @@ use Rattle.std.proofs.lemmas.Map.Made.{lookup-map_values, keys_of-map_values}
 use Rattle.net_prefix.specs.declared.addr.Addr.{Addr}
 use Rattle.net_prefix.specs.Address.{addr_cmp}
 use Rattle.igp_cost.specs.Topology.{is_node, IsTopology}
+use Rattle.net_conf.specs.declared.limits.TheConstants.{MAX_NODES}
 use Rattle.net_conf.specs.declared.tables.Ends.{Ends}
 use Rattle.net_conf.specs.declared.tables.Link.{Link}
 use Rattle.net_conf.specs.Configuration.{Configuration, node_at, has_node}
@@ -39,7 +40,7 @@ module _ (c : Configuration) where
 
   pub topology : IsSound c → IsStrictlySortedBy addr_cmp (keys_of c.nodes) → IsTopology (nodes_of c) (edges_of c)
   topology sound ascending = record {
-    size = subst (λ n. n ≤ 4096) (sym (length-map c.nodes (λ e. (e.0, e.1.asn)))) sound.size;
+    size = subst (λ n. n ≤ MAX_NODES) (sym (length-map c.nodes (λ e. (e.0, e.1.asn)))) sound.size;
     ascending = subst (IsStrictlySortedBy addr_cmp) (sym (keys_of-map_values (λ n. n.asn) c.nodes)) ascending;
     ends = ends_hold c.links sound.links;
   }

@@ -12,6 +12,7 @@ use Rattle.std.proofs.lemmas.Bool.Decides.{nat_tests}
 use Rattle.net_prefix.specs.declared.addr.Addr.{Addr}
 use Rattle.net_prefix.specs.Address.{addr_cmp}
 use Rattle.igp_cost.specs.Trees.{Reached}
+use Rattle.net_conf.specs.declared.limits.TheConstants.{MAX_NODES}
 use Rattle.net_conf.specs.declared.tables.Ends.{Ends}
 use Rattle.net_conf.specs.declared.tables.Link.{Link as TheLink}
 use Rattle.net_conf.specs.declared.tables.Node.{Node}
@@ -75,7 +76,7 @@ both_there true true is = (refl, refl)
 both_there true false is = absurd (true≢false is)
 both_there false q is = absurd (true≢false is)
 
-below_limit : (n : ℕ) → nat_le 4096 n ≡ false → n < 4096
+below_limit : (n : ℕ) → nat_le MAX_NODES n ≡ false → n < MAX_NODES
 below_limit n is = grind (arith, nat_tests)
 
 -- the ends, the lower first, are the two
@@ -88,7 +89,7 @@ ends_there c a b first second = by (nat_le a.0 b.0)
 
 module _ (c : Configuration) (sound : IsSound c) where
   -- a node more
-  with_node : (a : Addr) (n : Node) → length c.nodes < 4096 → IsSound (record c { nodes = insert_entry addr_cmp c.nodes a n })
+  with_node : (a : Addr) (n : Node) → length c.nodes < MAX_NODES → IsSound (record c { nodes = insert_entry addr_cmp c.nodes a n })
   with_node a n room = record {
     size = omega (arith, one_longer addr_cmp a n c.nodes, room);
     links = λ k d lt. still (get_or (keys_of c.links) k d) (sound.links k d lt);
@@ -113,7 +114,7 @@ module _ (c : Configuration) (sound : IsSound c) where
 
   same_tables : (d : Configuration) → d.nodes ≡ c.nodes → d.links ≡ c.links → d.sessions ≡ c.sessions → IsSound d
   same_tables d nodes links sessions = record {
-    size = subst (λ n. length n ≤ 4096) (sym nodes) sound.size;
+    size = subst (λ n. length n ≤ MAX_NODES) (sym nodes) sound.size;
     links = subst (λ n. All (λ e. (is_some (lookup (is_at (addr_cmp e.low)) n) ≡ true) × (is_some (lookup (is_at (addr_cmp e.high)) n) ≡ true)) (keys_of d.links)) (sym nodes) (subst (λ l. All (HasEnds c) (keys_of l)) (sym links) sound.links);
     sessions = subst (λ n. All (λ e. (is_some (lookup (is_at (addr_cmp e.low)) n) ≡ true) × (is_some (lookup (is_at (addr_cmp e.high)) n) ≡ true)) (keys_of d.sessions)) (sym nodes) (subst (λ l. All (HasEnds c) (keys_of l)) (sym sessions) sound.sessions);
   }

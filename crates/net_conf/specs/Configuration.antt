@@ -19,9 +19,10 @@ use Rattle.net_conf.specs.declared.tables.Link.{Link}
 use Rattle.net_conf.specs.declared.tables.End.{End}
 use Rattle.net_conf.specs.declared.tables.Origination.{Origination}
 
--- routers and virtual peers by address; links by their ends, and whether each session is enabled; the settings of the
--- ends of sessions: which peers are clients, where a router puts itself as NEXT_HOP, and both policies; the CLUSTER_IDs
--- that were set; and who originates what
+-- routers and virtual peers by address: a router's address is its BGP Identifier, that of its sessions and its own
+-- NEXT_HOP (own), and a virtual peer is an external neighbour that decides nothing (own); links, and whether each session
+-- is enabled, by their ends, so one of each for two addresses (own); the settings of the ends of sessions: which peers are
+-- clients, where a router puts itself as NEXT_HOP, and both policies; the CLUSTER_IDs that were set; and who originates what
 pub record Configuration : Type 0 where
   pub nodes : List (Addr × Node)
   pub links : List (Ends × Link)
@@ -115,11 +116,12 @@ session_count c a = length (filter (λ e. is_end a e.0) c.sessions)
 abbrev pub is_client : Configuration → Addr → Addr → Bool
 is_client c r u = list_any (is_at (end_cmp (end_of r u))) c.clients
 
--- the router is a route reflector: it takes a peer for its client (RFC 4456, 6)
+-- the router is a route reflector: it takes a peer for its client (RFC 4456, 6), be that session up or down (own)
 abbrev pub is_reflector : Configuration → Addr → Bool
 is_reflector c r = list_any (λ e. e.router.0 == r.0) c.clients
 
--- the router's CLUSTER_ID: its address, unless another was set (RFC 4456, 7)
+-- the router's CLUSTER_ID: its address, unless another was set (own; RFC 4456, 7, has the BGP Identifier of a cluster's
+-- only reflector)
 abbrev pub cluster_id : Configuration → Addr → Addr
 cluster_id c r = unwrap_or (lookup (is_at (addr_cmp r)) c.clusters) r
 

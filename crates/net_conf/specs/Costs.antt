@@ -20,19 +20,20 @@ abbrev pub edges_of : Configuration → List (Addr × Addr × ℕ)
 edges_of c = filter_map edge_of c.links
 
 -- the interior costs and first hops of the router: those of least walks over links that are up, on which every router
--- but the last is in its AS (RFC 4271, 9.1.2.1)
+-- but the last is in its AS (own; RFC 4271, 9.1.2.1, leaves interior routing open)
 abbrev pub costs_of : Configuration → Addr → Reached
 costs_of c r = tree_of (nodes_of c) (edges_of c) r
 
--- the cost from the router to an address, where there is a way
+-- the cost from the router to an address, where it has one
 abbrev pub cost : Configuration → Addr → Addr → Option ℕ
 cost c r x = cost_in (costs_of c r) x
 
--- an external session needs its link, an internal one a way there and back
+-- an external session needs its link, an internal one a cost from each router to the other (own)
 abbrev pub is_connected : Configuration → Addr → Addr → Bool
 is_connected c a b = if is_external c a b then has_link_up c a b else is_some (cost c a b) && is_some (cost c b a)
 
--- whether the session is up, where there is one: it is enabled, and there is a way (RFC 4271, 8)
+-- whether the session is up, where there is one: it is enabled, and connected (own; RFC 4271, 8, has a session stand on
+-- its TCP connection)
 unfoldable pub session_up : Configuration → Addr → Addr → Option Bool
 session_up c a b = option_map (λ enabled. enabled && is_connected c a b) (session_between c a b)
 

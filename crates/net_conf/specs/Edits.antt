@@ -1,4 +1,5 @@
--- What an edit does, and when it is refused.
+-- What an edit does, and when it is refused: which edits there are, and by which tests they are refused, is this project's
+-- choice (own).
 use Rattle.std.specs.Prelude.{◌≡◌, ℕ, Bool, true, false, not, ◌==◌, ◌&&◌, ◌||◌, nat_le, List, [], ◌∷◌, ◌++◌, length, Option, Some, None, is_some, Result, Ok, Err, if◌then◌else◌}
 use Rattle.std.specs.Map.{remove_entry}
 use Rattle.std.specs.Set.{remove_key}
@@ -9,6 +10,8 @@ use Rattle.net_prefix.specs.Address.{addr_cmp}
 use Rattle.route_policy.specs.declared.rule.Rule.{Rule}
 use Rattle.route_policy.specs.declared.rule.Action.{Action}
 use Rattle.route_policy.specs.declared.rule.Action.TheVariants.{Deny, Permit}
+use Rattle.route_policy.specs.Limits.{is_full}
+use Rattle.net_conf.specs.declared.limits.TheConstants.{MAX_NODES, MAX_LINKS, MAX_SESSIONS}
 use Rattle.net_conf.specs.declared.tables.End.{End}
 use Rattle.net_conf.specs.declared.tables.Link.{Link as TheLink}
 use Rattle.net_conf.specs.declared.tables.PolicySide.{PolicySide}
@@ -117,8 +120,8 @@ needs_internal c (Client a b on) = is_external c a b
 needs_internal c (OwnNext a b on) = is_external c a b
 needs_internal c _ = false
 
--- what a rule may not set: anything on an internal session; on an external one a prepend on the way in, and a
--- preference on the way out
+-- what a rule may not set: anything on an internal session; on an external one a prepend in the import policy, and a
+-- preference in the export policy (own)
 abbrev pub sets_too_much : Bool → PolicySide → Action → Bool
 sets_too_much external side Deny = false
 sets_too_much false side (Permit pref med prepend) = is_some pref || is_some med || is_some prepend
@@ -145,13 +148,13 @@ abbrev pub rules_of : Configuration → Addr → Addr → PolicySide → List Ru
 rules_of c a b Import = import_rules c a b
 rules_of c a b Export = export_rules c a b
 
--- 19: there are 4,096 routers and peers, 16,384 links, 256 sessions at an end, or 256 rules in the policy
+-- 19: there are as many routers and peers, links, sessions at an end, or rules in the policy as there may be (own)
 abbrev pub is_past_limit : Configuration → Edit → Bool
-is_past_limit c (Router a n) = nat_le 4096 (length c.nodes)
-is_past_limit c (Virtual a n) = nat_le 4096 (length c.nodes)
-is_past_limit c (Link a b m) = nat_le 16384 (length c.links)
-is_past_limit c (Join a b) = nat_le 256 (session_count c a) || nat_le 256 (session_count c b)
-is_past_limit c (AddRule a b side rule) = nat_le 256 (length (rules_of c a b side))
+is_past_limit c (Router a n) = nat_le MAX_NODES (length c.nodes)
+is_past_limit c (Virtual a n) = nat_le MAX_NODES (length c.nodes)
+is_past_limit c (Link a b m) = nat_le MAX_LINKS (length c.links)
+is_past_limit c (Join a b) = nat_le MAX_SESSIONS (session_count c a) || nat_le MAX_SESSIONS (session_count c b)
+is_past_limit c (AddRule a b side rule) = is_full (rules_of c a b side)
 is_past_limit c _ = false
 
 -- the first refusal whose test holds

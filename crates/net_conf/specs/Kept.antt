@@ -3,6 +3,7 @@ use Rattle.std.specs.Prelude.{◌≡◌, ◌≤◌, Bool, true, false, not, ◌&
 use Rattle.std.specs.Map.{keys_of}
 use Rattle.net_prefix.specs.declared.addr.Addr.{Addr}
 use Rattle.igp_cost.specs.Trees.{Reached}
+use Rattle.net_conf.specs.declared.limits.TheConstants.{MAX_NODES}
 use Rattle.net_conf.specs.declared.tables.Ends.{Ends}
 use Rattle.net_conf.specs.declared.edit.Edit.{Edit}
 use Rattle.net_conf.specs.declared.edit.Edit.TheVariants.{Join, Stop, Start, Client, OwnNext, Cluster, Rule, Clear, Origin, NoOrigin}
@@ -14,7 +15,7 @@ abbrev pub HasEnds : Configuration → Ends → Type 0
 HasEnds c e = (has_node c e.low ≡ true) × (has_node c e.high ≡ true)
 
 pub record IsSound (c : Configuration) : Type 0 where
-  pub size : length c.nodes ≤ 4096
+  pub size : length c.nodes ≤ MAX_NODES
   pub links : All (HasEnds c) (keys_of c.links)
   pub sessions : All (HasEnds c) (keys_of c.sessions)
 

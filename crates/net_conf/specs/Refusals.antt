@@ -1,4 +1,4 @@
--- Refusals: their numbers, which are the order of the tests, and their names.
+-- Refusals: their numbers, which are the order of the tests, and their names (own).
 use Rattle.std.specs.Prelude.{ℕ, List, codes}
 use Rattle.net_conf.specs.declared.refusal.Refusal.{Refusal}
 use Rattle.net_conf.specs.declared.refusal.Refusal.TheVariants.{Syntax, NoRouter, RouterExists, SameRouter, BadEnd, VirtualInside, NoLink, LinkExists, NotLinked, NoSession, SessionExists, InternalOnly, RuleNotAllowed, OriginExists, NoOrigin, SessionDown, QueueEmpty, FirstAs, Limit, Memory}

@@ -1,4 +1,4 @@
--- What one router sees of the configuration: all that its decisions and its offers depend on.
+-- What one router sees of the configuration: all that what it decides and advertises depends on.
 use Rattle.std.specs.Prelude.{◌≡◌, not, ◌==◌, List, [], ◌∷◌, map, filter, find, Option, Some, None, option_map, Result, Ok, Err, if◌then◌else◌}
 use Rattle.net_prefix.specs.declared.addr.Addr.{Addr}
 use Rattle.net_conf.specs.declared.tables.Ends.{Ends}

@@ -7,7 +7,7 @@ ghost use Rattle.net_prefix.specs.Address.{addr_cmp};
 ghost use Rattle.net_conf.specs.Configuration.{end_cmp, origination_cmp, link_between, rules_at};
 ghost use Rattle.net_conf.specs.Edits.{with_link, with_link_changed, with_metric, with_state, with_session, switched, with_rule, without_rules, with_rule_of, without_rules_of, edited};
 
-use crate::configured::{Configured, policy_at};
+use crate::conf_tables::{ConfTables, policy_at};
 use crate::edit::Edit;
 use crate::tables::{End, Ends, Kind, Link, Node, Origination, PolicySide};
 use igp_cost::Metric;
@@ -17,7 +17,7 @@ use route_policy::{Policy, Rule};
 use std::alloc::{AllocError, Global};
 use std::collections::{BTreeMap, BTreeSet};
 
-impl Configured {
+impl ConfTables {
     /// Makes the edit, whether or not it is to be refused. An error changes nothing.
     pub fn apply(&mut self, alloc: Global, edit: &Edit) -> Result<(), AllocError>
         ensures ok { OnOk result (self.new ≡ edited self.old edit.now) }

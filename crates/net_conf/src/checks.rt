@@ -4,27 +4,16 @@ ghost use Rattle.std.specs.Prelude.{◌≡◌, MatchResult, length};
 ghost use Rattle.net_conf.specs.Configuration.{rules_at};
 ghost use Rattle.net_conf.specs.Edits.{lacks_either, lacks_node, repeats_node, has_one_end, has_bad_end, has_virtual_inside, is_inside, lacks_link, repeats_link, is_unlinked, lacks_session, repeats_session, needs_internal, sets_too_much, breaks_rule, repeats_origin, lacks_origin, rules_of, is_past_limit, refusal_of};
 
-use crate::configured::Configured;
+use crate::conf_tables::ConfTables;
 use crate::edit::Edit;
+use crate::limits::{MAX_LINKS, MAX_NODES, MAX_SESSIONS};
 use crate::refusal::Refusal;
 use crate::tables::{End, PolicySide};
 use net_prefix::Addr;
-use route_policy::{Action, Policy};
+use route_policy::{Action, MAX_RULES, Policy};
 use std::collections::BTreeMap;
 
-/// How many routers and virtual peers there may be.
-pub const MAX_NODES: usize = 4096;
-
-/// How many links there may be.
-pub const MAX_LINKS: usize = 16384;
-
-/// How many sessions an address may have.
-pub const MAX_SESSIONS: usize = 256;
-
-/// How many rules a policy may have.
-const MAX_RULES: usize = 256;
-
-impl Configured {
+impl ConfTables {
     /// Whether the edit may be made: the first test that holds refuses it. It takes no memory.
     #[tactic(auto, unfolding(crate::specs::Edits::refusal_of))]
     pub fn check(&self, edit: &Edit) -> Result<(), Refusal>

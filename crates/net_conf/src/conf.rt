@@ -1,12 +1,12 @@
 //! What is configured, what follows from it, and how an edit changes it.
 
 ghost use Rattle.std.specs.Prelude.{◌≡◌, true, None, Some, IfOk, OnOk, OnErr, MatchResult, option_map, is_some, length};
-ghost use Rattle.net_conf.specs.Configuration.{unconfigured, node_at, has_node, is_virtual, as_of, has_session, originates, origins_of};
+ghost use Rattle.net_conf.specs.Configuration.{unconfigured, node_at, has_node, is_virtual, as_of, has_session, origins_of};
 ghost use Rattle.net_conf.specs.Costs.{cost, is_connected, session_up, is_up};
 ghost use Rattle.net_conf.specs.Edits.{refusal_of, edited, IsEdit};
 ghost use Rattle.net_conf.specs.Kept.{is_setting, is_of_session, keeps_trees};
 
-use crate::configured::Configured;
+use crate::conf_tables::ConfTables;
 use crate::edit::Edit;
 use crate::refusal::Refusal;
 use crate::tables::Kind;
@@ -21,7 +21,7 @@ use std::marker::Model;
 /// What is configured, with the interior costs of each router while there is a session.
 #[derive(Drop)]
 pub struct Conf {
-    pub(crate) configured: Configured,
+    pub(crate) tables: ConfTables,
     pub(crate) trees: BTreeMap<Addr, Tree>,
 }
 
@@ -32,9 +32,9 @@ impl Model for Conf {
 
     ghost Value = { Configuration };
 
-    ghost view = { λ c. c.configured };
+    ghost view = { λ c. c.tables };
 
-    ghost invariant = { λ c. IsSound c.configured × (c.trees.entries ≡ trees_of c.configured) };
+    ghost invariant = { λ c. IsSound c.tables × (c.trees.entries ≡ trees_of c.tables) };
 }
 
 impl Conf {
@@ -43,7 +43,7 @@ impl Conf {
         ensures { result ≡ unconfigured }
     {
         Conf {
-            configured: Configured::new(alloc),
+            tables: ConfTables::new(alloc),
             trees: BTreeMap::new(alloc),
         }
     }
@@ -52,7 +52,7 @@ impl Conf {
     pub fn check(&self, edit: &Edit) -> Result<(), Refusal>
         ensures { MatchResult result (λ _. refusal_of self.now edit.now ≡ None) (λ r. refusal_of self.now edit.now ≡ Some r) }
     {
-        self.configured.check(edit)
+        self.tables.check(edit)
     }
 
     /// Makes the edit, unless it is refused. A refusal, or want of memory, changes nothing.
@@ -70,12 +70,12 @@ impl Conf {
         ensures err { OnErr result (self.new ≡ self.old) }
     {
         if self.keeps_trees(edit) {
-            self.configured.apply(alloc, edit)
+            self.tables.apply(alloc, edit)
         } else {
-            let mut configured = self.configured.copy(alloc)?;
-            configured.apply(alloc, edit)?;
-            let trees = configured.trees(alloc)?;
-            *self = Conf { configured, trees };
+            let mut tables = self.tables.copy(alloc)?;
+            tables.apply(alloc, edit)?;
+            let trees = tables.trees(alloc)?;
+            *self = Conf { tables, trees };
             Ok(())
         }
     }
@@ -84,63 +84,56 @@ impl Conf {
     fn keeps_trees(&self, edit: &Edit) -> bool
         ensures { result ≡ keeps_trees self.now edit.now }
     {
-        is_setting(edit) || is_of_session(edit) && !self.configured.has_no_session()
+        is_setting(edit) || is_of_session(edit) && !self.tables.has_no_session()
     }
 
     /// The AS and the kind of the router or virtual peer at the address.
     pub fn router(&self, addr: Addr) -> Option<(Asn, Kind)>
         ensures { result ≡ option_map (λ n. (n.asn, n.kind)) (node_at self.now addr) }
     {
-        self.configured.node(addr).map(|node| (node.asn, node.kind))
+        self.tables.node(addr).map(|node| (node.asn, node.kind))
     }
 
     /// How many routers and virtual peers there are.
     pub fn node_count(&self) -> usize
         ensures { result ≡ length self.now.nodes }
     {
-        self.configured.node_count()
+        self.tables.node_count()
     }
 
     /// Whether a router or virtual peer stands at the address.
     pub fn has_node(&self, addr: Addr) -> bool
         ensures { result ≡ has_node self.now addr }
     {
-        self.configured.has_node(addr)
+        self.tables.has_node(addr)
     }
 
     /// Whether a virtual peer stands at the address.
     pub fn is_virtual(&self, addr: Addr) -> bool
         ensures { result ≡ is_virtual self.now addr }
     {
-        self.configured.is_virtual(addr)
+        self.tables.is_virtual(addr)
     }
 
     /// The AS of the router or peer, where there is one.
     pub fn as_of(&self, addr: Addr) -> Option<Asn>
         ensures { result ≡ as_of self.now addr }
     {
-        self.configured.as_of(addr)
+        self.tables.as_of(addr)
     }
 
     /// Whether the two have a session, up or down.
     pub fn has_session(&self, one: Addr, other: Addr) -> bool
         ensures { result ≡ has_session self.now one other }
     {
-        self.configured.has_session(one, other)
-    }
-
-    /// Whether the router originates the prefix.
-    pub fn originates(&self, router: Addr, prefix: Prefix) -> bool
-        ensures { result ≡ originates self.now router prefix }
-    {
-        self.configured.originates(router, prefix)
+        self.tables.has_session(one, other)
     }
 
     /// The prefixes that the router originates, in order.
     pub fn origins_of(&self, alloc: Global, router: Addr) -> Result<Vec<Prefix>, AllocError>
         ensures { IfOk result (λ v. v.items ≡ origins_of self.now router) }
     {
-        self.configured.origins_of(alloc, router)
+        self.tables.origins_of(alloc, router)
     }
 
     /// Whether the session of the two is up (RFC 4271, 8), where they have one. It takes no memory.
@@ -148,7 +141,7 @@ impl Conf {
     pub fn session_up(&self, one: Addr, other: Addr) -> Option<bool>
         ensures { result ≡ session_up self.now one other }
     {
-        match self.configured.session(one, other) {
+        match self.tables.session(one, other) {
             None => None,
             Some(enabled) => Some(enabled && self.is_connected(one, other)),
         }
@@ -161,20 +154,20 @@ impl Conf {
         self.session_up(one, other).unwrap_or(false)
     }
 
-    /// Whether the session of the two has a way.
+    /// Whether the session of the two may be up: its link is, or each has a cost to the other.
     fn is_connected(&self, one: Addr, other: Addr) -> bool
         requires { has_session self.now one other ≡ true }
         ensures { result ≡ is_connected self.now one other }
     {
-        if self.configured.is_external(one, other) {
-            self.configured.has_link_up(one, other)
+        if self.tables.is_external(one, other) {
+            self.tables.has_link_up(one, other)
         } else {
-            self.has_way(one, other) && self.has_way_back(one, other)
+            self.has_cost(one, other) && self.has_cost(other, one)
         }
     }
 
     /// Whether the first has a cost to the second.
-    fn has_way(&self, one: Addr, other: Addr) -> bool
+    fn has_cost(&self, one: Addr, other: Addr) -> bool
         requires { has_session self.now one other ≡ true }
         ensures { result ≡ is_some (cost self.now one other) }
     {
@@ -183,24 +176,13 @@ impl Conf {
             Some(tree) => tree.cost(other).is_some(),
         }
     }
-
-    /// Whether the second has a cost to the first.
-    fn has_way_back(&self, one: Addr, other: Addr) -> bool
-        requires { has_session self.now one other ≡ true }
-        ensures { result ≡ is_some (cost self.now other one) }
-    {
-        match self.trees.get(&other) {
-            None => false,
-            Some(tree) => tree.cost(one).is_some(),
-        }
-    }
 }
 
 impl Copied for Conf {
     fn copy(&self, alloc: Global) -> Result<Conf, AllocError> {
-        let configured = self.configured.copy(alloc)?;
+        let tables = self.tables.copy(alloc)?;
         let trees = self.trees.clone()?;
-        Ok(Conf { configured, trees })
+        Ok(Conf { tables, trees })
     }
 }
 

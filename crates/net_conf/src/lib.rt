@@ -5,17 +5,18 @@
 mod apply;
 mod checks;
 mod conf;
-mod configured;
+mod conf_tables;
 mod edit;
+mod limits;
 mod refusal;
 mod site;
 mod tables;
 mod trees;
 
-pub use checks::{MAX_LINKS, MAX_NODES, MAX_SESSIONS};
 pub use conf::Conf;
 pub use edit::Edit;
 pub use igp_cost::Metric;
+pub use limits::{MAX_LINKS, MAX_NODES, MAX_SESSIONS};
 pub use refusal::Refusal;
 pub use site::{SiteConf, SiteSession};
 pub use tables::{End, Ends, Kind, Link, Node, Origination, PolicySide};

@@ -16,7 +16,7 @@ pub enum Refusal {
     SameRouter = 4,
     /// A virtual peer where a router is needed, or the reverse; two virtual ends.
     BadEnd = 5,
-    /// Both ends are in one AS.
+    /// A virtual peer would be linked or joined within its own AS.
     VirtualInside = 6,
     /// There is no such link.
     NoLink = 7,

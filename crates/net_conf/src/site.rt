@@ -4,7 +4,7 @@ ghost use Rattle.std.specs.Prelude.{◌≡◌};
 ghost use Rattle.net_conf.specs.Sites.{peer_in};
 
 use crate::conf::Conf;
-use crate::configured::Configured;
+use crate::conf_tables::ConfTables;
 use crate::refusal::Refusal;
 use crate::tables::Ends;
 use igp_cost::Tree;
@@ -14,10 +14,10 @@ use route_policy::Policy;
 use seq::{Copied, Seq};
 use std::alloc::{AllocError, Global};
 
-/// One router's part of the configuration: all that its decisions and its offers depend on.
+/// One router's part of the configuration: all that what it decides and advertises depends on.
 #[derive(Drop)]
 pub struct SiteConf {
-    /// Its address, which is its BGP identifier too.
+    /// Its address, which is its BGP Identifier too.
     pub me: Addr,
     /// Its AS.
     pub asn: Asn,
@@ -95,14 +95,14 @@ impl Conf {
     pub fn site_at(&self, alloc: Global, router: Addr) -> Result<Option<SiteConf>, AllocError>
         ensures { IfOk result (λ site. site ≡ site_of self.now router) }
     {
-        let Some(node) = self.configured.node(router) else {
+        let Some(node) = self.tables.node(router) else {
             return Ok(None);
         };
         Ok(Some(SiteConf {
             me: router,
             asn: node.asn,
-            cluster: self.configured.cluster_id(router),
-            reflector: self.configured.is_reflector(router),
+            cluster: self.tables.cluster_id(router),
+            reflector: self.tables.is_reflector(router),
             origins: Seq::of(self.origins_of(alloc, router)?),
             sessions: Seq::of(self.sessions_of(alloc, router)?),
             costs: self.costs(alloc, router)?,
@@ -116,7 +116,7 @@ impl Conf {
     {
         match self.trees.get(&router) {
             Some(tree) => tree.copy(alloc),
-            None => self.configured.costs(alloc, router),
+            None => self.tables.costs(alloc, router),
         }
     }
 
@@ -126,13 +126,13 @@ impl Conf {
     {
         Ok(SiteSession {
             peer,
-            peer_asn: self.configured.as_of(peer),
+            peer_asn: self.tables.as_of(peer),
             up: self.is_up(router, peer),
-            external: self.configured.is_external(router, peer),
-            client: self.configured.is_client(router, peer),
-            own_next: self.configured.puts_itself(router, peer),
-            policy_in: self.configured.import_policy(alloc, router, peer)?,
-            policy_out: self.configured.export_policy(alloc, router, peer)?,
+            external: self.tables.is_external(router, peer),
+            client: self.tables.is_client(router, peer),
+            own_next: self.tables.puts_itself(router, peer),
+            policy_in: self.tables.import_policy(alloc, router, peer)?,
+            policy_out: self.tables.export_policy(alloc, router, peer)?,
         })
     }
 
@@ -140,7 +140,7 @@ impl Conf {
     fn sessions_of(&self, alloc: Global, router: Addr) -> Result<Vec<SiteSession>, AllocError>
         ensures { IfOk result (λ sessions. sessions.items ≡ sessions_of self.now router) }
     {
-        let peers = self.configured.peers_of(alloc, router)?;
+        let peers = self.tables.peers_of(alloc, router)?;
         self.sessions_with(alloc, router, &peers)
     }
 
@@ -160,7 +160,7 @@ impl Conf {
     }
 }
 
-impl Configured {
+impl ConfTables {
     ghost use Rattle.std.specs.Prelude.{◌≡◌, IfOk};
     ghost use Rattle.net_conf.specs.Sites.{peer_in, peers_of};
 

@@ -10,7 +10,7 @@ ghost use Rattle.net_conf.specs.Configuration.{has_node};
 ghost use Rattle.net_conf.specs.Costs.{nodes_of, edge_of, edges_of, costs_of};
 ghost use Rattle.net_conf.specs.Kept.{IsSound, has_none, trees_of};
 
-use crate::configured::Configured;
+use crate::conf_tables::ConfTables;
 use crate::tables::{Ends, Link};
 use igp_cost::{Graph, Metric, Tree};
 use net_prefix::Addr;
@@ -18,7 +18,7 @@ use path_attr::Asn;
 use std::alloc::{AllocError, Global};
 use std::collections::BTreeMap;
 
-impl Configured {
+impl ConfTables {
     /// The routers and peers, each with its AS, in order of address.
     fn node_list(&self, alloc: Global) -> Result<Vec<(Addr, Asn)>, AllocError>
         ensures list { IfOk result (λ v. v.items ≡ nodes_of self.now) }

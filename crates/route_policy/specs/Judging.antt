@@ -1,6 +1,8 @@
--- Policies: ordered lists of rules, of which the first that matches decides.
-use Rattle.std.specs.Prelude.{◌≡◌, Bool, true, ◌/◌, ◌-◌, ◌^◌, ◌==◌, ◌&&◌, nat_le, List, find, Some, None, option_map, unwrap_or, IsTrue}
+-- Policies: ordered lists of rules, of which the first that matches decides. What a rule can ask, and what it can set, is
+-- this project's choice (own): RFC 4271, 9.1.1 and 9.1.3, leave policies to the router.
+use Rattle.std.specs.Prelude.{◌≡◌, Bool, true, List, find, Some, None, option_map, unwrap_or, IsTrue}
 use Rattle.net_prefix.specs.Block.{Block, Covers, same_block}
+use Rattle.net_prefix.specs.Tests.{covers}
 use Rattle.path_attr.specs.declared.attr.Attr.{Attr}
 use Rattle.path_attr.specs.Number.{same_number}
 use Rattle.path_attr.specs.Path.{holds, neighbour}
@@ -20,12 +22,8 @@ Meets (Is q) p a = q ≡ p
 Meets (Under q) p a = Covers q p
 -- the AS stands in its path, in a sequence or in a set
 Meets (Path n) p a = IsTrue (holds n a.path)
--- the AS is its neighbouring AS
+-- the AS is its neighbouring AS (RFC 4271, 9.1.2.2 c)
 Meets (First n) p a = neighbour a.path ≡ Some n
-
--- whether the second block is the first or a part of it
-abbrev pub covers : Block → Block → Bool
-covers q p = nat_le q.len p.len && p.addr.0 / 2 ^ (32 - q.len) == q.addr.0 / 2 ^ (32 - q.len)
 
 -- whether a route to the prefix with these attributes meets it
 abbrev pub matches : Match → Block → Attr → Bool
@@ -39,6 +37,6 @@ matches (First n) p a = same_number (neighbour a.path) (Some n)
 abbrev pub plain_permit : Action
 plain_permit = Permit None None None
 
--- what becomes of the route: the action of the first rule that matches it, and a plain permit where none does
+-- what becomes of the route: the action of the first rule that matches it, and a plain permit where none does (own)
 unfoldable pub judged : List Rule → Block → Attr → Action
 judged rules p a = unwrap_or (option_map (λ r. r.act) (find (λ r. matches r.cond p a) rules)) plain_permit

@@ -2,7 +2,7 @@
 
 ghost use Rattle.std.specs.Prelude.{◌≡◌, ◌↔◌, ◌≤◌, ◌∷◌, ◌++◌, [], length, find, option_map, IsTrue, OnOk, OnErr, IsErrOf};
 ghost use Rattle.route_policy.specs.Judging.{matches, judged};
-ghost use Rattle.route_policy.specs.Limits.{rule_limit, is_full};
+ghost use Rattle.route_policy.specs.Limits.{is_full};
 ghost use Rattle.route_policy.specs.Sameness.{same_policy};
 ghost use Rattle.route_policy.specs.declared.policy.AddFault.TheVariants.{Limit};
 
@@ -53,13 +53,13 @@ pub struct Policy {
 impl Model for Policy {
     ghost use Rattle.std.specs.Prelude.{List, ◌≤◌, length};
     ghost use Rattle.route_policy.specs.declared.rule.Rule.{Rule};
-    ghost use Rattle.route_policy.specs.Limits.{rule_limit};
+    ghost use Rattle.route_policy.specs.declared.policy.TheConstants.{MAX_RULES};
 
     ghost Value = { List Rule };
 
     ghost view = { λ p. p.rules.items };
 
-    ghost invariant = { λ p. length p.rules.items ≤ rule_limit };
+    ghost invariant = { λ p. length p.rules.items ≤ MAX_RULES };
 }
 
 impl Policy {
@@ -75,7 +75,7 @@ impl Policy {
     /// The rules, in order.
     pub fn rules(&self) -> &[Rule]
         ensures value { result.now ≡ self.now }
-        ensures limit { length self.now ≤ rule_limit }
+        ensures limit { length self.now ≤ MAX_RULES }
     {
         &self.rules
     }
@@ -97,7 +97,7 @@ impl Policy {
     /// Whether it takes no more rules: it has 256.
     pub fn is_full(&self) -> bool
         ensures value { result ≡ is_full self.now }
-        ensures meaning { IsTrue result ↔ (rule_limit ≤ length self.now) }
+        ensures meaning { IsTrue result ↔ (MAX_RULES ≤ length self.now) }
     {
         self.len() >= MAX_RULES
     }
@@ -115,7 +115,7 @@ impl Policy {
     pub fn add(&mut self, rule: Rule) -> Result<(), AddFault>
         ensures ok { OnOk result (self.new ≡ self.old ++ rule ∷ []) }
         ensures err { OnErr result (self.new ≡ self.old) }
-        ensures limit { IsErrOf result Limit ↔ (rule_limit ≤ length self.old) }
+        ensures limit { IsErrOf result Limit ↔ (MAX_RULES ≤ length self.old) }
     {
         if self.is_full() {
             return Err(AddFault::Limit);

@@ -49,7 +49,7 @@ pub enum Ask {
     Why(Addr, Prefix),
     /// What the first has received from the second.
     In(Addr, Addr),
-    /// What the first offers the second.
+    /// What the first advertises to the second.
     Out(Addr, Addr),
     /// The messages on their way from the first to the second.
     Queue(Addr, Addr),

@@ -11,7 +11,7 @@ use Rattle.net_conf.proofs.conf.Conf.costs.Goals as goal
 
 pub returns-in-Some : goal.returns-in-Some
 returns-in-Some c =
-    let s = c.self.inside.configured in
+    let s = c.self.inside.tables in
     let kept : lookup (is_at (addr_cmp c.args.router)) (trees_of s) ≡ Some c.in-Some.tree.now =
     sym (ap (lookup (is_at (addr_cmp c.args.router))) c.self.invariant.1) ∙ sym c.get.ensures.value ∙ ap (λ o. option_copied o) c.in-Some.is in
     IfOk-weaker c.copy.result (λ t. t ≡ c.in-Some.tree.now) (λ t. t ≡ costs_of c.args.self.now c.args.router)

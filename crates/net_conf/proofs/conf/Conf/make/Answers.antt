@@ -6,7 +6,7 @@ use Rattle.net_conf.proofs.conf.Conf.make.Goals as goal
 
 pub invariant_of-self : goal.invariant_of-self
 invariant_of-self c =
-    let s = c.self.inside.configured in
+    let s = c.self.inside.tables in
     let e = c.args.edit.now in
     let none : refusal_of s e ≡ None = ap (λ x. refusal_of x e) c.self.view_is ∙ c.requires in
     either_way (λ n. IsSound n × (c.self.inside.trees.entries ≡ trees_of n)) c.apply.result c.apply.new.self (edited s e) s c.apply.ensures.ok c.apply.ensures.err
@@ -15,14 +15,14 @@ invariant_of-self c =
 
 pub trees-requires : goal.trees-requires
 trees-requires c =
-    let s = c.self.inside.configured in
+    let s = c.self.inside.tables in
     let e = c.args.edit.now in
     let none : refusal_of s e ≡ None = ap (λ x. refusal_of x e) c.self.view_is ∙ c.requires in
-    subst IsSound (sym (c.in_ok-apply.ensures.ok ∙ ap (λ x. edited x e) c.in_ok-configured.ensures)) (sound_after s e c.self.invariant.0 none)
+    subst IsSound (sym (c.in_ok-apply.ensures.ok ∙ ap (λ x. edited x e) c.in_ok-tables.ensures)) (sound_after s e c.self.invariant.0 none)
 
 pub invariant_of-self-else-keeps_trees : goal.invariant_of-self-else-keeps_trees
 invariant_of-self-else-keeps_trees c =
-    let s = c.self.inside.configured in
+    let s = c.self.inside.tables in
     let e = c.args.edit.now in
     let none : refusal_of s e ≡ None = ap (λ x. refusal_of x e) c.self.view_is ∙ c.requires in
-    (subst IsSound (sym (c.in_ok-apply.ensures.ok ∙ ap (λ x. edited x e) c.in_ok-configured.ensures)) (sound_after s e c.self.invariant.0 none), c.in_ok-trees.ensures)
+    (subst IsSound (sym (c.in_ok-apply.ensures.ok ∙ ap (λ x. edited x e) c.in_ok-tables.ensures)) (sound_after s e c.self.invariant.0 none), c.in_ok-trees.ensures)

@@ -2,7 +2,7 @@ use Rattle.std.proofs.Common.{◌∙◌, sym, subst}
 use Rattle.igp_cost.specs.Topology.{IsTopology}
 use Rattle.net_conf.specs.Costs.{nodes_of}
 use Rattle.net_conf.proofs.Nodes.{topology}
-use Rattle.net_conf.proofs.configured.Configured.graph.Goals as goal
+use Rattle.net_conf.proofs.conf_tables.ConfTables.graph.Goals as goal
 
 pub build-requires : goal.build-requires
 build-requires c =

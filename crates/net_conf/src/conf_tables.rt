@@ -17,7 +17,7 @@ use std::marker::Model;
 
 /// Routers and virtual peers, links, sessions with the settings of their ends, CLUSTER_IDs, and who originates what.
 #[derive(Drop)]
-pub struct Configured {
+pub struct ConfTables {
     pub(crate) nodes: BTreeMap<Addr, Node>,
     pub(crate) links: BTreeMap<Ends, Link>,
     pub(crate) sessions: BTreeMap<Ends, bool>,
@@ -29,7 +29,7 @@ pub struct Configured {
     pub(crate) origins: BTreeSet<Origination>,
 }
 
-impl Model for Configured {
+impl Model for ConfTables {
     ghost use Rattle.net_conf.specs.Configuration.{Configuration};
 
     ghost Value = { Configuration };
@@ -47,12 +47,12 @@ impl Model for Configured {
     } };
 }
 
-impl Configured {
+impl ConfTables {
     /// Nothing. It takes no memory.
     pub fn new(alloc: Global) -> Self
         ensures { result ≡ unconfigured }
     {
-        Configured {
+        ConfTables {
             nodes: BTreeMap::new(alloc),
             links: BTreeMap::new(alloc),
             sessions: BTreeMap::new(alloc),
@@ -238,9 +238,9 @@ pub(crate) fn policy_at(
     }
 }
 
-impl Copied for Configured {
-    fn copy(&self, _alloc: Global) -> Result<Configured, AllocError> {
-        Ok(Configured {
+impl Copied for ConfTables {
+    fn copy(&self, _alloc: Global) -> Result<ConfTables, AllocError> {
+        Ok(ConfTables {
             nodes: self.nodes.clone()?,
             links: self.links.clone()?,
             sessions: self.sessions.clone()?,

@@ -7,7 +7,7 @@ use Rattle.net_prefix.specs.Address.{addr_cmp}
 use Rattle.igp_cost.specs.Trees.{Reached, tree_of}
 use Rattle.net_conf.specs.Costs.{nodes_of, edges_of, costs_of}
 use Rattle.net_conf.proofs.Nodes.{sorted_nodes, every_tree}
-use Rattle.net_conf.proofs.configured.Configured.every_tree.Goals as goal
+use Rattle.net_conf.proofs.conf_tables.ConfTables.every_tree.Goals as goal
 
 pub all_trees-requires-clause-ascending : goal.all_trees-requires-clause-ascending
 all_trees-requires-clause-ascending c =
