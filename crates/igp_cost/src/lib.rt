@@ -8,8 +8,10 @@ mod graph;
 mod label;
 mod laws;
 mod link;
+mod mended;
 mod metric;
 mod repair;
+mod rooted;
 mod search;
 #[cfg(test)]
 mod tests;
