@@ -1,4 +1,4 @@
--- What a change is about.
+-- What a change is about. No public contract cites this file.
 use Rattle.net_prefix.specs.declared.addr.Addr.{Addr}
 use Rattle.igp_cost.specs.declared.change.Change.{Change}
 use Rattle.igp_cost.specs.declared.change.Change.TheVariants.{Added, Removed, Changed}

@@ -1,21 +1,16 @@
 //! A graph of routers and edges, and the trees of least costs in it.
 
-ghost use Rattle.std.specs.Prelude.{◌≡◌, ◌<◌, ◌≤◌, length, IsTrue, IfOk, IfSome};
+ghost use Rattle.std.specs.Prelude.{◌≡◌, IsTrue, IfOk};
 ghost use Rattle.net_prefix.specs.declared.addr.Addr.{Addr};
 ghost use Rattle.igp_cost.specs.Costs.{cost, first_hop};
-ghost use Rattle.igp_cost.specs.Labels.{IsWithin, IsIndexed, IsSound, IsClosed, AreLimited, Starts};
 ghost use Rattle.igp_cost.specs.Topology.{is_node, IsTopology};
 ghost use Rattle.igp_cost.specs.Trees.{source_of, cost_in, first_hop_in, IsTreeOf, tree_of};
-ghost use Rattle.igp_cost.specs.Wired.{IsRising};
 
-use crate::certify::are_least;
 use crate::change::Change;
-use crate::conditions::{has_node, place_of};
-use crate::label::Label;
+use crate::conditions::has_node;
 use crate::link::Link;
 use crate::metric::Metric;
-use crate::repair::mend;
-use crate::search::labels_from;
+use crate::rooted::RootedGraph;
 use crate::tree::Tree;
 use crate::wiring::{links_of, place, starts_of};
 use net_prefix::Addr;
@@ -81,8 +76,13 @@ impl Graph {
         ensures whole { IfOk result (λ t. t ≡ tree_of self.now.nodes self.now.edges source) }
     {
         let nodes = self.nodes.as_slice();
-        let at = place(nodes, source);
-        let labels = labels_from(alloc, nodes, &self.links, &self.starts, at)?;
+        let graph = RootedGraph {
+            nodes,
+            links: &self.links,
+            starts: &self.starts,
+            source: place(nodes, source),
+        };
+        let labels = graph.labels(alloc)?;
         Tree::from_labels(alloc, source, nodes, &labels)
     }
 
@@ -98,111 +98,16 @@ impl Graph {
     {
         let nodes = self.nodes.as_slice();
         let source = old.source();
-        let at = place(nodes, source);
-        let mended = mended_labels(
-            alloc,
+        let graph = RootedGraph {
             nodes,
-            &self.links,
-            &self.starts,
-            at,
-            old.rows(),
-            change,
-        )?;
+            links: &self.links,
+            starts: &self.starts,
+            source: place(nodes, source),
+        };
+        let mended = graph.mended_labels(alloc, old.rows(), change)?;
         match mended {
             Some(labels) => Tree::from_labels(alloc, source, nodes, &labels),
             None => self.tree(alloc, source),
         }
-    }
-}
-
-// The place of a node, or another place where there is no such node.
-fn place_or(nodes: &[(Addr, Asn)], addr: Addr, other: usize) -> usize
-    requires rising { IsRising nodes.now }
-    requires other { other < length nodes.now }
-    ensures { result < length nodes.now }
-{
-    match place_of(nodes, addr) {
-        Some(at) => at,
-        None => other,
-    }
-}
-
-// The least labels from a node, mended from those of an old tree. None where mending them did not do.
-fn mended_labels(
-    alloc: Global,
-    nodes: &[(Addr, Asn)],
-    links: &[Link],
-    starts: &[usize],
-    source: usize,
-    old: &[(Addr, Label)],
-    change: Change,
-) -> Result<Option<Vec<Option<Label>>>, AllocError>
-    requires size { length nodes.now ≤ 4096 }
-    requires rising { IsRising nodes.now }
-    requires source { source < length nodes.now }
-    requires within { IsWithin nodes.now links.now }
-    requires starts { IsIndexed nodes.now links.now starts.now }
-    ensures sound { IfOk result (λ o. IfSome o (λ v. IsSound nodes.now source links.now v.items)) }
-    ensures closed { IfOk result (λ o. IfSome o (λ v. IsClosed nodes.now source links.now v.items)) }
-{
-    let (one, other) = change.ends();
-    let ends = [place_or(nodes, one, source), place_or(nodes, other, source)];
-    let mut labels = old_labels(alloc, nodes, source, old)?;
-    mend(alloc, nodes, links, starts, source, &mut labels, &ends)?;
-    if are_least(alloc, nodes, links, source, &labels)? {
-        Ok(Some(labels))
-    } else {
-        Ok(None)
-    }
-}
-
-// The labels of an old tree at the places of their nodes, as far as they can be used, and the source's own.
-fn old_labels(
-    alloc: Global,
-    nodes: &[(Addr, Asn)],
-    source: usize,
-    old: &[(Addr, Label)],
-) -> Result<Vec<Option<Label>>, AllocError>
-    requires source { source < length nodes.now }
-    ensures same_length { IfOk result (λ v. length v.items ≡ length nodes.now) }
-    ensures limited { IfOk result (λ v. AreLimited v.items) }
-    ensures start { IfOk result (λ v. Starts nodes.now source v.items) }
-{
-    let mut labels = Vec::with_capacity(alloc, nodes.len())?;
-    let mut row = 0;
-    for at in 0..nodes.len() {
-        let addr = nodes[at].0;
-        row = first_from(old, row, addr);
-        let label = if at == source {
-            Some(Label { cost: 0, hop: addr })
-        } else {
-            usable(old, row, addr)
-        };
-        labels.push(label)?;
-    }
-    Ok(labels)
-}
-
-// The first row, from one on, that is not below an address.
-fn first_from(rows: &[(Addr, Label)], start: usize, addr: Addr) -> usize {
-    let mut row = start;
-    while row < rows.len() && rows[row].0.0 < addr.0 {
-        row += 1;
-    }
-    row
-}
-
-// The label in a row, if it is that of the address, and its cost is within the limit.
-fn usable(rows: &[(Addr, Label)], row: usize, addr: Addr) -> Option<Label>
-    ensures { IfSome result (λ l. l.cost ≤ 268435456) }
-{
-    if row >= rows.len() {
-        return None;
-    }
-    let (found, label) = rows[row];
-    if found.0 == addr.0 && label.cost <= 268_435_456 {
-        Some(label)
-    } else {
-        None
     }
 }

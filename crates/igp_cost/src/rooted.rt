@@ -1,0 +1,25 @@
+//! A graph by the places of its nodes, and the source of a tree.
+
+ghost use Rattle.std.specs.Prelude.{◌≡◌, ◌<◌, ◌≤◌, ◌+◌, All, length};
+ghost use Rattle.igp_cost.specs.Labels.{IsWithin};
+ghost use Rattle.igp_cost.specs.Wired.{IsRising};
+
+use crate::link::Link;
+use net_prefix::Addr;
+use path_attr::Asn;
+
+/// A graph in which a tree starts: the nodes, the links between their places in the order of the nodes that they leave, where the
+/// links of each node start and where they all end, and the place of the tree's source.
+#[derive(Clone, Copy)]
+pub struct RootedGraph<'a> {
+    pub nodes: &'a [(Addr, Asn)],
+    pub links: &'a [Link],
+    pub starts: &'a [usize],
+    pub source: usize,
+    ghost size: { length nodes.now ≤ 4096 },
+    ghost rising: { IsRising nodes.now },
+    ghost within: { IsWithin nodes.now links.now },
+    ghost count: { length starts.now ≡ length nodes.now + 1 },
+    ghost bounds: { All (λ s. s ≤ length links.now) starts.now },
+    ghost inside: { source < length nodes.now },
+}
