@@ -1,4 +1,4 @@
-//! What one end of a session tells the other, and the queues of what is on its way.
+//! The messages of a session, and the queues of those on their way.
 #![tactic(auto)]
 
 mod direction;

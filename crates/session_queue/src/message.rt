@@ -7,16 +7,16 @@ use path_attr::Attr;
 use seq::Copied;
 use std::alloc::{AllocError, Global};
 
-/// What one end of a session tells the other of one prefix (RFC 4271, 3.1).
+/// What one end of a session sends the other of one prefix (RFC 4271, 3.1).
 #[derive(Debug, Drop, PartialEq)]
 pub enum Message {
-    /// A route to the prefix, in place of any that was told before.
+    /// A route to the prefix is advertised, in place of any that was advertised before.
     Update(Prefix, Attr),
-    /// The route that was told is no more.
+    /// The route that was advertised is withdrawn.
     Withdraw(Prefix),
 }
 
-/// Whether a message tells a route or takes one back.
+/// Whether a message advertises a route or withdraws one.
 #[derive(Clone, Copy, Debug, PartialEq, Eq)]
 pub enum MessageKind {
     Update,
@@ -39,7 +39,7 @@ impl Message {
         }
     }
 
-    /// Whether it tells a route or takes one back.
+    /// Whether it advertises a route or withdraws one.
     pub fn kind(&self) -> MessageKind
         ensures { result ≡ kind_of self.now }
     {

@@ -11,9 +11,9 @@ use std::alloc::{AllocError, Global};
 /// A message, borrowed from its queue.
 #[derive(Clone, Copy, Debug, PartialEq)]
 pub enum View<'a> {
-    /// A route to the prefix, in place of any that was told before.
+    /// A route to the prefix is advertised, in place of any that was advertised before.
     Update(Prefix, &'a Attr),
-    /// The route that was told is no more.
+    /// The route that was advertised is withdrawn.
     Withdraw(Prefix),
 }
 

@@ -3,7 +3,7 @@
 ghost use Rattle.std.specs.Prelude.{◌≡◌, ◌≤◌, IfSome, length};
 
 use decimal::read_decimal;
-use net_prefix::{Addr, Prefix};
+use net_prefix::{Addr, MAX_LEN, Prefix};
 use prefix_table::PrefixTable;
 
 /// Which table.
@@ -60,7 +60,7 @@ impl Draws {
         let drawn = self.draw();
         let len = 8 + ((drawn >> 24) % 17) as u8;
         let addr = (drawn >> 32) as u32;
-        Prefix::new(Addr(addr & (u32::MAX << (32 - len))), len)
+        Prefix::new(Addr(addr & (u32::MAX << (MAX_LEN - len))), len)
     }
 }
 
@@ -95,7 +95,7 @@ fn ask<T: PrefixTable<u32>>(table: &T, draws: &mut Draws, matches: u32) -> u32
     let mut found = 0u32;
     for _turn in 0..matches {
         let addr = Addr((draws.draw() >> 32) as u32);
-        if table.longest(addr, 32).is_some() {
+        if table.longest(addr, MAX_LEN).is_some() {
             found = found.saturating_add(1);
         }
     }
