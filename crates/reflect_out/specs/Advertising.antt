@@ -1,4 +1,4 @@
--- What a router offers a peer of the route that it chose (RFC 4271, 5.1, 9.1.3 and 9.2; RFC 4456, 6, 8 and 10).
+-- What a router advertises to a peer of the route that it chose (RFC 4271, 5.1, 9.1.3 and 9.2; RFC 4456, 6, 8 and 10).
 use Rattle.std.specs.Prelude.{ℕ, zero, suc, Bool, false, ◌||◌, ◌==◌, List, [], ◌∷◌, Option, Some, None, option_and_then, if◌then◌else◌}
 use Rattle.std.specs.Option.{unwrap_or, option_map_or}
 use Rattle.net_prefix.specs.declared.addr.Addr.{Addr}
@@ -26,8 +26,9 @@ abbrev pub prepended_times : ℕ → ℕ → List Segment → List Segment
 prepended_times zero asn path = path
 prepended_times (suc n) asn path = prepended asn (prepended_times n asn path)
 
--- towards another AS: the own AS in front, once and once more for each prepend; the router as NEXT_HOP; MED only where
--- the policy sets it; no LOCAL_PREF, ORIGINATOR_ID or CLUSTER_LIST; ORIGIN kept (RFC 4271, 5.1.1 to 5.1.5; RFC 4456, 8)
+-- towards another AS: the own AS in front, once and once more for each prepend; the router as NEXT_HOP; no LOCAL_PREF,
+-- ORIGINATOR_ID or CLUSTER_LIST; ORIGIN as it is (RFC 4271, 5.1.1 to 5.1.5; RFC 4456, 8). (own) MED only where the export policy
+-- sets it, also of the router's own route: a received one must not go on to another AS (RFC 4271, 5.1.4)
 abbrev pub to_other_as : SiteConf → Option ℕ → Option ℕ → Attr → Attr
 to_other_as site med prepend attr = record {
   path = prepended site.asn (prepended_times (unwrap_or prepend 0) site.asn attr.path);
@@ -40,7 +41,8 @@ to_other_as site med prepend attr = record {
 }
 
 -- inside the AS, of the router's own route or an external one: LOCAL_PREF is the preference, and NEXT_HOP stays, unless
--- the router puts itself (RFC 4271, 5.1.3 and 5.1.5)
+-- the router puts itself (RFC 4271, 5.1.3 and 5.1.5). (own) Here an export policy denies or permits; its settings act towards
+-- another AS alone
 abbrev pub to_own_as : SiteConf → SiteSession → Candidate → Attr
 to_own_as site to b = record {
   path = b.attr.path;
@@ -53,7 +55,7 @@ to_own_as site to b = record {
 }
 
 -- inside the AS, of an internal peer's route: the peer is its originator, unless it has one, and the router's CLUSTER_ID
--- is put in front; all else stays (RFC 4456, 8 and 10)
+-- is put in front; all else stays (RFC 4456, 8 and 10). (own) So does NEXT_HOP, also where the router puts itself in others
 abbrev pub reflected : SiteConf → Addr → Attr → Attr
 reflected site u attr = record attr { oid = Some (unwrap_or attr.oid u); clusters = site.cluster ∷ attr.clusters }
 
@@ -69,15 +71,15 @@ reflected_to site to b (FromPeer u) = if is_client_of site u || to.client then S
 abbrev pub inside : SiteConf → SiteSession → Candidate → Option Attr
 inside site to b = if b.external then Some (to_own_as site to b) else reflected_to site to b b.source
 
--- what is offered over the session, as the export policy judged it
+-- what is advertised over the session, as the export policy judged it
 abbrev pub permitted : SiteConf → SiteSession → Candidate → Action → Option Attr
 permitted site to b Deny = None
 permitted site to b (Permit pref med prepend) = if to.external then Some (to_other_as site med prepend b.attr) else inside site to b
 
-abbrev pub offered : SiteConf → Block → Candidate → SiteSession → Option Attr
-offered site p b to = permitted site to b (judged to.policy_out p b.attr)
+abbrev pub advertised_over : SiteConf → Block → Candidate → SiteSession → Option Attr
+advertised_over site p b to = permitted site to b (judged to.policy_out p b.attr)
 
--- what the router offers the peer of the route that it chose for the prefix: nothing where it learned the route from
--- that peer
+-- what the router advertises to the peer of the route that it chose for the prefix. (own) Nothing where it learned the route
+-- from that peer
 unfoldable pub advert : SiteConf → Block → Candidate → Addr → Option Attr
-advert site p b t = if is_from t b.source then None else option_and_then (offered site p b) (session_with site t)
+advert site p b t = if is_from t b.source then None else option_and_then (advertised_over site p b) (session_with site t)

@@ -1,9 +1,9 @@
-//! What a router offers a peer of the route that it chose (RFC 4271, 9.1.3 and 9.2; RFC 4456, 6, 8 and 10).
+//! What a router advertises to a peer of the route that it chose (RFC 4271, 9.1.3 and 9.2; RFC 4456, 6, 8 and 10).
 #![tactic(auto)]
 
 ghost use Rattle.std.specs.Prelude.{◌≡◌, ℕ, ◌∷◌, Some, IfOk, if◌then◌else◌};
 ghost use Rattle.std.specs.Option.{unwrap_or};
-ghost use Rattle.reflect_out.specs.Advertising.{is_from, prepended_times, to_other_as, to_own_as, reflected, is_client_of, reflected_to, inside, permitted, offered, advert};
+ghost use Rattle.reflect_out.specs.Advertising.{is_from, prepended_times, to_other_as, to_own_as, reflected, is_client_of, reflected_to, inside, permitted, advertised_over, advert};
 
 use net_conf::{SiteConf, SiteSession};
 use net_prefix::{Addr, Prefix};
@@ -13,8 +13,8 @@ use route_select::{Candidate, Source};
 use seq::{Copied, Seq};
 use std::alloc::{AllocError, Global};
 
-/// What the router offers the peer of the route that it chose for the prefix: nothing where it learned the route from
-/// that peer, where its export policy denies it, or where the route is an internal one that may not be reflected.
+/// What the router advertises to the peer of the route that it chose for the prefix: nothing where it learned the route
+/// from that peer, where its export policy denies it, or where the route is an internal one that may not be reflected.
 #[tactic(auto, unfolding(crate::specs::Advertising::advert))]
 pub fn advert(
     alloc: Global,
@@ -23,14 +23,14 @@ pub fn advert(
     best: &Candidate,
     to: Addr,
 ) -> Result<Option<Attr>, AllocError>
-    ensures { IfOk result (λ offer. offer ≡ advert site.now prefix best.now to) }
+    ensures { IfOk result (λ attr. attr ≡ advert site.now prefix best.now to) }
 {
     if is_from(to, best.source) {
         return Ok(None);
     }
     match site.session(to) {
         None => Ok(None),
-        Some(session) => offered(alloc, site, prefix, best, session),
+        Some(session) => advertised_over(alloc, site, prefix, best, session),
     }
 }
 
@@ -44,15 +44,15 @@ fn is_from(peer: Addr, source: Source) -> bool
     }
 }
 
-/// What is offered over the session.
-fn offered(
+/// What is advertised over the session.
+fn advertised_over(
     alloc: Global,
     site: &SiteConf,
     prefix: Prefix,
     best: &Candidate,
     to: &SiteSession,
 ) -> Result<Option<Attr>, AllocError>
-    ensures { IfOk result (λ offer. offer ≡ offered site.now prefix best.now to.now) }
+    ensures { IfOk result (λ attr. attr ≡ advertised_over site.now prefix best.now to.now) }
 {
     match judge(&to.policy_out, prefix, &best.attr) {
         Action::Deny => Ok(None),
@@ -64,7 +64,7 @@ fn offered(
     }
 }
 
-/// What is offered over the session of a route that the export policy permits.
+/// What is advertised over the session of a route that the export policy permits.
 fn permitted(
     alloc: Global,
     site: &SiteConf,
@@ -73,7 +73,7 @@ fn permitted(
     med: Option<u32>,
     prepend: Option<Repeat>,
 ) -> Result<Option<Attr>, AllocError>
-    ensures { IfOk result (λ offer. offer ≡ (if to.now.external then Some (to_other_as site.now med prepend best.now.attr) else inside site.now to.now best.now)) }
+    ensures { IfOk result (λ attr. attr ≡ (if to.now.external then Some (to_other_as site.now med prepend best.now.attr) else inside site.now to.now best.now)) }
 {
     if to.external {
         Ok(Some(to_other_as(alloc, site, med, prepend, &best.attr)?))
@@ -117,14 +117,14 @@ fn prepended(alloc: Global, path: &AsPath, asn: Asn, times: u8) -> Result<AsPath
     Ok(longer)
 }
 
-/// What is offered inside the AS.
+/// What is advertised inside the AS.
 fn inside(
     alloc: Global,
     site: &SiteConf,
     to: &SiteSession,
     best: &Candidate,
 ) -> Result<Option<Attr>, AllocError>
-    ensures { IfOk result (λ offer. offer ≡ inside site.now to.now best.now) }
+    ensures { IfOk result (λ attr. attr ≡ inside site.now to.now best.now) }
 {
     if best.external {
         Ok(Some(to_own_as(alloc, site, to, best)?))
@@ -160,7 +160,7 @@ fn reflected_to(
     to: &SiteSession,
     best: &Candidate,
 ) -> Result<Option<Attr>, AllocError>
-    ensures { IfOk result (λ offer. offer ≡ reflected_to site.now to.now best.now best.now.source) }
+    ensures { IfOk result (λ attr. attr ≡ reflected_to site.now to.now best.now best.now.source) }
 {
     let Source::Peer(peer) = best.source else {
         return Ok(None);
