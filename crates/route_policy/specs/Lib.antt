@@ -2,4 +2,5 @@ pub mod Repeats
 pub mod Limits
 pub mod Judging
 pub mod Sameness
+pub mod SameLaws
 pub mod Faults

@@ -1,12 +1,8 @@
--- Whether two policies are the same, rule by rule. The tests tell exactly whether two values are equal.
-use Rattle.std.specs.Prelude.{◌≡◌, ℕ, Bool, true, false, ◌&&◌, ◌==◌, ◌↔◌, IsTrue, List, Option, Some, None, refl}
-use Rattle.std.proofs.Common.{ap, sym, subst}
-use Rattle.std.proofs.lemmas.Bool.{true≢false}
-use Rattle.std.specs.Cmp.{IsPartialEquivalence, unsigned_Decides, partial_equiv_from_equiv, decided, first_so, second_so}
+-- Whether two policies are the same, rule by rule.
+use Rattle.std.specs.Prelude.{Bool, true, false, ◌&&◌, ◌==◌, List}
 use Rattle.std.specs.Cmp.Lexicographic.{pointwise}
-use Rattle.net_prefix.specs.Block.{Block, same_block}
+use Rattle.net_prefix.specs.Block.{same_block}
 use Rattle.path_attr.specs.Number.{same_number}
-use Rattle.path_attr.specs.Sameness.{IsExact, lists_exact, told}
 use Rattle.route_policy.specs.declared.rule.Match.{Match}
 use Rattle.route_policy.specs.declared.rule.Match.TheVariants.{Any, Is, Under, Path, First}
 use Rattle.route_policy.specs.declared.rule.Action.{Action}
@@ -31,79 +27,3 @@ same_rule r s = same_match r.cond s.cond && same_action r.act s.act
 
 abbrev pub same_policy : List Rule → List Rule → Bool
 same_policy rules others = pointwise same_rule rules others
-
-both_true : (p q : Bool) → p ≡ true → q ≡ true → (p && q) ≡ true
-both_true p q h g = λ i. h i && g i
-
-number_itself : (n : ℕ) → (n == n) ≡ true
-number_itself n = (unsigned_Decides n n).1 refl
-
-block_true : (p q : Block) → same_block p q ≡ true → p ≡ q
-block_true p q h =
-    let address = (unsigned_Decides p.addr.0 q.addr.0).0 (first_so (p.addr.0 == q.addr.0) (p.len == q.len) h) in
-    let length = (unsigned_Decides p.len q.len).0 (second_so (p.addr.0 == q.addr.0) (p.len == q.len) h) in
-    λ i. record { addr = record { 0 = address i }; len = length i }
-
-block_itself : (p : Block) → same_block p p ≡ true
-block_itself p = both_true _ _ (number_itself p.addr.0) (number_itself p.len)
-
-maybe_number_true : (m n : Option ℕ) → same_number m n ≡ true → m ≡ n
-maybe_number_true None None h = refl
-maybe_number_true (Some m) (Some n) h = ap Some ((unsigned_Decides m n).0 h)
-maybe_number_true None (Some n) h = absurd (true≢false (sym h))
-maybe_number_true (Some m) None h = absurd (true≢false (sym h))
-
-maybe_number_itself : (m : Option ℕ) → same_number m m ≡ true
-maybe_number_itself None = refl
-maybe_number_itself (Some m) = number_itself m
-
-match_true : (m n : Match) → same_match m n ≡ true → m ≡ n
-match_true Any Any h = refl
-match_true (Is p) (Is q) h = ap Is (block_true p q h)
-match_true (Under p) (Under q) h = ap Under (block_true p q h)
-match_true (Path m) (Path n) h = ap Path ((unsigned_Decides m n).0 h)
-match_true (First m) (First n) h = ap First ((unsigned_Decides m n).0 h)
-match_true _ _ h = absurd (true≢false (sym h))
-
-match_itself : (m : Match) → same_match m m ≡ true
-match_itself Any = refl
-match_itself (Is p) = block_itself p
-match_itself (Under p) = block_itself p
-match_itself (Path n) = number_itself n
-match_itself (First n) = number_itself n
-
-action_true : (a b : Action) → same_action a b ≡ true → a ≡ b
-action_true Deny Deny h = refl
-action_true (Permit pref med prepend) (Permit pref' med' prepend') h =
-    let prefs = maybe_number_true pref pref' (first_so (same_number pref pref') (same_number med med' && same_number prepend prepend') h) in
-    let two = second_so (same_number pref pref') (same_number med med' && same_number prepend prepend') h in
-    let meds = maybe_number_true med med' (first_so (same_number med med') (same_number prepend prepend') two) in
-    let prepends = maybe_number_true prepend prepend' (second_so (same_number med med') (same_number prepend prepend') two) in
-    λ i. Permit (prefs i) (meds i) (prepends i)
-action_true _ _ h = absurd (true≢false (sym h))
-
-action_itself : (a : Action) → same_action a a ≡ true
-action_itself Deny = refl
-action_itself (Permit pref med prepend) = both_true _ _ (maybe_number_itself pref) (both_true _ _ (maybe_number_itself med) (maybe_number_itself prepend))
-
-rule_true : (r s : Rule) → same_rule r s ≡ true → r ≡ s
-rule_true r s h =
-    let conds = match_true r.cond s.cond (first_so (same_match r.cond s.cond) (same_action r.act s.act) h) in
-    let acts = action_true r.act s.act (second_so (same_match r.cond s.cond) (same_action r.act s.act) h) in
-    λ i. record { cond = conds i; act = acts i }
-
-rule_itself : (r : Rule) → same_rule r r ≡ true
-rule_itself r = both_true _ _ (match_itself r.cond) (action_itself r.act)
-
-rules_exact : IsExact same_rule
-rules_exact r s = (rule_true r s, λ e. subst (λ t. same_rule r t ≡ true) e (rule_itself r))
-
-pub policies_exact : IsExact same_policy
-policies_exact = lists_exact rules_exact
-
-pub policy_per : IsPartialEquivalence same_policy
-policy_per = partial_equiv_from_equiv (decided same_policy policies_exact)
-
--- what the answer of the test means
-pub told_policies : (rules others : List Rule) (r : Bool) → r ≡ same_policy rules others → IsTrue r ↔ (rules ≡ others)
-told_policies rules others r e = told policies_exact rules others r e

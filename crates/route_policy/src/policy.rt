@@ -103,7 +103,7 @@ impl Policy {
     }
 
     /// Whether both have the same rules in the same order.
-    #[tactic(auto, using(crate::specs::Sameness::told_policies))]
+    #[tactic(auto, using(crate::proofs::Comparing::told_policies))]
     pub fn is_same(&self, other: &Policy) -> bool
         ensures value { result ≡ same_policy self.now other.now }
         ensures meaning { IsTrue result ↔ (self.now ≡ other.now) }
@@ -179,7 +179,8 @@ fn are_same(rules: &[Rule], others: &[Rule]) -> bool
 }
 
 impl PartialEq for Policy {
-    ghost use Rattle.route_policy.specs.Sameness.{same_policy, policy_per};
+    ghost use Rattle.route_policy.specs.Sameness.{same_policy};
+    ghost use Rattle.route_policy.specs.SameLaws.{policy_per};
 
     ghost eq = { same_policy };
 
