@@ -9,7 +9,7 @@ mod reply;
 mod report;
 mod text;
 
-pub use reply::{write_refusal, write_reply};
+pub use reply::{write_numbered, write_refusal, write_reply};
 
 #[cfg(test)]
 mod tests;
