@@ -38,7 +38,7 @@ fn main(rt: HostRuntime) -> ExitCode {
         Err(_) => return without_memory(&rt),
     };
     match choose(alloc, words.as_slice()) {
-        Ok(Choice::Script) => serve_streams(&rt, &mut rt.stderr()),
+        Ok(Choice::Script) => serve_streams(&rt, rt.stderr()),
         Err(error) => show(&rt, &error),
     }
 }
@@ -70,7 +70,7 @@ fn without_memory(rt: &impl Eprint) -> ExitCode
 /// Serves standard input to standard output.
 fn serve_streams(
     rt: &(impl Print + Eprint + Input + AllocGlobal),
-    errors: &mut impl Write,
+    errors: impl Write + Drop,
 ) -> ExitCode
     ensures { IsEnd result }
 {
@@ -80,7 +80,8 @@ fn serve_streams(
     };
     let mut input = watched::Input::new(rt.reader());
     let mut output = watched::Output::new(writer);
-    ExitCode::from(run_script(alloc, &mut input, &mut output, errors))
+    let mut errors = watched::Output::new(errors);
+    ExitCode::from(run_script(alloc, &mut input, &mut output, &mut errors))
 }
 
 #[cfg(test)]

@@ -10,12 +10,12 @@ use Rattle.std.specs.Fmt.{decimal}
 use Rattle.net_prefix.specs.declared.addr.Addr.{Addr}
 use Rattle.net_prefix.specs.Address.{addr_text}
 use Rattle.net_prefix.specs.Block.{Block, block_text}
-use Rattle.watched.specs.Streams.{Writing, AppendsFront, Writes}
-use Rattle.watched.specs.Writing.{writes_then, appends_less, appends_none}
+use Rattle.watched.specs.Streams.{Writing, AppendsFront, Writes, held_after}
+use Rattle.watched.specs.Writing.{writes_then, writes_none, appends_less}
 
 -- all of it was written
 abbrev pub WritesAll : Writing → List ℕ → Writing → Type 0
-WritesAll old a new = Appends old.written new.written a × (new.failed ≡ old.failed)
+WritesAll old a new = Appends old.written new.written a × (new.failed ≡ old.failed) × (new.held ≡ held_after old a)
 
 -- a front of it was written, and the writer failed
 abbrev pub WritesFront : Writing → List ℕ → Writing → Type 0
@@ -58,7 +58,7 @@ module _ {E X : Type 0} (f : X → List ℕ) where
   each_end old mid whole items i le more =
       let none : List ℕ = flat_map f (drop i items) in
       let e : none ≡ [] = ap (flat_map f) (drop_all i items le) in
-      more (Ok tt) mid (writes_same {E = E} mid mid [] none (Ok tt) e (appends_none mid.written, refl))
+      more (Ok tt) mid (writes_same {E = E} mid mid [] none (Ok tt) e (writes_none {E = E} mid (Ok tt) tt refl))
 
 -- the first item, and then each after a separator
 joined_each : {X : Type 0} (c : ℕ) (f : X → List ℕ) (x : X) (xs : List X) → join_with_byte c (map f (x ∷ xs)) ≡ f x ++ flat_map (λ y. c ∷ f y) xs

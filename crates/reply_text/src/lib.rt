@@ -9,4 +9,4 @@ mod reply;
 mod report;
 mod text;
 
-pub use reply::{write_refusal, write_reply};
+pub use reply::{write_numbered, write_refusal, write_reply};

@@ -1,6 +1,8 @@
 //! The lines of a reply.
 
-ghost use Rattle.reply_text.specs.Replies.{refusal_text, reply_text};
+ghost use Rattle.std.specs.Prelude.{◌++◌};
+ghost use Rattle.std.specs.Fmt.{decimal};
+ghost use Rattle.reply_text.specs.Replies.{line_end, refusal_text, reply_text};
 ghost use Rattle.watched.specs.Streams.{Writes};
 
 use crate::part::Part;
@@ -36,6 +38,18 @@ pub fn write_refusal<W: Write>(refusal: Refusal, output: &mut Output<W>) -> Resu
         Part::Bytes(refusal.name().as_bytes()),
         Part::Bytes(b"\n"),
     ];
+    write_each(&parts, output)
+}
+
+/// Writes a line of words and a number in decimal, as a fault's that names a line. At an error a front of it went out.
+pub fn write_numbered<W: Write>(
+    words: &[u8],
+    number: u64,
+    output: &mut Output<W>,
+) -> Result<(), WriterFailed>
+    ensures { Writes output.old (words.now ++ decimal number ++ line_end) result output.new }
+{
+    let parts = [Part::Bytes(words), Part::Number(number), Part::Bytes(b"\n")];
     write_each(&parts, output)
 }
 

@@ -1,17 +1,18 @@
 -- Answers, line by line.
-use Rattle.std.proofs.Common.{◌≡◌, ℕ, ◌+◌, ◌-◌, ◌<◌, ◌≤◌, true, inl, inr, ⊎_elim, List, [], ◌∷◌, ◌++◌, length, take, get_or, Option, Some, None, Ok, Err, refl, sym, ap, ◌∙◌, subst, arith, append_assoc, append-nil}
+use Rattle.std.proofs.Common.{◌≡◌, ℕ, ◌+◌, ◌-◌, ◌<◌, ◌≤◌, true, min, inl, inr, ⊎_elim, List, [], ◌∷◌, ◌++◌, length, take, drop, get_or, position, Option, Some, None, Ok, Err, refl, sym, ap, ◌∙◌, subst, arith, append_assoc, append-nil}
 use Rattle.std.specs.Str.Lines.{lines}
 use Rattle.std.specs.Io.KnownBytes.{Appends, Keeps}
-use Rattle.std.proofs.lemmas.List.{take_at, get_or_at, take_more, take_all, length_push, length-append}
+use Rattle.std.proofs.lemmas.List.{take_at, get_or_at, get_or-take, take_more, take_all, take_min, length_push, length-append, length-take-le}
 use Rattle.std.proofs.lemmas.List.Elements.{All-push, All-same}
 use Rattle.watched.specs.Streams.{Reading, Writing}
 use Rattle.watched.specs.Writing.{appends_both}
 use Rattle.reference_machine.specs.Network.{Network}
 use Rattle.sim_text.specs.declared.fault.ServeFault.TheVariants.{Read, Write}
-use Rattle.sim_text.specs.Serving.{IsAnswer, AreAnswers, Served, IsServing, line_at, most_bytes, most_lines}
+use Rattle.sim_text.specs.Serving.{IsAnswer, AreAnswers, AreFit, Served, IsServing, line_at, most_bytes, most_lines}
 use Rattle.sim_text.specs.Next.{IsUnfit}
-use Rattle.sim_text.specs.Progress.{SoFar, Ends}
+use Rattle.sim_text.specs.Progress.{SoFar, Reached, Ends}
 use Rattle.sim_text.specs.declared.fault.ServeFault.{ServeFault}
+use Rattle.sim_text.proofs.LineLemmas.{is_line_feed, Whole, cut_at, line_feeds_line, line_feeds_none}
 
 -- one more line
 pub are_answers_push : (s mid s' : Network) (done : List (List ℕ)) (line text answer : List ℕ) → AreAnswers s done text mid → IsAnswer mid line answer s' → AreAnswers s (done ++ line ∷ []) (text ++ answer) s'
@@ -67,18 +68,65 @@ so_far_kept bytes left k s o s' om o' kept so = record {
   written = appends_kept o.written om.written o'.written so.text so.written kept;
 }
 
+-- the same, with what was read
+pub reached_kept : (bytes left : List ℕ) (k : ℕ) (s : Network) (o : Writing) (s' : Network) (om o' : Writing)
+    → Keeps om.written o'.written → Reached bytes left k s o s' om → Reached bytes left k s o s' o'
+reached_kept bytes left k s o s' om o' kept re = record {
+  so_far = so_far_kept bytes left k s o s' om o' kept re.so_far;
+  given = re.given;
+  cut = re.cut;
+  whole = re.whole;
+}
+
+-- one more line was read whole, up to its line feed, and answered
+pub reached_more : (bytes pending rest : List ℕ) (n k : ℕ) (s : Network) (o : Writing) (mid : Network) (om : Writing) (s' : Network) (o' : Writing)
+    → position is_line_feed pending ≡ Some n → Reached bytes (pending ++ rest) k s o mid om
+    → SoFar bytes (drop (n + 1) pending ++ rest) (k + 1) s o s' o' → Reached bytes (drop (n + 1) pending ++ rest) (k + 1) s o s' o'
+reached_more bytes pending rest n k s o mid om s' o' is re so =
+    let front = take n pending in
+    let back = drop (n + 1) pending in
+    let line = front ++ 10 ∷ [] in
+    let at = cut_at pending n is in record {
+      so_far = so;
+      given = re.given ++ line;
+      cut = re.cut ∙ ap (λ t. re.given ++ (t ++ rest)) at.2
+          ∙ ap (λ t. re.given ++ t) (append_assoc front (10 ∷ back) rest ∙ sym (append_assoc front (10 ∷ []) (back ++ rest)))
+          ∙ sym (append_assoc re.given line (back ++ rest));
+      whole = ap (λ m. m + 1) re.whole ∙ sym (line_feeds_line re.given front at.1);
+    }
+
 -- HOW SERVING ENDS
 
 pub served : (bytes left : List ℕ) (k : ℕ) (s : Network) (o : Writing) (s' : Network) (o' : Writing) → SoFar bytes left k s o s' o' → Served bytes k s o s' o'
 served bytes left k s o s' o' so =
     let P : List (List ℕ) → Type 0 = λ ls. AreAnswers s ls so.text s' in
-    (so.text, subst P (sym (ap (take k) so.parts ∙ take_at so.done (lines left) k so.count)) so.answers, so.written)
+    let Q : List (List ℕ) → Type 0 = λ ls. AreFit ls in
+    let first : so.done ≡ take k (lines bytes) = sym (ap (take k) so.parts ∙ take_at so.done (lines left) k so.count) in
+    let few : length so.done ≤ most_lines = omega (arith, so.count, so.few) in
+    (so.text, subst Q first (few, so.short), subst P first so.answers, so.written)
 
-pub end_served : (bytes left : List ℕ) (k : ℕ) (s : Network) (o : Writing) (s' : Network) (o' : Writing) (i' : Reading)
-    → left ≡ [] → i'.remaining ≡ Some [] → SoFar bytes left k s o s' o' → IsServing bytes s o (Ok k) s' o' i'
-end_served bytes left k s o s' o' i' none end so =
-    let all : lines bytes ≡ so.done = so.parts ∙ ap (λ t. so.done ++ lines t) none ∙ append-nil so.done in
-    (sym so.count ∙ ap length (sym all), so.few, All-same (λ line. length line ≤ most_bytes) (lines bytes) so.done all so.short, end, served bytes left k s o s' o' so)
+pub end_served : (bytes : List ℕ) (k : ℕ) (s : Network) (o : Writing) (s' : Network) (o' : Writing) (i' : Reading)
+    → i'.remaining ≡ Some [] → SoFar bytes [] k s o s' o' → IsServing bytes s o (Ok k) s' o' i'
+end_served bytes k s o s' o' i' end so =
+    let all : lines bytes ≡ so.done = so.parts ∙ append-nil so.done in
+    (sym so.count ∙ ap length (sym all), end, served bytes [] k s o s' o' so)
+
+-- reading failed, after some bytes with no line feed
+pub end_failed : (bytes pending rest : List ℕ) (k : ℕ) (s : Network) (o : Writing) (s' : Network) (o' : Writing) (i' : Reading)
+    → Whole pending → i'.failed ≡ true → i'.remaining ≡ Some rest → Reached bytes (pending ++ rest) k s o s' o' → IsServing bytes s o (Err (Read (k + 1))) s' o' i'
+end_failed bytes pending rest k s o s' o' i' whole failed left re = (
+  k,
+  refl,
+  inl (
+    failed,
+    re.given ++ pending,
+    rest,
+    left,
+    re.cut ∙ sym (append_assoc re.given pending rest),
+    re.whole ∙ sym (line_feeds_none re.given pending whole),
+  ),
+  served bytes (pending ++ rest) k s o s' o' re.so_far,
+)
 
 -- the next line, and how many there are
 next_at : (bytes left : List ℕ) (k : ℕ) (s : Network) (o : Writing) (s' : Network) (o' : Writing) (line : List ℕ) (more : List (List ℕ))
@@ -106,13 +154,47 @@ end_many bytes left k s o s' o' i' line more begins many so =
 
 -- the next line's answer was not written whole
 pub end_unwritten : (bytes left : List ℕ) (k : ℕ) (s : Network) (o : Writing) (mid : Network) (om : Writing) (s' : Network) (o' : Writing) (i' : Reading) (line : List ℕ) (more : List (List ℕ)) (answer : List ℕ) (n : ℕ)
-    → lines left ≡ line ∷ more → IsAnswer mid line answer s' → Appends om.written o'.written (take n answer) → o'.failed ≡ true
+    → lines left ≡ line ∷ more → k < most_lines → length line ≤ most_bytes → IsAnswer mid line answer s' → Appends om.written o'.written (take n answer) → o'.failed ≡ true
     → SoFar bytes left k s o mid om → IsServing bytes s o (Err (Write (k + 1))) s' o' i'
-end_unwritten bytes left k s o mid om s' o' i' line more answer n begins one front failed so =
+end_unwritten bytes left k s o mid om s' o' i' line more answer n begins low short one front failed so =
     let next = next_at bytes left k s o mid om line more begins so in
     let before = served bytes left k s o mid om so in
     let P : List ℕ → Type 0 = λ l. IsAnswer mid l answer s' in
-    (k, refl, (next.0, failed, mid, before.0, answer, n, before.1, subst P (sym next.1) one, appends_both o.written om.written o'.written before.0 (take n answer) before.2 front))
+    let Q : List ℕ → Type 0 = λ l. length l ≤ most_bytes in
+    let R : List ℕ → Type 0 = λ t. Appends om.written o'.written t in
+    let m = min n (length answer) in (
+      k,
+      refl,
+      (
+        next.0,
+        low,
+        subst Q (sym next.1) short,
+        failed,
+        mid,
+        before.0,
+        answer,
+        m,
+        before.1,
+        before.2,
+        subst P (sym next.1) one,
+        omega arith,
+        appends_both o.written om.written o'.written before.0 (take m answer) before.3 (subst R (sym (take_min n answer)) front),
+      ),
+    )
+
+-- the lines before the last one are within the limits, and so is the last
+fit_front : (ls : List (List ℕ)) (j k : ℕ) → k ≡ j + 1 → j < length ls → AreFit (take k ls) → AreFit (take j ls) × (j < most_lines) × (length (get_or ls j []) ≤ most_bytes)
+fit_front ls j k sum low fit =
+    let all : length (take k ls) ≡ k = length-take-le k ls (omega arith) in
+    let some : length (take j ls) ≡ j = length-take-le j ls (omega arith) in
+    let P : List ℕ → Type 0 = λ l. length l ≤ most_bytes in (
+      (
+        omega (arith, fit.0),
+        λ i d l. subst P (get_or-take k ls i d (omega arith) ∙ sym (get_or-take j ls i d (omega arith))) (fit.1 i d (omega arith)),
+      ),
+      omega (arith, fit.0),
+      subst P (get_or-take k ls j [] (omega arith)) (fit.1 j [] (omega arith)),
+    )
 
 -- all was written, and could not be sent on
 pub end_unsent : (bytes left : List ℕ) (k : ℕ) (s : Network) (o : Writing) (s' : Network) (om o' : Writing) (i' : Reading)
@@ -123,21 +205,26 @@ end_unsent bytes left k s o s' om o' i' some kept failed so =
     let low : j < length (lines bytes) = omega (arith, so.count) in
     let sum : k ≡ j + 1 = omega arith in
     let all = served bytes left k s o s' om so in
+    let fit = fit_front (lines bytes) j k sum low all.1 in
     let P : List (List ℕ) → Type 0 = λ ls. AreAnswers s ls all.0 s' in
-    let apart = are_answers_pop s s' (take j (lines bytes)) (line_at bytes j) all.0 (subst P (ap (λ n. take n (lines bytes)) sum ∙ take_more (lines bytes) j [] low) all.1) in
+    let apart = are_answers_pop s s' (take j (lines bytes)) (line_at bytes j) all.0 (subst P (ap (λ n. take n (lines bytes)) sum ∙ take_more (lines bytes) j [] low) all.2) in
     let Q : List ℕ → Type 0 = λ t. Appends o.written o'.written t in (
       j,
       sum,
       (
         low,
+        fit.1,
+        fit.2,
         failed,
         apart.0,
         apart.1,
         apart.2,
         length apart.2,
+        fit.0,
         apart.3,
         apart.4,
-        subst Q (apart.5 ∙ ap (λ t. apart.1 ++ t) (sym (take_all (length apart.2) apart.2 (omega arith)))) (appends_kept o.written om.written o'.written all.0 all.2 kept),
+        omega arith,
+        subst Q (apart.5 ∙ ap (λ t. apart.1 ++ t) (sym (take_all (length apart.2) apart.2 (omega arith)))) (appends_kept o.written om.written o'.written all.0 all.3 kept),
       ),
     )
 
@@ -151,8 +238,17 @@ end_unfit bytes pending rest k s o s' o' i' unfit so =
     (λ long. end_long bytes (pending ++ rest) k s o s' o' i' found.0 found.1 found.2 long so)
     found.3
 
+pub unsent_after : (bytes left : List ℕ) (k : ℕ) (s : Network) (o : Writing) (s' : Network) (om o' : Writing) (fault : ServeFault) (i' : Reading)
+    → Keeps om.written o'.written → (fault ≡ Write k) × (0 < k) × (o'.failed ≡ true) → SoFar bytes left k s o s' om → IsServing bytes s o (Err fault) s' o' i'
+unsent_after bytes left k s o s' om o' fault i' kept h so =
+    let P : ServeFault → Type 0 = λ f. IsServing bytes s o (Err f) s' o' i' in
+    subst P (sym h.0) (end_unsent bytes left k s o s' om o' i' h.1 kept h.2 so)
+
 pub ends_unsent : (left : List ℕ) (k : ℕ) (s' : Network) (om o' : Writing) (fault : ServeFault) (i' : Reading)
     → Keeps om.written o'.written → (fault ≡ Write k) × (0 < k) × (o'.failed ≡ true) → Ends left k s' om fault s' o' i'
-ends_unsent left k s' om o' fault i' kept h = λ bytes s0 o0 so.
-    let P : ServeFault → Type 0 = λ f. IsServing bytes s0 o0 (Err f) s' o' i' in
-    subst P (sym h.0) (end_unsent bytes left k s0 o0 s' om o' i' h.1 kept h.2 so)
+ends_unsent left k s' om o' fault i' kept h = λ bytes s0 o0 re. unsent_after bytes left k s0 o0 s' om o' fault i' kept h re.so_far
+
+pub kept_known : (old new : Option (List ℕ)) (xs : List ℕ) → old ≡ Some xs → Keeps old new → new ≡ Some xs
+kept_known None new xs e k = let e' : None ≡ Some xs = e in absurd (cc)
+kept_known (Some ys) None xs e k = absurd k
+kept_known (Some ys) (Some zs) xs e k = ap Some k ∙ e

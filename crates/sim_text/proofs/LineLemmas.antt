@@ -1,10 +1,11 @@
 -- Which lines stand in bytes that are read piece by piece.
-use Rattle.std.proofs.Common.{◌≡◌, ℕ, ◌+◌, ◌-◌, ◌<◌, ◌≤◌, Bool, false, cond, not, zero-add, eqb, ltb, ◌⊎◌, inl, inr, ⊎_elim, List, [], ◌∷◌, ◌++◌, length, take, drop, get_or, position, Option, Some, None, All, refl, sym, ap, ◌∙◌, arith, append_assoc}
+use Rattle.std.proofs.Common.{◌≡◌, ℕ, ◌+◌, ◌-◌, ◌<◌, ◌≤◌, Bool, false, cond, not, zero-add, eqb, ltb, ◌⊎◌, inl, inr, ⊎_elim, List, [], ◌∷◌, ◌++◌, length, take, drop, get_or, position, Option, Some, None, All, refl, sym, ap, ◌∙◌, arith, append_assoc, append-nil, filter}
 use Rattle.std.specs.List.{slice_split, position_or_len}
 use Rattle.std.specs.Str.Lines.{lines, lines_of_parts, strip_carriage_return}
+use Rattle.sim_text.specs.Serving.{line_feeds}
 use Rattle.std.proofs.lemmas.Bool.{cases_Bool, cond_both, cond-false, cond-true, ne_eqb, lt-ltb, le-ltb, eqb-true, ltb-true, ltb-false}
 use Rattle.std.proofs.lemmas.List.{take-append-drop, drop_more, length-take-le, length-append, get_or-take}
-use Rattle.std.proofs.lemmas.List.Elements.{All-from_get_or, All-append, All-tail}
+use Rattle.std.proofs.lemmas.List.Elements.{All-from_get_or, All-append, All-tail, filter-append}
 use Rattle.std.proofs.lemmas.List.Sums.{fails_before_first, passes_at_first, position_or_len_is}
 use Rattle.std.proofs.lemmas.List.Splits.{slice_split_none, slice_split_at, length-slice_split}
 use Rattle.std.proofs.lemmas.Option.{cond_some}
@@ -129,3 +130,23 @@ position_after front back n whole is =
 -- there is none among them either
 pub position_nowhere : (front back : List ℕ) → Whole front → position is_line_feed back ≡ None → position is_line_feed (front ++ back) ≡ None
 position_nowhere front back whole is = position_none (front ++ back) (All-append (λ b. eqb b 10 ≡ false) front back whole (no_cut back is))
+
+-- HOW MANY LINES WERE READ WHOLE
+
+no_line_feeds : (bytes : List ℕ) → Whole bytes → filter is_line_feed bytes ≡ []
+no_line_feeds [] whole = refl
+no_line_feeds (b ∷ more) whole =
+    ap (λ t. cond t (b ∷ filter is_line_feed more) (filter is_line_feed more)) (whole 0 0 (omega arith)) ∙ no_line_feeds more (All-tail (λ x. eqb x 10 ≡ false) b more whole)
+
+-- bytes with no line feed make no more lines
+pub line_feeds_none : (given bytes : List ℕ) → Whole bytes → line_feeds (given ++ bytes) ≡ line_feeds given
+line_feeds_none given bytes whole =
+    ap length (filter-append is_line_feed given bytes ∙ ap (λ t. filter is_line_feed given ++ t) (no_line_feeds bytes whole) ∙ append-nil (filter is_line_feed given))
+
+-- a line feed behind them makes one
+pub line_feeds_line : (given front : List ℕ) → Whole front → line_feeds (given ++ (front ++ 10 ∷ [])) ≡ line_feeds given + 1
+line_feeds_line given front whole =
+    ap line_feeds (sym (append_assoc given front (10 ∷ [])))
+    ∙ ap length (filter-append is_line_feed (given ++ front) (10 ∷ []))
+    ∙ length-append (filter is_line_feed (given ++ front)) (10 ∷ [])
+    ∙ ap (λ n. n + 1) (line_feeds_none given front whole)

@@ -1,5 +1,6 @@
 -- What it means to serve a script: each line is answered in turn.
-use Rattle.std.specs.Prelude.{◌≡◌, ℕ, ◌+◌, ◌<◌, ◌≤◌, Bool, true, false, ◌⊎◌, List, [], ◌∷◌, ◌++◌, length, take, slice_index_or, All, Some, Result, Ok, Err}
+use Rattle.std.specs.Prelude.{◌≡◌, ℕ, ◌+◌, ◌<◌, ◌≤◌, ◌==◌, Bool, true, false, ◌⊎◌, List, [], ◌∷◌, ◌++◌, length, take, filter, slice_index_or, codes, All, Some, Result, Ok, Err}
+use Rattle.std.specs.Fmt.{decimal}
 use Rattle.std.specs.Str.Lines.{lines}
 use Rattle.std.specs.Io.KnownBytes.{Appends}
 use Rattle.watched.specs.Streams.{Reading, Writing}
@@ -9,7 +10,7 @@ use Rattle.sim_event.specs.declared.reply.Reply.{Reply}
 use Rattle.reference_machine.specs.Network.{Network}
 use Rattle.reference_machine.specs.Machine.{IsStep}
 use Rattle.command_text.specs.Lines.{IsSilent, IsFault, Means, feeds_route}
-use Rattle.reply_text.specs.Replies.{reply_text, refusal_text}
+use Rattle.reply_text.specs.Replies.{reply_text, refusal_text, line_end}
 use Rattle.sim_text.specs.declared.fault.ServeFault.{ServeFault}
 use Rattle.sim_text.specs.declared.fault.ServeFault.TheVariants.{Read, Write}
 
@@ -28,7 +29,7 @@ abbrev pub AreAnswers : Network → List (List ℕ) → List ℕ → Network →
 AreAnswers s [] text s' = (text ≡ []) × (s' ≡ s)
 AreAnswers s (line ∷ more) text s' = (mid : Network) × (first : List ℕ) × (rest : List ℕ) × IsAnswer s line first mid × AreAnswers mid more rest s' × (text ≡ first ++ rest)
 
--- the most bytes that a line may have, its end not counted, and the most lines
+-- the most bytes that a line may have, its end not counted, and the most lines (own)
 abbrev pub most_bytes : ℕ
 most_bytes = 65536
 
@@ -38,21 +39,33 @@ most_lines = 1000000
 abbrev pub line_at : List ℕ → ℕ → List ℕ
 line_at bytes k = slice_index_or (lines bytes) k []
 
--- the first k lines were answered, and their answers were written in full
-abbrev pub Served : List ℕ → ℕ → Network → Writing → Network → Writing → Type 0
-Served bytes k s o s' o' = (text : List ℕ) × AreAnswers s (take k (lines bytes)) text s' × Appends o.written o'.written text
+-- no more lines than a script may have, and none longer than a line may be
+abbrev pub AreFit : List (List ℕ) → Type 0
+AreFit ls = (length ls ≤ most_lines) × All (λ line. length line ≤ most_bytes) ls
 
--- why reading ends in a fault after k lines: the reader failed, the next line is too long, or there are too many lines
+-- the first k lines are within the limits, they were answered, and their answers were written in full
+abbrev pub Served : List ℕ → ℕ → Network → Writing → Network → Writing → Type 0
+Served bytes k s o s' o' = (text : List ℕ) × AreFit (take k (lines bytes)) × AreAnswers s (take k (lines bytes)) text s' × Appends o.written o'.written text
+
+-- how many lines were read whole, of these bytes
+abbrev pub line_feeds : List ℕ → ℕ
+line_feeds bytes = length (filter (λ b. b == 10) bytes)
+
+-- why reading ends in a fault after k lines: the reader failed, and what it had given by then has k whole lines; the next
+-- line is too long; or there are too many lines
 abbrev pub IsReadFault : List ℕ → ℕ → Reading → Type 0
 IsReadFault bytes k i' =
-    ((i'.failed ≡ true) × (k ≤ length (lines bytes)))
+    ((i'.failed ≡ true) × (given : List ℕ) × (left : List ℕ) × (i'.remaining ≡ Some left) × (bytes ≡ given ++ left) × (k ≡ line_feeds given))
     ⊎ (((k < length (lines bytes)) × (most_bytes < length (line_at bytes k)))
     ⊎ ((k ≡ most_lines) × (most_lines < length (lines bytes))))
 
--- the first k lines were answered in full; the next one's event was taken too, and a front of its answer was written
+-- the first k lines were answered in full; the next one is within the limits, its event was taken too, and a front of its
+-- answer was written
 abbrev pub IsWriteFault : List ℕ → ℕ → Network → Writing → Network → Writing → Type 0
-IsWriteFault bytes k s o s' o' = (k < length (lines bytes)) × (o'.failed ≡ true) × (mid : Network) × (text : List ℕ) × (answer : List ℕ) × (n : ℕ)
-    × AreAnswers s (take k (lines bytes)) text mid × IsAnswer mid (line_at bytes k) answer s' × Appends o.written o'.written (text ++ take n answer)
+IsWriteFault bytes k s o s' o' = (k < length (lines bytes)) × (k < most_lines) × (length (line_at bytes k) ≤ most_bytes) × (o'.failed ≡ true)
+    × (mid : Network) × (text : List ℕ) × (answer : List ℕ) × (n : ℕ)
+    × AreFit (take k (lines bytes)) × AreAnswers s (take k (lines bytes)) text mid × IsAnswer mid (line_at bytes k) answer s'
+    × (n ≤ length answer) × Appends o.written o'.written (text ++ take n answer)
 
 -- the writer failed
 abbrev pub is_write_fault : {A : Type 0} → Result A ServeFault → Bool
@@ -60,9 +73,19 @@ is_write_fault (Ok done) = false
 is_write_fault (Err (Read line)) = false
 is_write_fault (Err (Write line)) = true
 
+-- reading ended early
+abbrev pub is_read_fault : {A : Type 0} → Result A ServeFault → Bool
+is_read_fault (Ok done) = false
+is_read_fault (Err (Read line)) = true
+is_read_fault (Err (Write line)) = false
+
 -- serving the bytes: all lines were answered, or a fault came at the line that it names, counted from 1
 abbrev pub IsServing : List ℕ → Network → Writing → Result ℕ ServeFault → Network → Writing → Reading → Type 0
-IsServing bytes s o (Ok n) s' o' i' = (n ≡ length (lines bytes)) × (n ≤ most_lines) × All (λ line. length line ≤ most_bytes) (lines bytes)
-    × (i'.remaining ≡ Some []) × Served bytes n s o s' o'
+IsServing bytes s o (Ok n) s' o' i' = (n ≡ length (lines bytes)) × (i'.remaining ≡ Some []) × Served bytes n s o s' o'
 IsServing bytes s o (Err (Read line)) s' o' i' = (k : ℕ) × (line ≡ k + 1) × IsReadFault bytes k i' × Served bytes k s o s' o'
 IsServing bytes s o (Err (Write line)) s' o' i' = (k : ℕ) × (line ≡ k + 1) × IsWriteFault bytes k s o s' o'
+
+-- what is told of a fault
+abbrev pub fault_text : ServeFault → List ℕ
+fault_text (Read line) = codes "read fault at line " ++ decimal line ++ line_end
+fault_text (Write line) = codes "write fault" ++ line_end

@@ -1,12 +1,12 @@
 //! The bytes that were read and not yet answered.
 
 ghost use Rattle.std.specs.Prelude.{◌≡◌, ℕ, ◌+◌, ◌-◌, ◌<◌, ◌≤◌, ◌==◌, List, [], ◌++◌, length, take, drop, slice_range, position, None, IfOk, OnOk, OnErr, true, false};
-ghost use Rattle.std.specs.Io.KnownBytes.{Consumes, IsAtEnd};
+ghost use Rattle.std.specs.Io.KnownBytes.{Consumes, IsAtEnd, Keeps};
 
 use std::io;
-use std::io::Read;
+use std::io::{Read, Write};
 use std::marker::Model;
-use watched::Input;
+use watched::{Input, Output};
 
 /// Holds the longest line with its end: 65,536 bytes, CR and LF.
 pub(crate) const CAPACITY: usize = 65_538;
@@ -85,8 +85,14 @@ impl LineBuffer {
         Some(self.searched - self.start + index)
     }
 
-    /// Reads more bytes behind those that it holds, among which no line feed is, and says whether there were any.
-    pub(crate) fn read_more<R: Read>(&mut self, input: &mut Input<R>) -> io::Result<bool>
+    /// Reads more bytes behind those that it holds, among which no line feed is, and says whether there were any. Whoever
+    /// types them has to see all earlier replies first: nothing may be held back.
+    pub(crate) fn read_more<R: Read, W: Write>(
+        &mut self,
+        input: &mut Input<R>,
+        replies: &Output<W>,
+    ) -> io::Result<bool>
+        requires shown { replies.now.held ≡ false }
         requires room { length self.old < 65538 }
         requires whole { position (λ b. b == 10) self.old ≡ None }
         ensures ok { IfOk result (λ any. (more : List ℕ) × (self.new ≡ self.old ++ more)
@@ -95,7 +101,9 @@ impl LineBuffer {
             × (any ≡ false → (more ≡ []) × IsAtEnd input.new.remaining)) }
         ensures calm { OnOk result (input.new.failed ≡ input.old.failed) }
         ensures err { OnErr result (input.new.failed ≡ true) }
+        ensures left { OnErr result (Keeps input.old.remaining input.new.remaining) }
     {
+        let _ = replies.holds_back();
         let held = self.end - self.start;
         move_to_front(&mut self.bytes, self.start, self.end);
         self.start = 0;

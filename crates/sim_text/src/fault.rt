@@ -1,6 +1,12 @@
 //! How serving ends early.
 
+ghost use Rattle.watched.specs.Streams.{Writes};
+ghost use Rattle.sim_text.specs.Serving.{fault_text};
+
+use reply_text::write_numbered;
+use std::io::Write;
 use thiserror::Error;
+use watched::{Output, WriterFailed};
 
 /// Why serving ended before the end of the script. Lines count from 1.
 #[derive(Clone, Copy, Debug, PartialEq, Eq, Error)]
@@ -11,4 +17,14 @@ pub enum ServeFault {
     /// The writer failed; the line whose reply was being written.
     #[error("write fault")]
     Write { line: u64 },
+}
+
+/// Writes the fault's line. At an error a front of it went out.
+pub fn write_fault<W: Write>(fault: ServeFault, output: &mut Output<W>) -> Result<(), WriterFailed>
+    ensures { Writes output.old (fault_text fault) result output.new }
+{
+    match fault {
+        ServeFault::Read { line } => write_numbered(b"read fault at line ", line, output),
+        ServeFault::Write { line: _ } => output.write(b"write fault\n"),
+    }
 }

@@ -8,7 +8,7 @@ mod line;
 mod script;
 mod serving;
 
-pub use fault::ServeFault;
+pub use fault::{ServeFault, write_fault};
 pub use serving::serve;
 
 #[cfg(test)]

@@ -1,11 +1,11 @@
 //! A script on its way: what was read of it, and how many of its lines were answered.
 
-ghost use Rattle.std.specs.Prelude.{◌≡◌, ℕ, ◌+◌, ◌<◌, ◌≤◌, true, false, List, [], ◌++◌, IfOk, IfErr, OnOk, Some};
+ghost use Rattle.std.specs.Prelude.{◌≡◌, ℕ, ◌+◌, ◌<◌, ◌≤◌, true, false, List, [], ◌++◌, IfOk, IfErr, OnOk, OnErr, Some};
 ghost use Rattle.std.specs.Io.KnownBytes.{Keeps};
 ghost use Rattle.watched.specs.Streams.{Reading};
 ghost use Rattle.sim_text.specs.Next.{IsNext};
-ghost use Rattle.sim_text.specs.Progress.{Advances, Ends, IsTurn, turns_left};
-ghost use Rattle.sim_text.specs.Serving.{is_write_fault};
+ghost use Rattle.sim_text.specs.Progress.{Advances, Finishes, Ends, IsAdvance, work_left, is_end};
+ghost use Rattle.sim_text.specs.Serving.{is_write_fault, is_read_fault};
 ghost use Rattle.sim_text.specs.declared.line.Next.TheVariants.{Line, Part};
 
 use crate::ServeFault;
@@ -36,14 +36,16 @@ impl Script {
     }
 }
 
-/// Sends on what was written, if any line was answered.
+/// Sends on what was written, if any of it may be held back.
 fn flush<W: Write>(answered: u64, output: &mut Output<W>) -> Result<(), ServeFault>
-    requires { output.old.failed ≡ false }
+    requires writes { output.old.failed ≡ false }
+    requires some { output.old.held ≡ true → 0 < answered }
     ensures kept { Keeps output.old.written output.new.written }
     ensures writer { output.new.failed ≡ is_write_fault result }
+    ensures sent { OnOk result (output.new.held ≡ false) }
     ensures err { IfErr result (λ fault. (fault ≡ ServeFault.Write answered) × (0 < answered) × (output.new.failed ≡ true)) }
 {
-    if answered == 0 {
+    if !output.holds_back() {
         return Ok(());
     }
     match output.flush() {
@@ -63,6 +65,7 @@ fn answer_first<W: Write, M: Machine>(
     requires next { IsNext script.old.pending script.old.answered (Line end) }
     requires writes { output.old.failed ≡ false }
     ensures writer { output.new.failed ≡ is_write_fault result }
+    ensures unwritten { OnErr result (output.new.failed ≡ true) }
     ensures ok { OnOk result ((rest : List ℕ) → Advances (script.old.pending ++ rest) script.old.answered (M.network machine.old) output.old
         (script.new.pending ++ rest) script.new.answered (M.network machine.new) output.new) }
     ensures count { OnOk result (script.new.answered ≡ script.old.answered + 1) }
@@ -89,10 +92,12 @@ fn answer_last<W: Write, M: Machine>(
 ) -> Result<(), ServeFault>
     requires next { IsNext script.old.pending script.old.answered Part }
     requires writes { output.old.failed ≡ false }
+    requires shown { output.old.held ≡ false }
     ensures writer { output.new.failed ≡ is_write_fault result }
-    ensures ok { OnOk result (Advances script.old.pending script.old.answered (M.network machine.old) output.old
-        [] script.new.answered (M.network machine.new) output.new) }
-    ensures none { OnOk result (script.new.pending ≡ []) }
+    ensures ok { OnOk result (Finishes script.old.pending script.old.answered (M.network machine.old) output.old
+        script.new.answered (M.network machine.new) output.new) }
+    ensures some { OnOk result (output.new.held ≡ true → 0 < script.new.answered) }
+    ensures early { OnErr result (output.new.failed ≡ false → output.new.held ≡ false) }
     ensures err { IfErr result (λ fault. (i : Reading) →
         Ends script.old.pending script.old.answered (M.network machine.old) output.old fault (M.network machine.new) output.new i) }
 {
@@ -123,10 +128,11 @@ fn finish<W: Write, M: Machine>(
 ) -> Result<(), ServeFault>
     requires next { IsNext script.old.pending script.old.answered Part }
     requires writes { output.old.failed ≡ false }
+    requires shown { output.old.held ≡ false }
     ensures writer { output.new.failed ≡ is_write_fault result }
-    ensures ok { OnOk result (Advances script.old.pending script.old.answered (M.network machine.old) output.old
-        [] script.new.answered (M.network machine.new) output.new) }
-    ensures none { OnOk result (script.new.pending ≡ []) }
+    ensures ok { OnOk result (Finishes script.old.pending script.old.answered (M.network machine.old) output.old
+        script.new.answered (M.network machine.new) output.new) }
+    ensures sent { output.new.failed ≡ false → output.new.held ≡ false }
     ensures err { IfErr result (λ fault. (i : Reading) →
         Ends script.old.pending script.old.answered (M.network machine.old) output.old fault (M.network machine.new) output.new i) }
 {
@@ -144,17 +150,19 @@ fn read_on<R: Read, W: Write, M: Machine>(
 ) -> Result<bool, ServeFault>
     requires next { IsNext script.old.pending script.old.answered Part }
     requires writes { output.old.failed ≡ false }
-    ensures reader { OnOk result (input.new.failed ≡ input.old.failed) }
+    requires some { output.old.held ≡ true → 0 < script.old.answered }
+    ensures reader { is_read_fault result ≡ false → input.new.failed ≡ input.old.failed }
     ensures writer { output.new.failed ≡ is_write_fault result }
-    ensures turn { (rest : List ℕ) → input.old.remaining ≡ Some rest →
-        IsTurn (script.old.pending ++ rest) script.old.answered (M.network machine.old) output.old result
+    ensures sent { output.new.failed ≡ false → output.new.held ≡ false }
+    ensures advance { (rest : List ℕ) → input.old.remaining ≡ Some rest →
+        IsAdvance (script.old.pending ++ rest) script.old.answered (M.network machine.old) output.old result
         script.new.pending script.new.answered (M.network machine.new) output.new input.new }
     ensures smaller { IfOk result (λ more. more ≡ true →
-        turns_left script.new.pending script.new.answered < turns_left script.old.pending script.old.answered) }
+        work_left script.new.pending script.new.answered < work_left script.old.pending script.old.answered) }
 {
     flush(script.answered, output)?;
     let next = script.answered + 1;
-    let more = match script.pending.read_more(input) {
+    let more = match script.pending.read_more(input, output) {
         Ok(more) => more,
         Err(_) => return Err(ServeFault::Read { line: next }),
     };
@@ -165,21 +173,24 @@ fn read_on<R: Read, W: Write, M: Machine>(
 }
 
 /// Answers a line that was read, or reads more. False at the end.
-pub(crate) fn turn<R: Read, W: Write, M: Machine>(
+pub(crate) fn advance<R: Read, W: Write, M: Machine>(
     alloc: Global,
     script: &mut Script,
     input: &mut Input<R>,
     output: &mut Output<W>,
     machine: &mut M,
 ) -> Result<bool, ServeFault>
-    requires { output.old.failed ≡ false }
-    ensures reader { OnOk result (input.new.failed ≡ input.old.failed) }
+    requires writes { output.old.failed ≡ false }
+    requires some { output.old.held ≡ true → 0 < script.old.answered }
+    ensures reader { is_read_fault result ≡ false → input.new.failed ≡ input.old.failed }
     ensures writer { output.new.failed ≡ is_write_fault result }
-    ensures turn { (rest : List ℕ) → input.old.remaining ≡ Some rest →
-        IsTurn (script.old.pending ++ rest) script.old.answered (M.network machine.old) output.old result
+    ensures some { IfOk result (λ more. more ≡ true → output.new.held ≡ true → 0 < script.new.answered) }
+    ensures sent { is_end result ≡ true → output.new.failed ≡ false → output.new.held ≡ false }
+    ensures advance { (rest : List ℕ) → input.old.remaining ≡ Some rest →
+        IsAdvance (script.old.pending ++ rest) script.old.answered (M.network machine.old) output.old result
         script.new.pending script.new.answered (M.network machine.new) output.new input.new }
     ensures smaller { IfOk result (λ more. more ≡ true →
-        turns_left script.new.pending script.new.answered < turns_left script.old.pending script.old.answered) }
+        work_left script.new.pending script.new.answered < work_left script.old.pending script.old.answered) }
 {
     match next_line(&script.pending, script.answered) {
         Next::Line(end) => {

@@ -1,10 +1,11 @@
 -- Laws of writing piece by piece.
-use Rattle.std.specs.Prelude.{◌≡◌, ℕ, ◌+◌, ◌≤◌, List, [], ◌++◌, length, take, min, Option, Some, None, Result, Ok, Err, refl}
+use Rattle.std.specs.Prelude.{◌≡◌, ℕ, ◌+◌, ◌≤◌, Bool, true, false, not, ◌==◌, ◌||◌, List, [], ◌∷◌, ◌++◌, length, take, min, Option, Some, None, Result, Ok, Err, refl}
 use Rattle.std.proofs.Common.{sym, ap, ◌∙◌, subst, append_assoc, append-nil, arith}
 use Rattle.std.proofs.Math.Seq.{take-append-add}
+use Rattle.std.proofs.lemmas.Bool.{ne_eqb}
 use Rattle.std.proofs.lemmas.List.{take_min, take-append-le}
 use Rattle.std.specs.Io.KnownBytes.{Appends}
-use Rattle.watched.specs.Streams.{Writing, AppendsFront, Writes}
+use Rattle.watched.specs.Streams.{Writing, AppendsFront, Writes, held_after}
 
 -- a, and then b
 pub appends_both : (old mid new : Option (List ℕ)) (a b : List ℕ) → Appends old mid a → Appends mid new b → Appends old new (a ++ b)
@@ -32,10 +33,27 @@ appends_less old new a b (n, h) =
 pub appends_all : (old new : Option (List ℕ)) (a : List ℕ) → Appends old new a → AppendsFront old new a
 appends_all old new a h = (length a + 0, subst (Appends old new) (sym (append-nil a) ∙ sym (take-append-add a [] 0) ∙ ap (take (length a + 0)) (append-nil a)) h)
 
+or_false : (h : Bool) → (h || false) ≡ h
+or_false true = refl
+or_false false = refl
+
+some_bytes : (x : ℕ) (a : List ℕ) → not (length (x ∷ a) == 0) ≡ true
+some_bytes x a = ap not (ne_eqb (length (x ∷ a)) 0 (λ z. omega arith))
+
+-- a held back, or b, is what they are together
+held_both : (h : Bool) (a b : List ℕ) → ((h || not (length a == 0)) || not (length b == 0)) ≡ (h || not (length (a ++ b) == 0))
+held_both h [] b = ap (λ x. x || not (length b == 0)) (or_false h)
+held_both true (x ∷ a) b = refl
+held_both false (x ∷ a) b = ap (λ t. t || not (length b == 0)) (some_bytes x a) ∙ sym (some_bytes x (a ++ b))
+
 module _ {E : Type 0} where
   -- a was written, and then b
   pub writes_then : (old mid new : Writing) (a b : List ℕ) (u : Unit {0}) (r : Result Unit E) → Writes old a (let ok : Result Unit E = Ok u in ok) mid → Writes mid b r new → Writes old (a ++ b) r new
-  writes_then old mid new a b u (Ok v) h g = (appends_both old.written mid.written new.written a b h.0 g.0, g.1 ∙ h.1)
+  writes_then old mid new a b u (Ok v) h g = (
+    appends_both old.written mid.written new.written a b h.0 g.0,
+    g.1 ∙ h.1,
+    g.2 ∙ ap (λ x. x || not (length b == 0)) h.2 ∙ held_both old.held a b,
+  )
   writes_then old mid new a b u (Err e) h g = (appends_front old.written mid.written new.written a b h.0 g.0, g.1)
 
   -- a was not written, so b was not either
@@ -44,4 +62,4 @@ module _ {E : Type 0} where
 
   -- nothing was to be written
   pub writes_none : (old : Writing) (r : Result Unit E) (u : Unit {0}) → r ≡ Ok u → Writes old [] r old
-  writes_none old r u is = subst (λ x. Writes old [] x old) (sym is) (appends_none old.written, refl)
+  writes_none old r u is = subst (λ x. Writes old [] x old) (sym is) (appends_none old.written, refl, sym (or_false old.held))

@@ -11,11 +11,12 @@ use std::marker::Model;
 #[derive(Clone, Copy, Debug, PartialEq, Eq)]
 pub struct WriterFailed;
 
-/// A writer that remembers whether a write has failed.
+/// A writer that remembers whether a write has failed, and whether it may hold bytes back.
 #[derive(Drop)]
 pub struct Output<W: Write> {
     writer: W,
     failed: bool,
+    held: bool,
 }
 
 impl<W: Write> Model for Output<W> {
@@ -23,7 +24,7 @@ impl<W: Write> Model for Output<W> {
 
     ghost Value = { Writing };
 
-    ghost view = { λ o. record { written = W.contents o.writer; failed = o.failed } };
+    ghost view = { λ o. record { written = W.contents o.writer; failed = o.failed; held = o.held } };
 }
 
 impl<W: Write> Output<W> {
@@ -31,11 +32,20 @@ impl<W: Write> Output<W> {
     pub fn new(writer: W) -> Self
         ensures written { result.written ≡ W.contents writer }
         ensures failed { result.failed ≡ false }
+        ensures held { result.held ≡ false }
     {
         Output {
             writer,
             failed: false,
+            held: false,
         }
+    }
+
+    /// Whether bytes were written since all was last sent on.
+    pub fn holds_back(&self) -> bool
+        ensures { result ≡ self.now.held }
+    {
+        self.held
     }
 
     /// Writes all of the bytes, or fails after some of them.
@@ -43,6 +53,7 @@ impl<W: Write> Output<W> {
         ensures { Writes self.old bytes.now result self.new }
     {
         let result = write_all(&mut self.writer, bytes);
+        self.held = self.held || !bytes.is_empty();
         if result.is_err() {
             self.failed = true;
         }
@@ -53,10 +64,14 @@ impl<W: Write> Output<W> {
     pub fn flush(&mut self) -> Result<(), WriterFailed>
         ensures kept { Keeps self.old.written self.new.written }
         ensures calm { OnOk result (self.new.failed ≡ self.old.failed) }
+        ensures sent { OnOk result (self.new.held ≡ false) }
         ensures failed { OnErr result (self.new.failed ≡ true) }
     {
         match self.writer.flush() {
-            Ok(()) => Ok(()),
+            Ok(()) => {
+                self.held = false;
+                Ok(())
+            }
             Err(_) => {
                 self.failed = true;
                 Err(WriterFailed)

@@ -1,10 +1,10 @@
 use Rattle.std.proofs.Common.{◌≡◌, ◌<◌, true, []}
-use Rattle.std.proofs.lemmas.Result.{IfErr-weaker}
+use Rattle.std.proofs.lemmas.Result.{IfErr-weaker, on_ok_weaker}
 use Rattle.watched.specs.Streams.{Reading}
 use Rattle.sim_text.specs.declared.fault.ServeFault.{ServeFault}
 use Rattle.sim_text.specs.declared.fault.ServeFault.TheVariants.{Write}
 use Rattle.sim_text.specs.Progress.{Ends}
-use Rattle.sim_text.proofs.AnswerLemmas.{ends_unsent}
+use Rattle.sim_text.proofs.AnswerLemmas.{so_far_kept, unsent_after}
 use Rattle.sim_text.proofs.script.finish.Goals as goal
 
 pub returns-clause-err : goal.returns-clause-err
@@ -15,6 +15,12 @@ returns-clause-err g c =
     let Q : ServeFault → Type 0 = λ fault. (i : Reading) →
     Ends script.pending script.answered (g.M.Machine.network c.args.machine.now) c.args.output.now fault (g.M.Machine.network c.answer_last.new.machine) c.flush.new.output i in
     IfErr-weaker c.flush.result P Q
-    (λ fault unsent i bytes s0 o0 so. ends_unsent [] answered _ c.answer_last.new.output c.flush.new.output fault i c.flush.ensures.kept unsent bytes s0 o0
-    (c.in_ok-answer_last.ensures.ok bytes s0 o0 so))
+    (λ fault unsent i bytes s0 o0 re. unsent_after bytes [] answered s0 o0 _ c.answer_last.new.output c.flush.new.output fault i c.flush.ensures.kept unsent
+    (c.in_ok-answer_last.ensures.ok bytes s0 o0 re))
     c.flush.ensures.err
+
+pub returns-clause-ok : goal.returns-clause-ok
+returns-clause-ok g c = on_ok_weaker c.flush.result
+    (λ _ bytes s0 o0 re. so_far_kept bytes [] c.answer_last.new.script.answered s0 o0 _ c.answer_last.new.output c.flush.new.output c.flush.ensures.kept
+    (c.in_ok-answer_last.ensures.ok bytes s0 o0 re))
+    c.flush.ensures.sent
