@@ -19,13 +19,15 @@ fn check_bytes(
 ) -> Result<(), Fail> {
     let alloc = rt.alloc();
     let mut written = Vec::new(alloc);
-    let mut errors = Vec::new(alloc);
+    let mut told_there = Vec::new(alloc);
     let mut input = Input::new(script);
     let mut output = Output::new(&mut written);
+    let mut errors = Output::new(&mut told_there);
     let answered = run_script(alloc, &mut input, &mut output, &mut errors);
     drop(output);
+    drop(errors);
     assert_eq!(rt; written.as_slice(), replies.as_bytes());
-    assert_eq!(rt; errors.as_slice(), told.as_bytes());
+    assert_eq!(rt; told_there.as_slice(), told.as_bytes());
     assert_eq!(rt; answered, status);
     Ok(())
 }
