@@ -1,7 +1,7 @@
 //! What a question asks of the configuration.
 
 ghost use Rattle.std.specs.Prelude.{◌≡◌};
-ghost use Rattle.reference_machine.specs.Machine.{asks_nobody, asks_peer, asks_strangers, ask_refusal};
+ghost use Rattle.reference_machine.specs.Machine.{asks_nobody, asks_peer, asks_unjoined, ask_refusal};
 
 use net_conf::{Conf, Refusal};
 use sim_event::Ask;
@@ -15,7 +15,7 @@ pub fn ask_refusal(conf: &Conf, ask: &Ask) -> Option<Refusal>
         Some(Refusal::NoRouter)
     } else if asks_peer(conf, ask) {
         Some(Refusal::BadEnd)
-    } else if asks_strangers(conf, ask) {
+    } else if asks_unjoined(conf, ask) {
         Some(Refusal::NoSession)
     } else {
         None
@@ -50,8 +50,8 @@ fn asks_peer(conf: &Conf, ask: &Ask) -> bool
 }
 
 /// 10: the two have no session.
-fn asks_strangers(conf: &Conf, ask: &Ask) -> bool
-    ensures { result ≡ asks_strangers conf.now ask.now }
+fn asks_unjoined(conf: &Conf, ask: &Ask) -> bool
+    ensures { result ≡ asks_unjoined conf.now ask.now }
 {
     match *ask {
         Ask::In(one, other) | Ask::Out(one, other) => !conf.has_session(one, other),

@@ -17,7 +17,7 @@ use std::alloc::{AllocError, Global};
 /// The preference of a route that nothing sets.
 const DEFAULT_PREFERENCE: u32 = 100;
 
-/// The route that the router originates.
+/// The route that the router originates, as a candidate.
 pub fn own_candidate(alloc: Global, router: Addr) -> Candidate
     ensures { result ≡ own_candidate router }
 {
@@ -46,7 +46,7 @@ pub fn is_originated(site: &SiteConf, prefix: Prefix) -> bool
     site.origins.as_slice().iter().any(|p| prefix == *p)
 }
 
-/// Whether the route has been in the router's cluster.
+/// Whether the router is a reflector, and the route has been in its cluster (RFC 4456, 8).
 fn has_cluster_loop(site: &SiteConf, attr: &Attr) -> bool
     ensures { result ≡ has_cluster_loop site.now attr.now }
 {
@@ -73,14 +73,19 @@ pub fn exclusion(site: &SiteConf, action: Action, attr: &Attr) -> Option<Reason>
     ensures { result ≡ exclusion site.now action attr.now }
 {
     if attr.path.holds(site.asn) {
+        // The router's AS in its AS_PATH (RFC 4271, 9.1.2).
         Some(Reason::Loop)
     } else if attr.oid == Some(site.me) {
+        // The router's address as its ORIGINATOR_ID (RFC 4456, 8).
         Some(Reason::Originator)
     } else if has_cluster_loop(site, attr) {
+        // The router's CLUSTER_ID in its CLUSTER_LIST (RFC 4456, 8).
         Some(Reason::Cluster)
     } else if is_denial(action) {
+        // The import policy denies it (RFC 4271, 9.1.1).
         Some(Reason::Denied)
     } else if site.costs.cost(attr.next).is_none() {
+        // No interior walk to its NEXT_HOP (RFC 4271, 9.1.2).
         Some(Reason::Unresolved)
     } else {
         None
@@ -106,7 +111,7 @@ fn set_med(action: Action, med: Option<u32>) -> Option<u32>
     }
 }
 
-/// The degree of preference.
+/// The degree of preference (RFC 4271, 9.1.1).
 fn preference(external: bool, action: Action, attr: &Attr) -> u32
     ensures { result ≡ preference external action attr.now }
 {
@@ -132,7 +137,7 @@ fn imported(alloc: Global, external: bool, action: Action, attr: &Attr) -> Resul
     })
 }
 
-/// A peer's route as a candidate.
+/// A peer's route as a candidate; its identifier is its ORIGINATOR_ID, or the peer's address (RFC 4456, 9).
 pub fn peer_candidate(
     alloc: Global,
     site: &SiteConf,
@@ -187,14 +192,15 @@ pub fn peer_standing(
     )
 }
 
-/// Adds the router's own route, if it originates the prefix.
+/// Puts the router's own route to the prefix among the choice's, if it originates it. An error changes nothing.
 pub fn put_own<S: Selector>(
     alloc: Global,
     chosen: &mut S,
     site: &SiteConf,
     prefix: Prefix,
 ) -> Result<(), AllocError>
-    ensures { OnOk result (S.standings chosen.new ≡ added (S.standings chosen.old) (own_standings site.now prefix)) }
+    ensures ok { OnOk result (S.standings chosen.new ≡ added (S.standings chosen.old) (own_standings site.now prefix)) }
+    ensures err { OnErr result (S.standings chosen.new ≡ S.standings chosen.old) }
 {
     if is_originated(site, prefix) {
         chosen.put(
@@ -205,7 +211,7 @@ pub fn put_own<S: Selector>(
     Ok(())
 }
 
-/// Adds a route that was received over the session, if that is up.
+/// Puts a route that was received over the session among the choice's, if the session is up. An error changes nothing.
 pub fn put_received<S: Selector>(
     alloc: Global,
     chosen: &mut S,
@@ -214,7 +220,8 @@ pub fn put_received<S: Selector>(
     attr: &Attr,
     from: &SiteSession,
 ) -> Result<(), AllocError>
-    ensures { OnOk result (S.standings chosen.new ≡ added (S.standings chosen.old) (option_to_list (standing_over site.now prefix from.now (Some attr.now)))) }
+    ensures ok { OnOk result (S.standings chosen.new ≡ added (S.standings chosen.old) (option_to_list (standing_over site.now prefix from.now (Some attr.now)))) }
+    ensures err { OnErr result (S.standings chosen.new ≡ S.standings chosen.old) }
 {
     if from.up {
         let standing = peer_standing(alloc, site, prefix, from, attr)?;

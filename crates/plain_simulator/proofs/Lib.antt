@@ -1,5 +1,5 @@
 mod Lists
-mod MessagesOfTurns
+mod MessagesOfChoices
 mod Questions
 mod Runs
 mod Sites

@@ -1,7 +1,9 @@
 //! The definitions of `reference_machine` made to run: everything is decided afresh, before and after each step.
 #![tactic(auto)]
 
+mod choices;
 mod decide;
+mod push;
 mod queues;
 mod reasons;
 mod reports;
@@ -9,7 +11,6 @@ mod simulator;
 mod state;
 mod steps;
 mod trace;
-mod turns;
 
 pub use simulator::Simulator;
 

@@ -3,7 +3,7 @@
 ghost use Rattle.std.specs.Prelude.{◌≡◌, ◌++◌, IfOk, OnOk, option_map, filter};
 ghost use Rattle.std.specs.Ordering.{is_gt, is_lt};
 ghost use Rattle.session_queue.specs.Waiting.{direction_cmp};
-ghost use Rattle.reference_machine.specs.Network.{messages_in, with_direction, with_more, with_message, rest_of, without_head, less, more};
+ghost use Rattle.reference_machine.specs.Network.{messages_in, with_direction, with_more, with_message, rest_of, without_head, without_its_head, with_one_more};
 
 use reference_machine::Queue;
 use seq::{Copied, Seq, copy_all};
@@ -96,8 +96,8 @@ fn rest_of(alloc: Global, messages: &[Message]) -> Result<Vec<Message>, AllocErr
 }
 
 /// The queue, without its head if it is that of the direction.
-fn less(alloc: Global, queue: &Queue, direction: Direction) -> Result<Queue, AllocError>
-    ensures { IfOk result (λ q. q ≡ less direction queue.now) }
+fn without_its_head(alloc: Global, queue: &Queue, direction: Direction) -> Result<Queue, AllocError>
+    ensures { IfOk result (λ q. q ≡ without_its_head direction queue.now) }
 {
     if queue.of.from == direction.from && queue.of.to == direction.to {
         Ok(Queue {
@@ -119,19 +119,19 @@ pub fn without_head(
 {
     let mut after = Vec::new(alloc);
     for queue in queues {
-        after.push(less(alloc, queue, direction)?)?;
+        after.push(without_its_head(alloc, queue, direction)?)?;
     }
     Ok(after)
 }
 
 /// The queue, with the message at its end if it is that of the direction.
-fn more(
+fn with_one_more(
     alloc: Global,
     queue: &Queue,
     direction: Direction,
     message: &Message,
 ) -> Result<Queue, AllocError>
-    ensures { IfOk result (λ q. q ≡ more direction message.now queue.now) }
+    ensures { IfOk result (λ q. q ≡ with_one_more direction message.now queue.now) }
 {
     let mut queue = queue.copy(alloc)?;
     if queue.of.from == direction.from && queue.of.to == direction.to {
@@ -151,7 +151,7 @@ pub fn with_message(
 {
     let mut after = Vec::new(alloc);
     for queue in queues {
-        after.push(more(alloc, queue, direction, message)?)?;
+        after.push(with_one_more(alloc, queue, direction, message)?)?;
     }
     Ok(after)
 }

@@ -8,14 +8,14 @@ ghost use Rattle.std.specs.List.{filter_map, list_all};
 ghost use Rattle.std.specs.Option.{option_to_list};
 ghost use Rattle.reference_machine.specs.Network.{same_addr, routes_from};
 ghost use Rattle.reference_machine.specs.Decision.{best, routes_at};
-ghost use Rattle.reference_machine.specs.Reports.{held_of, loc_rib, choice, why, reasons_of, reasons_at, reasons, adj_rib_in, offer_at, adj_rib_out, queue, is_quiet, way};
+ghost use Rattle.reference_machine.specs.Reports.{held_of, loc_rib, choice, why, reasons_of, reasons_at, reasons, adj_rib_in, advert_at, adj_rib_out, queue, is_quiet};
 ghost use Rattle.reference_machine.specs.Machine.{asks_quiet, ask_refusal, report_of};
 
+use crate::push::push_some;
 use crate::queues;
 use crate::reasons::reasons_at;
 use crate::state::State;
-use crate::turns::offer_from;
-use machine_rules::held_of;
+use machine_rules::{advert_of, cost_and_hop, held_of};
 use net_conf::SiteConf;
 use net_prefix::{Addr, Prefix};
 use path_attr::Attr;
@@ -49,7 +49,9 @@ impl State {
                 Ok(Report::Queue(Seq::of(self.queue(alloc, Direction { from, to })?)))
             }
             Ask::Quiet => Ok(Report::Quiet(self.is_quiet())),
-            Ask::Cost(router, target) => Ok(Report::Cost(self.way(alloc, router, target)?)),
+            Ask::Cost(router, target) => Ok(Report::Cost(cost_and_hop(
+                alloc, &self.conf, router, target,
+            )?)),
             Ask::Trace(router, target) => {
                 let traced = self.trace::<S>(alloc, router, target)?;
                 Ok(Report::Trace(traced.hops, traced.ending))
@@ -85,7 +87,7 @@ impl State {
         let mut routes = Vec::new(alloc);
         for prefix in prefixes {
             let route = self.best_at::<S>(alloc, site, router, *prefix)?;
-            add_held(&mut routes, held_of(*prefix, route))?;
+            push_some(&mut routes, held_of(*prefix, route))?;
         }
         Ok(routes)
     }
@@ -152,7 +154,7 @@ impl State {
         Ok(routes)
     }
 
-    /// What the router offers the peer, in order of prefix.
+    /// What the router advertises to the peer, in order of prefix.
     #[tactic(auto, unfolding(reference_machine::specs::Reports::adj_rib_out))]
     fn adj_rib_out<S: Selector + Drop>(
         &self,
@@ -164,11 +166,11 @@ impl State {
     {
         let site = self.conf.site_at(alloc, router)?;
         let prefixes = self.prefixes(alloc, router)?;
-        self.offers::<S>(alloc, &site, router, peer, &prefixes)
+        self.adverts::<S>(alloc, &site, router, peer, &prefixes)
     }
 
-    /// What the router of the site offers the peer for these prefixes.
-    fn offers<S: Selector + Drop>(
+    /// What the router of the site advertises to the peer for these prefixes.
+    fn adverts<S: Selector + Drop>(
         &self,
         alloc: Global,
         site: &Option<SiteConf>,
@@ -177,17 +179,35 @@ impl State {
         prefixes: &[Prefix],
     ) -> Result<Vec<(Prefix, Attr)>, AllocError>
         requires { site.now ≡ site_of self.now.conf router }
-        ensures { IfOk result (λ routes. routes.items ≡ filter_map (offer_at self.now router peer) prefixes.now) }
+        ensures { IfOk result (λ routes. routes.items ≡ filter_map (advert_at self.now router peer) prefixes.now) }
     {
         let mut routes = Vec::new(alloc);
         for prefix in prefixes {
-            let offer = self.advertised::<S>(alloc, site, router, peer, *prefix)?;
-            add_offer(&mut routes, *prefix, offer)?;
+            let route = self.advert_at::<S>(alloc, site, router, peer, *prefix)?;
+            push_some(&mut routes, route)?;
         }
         Ok(routes)
     }
 
-    /// What the router of the site offers the peer for the prefix.
+    /// What the router of the site advertises to the peer for the prefix, with the prefix.
+    fn advert_at<S: Selector + Drop>(
+        &self,
+        alloc: Global,
+        site: &Option<SiteConf>,
+        router: Addr,
+        peer: Addr,
+        prefix: Prefix,
+    ) -> Result<Option<(Prefix, Attr)>, AllocError>
+        requires { site.now ≡ site_of self.now.conf router }
+        ensures { IfOk result (λ route. route ≡ advert_at self.now router peer prefix) }
+    {
+        match self.advertised::<S>(alloc, site, router, peer, prefix)? {
+            None => Ok(None),
+            Some(attr) => Ok(Some((prefix, attr))),
+        }
+    }
+
+    /// What the router of the site advertises to the peer for the prefix.
     #[tactic(auto, unfolding(reference_machine::specs::Advertising::advertised))]
     fn advertised<S: Selector + Drop>(
         &self,
@@ -198,11 +218,11 @@ impl State {
         prefix: Prefix,
     ) -> Result<Option<Attr>, AllocError>
         requires { site.now ≡ site_of self.now.conf router }
-        ensures { IfOk result (λ offer. offer ≡ advertised self.now router peer prefix) }
+        ensures { IfOk result (λ attr. attr ≡ advertised self.now router peer prefix) }
     {
         let is_up = self.conf.is_up(router, peer);
         let chosen = self.best_at::<S>(alloc, site, router, prefix)?;
-        offer_from(alloc, is_up, site, peer, prefix, &chosen)
+        advert_of(alloc, is_up, site.as_ref(), peer, prefix, chosen.as_ref())
     }
 
     /// The messages on their way, the head first; none while the session is down.
@@ -216,24 +236,6 @@ impl State {
         match queues::messages_in(&self.queues, direction) {
             None => Ok(Vec::new(alloc)),
             Some(messages) => copy_all(alloc, messages),
-        }
-    }
-
-    /// The router's cost to the address, and the first hop, where there is a way.
-    #[tactic(auto, unfolding(reference_machine::specs::Reports::way))]
-    fn way(
-        &self,
-        alloc: Global,
-        router: Addr,
-        target: Addr,
-    ) -> Result<Option<(u32, Addr)>, AllocError>
-        requires { has_node self.now.conf router ≡ true }
-        ensures { IfOk result (λ found. found ≡ way self.now router target) }
-    {
-        let tree = self.conf.costs(alloc, router)?;
-        match (tree.cost(target), tree.first_hop(target)) {
-            (Some(cost), Some(hop)) => Ok(Some((cost, hop))),
-            _ => Ok(None),
         }
     }
 
@@ -251,26 +253,4 @@ fn is_between(router: Addr, peer: Addr, key: RouteKey) -> bool
     ensures { result ≡ (same_addr key.to router && same_addr key.from peer) }
 {
     key.to == router && key.from == peer
-}
-
-fn add_held(routes: &mut Vec<Held>, held: Option<Held>) -> Result<(), AllocError>
-    ensures { OnOk result (routes.new.items ≡ routes.old.items ++ option_to_list held) }
-{
-    if let Some(held) = held {
-        routes.push(held)?;
-    }
-    Ok(())
-}
-
-fn add_offer(
-    routes: &mut Vec<(Prefix, Attr)>,
-    prefix: Prefix,
-    offer: Option<Attr>,
-) -> Result<(), AllocError>
-    ensures { OnOk result (routes.new.items ≡ routes.old.items ++ option_to_list (option_map (λ attr. (prefix, attr)) offer)) }
-{
-    if let Some(attr) = offer {
-        routes.push((prefix, attr))?;
-    }
-    Ok(())
 }

@@ -8,9 +8,9 @@ ghost use Rattle.reference_machine.specs.Network.{received_by, with_more};
 ghost use Rattle.reference_machine.specs.Decision.{best};
 ghost use Rattle.reference_machine.specs.Advertising.{prefixes_at, in_order, sent};
 ghost use Rattle.reference_machine.specs.Machine.{nothing, with_sent};
-ghost use Rattle.plain_simulator.specs.Turns.{turns_of};
+ghost use Rattle.plain_simulator.specs.Choices.{router_choices};
 
-use crate::turns::{Turns, messages_of, turns_at};
+use crate::choices::{RouterChoices, choices_at, messages_of};
 use crate::{decide, queues};
 use machine_rules::sends;
 use net_conf::{Conf, SiteConf};
@@ -84,8 +84,8 @@ impl State {
     }
 
     /// The prefixes that the router has received, as they come.
-    fn heard(&self, alloc: Global, router: Addr) -> Result<Vec<Prefix>, AllocError>
-        ensures { IfOk result (λ heard. heard.items ≡ map (λ e. e.0.prefix) (received_by router self.now.received)) }
+    fn received_prefixes(&self, alloc: Global, router: Addr) -> Result<Vec<Prefix>, AllocError>
+        ensures { IfOk result (λ prefixes. prefixes.items ≡ map (λ e. e.0.prefix) (received_by router self.now.received)) }
     {
         self.received
             .iter()
@@ -104,9 +104,9 @@ impl State {
         ensures { OnOk result (found.new.keys ≡ fold (λ qs p. insert_key block_cmp qs p) found.old.keys (prefixes_at self.now router)) }
     {
         let originated = self.conf.origins_of(alloc, router)?;
-        let heard = self.heard(alloc, router)?;
+        let received = self.received_prefixes(alloc, router)?;
         insert_all(found, &originated)?;
-        insert_all(found, &heard)
+        insert_all(found, &received)
     }
 
     /// The prefixes that the router originates or has received, each once, in order.
@@ -150,17 +150,17 @@ fn sent(
     alloc: Global,
     earlier: &State,
     later: &State,
-    turns: &Turns,
+    choices: &RouterChoices,
     router: Addr,
     peer: Addr,
 ) -> Result<Vec<Message>, AllocError>
-    requires { turns.now ≡ turns_of earlier.now later.now router }
+    requires { choices.now ≡ router_choices earlier.now later.now router }
     ensures { IfOk result (λ messages. messages.items ≡ sent earlier.now later.now router peer) }
 {
     if sends(&later.conf, router, peer) {
         let was_up = earlier.conf.is_up(router, peer);
         let is_up = later.conf.is_up(router, peer);
-        messages_of(alloc, was_up, is_up, turns, peer)
+        messages_of(alloc, was_up, is_up, choices, peer)
     } else {
         Ok(Vec::new(alloc))
     }
@@ -177,10 +177,10 @@ fn queues_after<S: Selector + Drop>(
     let mut queues = Vec::new(alloc);
     let mut kept = None;
     for queue in &later.queues {
-        let turns = turns_at::<S>(alloc, earlier, later, kept, queue.of.from)?;
-        let messages = sent(alloc, earlier, later, &turns, queue.of.from, queue.of.to)?;
+        let choices = choices_at::<S>(alloc, earlier, later, kept, queue.of.from)?;
+        let messages = sent(alloc, earlier, later, &choices, queue.of.from, queue.of.to)?;
         queues.push(queues::with_more(alloc, queue, messages)?)?;
-        kept = Some(turns);
+        kept = Some(choices);
     }
     Ok(queues)
 }

@@ -4,7 +4,7 @@ ghost use Rattle.std.specs.Prelude.{◌≡◌, None, false, map, filter, IfOk, O
 ghost use Rattle.net_conf.specs.Costs.{is_up};
 ghost use Rattle.net_conf.specs.Edits.{refusal_of};
 ghost use Rattle.reference_machine.specs.Network.{with_route, without_route};
-ghost use Rattle.reference_machine.specs.Machine.{step, edits, with_queues, configured, reconfigured, is_kept, emptied, asks_quiet, feeds, received_after, taken, delivers, asks, Tries};
+ghost use Rattle.reference_machine.specs.Machine.{step, edit_step, with_queues, after_edit, reconfigured, is_kept, emptied, asks_quiet, feed_step, received_after, taken, delivery_step, question_step, Tries};
 
 use crate::queues;
 use crate::state::{State, with_sent};
@@ -43,21 +43,21 @@ impl State {
         }
     }
 
-    #[tactic(auto, unfolding(reference_machine::specs::Machine::edits))]
+    #[tactic(auto, unfolding(reference_machine::specs::Machine::edit_step))]
     fn edit<S: Selector + Drop>(&mut self, alloc: Global, edit: &Edit) -> Result<Reply, AllocError>
-        ensures { Tries (edits self.old edit.now) self.old result self.new }
+        ensures { Tries (edit_step self.old edit.now) self.old result self.new }
     {
         if let Err(refusal) = self.conf.check(edit) {
             return Ok(Reply::Refused(refusal));
         }
-        let later = configured(alloc, self, edit)?;
+        let later = after_edit(alloc, self, edit)?;
         *self = with_sent::<S>(alloc, self, later)?;
         Ok(Reply::Done)
     }
 
-    #[tactic(auto, unfolding(reference_machine::specs::Machine::feeds))]
+    #[tactic(auto, unfolding(reference_machine::specs::Machine::feed_step))]
     fn feed(&mut self, alloc: Global, feed: &Feed) -> Result<Reply, AllocError>
-        ensures { Tries (feeds self.old feed.now) self.old result self.new }
+        ensures { Tries (feed_step self.old feed.now) self.old result self.new }
     {
         if let Some(refusal) = feed_refusal(&self.conf, feed) {
             return Ok(Reply::Refused(refusal));
@@ -71,13 +71,13 @@ impl State {
         Ok(Reply::Done)
     }
 
-    #[tactic(auto, unfolding(reference_machine::specs::Machine::delivers))]
+    #[tactic(auto, unfolding(reference_machine::specs::Machine::delivery_step))]
     fn deliver<S: Selector + Drop>(
         &mut self,
         alloc: Global,
         direction: Direction,
     ) -> Result<Reply, AllocError>
-        ensures { Tries (delivers self.old direction) self.old result self.new }
+        ensures { Tries (delivery_step self.old direction) self.old result self.new }
     {
         if let Some(refusal) = delivery_refusal(&self.conf, direction) {
             return Ok(Reply::Refused(refusal));
@@ -94,9 +94,9 @@ impl State {
         Ok(reply)
     }
 
-    #[tactic(auto, unfolding(reference_machine::specs::Machine::asks))]
+    #[tactic(auto, unfolding(reference_machine::specs::Machine::question_step))]
     fn ask<S: Selector + Drop>(&mut self, alloc: Global, ask: &Ask) -> Result<Reply, AllocError>
-        ensures tries { Tries (asks self.old ask.now) self.old result self.new }
+        ensures tries { Tries (question_step self.old ask.now) self.old result self.new }
         ensures quiet { OnErr result (asks_quiet (Event.Ask ask.now) ≡ false) }
     {
         if let Some(refusal) = ask_refusal(&self.conf, ask) {
@@ -107,9 +107,9 @@ impl State {
 }
 
 /// The state after the edit, before anything is sent. The edit is one that is not refused.
-fn configured(alloc: Global, state: &State, edit: &Edit) -> Result<State, AllocError>
+fn after_edit(alloc: Global, state: &State, edit: &Edit) -> Result<State, AllocError>
     requires { refusal_of state.now.conf edit.now ≡ None }
-    ensures { IfOk result (λ later. later ≡ configured state.now edit.now) }
+    ensures { IfOk result (λ later. later ≡ after_edit state.now edit.now) }
 {
     let mut conf = state.conf.copy(alloc)?;
     if conf.edit(alloc, edit).is_err() {

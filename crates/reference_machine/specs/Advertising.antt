@@ -1,4 +1,4 @@
--- What a router offers its peers, and what it sends when that changes (RFC 4271, 9.1.3 and 9.2).
+-- What a router advertises to its peers, and what it sends when that changes (RFC 4271, 9.1.3 and 9.2).
 use Rattle.std.specs.Prelude.{ℕ, Bool, not, ◌&&◌, List, [], ◌++◌, map, fold, Option, Some, None, option_and_then, if◌then◌else◌}
 use Rattle.std.specs.List.{filter_map}
 use Rattle.std.specs.BTreeSet.{insert_key}
@@ -8,6 +8,7 @@ use Rattle.path_attr.specs.declared.attr.Attr.{Attr}
 use Rattle.path_attr.specs.Attribute.{same_attr}
 use Rattle.net_conf.specs.Configuration.{Configuration, has_node, is_virtual, origins_of}
 use Rattle.net_conf.specs.Costs.{is_up}
+use Rattle.net_conf.specs.declared.site.SiteConf.{SiteConf}
 use Rattle.net_conf.specs.Sites.{site_of}
 use Rattle.route_select.specs.declared.candidate.Candidate.{Candidate}
 use Rattle.reflect_out.specs.Advertising.{advert}
@@ -16,15 +17,16 @@ use Rattle.session_queue.specs.declared.message.Message.TheVariants.{Update, Wit
 use Rattle.reference_machine.specs.Network.{Network, received_by}
 use Rattle.reference_machine.specs.Decision.{best}
 
--- what is offered the peer of the route that was chosen
-abbrev pub offer_of : Configuration → Addr → Addr → Block → Candidate → Option Attr
-offer_of c r t p b = option_and_then (λ site. advert site p b t) (site_of c r)
+-- what the router of the site advertises to the peer of the route that it chose, if it chose one: nothing while their
+-- session is down
+abbrev pub advert_of : Bool → Option SiteConf → Addr → Block → Option Candidate → Option Attr
+advert_of up site t p chosen = if up then option_and_then (λ b. option_and_then (λ here. advert here p b t) site) chosen else None
 
--- the router's Adj-RIB-Out for the peer (RFC 4271, 3.2), decided afresh: nothing while the session is down
+-- the router's Adj-RIB-Out for the peer (RFC 4271, 3.2), decided afresh
 unfoldable pub advertised : Network → Addr → Addr → Block → Option Attr
-advertised s r t p = if is_up s.conf r t then option_and_then (offer_of s.conf r t p) (best s r p) else None
+advertised s r t p = advert_of (is_up s.conf r t) (site_of s.conf r) t p (best s r p)
 
--- the message that leads from what was offered to what is offered now: none where that is the same
+-- the message that leads from what was advertised to what is advertised now: none where that is the same
 abbrev pub change_of : Block → Option Attr → Option Attr → Option Message
 change_of p None None = None
 change_of p (Some old) None = Some (Withdraw p)
@@ -39,11 +41,11 @@ prefixes_at s r = origins_of s.conf r ++ map (λ e. e.0.prefix) (received_by r s
 abbrev pub in_order : List Block → List Block
 in_order ps = fold (λ qs p. insert_key block_cmp qs p) [] ps
 
--- a router stands at the address, and its session with the peer is up
+-- a router stands at the address, and its session with the peer is up; a virtual peer sends nothing by itself (own)
 abbrev pub sends : Configuration → Addr → Addr → Bool
 sends c r t = has_node c r && not (is_virtual c r) && is_up c r t
 
--- a message for each prefix at which the router's offer to the peer changes, in order
+-- a message for each prefix at which what the router advertises to the peer changes, in order
 unfoldable pub changes : Network → Network → Addr → Addr → List Message
 changes s s' r t = filter_map (λ p. change_of p (advertised s r t p) (advertised s' r t p)) (in_order (prefixes_at s r ++ prefixes_at s' r))
 

@@ -29,16 +29,17 @@ use Rattle.route_select.specs.Selection.{Standings, best_of}
 use Rattle.reference_machine.specs.declared.rows.RouteKey.{RouteKey}
 use Rattle.reference_machine.specs.Network.{Network, same_addr, route_cmp}
 
--- the preference of a route that nothing sets
+-- the preference of a route for which nothing sets one (own)
 abbrev pub default_preference : ℕ
 default_preference = 100
 
 -- THE ROUTER'S OWN ROUTE
 
+-- an empty path, ORIGIN IGP and the router as NEXT_HOP (RFC 4271, 5.1.1 to 5.1.3), with the default preference (own)
 abbrev pub own_attr : Addr → Attr
 own_attr r = record { path = []; origin = Igp; next = r; med = None; pref = Some default_preference; oid = None; clusters = [] }
 
--- it counts with the external ones, and its cost is 0
+-- it counts with the external ones, its cost is 0, and its identifier is the router's (own)
 abbrev pub own_candidate : Addr → Candidate
 own_candidate r = record { source = Own; attr = own_attr r; pref = default_preference; external = true; cost = 0; ident = r }
 
@@ -69,7 +70,7 @@ exclusion site action attr =
     else if has_cluster_loop site attr then Some Cluster
     -- the import policy denies it (RFC 4271, 9.1.1)
     else if is_denial action then Some Denied
-    -- there is no way to its NEXT_HOP (RFC 4271, 9.1.2)
+    -- there is no way to its NEXT_HOP (RFC 4271, 9.1.2), where interior walks alone lead there (own)
     else if is_none (cost_in site.costs attr.next) then Some Unresolved
     else None
 

@@ -23,7 +23,7 @@ use Rattle.sim_event.specs.declared.event.News.TheVariants.{Update, Withdraw}
 use Rattle.sim_event.specs.declared.event.Ask.{Ask}
 use Rattle.sim_event.specs.declared.event.Ask.TheVariants.{Routes, Best, Why, In, Out, Queue as QueueOf, Quiet, Cost, Trace}
 use Rattle.sim_event.specs.declared.reply.Report.{Report}
-use Rattle.sim_event.specs.declared.reply.Report.TheVariants.{Routes as TheRoutes, Best as TheBest, Why as TheReasons, Rib, Queue as TheQueue, Quiet as IsQuiet, Cost as TheWay, Trace as TheTrace}
+use Rattle.sim_event.specs.declared.reply.Report.TheVariants.{Routes as TheRoutes, Best as TheBest, Why as TheReasons, Rib, Queue as TheQueue, Quiet as IsQuiet, Cost as TheCost, Trace as TheTrace}
 use Rattle.sim_event.specs.declared.reply.Reply.{Reply}
 use Rattle.sim_event.specs.declared.reply.Reply.TheVariants.{Done, Took, Report as AReport, Refused}
 use Rattle.session_queue.specs.declared.direction.Direction.{Direction}
@@ -31,7 +31,7 @@ use Rattle.reference_machine.specs.declared.rows.RouteKey.{RouteKey}
 use Rattle.reference_machine.specs.declared.rows.Queue.{Queue}
 use Rattle.reference_machine.specs.Network.{Network, with_route, without_route, messages_in, with_direction, with_more, with_message, without_head}
 use Rattle.reference_machine.specs.Advertising.{sent}
-use Rattle.reference_machine.specs.Reports.{loc_rib, choice, reasons, adj_rib_in, adj_rib_out, queue, is_quiet, way}
+use Rattle.reference_machine.specs.Reports.{loc_rib, choice, reasons, adj_rib_in, adj_rib_out, queue, is_quiet, cost_and_hop}
 use Rattle.reference_machine.specs.Tracing.{trace}
 
 -- nothing is configured, received or on its way
@@ -45,6 +45,11 @@ pub record Outcome : Type 0 where
 
 abbrev pub refused : Refusal → Network → Outcome
 refused r s = record { reply = Refused r; next = s }
+
+-- the outcome, unless the event is refused
+abbrev pub unless_refused : Option Refusal → Network → Outcome → Outcome
+unless_refused (Some r) s outcome = refused r s
+unless_refused None s outcome = outcome
 
 -- each queue of s' gets what its router sends when s becomes s'
 unfoldable pub with_sent : Network → Network → Network
@@ -69,15 +74,12 @@ is_kept c e = is_up c e.0.from e.0.to
 unfoldable pub reconfigured : Configuration → List (RouteKey × Attr) → List Queue → Network
 reconfigured c received queues = record { conf = c; received = filter (is_kept c) received; queues = map (emptied c) queues }
 
-abbrev pub configured : Network → Edit → Network
-configured s e = reconfigured (edited s.conf e) s.received (with_queues e s.queues)
+-- the state after the edit, before anything is sent
+abbrev pub after_edit : Network → Edit → Network
+after_edit s e = reconfigured (edited s.conf e) s.received (with_queues e s.queues)
 
-abbrev pub edit_outcome : Network → Edit → Option Refusal → Outcome
-edit_outcome s e (Some r) = refused r s
-edit_outcome s e None = record { reply = Done; next = with_sent s (configured s e) }
-
-unfoldable pub edits : Network → Edit → Outcome
-edits s e = edit_outcome s e (refusal_of s.conf e)
+unfoldable pub edit_step : Network → Edit → Outcome
+edit_step s e = unless_refused (refusal_of s.conf e) s (record { reply = Done; next = with_sent s (after_edit s e) })
 
 -- FEEDS
 
@@ -86,7 +88,7 @@ abbrev pub has_foreign_first : Configuration → Addr → News → Bool
 has_foreign_first c v (Update p path origin med) = not (same_number (neighbour path) (as_of c v))
 has_foreign_first c v (Withdraw p) = false
 
--- the path holds more than 255 AS numbers
+-- the path holds more than 255 AS numbers (own)
 abbrev pub is_too_long : News → Bool
 is_too_long (Update p path origin med) = nat_lt 255 (number_count path)
 is_too_long (Withdraw p) = false
@@ -107,12 +109,12 @@ abbrev pub fed_message : Addr → News → Message
 fed_message v (Update p path origin med) = AnUpdate p (record { path = path; origin = origin; next = v; med = med; pref = None; oid = None; clusters = [] })
 fed_message v (Withdraw p) = AWithdrawal p
 
-abbrev pub feed_outcome : Network → Feed → Option Refusal → Outcome
-feed_outcome s f (Some r) = refused r s
-feed_outcome s f None = record { reply = Done; next = record s { queues = with_message (record { from = f.from; to = f.to }) (fed_message f.from f.news) s.queues } }
+-- the state with what is fed on its way
+abbrev pub after_feed : Network → Feed → Network
+after_feed s f = record s { queues = with_message (record { from = f.from; to = f.to }) (fed_message f.from f.news) s.queues }
 
-unfoldable pub feeds : Network → Feed → Outcome
-feeds s f = feed_outcome s f (feed_refusal s.conf f)
+unfoldable pub feed_step : Network → Feed → Outcome
+feed_step s f = unless_refused (feed_refusal s.conf f) s (record { reply = Done; next = after_feed s f })
 
 -- DELIVERIES
 
@@ -125,11 +127,13 @@ received_after d (AWithdrawal p) es = without_route (record { to = d.to; prefix 
 unfoldable pub taken : Network → Direction → Message → Network
 taken s d m = record s { received = received_after d m s.received; queues = without_head d s.queues }
 
-abbrev pub take_outcome : Network → Direction → Option (List Message) → Outcome
-take_outcome s d None = refused QueueEmpty s
-take_outcome s d (Some []) = refused QueueEmpty s
-take_outcome s d (Some (m ∷ ms)) = record { reply = Took (prefix_of m) (kind_of m); next = with_sent s (taken s d m) }
+-- the message at the head is taken, if there is one
+abbrev pub head_step : Network → Direction → Option (List Message) → Outcome
+head_step s d None = refused QueueEmpty s
+head_step s d (Some []) = refused QueueEmpty s
+head_step s d (Some (m ∷ ms)) = record { reply = Took (prefix_of m) (kind_of m); next = with_sent s (taken s d m) }
 
+-- why the delivery is refused before its queue is looked at: the first test that holds
 unfoldable pub delivery_refusal : Configuration → Direction → Option Refusal
 delivery_refusal c d = first_of (
     (not (has_node c d.from && has_node c d.to), NoRouter)
@@ -137,12 +141,8 @@ delivery_refusal c d = first_of (
     ∷ (not (is_up c d.from d.to), SessionDown)
     ∷ [])
 
-abbrev pub deliver_outcome : Network → Direction → Option Refusal → Outcome
-deliver_outcome s d (Some r) = refused r s
-deliver_outcome s d None = take_outcome s d (messages_in s.queues d)
-
-unfoldable pub delivers : Network → Direction → Outcome
-delivers s d = deliver_outcome s d (delivery_refusal s.conf d)
+unfoldable pub delivery_step : Network → Direction → Outcome
+delivery_step s d = unless_refused (delivery_refusal s.conf d) s (head_step s d (messages_in s.queues d))
 
 -- QUESTIONS
 
@@ -169,17 +169,18 @@ asks_peer c (Trace r d) = is_virtual c r
 asks_peer c _ = false
 
 -- 10: the two have no session
-abbrev pub asks_strangers : Configuration → Ask → Bool
-asks_strangers c (In r u) = not (has_session c r u)
-asks_strangers c (Out r t) = not (has_session c r t)
-asks_strangers c (QueueOf a b) = not (has_session c a b)
-asks_strangers c _ = false
+abbrev pub asks_unjoined : Configuration → Ask → Bool
+asks_unjoined c (In r u) = not (has_session c r u)
+asks_unjoined c (Out r t) = not (has_session c r t)
+asks_unjoined c (QueueOf a b) = not (has_session c a b)
+asks_unjoined c _ = false
 
+-- why the question is refused: the first test that holds
 unfoldable pub ask_refusal : Configuration → Ask → Option Refusal
 ask_refusal c q = first_of (
     (asks_nobody c q, NoRouter)
     ∷ (asks_peer c q, BadEnd)
-    ∷ (asks_strangers c q, NoSession)
+    ∷ (asks_unjoined c q, NoSession)
     ∷ [])
 
 abbrev pub report_of : Network → Ask → Report
@@ -190,24 +191,20 @@ report_of s (In r u) = Rib (adj_rib_in s r u)
 report_of s (Out r t) = Rib (adj_rib_out s r t)
 report_of s (QueueOf a b) = TheQueue (queue s (record { from = a; to = b }))
 report_of s Quiet = IsQuiet (is_quiet s)
-report_of s (Cost r x) = TheWay (way s r x)
+report_of s (Cost r x) = TheCost (cost_and_hop s.conf r x)
 report_of s (Trace r d) = let t = trace s r d in TheTrace t.hops t.ending
 
-abbrev pub ask_outcome : Network → Ask → Option Refusal → Outcome
-ask_outcome s q (Some r) = refused r s
-ask_outcome s q None = record { reply = AReport (report_of s q); next = s }
-
-unfoldable pub asks : Network → Ask → Outcome
-asks s q = ask_outcome s q (ask_refusal s.conf q)
+unfoldable pub question_step : Network → Ask → Outcome
+question_step s q = unless_refused (ask_refusal s.conf q) s (record { reply = AReport (report_of s q); next = s })
 
 -- STEPS AND RUNS
 
 -- what the machine answers to an event, and its state after it
 abbrev pub step : Network → Event → Outcome
-step s (AnEdit e) = edits s e
-step s (AFeed f) = feeds s f
-step s (Deliver a b) = delivers s (record { from = a; to = b })
-step s (AnAsk q) = asks s q
+step s (AnEdit e) = edit_step s e
+step s (AFeed f) = feed_step s f
+step s (Deliver a b) = delivery_step s (record { from = a; to = b })
+step s (AnAsk q) = question_step s q
 
 abbrev pub is_refusal : Reply → Bool
 is_refusal Done = false

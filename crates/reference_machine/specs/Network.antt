@@ -68,12 +68,12 @@ abbrev pub with_more : Queue → List Message → Queue
 with_more q more = record q { messages = q.messages ++ more }
 
 -- the queue with the message at its end, if it is that of the direction
-abbrev pub more : Direction → Message → Queue → Queue
-more d m q = if is_of d q then with_more q (m ∷ []) else q
+abbrev pub with_one_more : Direction → Message → Queue → Queue
+with_one_more d m q = if is_of d q then with_more q (m ∷ []) else q
 
 -- the queues, with a message at the end of that of the direction
 abbrev pub with_message : Direction → Message → List Queue → List Queue
-with_message d m qs = map (more d m) qs
+with_message d m qs = map (with_one_more d m) qs
 
 -- all messages but the head
 abbrev pub rest_of : List Message → List Message
@@ -81,9 +81,9 @@ rest_of [] = []
 rest_of (m ∷ ms) = ms
 
 -- the queue without its head, if it is that of the direction
-abbrev pub less : Direction → Queue → Queue
-less d q = if is_of d q then record q { messages = rest_of q.messages } else q
+abbrev pub without_its_head : Direction → Queue → Queue
+without_its_head d q = if is_of d q then record q { messages = rest_of q.messages } else q
 
 -- the queues, without the head of that of the direction
 abbrev pub without_head : Direction → List Queue → List Queue
-without_head d qs = map (less d) qs
+without_head d qs = map (without_its_head d) qs

@@ -5,6 +5,7 @@ use Rattle.std.specs.List.{filter_map, list_all}
 use Rattle.net_prefix.specs.declared.addr.Addr.{Addr}
 use Rattle.net_prefix.specs.Block.{Block}
 use Rattle.path_attr.specs.declared.attr.Attr.{Attr}
+use Rattle.net_conf.specs.Configuration.{Configuration}
 use Rattle.net_conf.specs.declared.site.SiteConf.{SiteConf}
 use Rattle.net_conf.specs.Sites.{site_of}
 use Rattle.igp_cost.specs.Trees.{cost_in, first_hop_in}
@@ -56,12 +57,12 @@ reasons s r p = reasons_at p s.received (site_of s.conf r)
 unfoldable pub adj_rib_in : Network → Addr → Addr → List (Block × Attr)
 adj_rib_in s r u = if is_up s.conf r u then map (λ e. (e.0.prefix, e.1)) (routes_from r u s.received) else []
 
-abbrev pub offer_at : Network → Addr → Addr → Block → Option (Block × Attr)
-offer_at s r t p = option_map (λ attr. (p, attr)) (advertised s r t p)
+abbrev pub advert_at : Network → Addr → Addr → Block → Option (Block × Attr)
+advert_at s r t p = option_map (λ attr. (p, attr)) (advertised s r t p)
 
 -- the router's Adj-RIB-Out for the peer (RFC 4271, 3.2)
 unfoldable pub adj_rib_out : Network → Addr → Addr → List (Block × Attr)
-adj_rib_out s r t = filter_map (offer_at s r t) (in_order (prefixes_at s r))
+adj_rib_out s r t = filter_map (advert_at s r t) (in_order (prefixes_at s r))
 
 -- the messages on their way, the head first; none while the session is down
 unfoldable pub queue : Network → Direction → List Message
@@ -76,5 +77,5 @@ unfoldable pub is_quiet : Network → Bool
 is_quiet s = list_all (λ q. is_empty q.messages) s.queues
 
 -- the router's cost to the address, and the address to which it forwards what is for it
-unfoldable pub way : Network → Addr → Addr → Option (ℕ × Addr)
-way s r x = option_and_then (λ n. option_map (λ hop. (n, hop)) (first_hop_in (costs_of s.conf r) x)) (cost_in (costs_of s.conf r) x)
+unfoldable pub cost_and_hop : Configuration → Addr → Addr → Option (ℕ × Addr)
+cost_and_hop c r x = option_and_then (λ n. option_map (λ hop. (n, hop)) (first_hop_in (costs_of c r) x)) (cost_in (costs_of c r) x)

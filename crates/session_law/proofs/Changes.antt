@@ -1,4 +1,4 @@
--- What is sent leads from what was offered to what is offered now.
+-- What is sent leads from what was advertised to what is advertised now.
 use Rattle.std.proofs.Common.{◌≡◌, length, arith, Bool, true, false, List, [], ◌∷◌, ◌++◌, map, Option, Some, None, option_map, option_and_then, if◌then◌else◌, refl, sym, ap, ◌∙◌, subst}
 use Rattle.std.specs.List.{list_any, filter_map, cons_option}
 use Rattle.std.specs.FinMap as finite
@@ -22,7 +22,7 @@ use Rattle.route_select.specs.Selection.{best_of, best_among, considered_in, sou
 use Rattle.reference_machine.specs.declared.rows.RouteKey.{RouteKey}
 use Rattle.reference_machine.specs.Network.{Network, received_by}
 use Rattle.reference_machine.specs.Decision.{route_from, is_originated, standing_over, standing_from, routes_at, added, standings, best}
-use Rattle.reference_machine.specs.Advertising.{advertised, change_of, prefixes_at, in_order, changes, offer_of}
+use Rattle.reference_machine.specs.Advertising.{advertised, change_of, prefixes_at, in_order, changes, advert_of}
 use Rattle.session_law.specs.SessionLaw.{after_message, after_messages}
 use Rattle.session_law.proofs.Lists.{any_gathered, none_of_both}
 use Rattle.session_law.proofs.Keys.{same_block_true, same_block_itself, block_exact}
@@ -39,7 +39,7 @@ by_sameness : (b : Bool) (p : Block) (old new : Attr) → same_attr old new ≡ 
 by_sameness true p old new is = ap Some ((attrs_exact old new).0 is)
 by_sameness false p old new is = rw (same_block_itself p) refl
 
--- the change leads from what was offered to what is offered
+-- the change leads from what was advertised to what is advertised
 change_leads : (p : Block) (old new : Option Attr) → after_change p old (change_of p old new) ≡ new
 change_leads p None None = refl
 change_leads p (Some old) None = rw (same_block_itself p) refl
@@ -82,7 +82,7 @@ module _ (old new : Block → Option Attr) where
   settled_at true p q is = subst (λ x. after_change p (new p) (change_of x (old x) (new x)) ≡ new p) (same_block_true p q is) (change_settles p (old p) (new p))
   settled_at false p q is = change_passes p q (new p) (old q) (new q) is
 
-  -- who holds what is offered now goes on holding it
+  -- who holds what is advertised now goes on holding it
   settles : (p : Block) (qs : List Block) → after_messages p (new p) (turned qs) ≡ new p
   settles p [] = refl
   settles p (q ∷ qs) =
@@ -98,7 +98,7 @@ module _ (old new : Block → Option Attr) where
       ap (λ held. after_messages p held (turned qs)) (change_passes p q (old p) (old q) (new q) is)
       ∙ later (among refl)
 
-  -- who held what was offered holds what is offered now
+  -- who held what was advertised holds what is advertised now
   leads : (p : Block) (qs : List Block) → list_any (same_block p) qs ≡ true → after_messages p (old p) (turned qs) ≡ new p
   leads p [] h = absurd (true≢false (sym h))
   leads p (q ∷ qs) h =
@@ -110,7 +110,7 @@ module _ (old new : Block → Option Attr) where
   arrives_by true p qs is same = leads p qs is
   arrives_by false p qs is same = ap (λ held. after_messages p held (turned qs)) (same refl) ∙ settles p qs
 
--- NOTHING IS OFFERED WHERE NOTHING IS KNOWN
+-- NOTHING IS ADVERTISED WHERE NOTHING IS KNOWN
 
 none_standing : (site : SiteConf) (p : Block) (es : List (RouteKey × Attr)) → ((u : Addr) → route_from es site.me p u ≡ None) → (xs : List SiteSession) → filter_map (standing_from site p es) xs ≡ []
 none_standing site p es none [] = refl
@@ -154,16 +154,16 @@ none_if : {A : Type 0} (b : Bool) → ◌≡◌ {A = Option A} (if b then None e
 none_if true = refl
 none_if false = refl
 
--- and nothing is offered
+-- and nothing is advertised
 advertised_none : (s : Network) (r t : Addr) (p : Block) → list_any (same_block p) (prefixes_at s r) ≡ false → advertised s r t p ≡ None
 unfolding advertised
 advertised_none s r t p none =
-    ap (λ o. if is_up s.conf r t then option_and_then (offer_of s.conf r t p) o else None) (best_none s r p none) ∙ none_if (is_up s.conf r t)
+    ap (advert_of (is_up s.conf r t) (site_of s.conf r) t p) (best_none s r p none) ∙ none_if (is_up s.conf r t)
 
--- nothing is offered over a session that is down
+-- nothing is advertised over a session that is down
 pub advertised_down : (s : Network) (r t : Addr) (p : Block) → is_up s.conf r t ≡ false → advertised s r t p ≡ None
 unfolding advertised
-advertised_down s r t p down = ap (λ b. if b then option_and_then (offer_of s.conf r t p) (best s r p) else None) down
+advertised_down s r t p down = ap (λ up. advert_of up (site_of s.conf r) t p (best s r p)) down
 
 not_among : (p : Block) (ps : List Block) → list_any (same_block p) (in_order ps) ≡ false → list_any (same_block p) ps ≡ false
 not_among p ps none = false_from_ne_true (list_any (same_block p) ps) (λ h. true≢false (sym (any_gathered block_cmp (same_block p) block_exact ps [] h) ∙ none))
@@ -173,7 +173,7 @@ same_where_unknown s s' r t p none =
     let parts = none_of_both (same_block p) (prefixes_at s r) (prefixes_at s' r) (not_among p (prefixes_at s r ++ prefixes_at s' r) none) in
     advertised_none s r t p parts.0 ∙ sym (advertised_none s' r t p parts.1)
 
--- what is sent leads from what was offered to what is offered now
+-- what is sent leads from what was advertised to what is advertised now
 pub changes_lead : (s s' : Network) (r t : Addr) (p : Block) → after_messages p (advertised s r t p) (changes s s' r t) ≡ advertised s' r t p
 unfolding changes
 changes_lead s s' r t p =

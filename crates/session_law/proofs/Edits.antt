@@ -1,4 +1,5 @@
--- An edit leaves each peer with what it heard before, or with nothing over a session that comes up.
+-- An edit leaves each peer with what it had received, with what is on its way put over it, or with nothing over a session
+-- that comes up.
 use Rattle.std.proofs.Common.{◌≡◌, ◌⊎◌, inl, inr, Bool, true, false, not, ◌&&◌, cond, List, [], Option, Some, None, option_map, is_some, unwrap_or, refl, sym, ap, ◌∙◌}
 use Rattle.std.proofs.lemmas.Bool.{true≢false, false_from_ne_true}
 use Rattle.net_prefix.specs.declared.addr.Addr.{Addr}
@@ -14,15 +15,15 @@ use Rattle.reference_machine.specs.declared.rows.Queue.{Queue}
 use Rattle.reference_machine.specs.Network.{Network, messages_in, with_direction}
 use Rattle.reference_machine.specs.Decision.{route_from}
 use Rattle.reference_machine.specs.Advertising.{advertised, sends}
-use Rattle.reference_machine.specs.Machine.{with_queues, reconfigured, configured}
-use Rattle.session_law.specs.SessionLaw.{after_messages, heard}
+use Rattle.reference_machine.specs.Machine.{with_queues, reconfigured, after_edit}
+use Rattle.session_law.specs.SessionLaw.{after_messages, applied}
 use Rattle.session_law.proofs.Lists.{some_mapped}
 use Rattle.session_law.proofs.Keys.{same_ends, same_ends_true, same_ends_itself}
 use Rattle.session_law.proofs.Queues.{messages_emptied, messages_other, messages_new}
 use Rattle.session_law.proofs.Routes.{route_kept, ordered_kept}
 use Rattle.session_law.proofs.Changes.{advertised_down}
 use Rattle.session_law.proofs.Configs.{Passes, ArePair, Joins, node_kept, session_either, session_if_up, session_old_or_new}
-use Rattle.session_law.proofs.Told.{direction, waiting, IsTold, IsTurned, sends_parts, sends_from, heard_up}
+use Rattle.session_law.proofs.Told.{direction, waiting, IsTold, IsTurned, sends_parts, sends_from, applied_up}
 
 -- QUEUES OF A NEW SESSION
 
@@ -97,27 +98,27 @@ module _ (s : Network) (e : Edit) (told : IsTold s) (ok : Passes s.conf e) where
   abbrev new : Configuration
   new = edited s.conf e
 
-  conf_now : (configured s e).conf ≡ new
+  conf_now : (after_edit s e).conf ≡ new
   unfolding reconfigured
   conf_now = refl
 
-  route_now : (r t : Addr) (p : Block) → route_from (configured s e).received t p r ≡ cond (is_up new r t) (route_from s.received t p r) None
+  route_now : (r t : Addr) (p : Block) → route_from (after_edit s e).received t p r ≡ cond (is_up new r t) (route_from s.received t p r) None
   unfolding reconfigured
   route_now r t p = route_kept new s.received r t p
 
-  messages_now : (a b : Addr) → in_queues (configured s e).queues a b ≡ option_map (λ ms. cond (is_up new a b) ms []) (in_queues (with_queues e s.queues) a b)
+  messages_now : (a b : Addr) → in_queues (after_edit s e).queues a b ≡ option_map (λ ms. cond (is_up new a b) ms []) (in_queues (with_queues e s.queues) a b)
   unfolding reconfigured
   messages_now a b = messages_emptied new (direction a b) (with_queues e s.queues)
 
-  waiting_up : (a b : Addr) → is_up new a b ≡ true → waiting (configured s e) a b ≡ unwrap_or (in_queues (with_queues e s.queues) a b) []
+  waiting_up : (a b : Addr) → is_up new a b ≡ true → waiting (after_edit s e) a b ≡ unwrap_or (in_queues (with_queues e s.queues) a b) []
   waiting_up a b up = ap (λ o. unwrap_or o []) (messages_now a b) ∙ all_messages (is_up new a b) (in_queues (with_queues e s.queues) a b) up
 
-  route_up : (r t : Addr) (p : Block) → is_up new r t ≡ true → route_from (configured s e).received t p r ≡ route_from s.received t p r
+  route_up : (r t : Addr) (p : Block) → is_up new r t ≡ true → route_from (after_edit s e).received t p r ≡ route_from s.received t p r
   route_up r t p up = route_now r t p ∙ ap (λ b. cond b (route_from s.received t p r) None) up
 
-  heard_now : (r t : Addr) (p : Block) → is_up new r t ≡ true → heard (configured s e) r t p ≡ after_messages p (route_from s.received t p r) (unwrap_or (in_queues (with_queues e s.queues) r t) [])
+  applied_now : (r t : Addr) (p : Block) → is_up new r t ≡ true → applied (after_edit s e) r t p ≡ after_messages p (route_from s.received t p r) (unwrap_or (in_queues (with_queues e s.queues) r t) [])
   unfolding reconfigured
-  heard_now r t p up = heard_up (configured s e) r t p up ∙ (λ i. after_messages p (route_up r t p up i) (waiting_up r t up i))
+  applied_now r t p up = applied_up (after_edit s e) r t p up ∙ (λ i. after_messages p (route_up r t p up i) (waiting_up r t up i))
 
   -- who sends after the edit over a session that was up sent before
   sent_before : (r t : Addr) → sends new r t ≡ true → is_up s.conf r t ≡ true → sends s.conf r t ≡ true
@@ -126,14 +127,14 @@ module _ (s : Network) (e : Edit) (told : IsTold s) (ok : Passes s.conf e) where
       let same : is_virtual new r ≡ is_virtual s.conf r = ap (λ o. unwrap_or (option_map (λ n. is_kind_virtual n.kind) o) false) (node_kept s.conf e ok r here) in
       sends_from s.conf r t here (ap not (sym same) ∙ (sends_parts new r t is).1) up
 
-  before_by : (b : Bool) (r t : Addr) (p : Block) → is_up s.conf r t ≡ b → sends new r t ≡ true → heard (configured s e) r t p ≡ advertised s r t p
+  before_by : (b : Bool) (r t : Addr) (p : Block) → is_up s.conf r t ≡ b → sends new r t ≡ true → applied (after_edit s e) r t p ≡ advertised s r t p
   before_by true r t p up is =
-      heard_now r t p (sends_parts new r t is).2
+      applied_now r t p (sends_parts new r t is).2
       ∙ ap (λ o. after_messages p (route_from s.received t p r) (unwrap_or o [])) (queues_kept s.conf e s.queues ok r t (session_if_up s.conf r t up))
-      ∙ sym (heard_up s r t p up)
+      ∙ sym (applied_up s r t p up)
       ∙ told.law r t p (sent_before r t is up)
   before_by false r t p down is =
-      heard_now r t p (sends_parts new r t is).2
+      applied_now r t p (sends_parts new r t is).2
       ∙ (λ i. after_messages p (told.tidy.no_route r t down p i) (queues_empty e s.queues r t (told.tidy.no_message r t down) i))
       ∙ sym (advertised_down s r t p down)
 
@@ -150,11 +151,11 @@ module _ (s : Network) (e : Edit) (told : IsTold s) (ok : Passes s.conf e) where
       let here = placed_by a b (session_old_or_new s.conf e ok a b is) in
       ap is_some (node_kept s.conf e ok a here) ∙ here
 
-  there_now : (a b : Addr) → has_session new a b ≡ true → is_some (in_queues (configured s e).queues a b) ≡ true
+  there_now : (a b : Addr) → has_session new a b ≡ true → is_some (in_queues (after_edit s e).queues a b) ≡ true
   there_now a b is =
       ap is_some (messages_now a b) ∙ some_mapped (λ ms. cond (is_up new a b) ms []) (in_queues (with_queues e s.queues) a b) ∙ there_by a b (session_old_or_new s.conf e ok a b is)
 
-  pub turned_edited : IsTurned s (configured s e)
+  pub turned_edited : IsTurned s (after_edit s e)
   unfolding reconfigured
   turned_edited = record {
     before = λ r t p is. before_by (is_up s.conf r t) r t p refl is;

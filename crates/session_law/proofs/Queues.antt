@@ -12,7 +12,7 @@ use Rattle.session_queue.specs.Waiting.{direction_cmp}
 use Rattle.net_conf.specs.Configuration.{Configuration}
 use Rattle.net_conf.specs.Costs.{is_up}
 use Rattle.reference_machine.specs.declared.rows.Queue.{Queue}
-use Rattle.reference_machine.specs.Network.{Network, is_of, messages_in, with_direction, with_more, more, with_message, rest_of, less, without_head}
+use Rattle.reference_machine.specs.Network.{Network, is_of, messages_in, with_direction, with_more, with_one_more, with_message, rest_of, without_its_head, without_head}
 use Rattle.reference_machine.specs.Advertising.{sent}
 use Rattle.reference_machine.specs.Machine.{emptied}
 use Rattle.session_law.proofs.Lists.{find_kept, find_dropped, find_mapped}
@@ -43,29 +43,29 @@ emptied_messages false q = refl
 pub messages_emptied : (c : Configuration) (d : Direction) (qs : List Queue) → messages_in (map (emptied c) qs) d ≡ option_map (λ ms. cond (is_up c d.from d.to) ms []) (messages_in qs d)
 messages_emptied c d qs = messages_mapped d (emptied c) (λ ms. cond (is_up c d.from d.to) ms []) (λ q. emptied_of (is_up c q.of.from q.of.to) q) (λ q is. emptied_messages (is_up c q.of.from q.of.to) q ∙ ap (λ e. cond (is_up c e.from e.to) q.messages []) is) qs
 
-less_of : (b : Bool) (q : Queue) → (if b then record q { messages = rest_of q.messages } else q).of ≡ q.of
-less_of true q = refl
-less_of false q = refl
+without_its_head_of : (b : Bool) (q : Queue) → (if b then record q { messages = rest_of q.messages } else q).of ≡ q.of
+without_its_head_of true q = refl
+without_its_head_of false q = refl
 
-less_messages : (b : Bool) (q : Queue) → (if b then record q { messages = rest_of q.messages } else q).messages ≡ cond b (rest_of q.messages) q.messages
-less_messages true q = refl
-less_messages false q = refl
+without_its_head_messages : (b : Bool) (q : Queue) → (if b then record q { messages = rest_of q.messages } else q).messages ≡ cond b (rest_of q.messages) q.messages
+without_its_head_messages true q = refl
+without_its_head_messages false q = refl
 
 -- the head of one direction is gone
 pub messages_without_head : (e d : Direction) (qs : List Queue) → messages_in (without_head e qs) d ≡ option_map (λ ms. cond (same_ends d e) (rest_of ms) ms) (messages_in qs d)
-messages_without_head e d qs = messages_mapped d (less e) (λ ms. cond (same_ends d e) (rest_of ms) ms) (λ q. less_of (is_of e q) q) (λ q is. less_messages (is_of e q) q ∙ ap (λ f. cond (same_ends f e) (rest_of q.messages) q.messages) is) qs
+messages_without_head e d qs = messages_mapped d (without_its_head e) (λ ms. cond (same_ends d e) (rest_of ms) ms) (λ q. without_its_head_of (is_of e q) q) (λ q is. without_its_head_messages (is_of e q) q ∙ ap (λ f. cond (same_ends f e) (rest_of q.messages) q.messages) is) qs
 
-more_of : (b : Bool) (m : Message) (q : Queue) → (if b then with_more q (m ∷ []) else q).of ≡ q.of
-more_of true m q = refl
-more_of false m q = refl
+with_one_more_of : (b : Bool) (m : Message) (q : Queue) → (if b then with_more q (m ∷ []) else q).of ≡ q.of
+with_one_more_of true m q = refl
+with_one_more_of false m q = refl
 
-more_messages : (b : Bool) (m : Message) (q : Queue) → (if b then with_more q (m ∷ []) else q).messages ≡ cond b (q.messages ++ m ∷ []) q.messages
-more_messages true m q = refl
-more_messages false m q = refl
+with_one_more_messages : (b : Bool) (m : Message) (q : Queue) → (if b then with_more q (m ∷ []) else q).messages ≡ cond b (q.messages ++ m ∷ []) q.messages
+with_one_more_messages true m q = refl
+with_one_more_messages false m q = refl
 
 -- a message comes to the end of one direction
 pub messages_with_message : (e d : Direction) (m : Message) (qs : List Queue) → messages_in (with_message e m qs) d ≡ option_map (λ ms. cond (same_ends d e) (ms ++ m ∷ []) ms) (messages_in qs d)
-messages_with_message e d m qs = messages_mapped d (more e m) (λ ms. cond (same_ends d e) (ms ++ m ∷ []) ms) (λ q. more_of (is_of e q) m q) (λ q is. more_messages (is_of e q) m q ∙ ap (λ f. cond (same_ends f e) (q.messages ++ m ∷ []) q.messages) is) qs
+messages_with_message e d m qs = messages_mapped d (with_one_more e m) (λ ms. cond (same_ends d e) (ms ++ m ∷ []) ms) (λ q. with_one_more_of (is_of e q) m q) (λ q is. with_one_more_messages (is_of e q) m q ∙ ap (λ f. cond (same_ends f e) (q.messages ++ m ∷ []) q.messages) is) qs
 
 -- ONE DIRECTION MORE
 

@@ -1,4 +1,4 @@
--- Each step keeps what every peer hears, and so does a run.
+-- Each step keeps the law, and so does a run.
 use Rattle.std.proofs.Common.{◌≡◌, inl, inr, Bool, true, false, not, ◌&&◌, ◌||◌, List, [], ◌∷◌, Option, Some, None, unwrap_or, refl, sym, ap, ◌∙◌, subst}
 use Rattle.std.specs.List.{list_all}
 use Rattle.std.proofs.lemmas.Bool.{and_parts, or_parts, not-false}
@@ -21,18 +21,24 @@ use Rattle.reference_machine.specs.declared.rows.Queue.{Queue}
 use Rattle.reference_machine.specs.Network.{Network, is_of, messages_in}
 use Rattle.reference_machine.specs.Decision.{route_from}
 use Rattle.reference_machine.specs.Reports.{is_empty, is_quiet}
-use Rattle.reference_machine.specs.Machine.{nothing, configured, edit_outcome, edits, has_foreign_first, is_too_long, fed_message, feed_refusal, feed_outcome, feeds, taken, take_outcome, delivery_refusal, deliver_outcome, delivers, ask_refusal, ask_outcome, asks, step, IsStep, IsRun}
-use Rattle.session_law.specs.SessionLaw.{after_messages, heard, SessionLaw, QuietLaw}
+use Rattle.reference_machine.specs.Machine.{nothing, Outcome, unless_refused, after_edit, edit_step, has_foreign_first, is_too_long, fed_message, feed_refusal, feed_step, taken, head_step, delivery_refusal, delivery_step, ask_refusal, question_step, step, IsStep, IsRun}
+use Rattle.session_law.specs.SessionLaw.{after_messages, applied, SessionLaw, QuietLaw}
 use Rattle.session_law.proofs.Configs.{all_fail, passes}
-use Rattle.session_law.proofs.Told.{direction, IsTold, sends_parts, heard_up, told_sent, told_nothing}
+use Rattle.session_law.proofs.Told.{direction, IsTold, sends_parts, applied_up, told_sent, told_nothing}
 use Rattle.session_law.proofs.Steps.{turned_taken, told_fed}
 use Rattle.session_law.proofs.Edits.{turned_edited}
 
 -- STEPS
 
-kept_edit : (s : Network) (e : Edit) → IsTold s → (o : Option Refusal) → refusal_of s.conf e ≡ o → IsTold (edit_outcome s e o).next
-kept_edit s e told (Some r) is = told
-kept_edit s e told None is = told_sent s (configured s e) (turned_edited s e told (passes s.conf e is))
+-- a refused event changes nothing
+kept_unless : (o : Option Refusal) (s : Network) (outcome : Outcome) → IsTold s → (o ≡ None → IsTold outcome.next) → IsTold (unless_refused o s outcome).next
+kept_unless (Some r) s outcome told kept = told
+kept_unless None s outcome told kept = kept refl
+
+kept_edit : (s : Network) (e : Edit) → IsTold s → IsTold (edit_step s e).next
+unfolding edit_step
+kept_edit s e told =
+    kept_unless (refusal_of s.conf e) s _ told (λ passed. told_sent s (after_edit s e) (turned_edited s e told (passes s.conf e passed)))
 
 abbrev feed_tests : Configuration → Feed → List (Bool × Refusal)
 feed_tests c f =
@@ -51,11 +57,10 @@ feeder c f none =
     let t = all_fail (feed_tests c f) none in
     (not-false (is_virtual c f.from) (or_parts (not (is_virtual c f.from)) (is_virtual c f.to) t.1.0).0, not-false (is_up c f.from f.to) t.1.1.1.0)
 
-kept_feed : (s : Network) (f : Feed) → IsTold s → (o : Option Refusal) → feed_refusal s.conf f ≡ o → IsTold (feed_outcome s f o).next
-kept_feed s f told (Some r) is = told
-kept_feed s f told None is =
-    let from = feeder s.conf f is in
-    told_fed s (direction f.from f.to) (fed_message f.from f.news) told from.1 from.0
+kept_feed : (s : Network) (f : Feed) → IsTold s → IsTold (feed_step s f).next
+unfolding feed_step
+kept_feed s f told =
+    kept_unless (feed_refusal s.conf f) s _ told (λ passed. let from = feeder s.conf f passed in told_fed s (direction f.from f.to) (fed_message f.from f.news) told from.1 from.0)
 
 delivered_up : (c : Configuration) (d : Direction) → delivery_refusal c d ≡ None → is_up c d.from d.to ≡ true
 unfolding delivery_refusal
@@ -63,26 +68,26 @@ delivered_up c d none =
     let t = all_fail ((not (has_node c d.from && has_node c d.to), NoRouter) ∷ (not (has_session c d.from d.to), NoSession) ∷ (not (is_up c d.from d.to), SessionDown) ∷ []) none in
     not-false (is_up c d.from d.to) t.1.1.0
 
-kept_take : (s : Network) (d : Direction) → IsTold s → is_up s.conf d.from d.to ≡ true → (o : Option (List Message)) → messages_in s.queues d ≡ o → IsTold (take_outcome s d o).next
-kept_take s d told up None is = told
-kept_take s d told up (Some []) is = told
-kept_take s d told up (Some (m ∷ ms)) is = told_sent s (taken s d m) (turned_taken s d m ms told up is)
+kept_head : (s : Network) (d : Direction) → IsTold s → is_up s.conf d.from d.to ≡ true → (o : Option (List Message)) → messages_in s.queues d ≡ o → IsTold (head_step s d o).next
+kept_head s d told up None is = told
+kept_head s d told up (Some []) is = told
+kept_head s d told up (Some (m ∷ ms)) is = told_sent s (taken s d m) (turned_taken s d m ms told up is)
 
-kept_delivery : (s : Network) (d : Direction) → IsTold s → (o : Option Refusal) → delivery_refusal s.conf d ≡ o → IsTold (deliver_outcome s d o).next
-kept_delivery s d told (Some r) is = told
-kept_delivery s d told None is = kept_take s d told (delivered_up s.conf d is) (messages_in s.queues d) refl
+kept_delivery : (s : Network) (d : Direction) → IsTold s → IsTold (delivery_step s d).next
+unfolding delivery_step
+kept_delivery s d told =
+    kept_unless (delivery_refusal s.conf d) s (head_step s d (messages_in s.queues d)) told (λ passed. kept_head s d told (delivered_up s.conf d passed) (messages_in s.queues d) refl)
 
-kept_question : (s : Network) (q : Ask) → IsTold s → (o : Option Refusal) → IsTold (ask_outcome s q o).next
-kept_question s q told (Some r) = told
-kept_question s q told None = told
+kept_question : (s : Network) (q : Ask) → IsTold s → IsTold (question_step s q).next
+unfolding question_step
+kept_question s q told = kept_unless (ask_refusal s.conf q) s _ told (λ passed. told)
 
 -- the machine's own step keeps it
 kept_step : (s : Network) (e : Event) → IsTold s → IsTold (step s e).next
-unfolding edits feeds delivers asks
-kept_step s (AnEdit e) told = kept_edit s e told (refusal_of s.conf e) refl
-kept_step s (AFeed f) told = kept_feed s f told (feed_refusal s.conf f) refl
-kept_step s (Deliver a b) told = kept_delivery s (direction a b) told (delivery_refusal s.conf (direction a b)) refl
-kept_step s (AnAsk q) told = kept_question s q told (ask_refusal s.conf q)
+kept_step s (AnEdit e) told = kept_edit s e told
+kept_step s (AFeed f) told = kept_feed s f told
+kept_step s (Deliver a b) told = kept_delivery s (direction a b) told
+kept_step s (AnAsk q) told = kept_question s q told
 
 told_step : (s mid : Network) (e : Event) (r : Reply) → IsTold s → IsStep s e r mid → IsTold mid
 told_step s mid e r told (inl own) = subst IsTold (sym own.1) (kept_step s e told)
@@ -117,9 +122,9 @@ quiet_at d (q ∷ qs) h =
     let parts = and_parts (is_empty q.messages) (list_all (λ x. is_empty x.messages) qs) h in
     quiet_step (is_of d q) d q qs refl (no_messages q.messages parts.0) (quiet_at d qs parts.1)
 
-quiet_heard : (s : Network) (r t : Addr) (p : Block) → is_quiet s ≡ true → is_up s.conf r t ≡ true → heard s r t p ≡ route_from s.received t p r
+quiet_applied : (s : Network) (r t : Addr) (p : Block) → is_quiet s ≡ true → is_up s.conf r t ≡ true → applied s r t p ≡ route_from s.received t p r
 unfolding is_quiet
-quiet_heard s r t p quiet up = heard_up s r t p up ∙ ap (after_messages p (route_from s.received t p r)) (quiet_at (direction r t) s.queues quiet)
+quiet_applied s r t p quiet up = applied_up s r t p up ∙ ap (after_messages p (route_from s.received t p r)) (quiet_at (direction r t) s.queues quiet)
 
 pub quiet_law : QuietLaw
-quiet_law es rs s run quiet r t p is = sym (quiet_heard s r t p quiet (sends_parts s.conf r t is).2) ∙ session_law es rs s run r t p is
+quiet_law es rs s run quiet r t p is = sym (quiet_applied s r t p quiet (sends_parts s.conf r t is).2) ∙ session_law es rs s run r t p is

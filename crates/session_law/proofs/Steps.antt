@@ -1,4 +1,4 @@
--- Deliveries and feeds keep what every peer hears.
+-- Deliveries and feeds keep what each peer has received, with what is on its way put over it.
 use Rattle.std.proofs.Common.{◌≡◌, Bool, true, false, cond, List, [], ◌∷◌, ◌++◌, Option, Some, None, option_map, is_some, unwrap_or, refl, sym, ap, ◌∙◌}
 use Rattle.std.proofs.lemmas.Bool.{true≢false, false_from_ne_true, not-true}
 use Rattle.net_prefix.specs.declared.addr.Addr.{Addr}
@@ -11,12 +11,12 @@ use Rattle.reference_machine.specs.Network.{Network, messages_in, rest_of, with_
 use Rattle.reference_machine.specs.Decision.{route_from, best}
 use Rattle.reference_machine.specs.Advertising.{advertised, sends}
 use Rattle.reference_machine.specs.Machine.{taken}
-use Rattle.session_law.specs.SessionLaw.{after_message, after_messages, heard}
+use Rattle.session_law.specs.SessionLaw.{after_message, after_messages, applied}
 use Rattle.session_law.proofs.Lists.{some_mapped}
 use Rattle.session_law.proofs.Keys.{same_ends, same_ends_true}
 use Rattle.session_law.proofs.Queues.{messages_without_head, messages_with_message}
 use Rattle.session_law.proofs.Routes.{route_after, ordered_after}
-use Rattle.session_law.proofs.Told.{direction, waiting, IsTidy, IsTold, IsTurned, sends_parts, heard_up}
+use Rattle.session_law.proofs.Told.{direction, waiting, IsTidy, IsTold, IsTurned, sends_parts, applied_up}
 
 -- a direction that is down is none that is up
 other_direction : (c : Configuration) (d : Direction) (a b : Addr) → is_up c d.from d.to ≡ true → is_up c a b ≡ false → same_ends (direction a b) d ≡ false
@@ -39,24 +39,24 @@ module _ (s : Network) (d : Direction) (m : Message) (ms : List Message) (told :
   waiting_taken r t = ap (λ o. unwrap_or o []) (messages_without_head d (direction r t) s.queues)
 
   -- what the message says has moved from the queue to what was received
-  same_heard : (b : Bool) (r t : Addr) (p : Block) → same_ends (direction r t) d ≡ b → after_messages p (cond b (after_message p (route_from s.received t p r) m) (route_from s.received t p r)) (unwrap_or (option_map (λ xs. cond b (rest_of xs) xs) (messages_in s.queues (direction r t))) []) ≡ after_messages p (route_from s.received t p r) (waiting s r t)
-  same_heard true r t p is =
+  same_applied : (b : Bool) (r t : Addr) (p : Block) → same_ends (direction r t) d ≡ b → after_messages p (cond b (after_message p (route_from s.received t p r) m) (route_from s.received t p r)) (unwrap_or (option_map (λ xs. cond b (rest_of xs) xs) (messages_in s.queues (direction r t))) []) ≡ after_messages p (route_from s.received t p r) (waiting s r t)
+  same_applied true r t p is =
       let here : messages_in s.queues (direction r t) ≡ Some (m ∷ ms) = ap (messages_in s.queues) (same_ends_true (direction r t) d is) ∙ head in
       ap (λ o. after_messages p (after_message p (route_from s.received t p r) m) (unwrap_or (option_map rest_of o) [])) here
       ∙ ap (λ o. after_messages p (route_from s.received t p r) (unwrap_or o [])) (sym here)
-  same_heard false r t p is = ap (after_messages p (route_from s.received t p r)) (by_mapped rest_of false (messages_in s.queues (direction r t)) refl)
+  same_applied false r t p is = ap (after_messages p (route_from s.received t p r)) (by_mapped rest_of false (messages_in s.queues (direction r t)) refl)
 
-  heard_taken : (r t : Addr) (p : Block) → is_up s.conf r t ≡ true → heard (taken s d m) r t p ≡ heard s r t p
+  applied_taken : (r t : Addr) (p : Block) → is_up s.conf r t ≡ true → applied (taken s d m) r t p ≡ applied s r t p
   unfolding taken
-  heard_taken r t p is =
-      heard_up (taken s d m) r t p is
+  applied_taken r t p is =
+      applied_up (taken s d m) r t p is
       ∙ (λ i. after_messages p (route_taken r t p i) (waiting_taken r t i))
-      ∙ same_heard (same_ends (direction r t) d) r t p refl
-      ∙ sym (heard_up s r t p is)
+      ∙ same_applied (same_ends (direction r t) d) r t p refl
+      ∙ sym (applied_up s r t p is)
 
-  before_taken : (r t : Addr) (p : Block) → sends (taken s d m).conf r t ≡ true → heard (taken s d m) r t p ≡ advertised s r t p
+  before_taken : (r t : Addr) (p : Block) → sends (taken s d m).conf r t ≡ true → applied (taken s d m) r t p ≡ advertised s r t p
   unfolding taken
-  before_taken r t p is = heard_taken r t p (sends_parts s.conf r t is).2 ∙ told.law r t p is
+  before_taken r t p is = applied_taken r t p (sends_parts s.conf r t is).2 ∙ told.law r t p is
 
   tidy_taken : IsTidy (taken s d m)
   unfolding taken
@@ -91,12 +91,12 @@ module _ (s : Network) (d : Direction) (m : Message) (told : IsTold s) (up : is_
   unfolding advertised best
   advertised_fed r t p = refl
 
-  law_fed : (r t : Addr) (p : Block) → sends s.conf r t ≡ true → heard (fed s d m) r t p ≡ advertised (fed s d m) r t p
+  law_fed : (r t : Addr) (p : Block) → sends s.conf r t ≡ true → applied (fed s d m) r t p ≡ advertised (fed s d m) r t p
   law_fed r t p is =
       let is_up_now = (sends_parts s.conf r t is).2 in
-      heard_up (fed s d m) r t p is_up_now
+      applied_up (fed s d m) r t p is_up_now
       ∙ ap (after_messages p (route_from s.received t p r)) (waiting_fed r t (not_fed r t is))
-      ∙ sym (heard_up s r t p is_up_now)
+      ∙ sym (applied_up s r t p is_up_now)
       ∙ told.law r t p is
       ∙ advertised_fed r t p
 

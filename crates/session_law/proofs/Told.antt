@@ -14,7 +14,7 @@ use Rattle.reference_machine.specs.Decision.{route_from, best}
 use Rattle.reference_machine.specs.Advertising.{advertised, sends, changes, sent}
 use Rattle.reference_machine.specs.Reports.{queue}
 use Rattle.reference_machine.specs.Machine.{nothing, with_sent}
-use Rattle.session_law.specs.SessionLaw.{after_message, after_messages, heard}
+use Rattle.session_law.specs.SessionLaw.{after_message, after_messages, applied}
 use Rattle.session_law.proofs.Lists.{some_mapped}
 use Rattle.session_law.proofs.Queues.{messages_sent}
 use Rattle.session_law.proofs.Routes.{AreOrdered}
@@ -40,14 +40,14 @@ pub record IsTidy (s : Network) : Type 0 where
   -- both ends of a session are there
   pub placed : (a b : Addr) → has_session s.conf a b ≡ true → has_node s.conf a ≡ true
 
--- each peer hears what the router offers it now
+-- what each peer has received, with what is on its way put over it, is what the router advertises to it now
 pub record IsTold (s : Network) : Type 0 where
-  pub law : (r t : Addr) (p : Block) → sends s.conf r t ≡ true → heard s r t p ≡ advertised s r t p
+  pub law : (r t : Addr) (p : Block) → sends s.conf r t ≡ true → applied s r t p ≡ advertised s r t p
   pub tidy : IsTidy s
 
--- s is about to become s': each peer hears in s' what the router offered it in s
+-- s is about to become s': so far it is in s' what the router advertised in s
 pub record IsTurned (s s' : Network) : Type 0 where
-  pub before : (r t : Addr) (p : Block) → sends s'.conf r t ≡ true → heard s' r t p ≡ advertised s r t p
+  pub before : (r t : Addr) (p : Block) → sends s'.conf r t ≡ true → applied s' r t p ≡ advertised s r t p
   pub tidy : IsTidy s'
 
 -- SENDING
@@ -87,10 +87,10 @@ pub queue_up : (s : Network) (a b : Addr) → is_up s.conf a b ≡ true → queu
 unfolding queue
 queue_up s a b up = ap (λ x. if x then waiting s a b else []) up
 
--- what is heard over a session that is up
-pub heard_up : (s : Network) (r t : Addr) (p : Block) → is_up s.conf r t ≡ true → heard s r t p ≡ after_messages p (route_from s.received t p r) (waiting s r t)
-unfolding heard
-heard_up s r t p up = ap (after_messages p (route_from s.received t p r)) (queue_up s r t up)
+-- what is received, with what is on its way put over it, where the session is up
+pub applied_up : (s : Network) (r t : Addr) (p : Block) → is_up s.conf r t ≡ true → applied s r t p ≡ after_messages p (route_from s.received t p r) (waiting s r t)
+unfolding applied
+applied_up s r t p up = ap (after_messages p (route_from s.received t p r)) (queue_up s r t up)
 
 more_waiting : (o : Option (List Message)) (ms : List Message) → is_some o ≡ true → unwrap_or (option_map (λ xs. xs ++ ms) o) [] ≡ unwrap_or o [] ++ ms
 more_waiting None ms h = absurd (true≢false (sym h))
@@ -115,23 +115,23 @@ module _ (s s' : Network) (turned : IsTurned s s') where
   unfolding with_sent
   received_sent = refl
 
-  heard_sent : (r t : Addr) (p : Block) → is_up s'.conf r t ≡ true → heard (with_sent s s') r t p ≡ after_messages p (route_from s'.received t p r) (waiting (with_sent s s') r t)
+  applied_sent : (r t : Addr) (p : Block) → is_up s'.conf r t ≡ true → applied (with_sent s s') r t p ≡ after_messages p (route_from s'.received t p r) (waiting (with_sent s s') r t)
   unfolding with_sent
-  heard_sent r t p up = heard_up (with_sent s s') r t p up
+  applied_sent r t p up = applied_up (with_sent s s') r t p up
 
   advertised_sent : (r t : Addr) (p : Block) → advertised (with_sent s s') r t p ≡ advertised s' r t p
   unfolding with_sent advertised best
   advertised_sent r t p = refl
 
-  -- what is sent is heard
-  law_sent : (r t : Addr) (p : Block) → sends s'.conf r t ≡ true → heard (with_sent s s') r t p ≡ advertised (with_sent s s') r t p
+  -- what is sent brings it about
+  law_sent : (r t : Addr) (p : Block) → sends s'.conf r t ≡ true → applied (with_sent s s') r t p ≡ advertised (with_sent s s') r t p
   law_sent r t p is =
       let up = (sends_parts s'.conf r t is).2 in
       let route = route_from s'.received t p r in
-      heard_sent r t p up
+      applied_sent r t p up
       ∙ ap (after_messages p route) (waiting_sent r t up ∙ ap (λ ms. waiting s' r t ++ ms) (sent_due s s' r t is))
       ∙ fold-append (after_message p) route (waiting s' r t) (changes s s' r t)
-      ∙ ap (λ held. after_messages p held (changes s s' r t)) (sym (heard_up s' r t p up) ∙ turned.before r t p is)
+      ∙ ap (λ held. after_messages p held (changes s s' r t)) (sym (applied_up s' r t p up) ∙ turned.before r t p is)
       ∙ changes_lead s s' r t p
       ∙ sym (advertised_sent r t p)
 
@@ -145,7 +145,7 @@ module _ (s s' : Network) (turned : IsTurned s s') where
     placed = turned.tidy.placed;
   }
 
-  -- once what is due is sent, each peer hears what is offered
+  -- and so it holds once what is due is sent
   pub told_sent : IsTold (with_sent s s')
   unfolding with_sent
   told_sent = record { law = law_sent; tidy = tidy_sent }

@@ -1,5 +1,5 @@
 -- The session law: what a router has received from a peer, with what is on its way from there put over it, is what the
--- peer offers it now: only changes are sent (RFC 4271, 9.2), and they come in order.
+-- peer advertises to it now: only changes are sent (RFC 4271, 9.2), and they come in order.
 use Rattle.std.specs.Prelude.{◌≡◌, Bool, true, List, fold, Option, Some, None, if◌then◌else◌}
 use Rattle.net_prefix.specs.declared.addr.Addr.{Addr}
 use Rattle.net_prefix.specs.Block.{Block, same_block}
@@ -23,14 +23,15 @@ after_message p held (Withdraw q) = if same_block p q then None else held
 abbrev pub after_messages : Block → Option Attr → List Message → Option Attr
 after_messages p held ms = fold (after_message p) held ms
 
--- what t has received from r for the prefix, once it has taken all that is on its way
-unfoldable pub heard : Network → Addr → Addr → Block → Option Attr
-heard s r t p = after_messages p (route_from s.received t p r) (queue s (record { from = r; to = t }))
+-- what t has received from r for the prefix, with what is on its way put over it
+unfoldable pub applied : Network → Addr → Addr → Block → Option Attr
+applied s r t p = after_messages p (route_from s.received t p r) (queue s (record { from = r; to = t }))
 
--- after any run, over every session of a router that is up: what the peer hears is what the router offers it now
+-- after any run, over every session of a router that is up: what the peer has received, with what is on its way put over
+-- it, is what the router advertises to it now
 abbrev pub SessionLaw : Type 0
-SessionLaw = (es : List Event) (rs : List Reply) (s : Network) → IsRun nothing es rs s → (r t : Addr) (p : Block) → sends s.conf r t ≡ true → heard s r t p ≡ advertised s r t p
+SessionLaw = (es : List Event) (rs : List Reply) (s : Network) → IsRun nothing es rs s → (r t : Addr) (p : Block) → sends s.conf r t ≡ true → applied s r t p ≡ advertised s r t p
 
--- so, where no message is on its way, what each peer has received is what the router offers it now
+-- so, where no message is on its way, what each peer has received is what the router advertises to it now
 abbrev pub QuietLaw : Type 0
 QuietLaw = (es : List Event) (rs : List Reply) (s : Network) → IsRun nothing es rs s → is_quiet s ≡ true → (r t : Addr) (p : Block) → sends s.conf r t ≡ true → route_from s.received t p r ≡ advertised s r t p

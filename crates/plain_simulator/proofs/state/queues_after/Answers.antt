@@ -2,7 +2,7 @@ use Rattle.std.proofs.Common.{◌≡◌, ◌∙◌, sym, ap}
 use Rattle.reference_machine.specs.Network.{with_more}
 use Rattle.reference_machine.specs.Advertising.{sent}
 use Rattle.plain_simulator.proofs.Lists.{map_pushed}
-use Rattle.plain_simulator.proofs.MessagesOfTurns.{kept_turns}
+use Rattle.plain_simulator.proofs.MessagesOfChoices.{kept_choices}
 use Rattle.plain_simulator.proofs.state.queues_after.Goals as goal
 
 pub loop-queue-preserved : goal.loop-queue-preserved
@@ -11,5 +11,5 @@ loop-queue-preserved g c = record {
       (c.in_ok-with_more.ensures ∙ ap (with_more c.queue-item.result) c.in_ok-messages.ensures)
       c.loop-queue.invariant.done
       c.in_ok-push.ensures.items;
-  kept = kept_turns c.args.earlier.now c.args.later.now c.queue-item.result.of.from c.in_ok-turns.turns c.in_ok-turns.ensures;
+  kept = kept_choices c.args.earlier.now c.args.later.now c.queue-item.result.of.from c.in_ok-choices.choices c.in_ok-choices.ensures;
 }

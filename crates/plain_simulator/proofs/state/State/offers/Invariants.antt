@@ -1,8 +1,0 @@
-use Rattle.std.proofs.Common.{◌≡◌, take}
-use Rattle.std.specs.List.{filter_map}
-use Rattle.reference_machine.specs.Reports.{offer_at}
-use Rattle.plain_simulator.proofs.state.State.offers.Given as goal
-
--- the offers for the prefixes so far
-abbrev pub invariant-loop-prefix : goal.invariant-loop-prefix
-invariant-loop-prefix g l = l.routes.items ≡ filter_map (offer_at l.self l.router l.peer) (take l.prefix-index l.prefixes)
