@@ -3,4 +3,5 @@ mod MessagesOfTurns
 mod Questions
 mod Runs
 mod Sites
+mod Sources
 mod Traces
