@@ -3,6 +3,7 @@
 
 mod advertise;
 mod decide;
+mod laws;
 mod machine;
 mod queues;
 mod reasons;
@@ -14,6 +15,7 @@ mod steps;
 mod trace;
 mod turns;
 
+pub use laws::traces_follow_looks;
 pub use machine::Machine;
 pub use rows::{Queue, RouteKey};
 pub use session_queue::Direction;
