@@ -3,4 +3,4 @@ mod MessagesOfChoices
 mod Questions
 mod Runs
 mod Sites
-mod Traces
+mod Sources

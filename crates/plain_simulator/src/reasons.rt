@@ -1,10 +1,13 @@
 //! Why each route of a router to a prefix was chosen or dropped.
 
-ghost use Rattle.std.specs.Prelude.{◌≡◌, ◌++◌, map, option_map, IfOk, OnOk};
+ghost use Rattle.std.specs.Prelude.{◌≡◌, fold, option_map, IfOk, OnOk};
 ghost use Rattle.std.specs.List.{filter_map};
 ghost use Rattle.std.specs.Option.{option_to_list};
-ghost use Rattle.reference_machine.specs.Decision.{own_standings, standing_over, standing_from, routes_at};
-ghost use Rattle.reference_machine.specs.Reports.{why, reasons_of, reasons_at};
+ghost use Rattle.std.specs.BTreeSet.{insert_key};
+ghost use Rattle.std.specs.FinMap as finite;
+ghost use Rattle.route_select.specs.Selection.{source_cmp, reason_in};
+ghost use Rattle.reference_machine.specs.Decision.{own_standings, standing_over, standing_from, routes_at, standings};
+ghost use Rattle.reference_machine.specs.Reports.{reasons_of, reasons_at};
 
 use crate::decide::{route_from, standings};
 use machine_rules::is_originated;
@@ -14,7 +17,7 @@ use path_attr::Attr;
 use reference_machine::RouteKey;
 use route_select::{Chosen, Reason, Selector, Source};
 use std::alloc::{AllocError, Global};
-use std::collections::BTreeMap;
+use std::collections::{BTreeMap, BTreeSet};
 
 /// Why each route to the prefix was chosen or dropped, at a site that may be there.
 pub fn reasons_at<S: Selector + Drop>(
@@ -38,7 +41,7 @@ fn reasons_of<S: Selector + Drop>(
     prefix: Prefix,
     received: &BTreeMap<RouteKey, Attr>,
 ) -> Result<Vec<(Source, Reason)>, AllocError>
-    ensures { IfOk result (λ found. found.items ≡ reasons_of (routes_at site.now prefix received.now.entries)) }
+    ensures { IfOk result (λ found. found.items ≡ reasons_of (standings site.now prefix received.now.entries)) }
 {
     let chosen: S = standings(alloc, site, prefix, received)?;
     let sources = sources_at(alloc, site, prefix, received)?;
@@ -49,9 +52,9 @@ fn reasons_of<S: Selector + Drop>(
 fn reasons_for<S: Chosen>(
     alloc: Global,
     chosen: &S,
-    sources: &[Source],
+    sources: &BTreeSet<Source>,
 ) -> Result<Vec<(Source, Reason)>, AllocError>
-    ensures { IfOk result (λ reasons. reasons.items ≡ filter_map (why (S.standings chosen.now)) sources.now) }
+    ensures { IfOk result (λ reasons. reasons.items ≡ filter_map (λ source. option_map (λ reason. (source, reason)) (reason_in (S.standings chosen.now) source)) sources.now.keys) }
 {
     sources
         .iter()
@@ -61,7 +64,7 @@ fn reasons_for<S: Chosen>(
 
 /// The source, and why its route was chosen or dropped, where it is known.
 fn why<S: Chosen>(chosen: &S, source: Source) -> Option<(Source, Reason)>
-    ensures { result ≡ why (S.standings chosen.now) source }
+    ensures { result ≡ option_map (λ reason. (source, reason)) (reason_in (S.standings chosen.now) source) }
 {
     match chosen.reason(source) {
         None => None,
@@ -69,17 +72,18 @@ fn why<S: Chosen>(chosen: &S, source: Source) -> Option<(Source, Reason)>
     }
 }
 
-/// The sources of routes to the prefix: the router itself first, then its peers, by address.
+/// The sources of routes to the prefix, each once: the router itself first, then its peers, by address.
 fn sources_at(
     alloc: Global,
     site: &SiteConf,
     prefix: Prefix,
     received: &BTreeMap<RouteKey, Attr>,
-) -> Result<Vec<Source>, AllocError>
-    ensures { IfOk result (λ sources. sources.items ≡ map (λ e. e.0) (routes_at site.now prefix received.now.entries)) }
+) -> Result<BTreeSet<Source>, AllocError>
+    ensures { IfOk result (λ sources. sources.keys ≡ finite.keys (standings site.now prefix received.now.entries)) }
 {
-    let mut sources = own_source(alloc, site, prefix)?;
-    add_sources(
+    let mut sources = BTreeSet::new(alloc);
+    add_own(&mut sources, site, prefix)?;
+    add_peers(
         &mut sources,
         site,
         site.sessions.as_slice(),
@@ -89,53 +93,44 @@ fn sources_at(
     Ok(sources)
 }
 
-/// The router itself, if it originates the prefix.
-fn own_source(alloc: Global, site: &SiteConf, prefix: Prefix) -> Result<Vec<Source>, AllocError>
-    ensures { IfOk result (λ sources. sources.items ≡ map (λ e. e.0) (own_standings site.now prefix)) }
+/// Adds the router itself, if it originates the prefix.
+fn add_own(sources: &mut BTreeSet<Source>, site: &SiteConf, prefix: Prefix) -> Result<(), AllocError>
+    ensures { OnOk result (sources.new.keys ≡ fold (λ ks e. insert_key source_cmp ks e.0) sources.old.keys (own_standings site.now prefix)) }
 {
-    let mut sources = Vec::new(alloc);
     if is_originated(site, prefix) {
-        sources.push(Source::Own)?;
+        sources.insert(Source::Own)?;
     }
-    Ok(sources)
+    Ok(())
 }
 
 /// Adds the peers of these sessions whose routes count.
-fn add_sources(
-    sources: &mut Vec<Source>,
+fn add_peers(
+    sources: &mut BTreeSet<Source>,
     site: &SiteConf,
     sessions: &[SiteSession],
     prefix: Prefix,
     received: &BTreeMap<RouteKey, Attr>,
 ) -> Result<(), AllocError>
-    ensures { OnOk result (sources.new.items ≡ sources.old.items ++ map (λ e. e.0) (filter_map (standing_from site.now prefix received.now.entries) sessions.now)) }
+    ensures { OnOk result (sources.new.keys ≡ fold (λ ks e. insert_key source_cmp ks e.0) sources.old.keys (filter_map (standing_from site.now prefix received.now.entries) sessions.now)) }
 {
     for from in sessions {
-        add_source(sources, source_from(site, prefix, received, from))?;
+        add_peer(sources, site, prefix, received, from)?;
     }
     Ok(())
 }
 
-fn add_source(sources: &mut Vec<Source>, source: Option<Source>) -> Result<(), AllocError>
-    ensures { OnOk result (sources.new.items ≡ sources.old.items ++ option_to_list source) }
-{
-    if let Some(source) = source {
-        sources.push(source)?;
-    }
-    Ok(())
-}
-
-/// The peer of the session, if its route to the prefix counts.
-fn source_from(
+/// Adds the peer of the session, if its route to the prefix counts.
+fn add_peer(
+    sources: &mut BTreeSet<Source>,
     site: &SiteConf,
     prefix: Prefix,
     received: &BTreeMap<RouteKey, Attr>,
     from: &SiteSession,
-) -> Option<Source>
-    ensures { result ≡ option_map (λ e. e.0) (standing_from site.now prefix received.now.entries from.now) }
+) -> Result<(), AllocError>
+    ensures { OnOk result (sources.new.keys ≡ fold (λ ks e. insert_key source_cmp ks e.0) sources.old.keys (option_to_list (standing_from site.now prefix received.now.entries from.now))) }
 {
-    match route_from(received, site.me, prefix, from.peer) {
-        Some(_) if from.up => Some(Source::Peer(from.peer)),
-        _ => None,
+    if route_from(received, site.me, prefix, from.peer).is_some() && from.up {
+        sources.insert(Source::Peer(from.peer))?;
     }
+    Ok(())
 }

@@ -18,7 +18,7 @@ use sim_event::TraceEnd;
 use std::alloc::{AllocError, Global};
 
 impl State {
-    /// The way from the router of what is for the address.
+    /// The way from the router of what is for the address. It ends, since no router forwards twice.
     #[tactic(auto, unfolding(reference_machine::specs::Tracing::trace))]
     pub fn trace<S: Selector + Drop>(
         &self,
@@ -30,7 +30,7 @@ impl State {
     {
         let mut hops = Seq::new(alloc);
         let mut at = router;
-        for look in 0..self.conf.node_count() {
+        'hop: loop {
             match self.look::<S>(alloc, hops.as_slice(), at, target)? {
                 Look::Ends(ending) => return Ok(Traced { hops, ending }),
                 Look::Forwards(prefix, next) => {
@@ -39,10 +39,6 @@ impl State {
                 }
             }
         }
-        Ok(Traced {
-            hops,
-            ending: TraceEnd::Loop(at),
-        })
     }
 
     /// What becomes of it at the address, where it came over the hops.

@@ -12,7 +12,7 @@ use Rattle.igp_cost.specs.Trees.{cost_in, first_hop_in}
 use Rattle.net_conf.specs.Costs.{is_up, costs_of}
 use Rattle.route_select.specs.declared.candidate.Source.{Source}
 use Rattle.route_select.specs.declared.candidate.Standing.{Standing}
-use Rattle.route_select.specs.Selection.{Standings, reason_in}
+use Rattle.route_select.specs.Selection.{Standings, considered, reason_for}
 use Rattle.route_select.specs.declared.candidate.Candidate.{Candidate}
 use Rattle.route_select.specs.declared.candidate.Reason.{Reason}
 use Rattle.session_queue.specs.declared.message.Message.{Message}
@@ -22,7 +22,7 @@ use Rattle.reference_machine.specs.declared.rows.Queue.{Queue}
 use Rattle.std.specs.FinMap as finite
 use Rattle.reference_machine.specs.declared.rows.RouteKey.{RouteKey}
 use Rattle.reference_machine.specs.Network.{Network, routes_from, messages_in}
-use Rattle.reference_machine.specs.Decision.{best, added, routes_at}
+use Rattle.reference_machine.specs.Decision.{best, standings}
 use Rattle.reference_machine.specs.Advertising.{prefixes_at, in_order, advertised}
 
 -- a route that was chosen
@@ -38,16 +38,17 @@ loc_rib s r = filter_map (λ p. held_of p (best s r p)) (in_order (prefixes_at s
 unfoldable pub choice : Network → Addr → Block → Option Held
 choice s r p = held_of p (best s r p)
 
-abbrev pub why : Standings → Source → Option (Source × Reason)
-why standings source = option_map (λ reason. (source, reason)) (reason_in standings source)
+-- the source of the entry, and why its route was chosen or dropped, among the routes that are considered
+abbrev pub why : List Candidate → (Source × Standing) → (Source × Reason)
+why routes e = (e.0, reason_for routes e.1)
 
--- why the route of each source was chosen or dropped, of these routes
-abbrev pub reasons_of : List (Source × Standing) → List (Source × Reason)
-reasons_of routes = filter_map (why (added finite.empty routes)) (map (λ e. e.0) routes)
+-- why the route of each source was chosen or dropped, in the order of the sources
+abbrev pub reasons_of : Standings → List (Source × Reason)
+reasons_of standings = map (why (considered standings)) (finite.entries standings)
 
 abbrev pub reasons_at : Block → List (RouteKey × Attr) → Option SiteConf → List (Source × Reason)
 reasons_at p es None = []
-reasons_at p es (Some site) = reasons_of (routes_at site p es)
+reasons_at p es (Some site) = reasons_of (standings site p es)
 
 -- why each route of the router to the prefix was chosen or dropped: its own first, then those of its peers, by address
 unfoldable pub reasons : Network → Addr → Block → List (Source × Reason)

@@ -1,5 +1,5 @@
 -- The way of what a router forwards (RFC 4271, 9.1.2.1 and 9.1.4: by the longest prefix that matches).
-use Rattle.std.specs.Prelude.{ℕ, zero, suc, Bool, ◌==◌, ◌&&◌, ◌/◌, ◌-◌, ◌^◌, nat_lt, List, [], ◌∷◌, ◌++◌, filter, fold, length, Option, Some, None, is_some, if◌then◌else◌}
+use Rattle.std.specs.Prelude.{◌≡◌, ℕ, zero, suc, Bool, ◌==◌, ◌&&◌, ◌/◌, ◌-◌, ◌^◌, nat_lt, List, [], ◌∷◌, ◌++◌, filter, fold, length, Option, Some, None, is_some, if◌then◌else◌}
 use Rattle.std.specs.List.{list_any}
 use Rattle.net_prefix.specs.declared.addr.Addr.{Addr}
 use Rattle.net_prefix.specs.Block.{Block}
@@ -63,6 +63,12 @@ look s d hops r =
     else if is_virtual s.conf r then Ends (Reached r)
     else by_prefix s r (longest_match s r d)
 
+-- the hops from r on, where it came over those passed, and how they end: each router forwards by the prefix to the next one,
+-- and where it comes to after the last, it ends
+abbrev pub IsTrace : Network → Addr → List (Addr × Block) → Addr → List (Addr × Block) → TraceEnd → Type 0
+IsTrace s d passed r [] ending = look s d passed r ≡ Ends ending
+IsTrace s d passed r ((q, p) ∷ hops) ending = (q ≡ r) × (next : Addr) × (look s d passed r ≡ Forwards p next) × IsTrace s d (passed ++ (q, p) ∷ []) next hops ending
+
 abbrev pub ended : List (Addr × Block) → TraceEnd → Traced
 ended hops ending = record { hops = hops; ending = ending }
 
@@ -70,12 +76,21 @@ abbrev pub after_look : (List (Addr × Block) → Addr → Traced) → List (Add
 after_look next hops r (Ends ending) = ended hops ending
 after_look next hops r (Forwards p h) = next (hops ++ (r, p) ∷ []) h
 
--- from r on, where it came over the hops, and at most n more are looked at
+-- from r on, where it came over the hops, with at most n looks; a trace ends within its looks, so its first case is never
+-- reached
 unfoldable pub trace_from : ℕ → Network → Addr → List (Addr × Block) → Addr → Traced
 trace_from zero s d hops r = ended hops (Loop r)
 trace_from (suc n) s d hops r = after_look (trace_from n s d) hops r (look s d hops r)
 
--- the way from the router of what is for the address; each router forwards once, so where as many have as there are,
--- the next is one of them
+-- the way from the router of what is for the address: no router forwards twice, so one look more than there are routers
+-- and peers is enough
 unfoldable pub trace : Network → Addr → Addr → Traced
-trace s r d = trace_from (length s.conf.nodes) s d [] r
+trace s r d = trace_from (suc (length s.conf.nodes)) s d [] r
+
+-- what it gives is a trace: it ends at the last look, or before
+abbrev pub TraceLaw : Type 0
+TraceLaw = (s : Network) (r d : Addr) → IsTrace s d [] r (trace s r d).hops (trace s r d).ending
+
+-- and the only one
+abbrev pub OneTraceLaw : Type 0
+OneTraceLaw = (s : Network) (r d : Addr) (hops : List (Addr × Block)) (ending : TraceEnd) → IsTrace s d [] r hops ending → ended hops ending ≡ trace s r d

@@ -1,11 +1,13 @@
 //! The definitions of the whole: what is decided, advertised, reported and done at each event; and the trait that every
-//! machine keeps. No program stands here.
+//! machine keeps. No program stands here, only laws of the definitions.
 #![tactic(auto)]
 
+mod laws;
 mod machine;
 mod rows;
 mod tracing;
 
+pub use laws::traces_follow_looks;
 pub use machine::Machine;
 pub use rows::{Queue, RouteKey};
 pub use session_queue::Direction;

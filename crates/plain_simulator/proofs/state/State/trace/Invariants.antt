@@ -1,10 +1,14 @@
-use Rattle.std.proofs.Common.{◌≡◌, ◌-◌, ◌≤◌, [], length}
+use Rattle.std.proofs.Common.{◌≡◌, suc, ◌-◌, [], length}
 use Rattle.reference_machine.specs.Tracing.{trace_from}
+use Rattle.reference_machine.specs.TraceLemmas.{HaveForwarded}
 use Rattle.plain_simulator.proofs.state.State.trace.Given as goal
 
--- the way from here on, with as many looks as are left
-abbrev pub invariant-loop-look : goal.invariant-loop-look
-invariant-loop-look g l = record {
-  within : l.look ≤ length l.self.conf.nodes;
-  same : trace_from (length l.self.conf.nodes - l.look) l.self l.target l.hops l.at ≡ trace_from (length l.self.conf.nodes) l.self l.target [] l.fn.router;
+-- no router has forwarded twice, and the way goes on from here
+abbrev pub invariant-hop : goal.invariant-hop
+invariant-hop g l = record {
+  have : HaveForwarded l.self l.hops;
+  same : trace_from (suc (length l.self.conf.nodes) - length l.hops) l.self l.target l.hops l.at ≡ trace_from (suc (length l.self.conf.nodes)) l.self l.target [] l.fn.router;
 }
+
+abbrev pub decreases-hop : goal.decreases-hop
+decreases-hop g l = suc (length l.self.conf.nodes) - length l.hops
