@@ -5,3 +5,5 @@ mod Segments
 mod Readings
 mod Settings
 mod FirstWords
+mod Spelled
+mod Telling

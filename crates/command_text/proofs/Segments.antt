@@ -17,7 +17,7 @@ use Rattle.command_text.proofs.Numbers.{numbers_lack, numbers_within, ascending_
 abbrev braced : List ℕ → List ℕ
 braced text = 123 ∷ text ++ (125 ∷ [])
 
-segment_lacks : (s : Segment) → IsPart s → Lacks 95 (segment_text s)
+pub segment_lacks : (s : Segment) → IsPart s → Lacks 95 (segment_text s)
 segment_lacks (Sequence ns) h = numbers_lack 95 (λ digit. omega arith) (λ e. omega (arith, e)) ns
 segment_lacks (Set ns) h =
     let Other : ℕ → Type 0 = λ b. b ≢ 95 in
@@ -91,7 +91,7 @@ parts_segments : (ss : List Segment) → AllByRecursion IsPart ss → AreSegment
 parts_segments [] h = (tt, tt)
 parts_segments (s ∷ ss) h = let more = parts_segments ss h.1 in ((h.0.0, more.0), (h.0.1, more.1))
 
-segments_parts : (ss : List Segment) → AreSegments ss → HasAsNumbers ss → AllByRecursion IsPart ss
+pub segments_parts : (ss : List Segment) → AreSegments ss → HasAsNumbers ss → AllByRecursion IsPart ss
 segments_parts [] h g = tt
 segments_parts (s ∷ ss) h g = ((h.0, g.0), segments_parts ss h.1 g.1)
 

@@ -1,4 +1,4 @@
--- The words after the first one of a command, by their shapes.
+-- No public contract cites this file. The words after the first one of a command, by their shapes.
 use Rattle.std.specs.Prelude.{ℕ, Bool, List, [], ◌∷◌}
 use Rattle.std.specs.Fmt.{decimal}
 use Rattle.igp_cost.specs.Metric.{IsMetric}

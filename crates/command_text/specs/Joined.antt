@@ -1,4 +1,4 @@
--- Texts of values that are joined by one byte.
+-- No public contract cites this file. Texts of values that are joined by one byte.
 use Rattle.std.specs.Prelude.{◌≡◌, ℕ, ◌<◌, List, map, length}
 use Rattle.std.specs.List.{join_with_byte, AllByRecursion}
 

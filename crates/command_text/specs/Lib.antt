@@ -1,6 +1,7 @@
 pub mod Words
 pub mod Verbs
 pub mod Lines
+pub mod Spelling
 pub mod Reading
 pub mod Joined
 pub mod Paths

@@ -1,4 +1,4 @@
--- Which texts spell AS numbers, segments and paths.
+-- No public contract cites this file. Which texts spell AS numbers, segments and paths.
 use Rattle.std.specs.Prelude.{ℕ, List, ◌∷◌, All}
 use Rattle.std.specs.Fmt.{decimal}
 use Rattle.path_attr.specs.declared.path.Segment.{Segment}

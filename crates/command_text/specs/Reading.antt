@@ -1,4 +1,4 @@
--- What a reader of words may answer.
+-- No public contract cites this file. What a reader of words may answer.
 use Rattle.std.specs.Prelude.{◌≡◌, Bool, true, Option, Some, None, Result, Ok, Err}
 use Rattle.net_conf.specs.declared.refusal.Refusal.{Refusal}
 use Rattle.net_conf.specs.declared.refusal.Refusal.TheVariants.{Syntax, Memory}

@@ -1,4 +1,4 @@
--- Parts of the words of a rule.
+-- No public contract cites this file. Parts of the words of a rule.
 use Rattle.std.specs.Prelude.{◌≡◌, ℕ, ◌<◌, ◌^◌, List, ◌∷◌, ◌++◌, Option, IfSome}
 use Rattle.route_policy.specs.declared.rule.Rule.{Rule}
 use Rattle.sim_event.specs.Events.{IsMatch, IsAction}

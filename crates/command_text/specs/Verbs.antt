@@ -1,4 +1,4 @@
--- The first words of the commands that take no memory, by what follows them.
+-- No public contract cites this file. The first words of the commands that take no memory, by what follows them.
 use Rattle.std.specs.Prelude.{ℕ, List, codes}
 use Rattle.command_text.specs.declared.verb.Verb.{Verb}
 use Rattle.command_text.specs.declared.verb.Verb.TheVariants.{Node, Link as LinkOf, Pair, Switch, Prefix, Rule, Clear, Routes, Quiet}

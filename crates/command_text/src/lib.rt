@@ -4,6 +4,7 @@
 mod arguments;
 mod command;
 mod feed;
+mod laws;
 mod line;
 mod path;
 mod rule;
@@ -11,4 +12,5 @@ mod values;
 mod verb;
 mod words;
 
+pub use laws::one_meaning;
 pub use line::read_line;
