@@ -155,6 +155,7 @@ impl Conf {
     }
 
     /// Whether the session of the two may be up: its link is, or each has a cost to the other.
+    #[tactic(auto, using(crate::proofs::KeptTrees::session_turned))]
     fn is_connected(&self, one: Addr, other: Addr) -> bool
         requires { has_session self.now one other ≡ true }
         ensures { result ≡ is_connected self.now one other }

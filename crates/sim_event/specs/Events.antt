@@ -22,7 +22,7 @@ use Rattle.sim_event.specs.declared.event.Ask.TheVariants.{Routes, Best, Why, In
 abbrev pub IsAddress : Addr → Type 0
 IsAddress a = a.0 < 2 ^ 32
 
--- an AS number is 1 to 2^32 - 1
+-- an AS number is 1 to 2^32 - 1 (RFC 6793; RFC 7607 for 0)
 abbrev pub IsAsNumber : ℕ → Type 0
 IsAsNumber n = (0 < n) × (n < 2 ^ 32)
 

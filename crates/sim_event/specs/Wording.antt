@@ -1,4 +1,4 @@
--- How values are written in commands and replies.
+-- How values are written in commands and replies (own).
 use Rattle.std.specs.Prelude.{ℕ, List, [], ◌∷◌, ◌++◌, map, codes, Option, Some, None}
 use Rattle.std.specs.Fmt.{decimal}
 use Rattle.std.specs.List.{join_with_byte}
