@@ -3,7 +3,6 @@
 
 mod choices;
 mod decide;
-mod push;
 mod queues;
 mod reasons;
 mod reports;

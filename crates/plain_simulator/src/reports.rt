@@ -11,7 +11,6 @@ ghost use Rattle.reference_machine.specs.Decision.{best, standings};
 ghost use Rattle.reference_machine.specs.Reports.{held_of, loc_rib, choice, why, reasons_of, reasons_at, reasons, adj_rib_in, advert_at, adj_rib_out, queue, is_quiet};
 ghost use Rattle.reference_machine.specs.Machine.{asks_quiet, ask_refusal, report_of};
 
-use crate::push::push_some;
 use crate::queues;
 use crate::reasons::reasons_at;
 use crate::state::State;
@@ -21,7 +20,7 @@ use net_prefix::{Addr, Prefix};
 use path_attr::Attr;
 use reference_machine::RouteKey;
 use route_select::{Reason, Selector, Source};
-use seq::{Copied, Seq, copy_all};
+use seq::{Copied, Seq, copy_all, push_some};
 use session_queue::{Direction, Message};
 use sim_event::{Ask, Event, Held, Report};
 use std::alloc::{AllocError, Global};
