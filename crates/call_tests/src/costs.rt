@@ -1,4 +1,4 @@
-//! Worked graphs, random ones beside a plain computation, one of the full size, and want of memory.
+//! Worked graphs, one of the full size, and want of memory.
 
 ghost use Rattle.std.specs.Prelude.{◌<◌};
 
@@ -231,4 +231,3 @@ fn full_size(rt: HostRuntime) -> Result<(), Fail> {
     Ok(())
 }
 
-mod random;

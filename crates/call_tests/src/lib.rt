@@ -3,8 +3,6 @@
 #![tactic(auto)]
 
 #[cfg(test)]
-mod commands;
-#[cfg(test)]
 mod common;
 #[cfg(test)]
 mod costs;
@@ -22,8 +20,6 @@ mod policies;
 mod prefixes;
 #[cfg(test)]
 mod queues;
-#[cfg(test)]
-mod replies;
 #[cfg(test)]
 mod selection;
 #[cfg(test)]

@@ -133,15 +133,6 @@ fn holds_the_longest_line(rt: HostRuntime) {
 }
 
 #[test]
-fn takes_a_million_lines(rt: HostRuntime) {
-    let most = io::repeat(b'\n').take(1_000_000);
-    assert_eq!(rt; served(&rt, rt.alloc(), most, io::sink()), Ok(1_000_000));
-    let more = io::repeat(b'\n').take(1_000_001);
-    let fault = ServeFault::Read { line: 1_000_001 };
-    assert_eq!(rt; served(&rt, rt.alloc(), more, io::sink()), Err(fault));
-}
-
-#[test]
 fn faults_name_their_line(rt: HostRuntime) -> Result<(), Fail> {
     let broken = b"x\n\nx".chain(Broken);
     assert_eq!(rt;

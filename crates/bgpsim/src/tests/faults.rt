@@ -1,6 +1,5 @@
 //! Readers and writers that fail midway, and memory that is refused once.
 
-use super::check_bytes;
 use plain_simulator::Simulator;
 use route_select::FilterCell;
 use sim_text::{ServeFault, serve};
@@ -163,17 +162,6 @@ fn a_writer_that_fails_at_each_write(rt: HostRuntime) -> Result<(), Fail> {
         assert_eq!(rt; table.as_slice(), table_after(lines).as_bytes());
     }
     Ok(())
-}
-
-#[test]
-fn a_million_lines_are_served(rt: HostRuntime) -> Result<(), Fail> {
-    let mut blank = Vec::new(rt.alloc());
-    for _ in 0..1_000_000 {
-        blank.push(b'\n')?;
-    }
-    check_bytes(&rt, &blank, "", "", 0)?;
-    blank.push(b'\n')?;
-    check_bytes(&rt, &blank, "", "read fault at line 1000001\n", 3)
 }
 
 #[test]
