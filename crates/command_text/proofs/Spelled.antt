@@ -2,10 +2,10 @@
 use Rattle.std.proofs.Common.{◌≡◌, ◌≢◌, ℕ, ◌<◌, ◌^◌, Bool, true, false, cond, List, [], ◌∷◌, ◌++◌, map, length, get_or, codes, Option, Some, None, IfSome, refl, sym, ap, subst, ◌∙◌, append_assoc, arith}
 use Rattle.std.specs.Fmt.{decimal}
 use Rattle.std.specs.Str.{bytes_eq}
-use Rattle.std.specs.List.{AllByRecursion, join_with_byte}
+use Rattle.std.specs.List.{join_with_byte}
 use Rattle.std.proofs.lemmas.List.{append_cancel_left, append_cancel_right}
 use Rattle.std.proofs.lemmas.List.Elements.{All-nil, All-cons, All-head, recursion_from_All}
-use Rattle.decimal.specs.Digits.{IsDigit, decimal_digits, decimal_exact}
+use Rattle.decimal.specs.Digits.{decimal_exact}
 use Rattle.decimal.specs.Separators.{Lacks, decimal_lacks}
 use Rattle.net_prefix.specs.declared.addr.Addr.{Addr}
 use Rattle.net_prefix.specs.Address.{addr_text}
@@ -24,14 +24,14 @@ use Rattle.route_policy.specs.declared.rule.Action.{Action}
 use Rattle.route_policy.specs.declared.rule.Action.TheVariants.{Deny, Permit}
 use Rattle.net_conf.specs.declared.tables.Way.{Way}
 use Rattle.net_conf.specs.declared.tables.Way.TheVariants.{In, Out}
-use Rattle.sim_event.specs.Events.{IsAddress, IsAsNumber, IsPrefix, IsMatch, IsAction, HasAsNumbers}
+use Rattle.sim_event.specs.Events.{IsAddress, IsAsNumber, IsPrefix, IsMatch, IsAction}
 use Rattle.sim_event.specs.Wording.{none_text, numbers_text, segment_text, path_text, maybe_number_text, origin_text}
 use Rattle.command_text.specs.Words.{switch_word, way_word, match_words, setting_words, action_words}
 use Rattle.command_text.specs.Rules.{IsRule, rule_words, BeginsWith, IsMaybeNumber}
 use Rattle.command_text.specs.Paths.{IsAsPath, IsPart, AreParts}
 use Rattle.command_text.proofs.FirstWords.{differ}
 use Rattle.command_text.proofs.Joins.{joins_same, joins_last}
-use Rattle.command_text.proofs.Numbers.{numbers_exact, numbers_lack, numbers_last}
+use Rattle.command_text.proofs.Numbers.{numbers_exact, numbers_lack}
 use Rattle.command_text.proofs.Segments.{segment_lacks, segments_parts}
 
 pub address_exact : (a b : Addr) → IsAddress a → IsAddress b → addr_text a ≡ addr_text b → a ≡ b
@@ -211,9 +211,9 @@ action_exact (Permit pref med prepend) (Permit pref2 med2 prepend2) h g e =
     let more = setting_words (codes "med=") med ++ setting_words (codes "prepend=") prepend in
     let more2 = setting_words (codes "med=") med2 ++ setting_words (codes "prepend=") prepend2 in
     let tails : setting_words (codes "pref=") pref ++ more ≡ setting_words (codes "pref=") pref2 ++ more2 =
-        sym (append_assoc (setting_words (codes "pref=") pref) (setting_words (codes "med=") med) (setting_words (codes "prepend=") prepend))
-        ∙ ap after_first e
-        ∙ append_assoc (setting_words (codes "pref=") pref2) (setting_words (codes "med=") med2) (setting_words (codes "prepend=") prepend2) in
+    sym (append_assoc (setting_words (codes "pref=") pref) (setting_words (codes "med=") med) (setting_words (codes "prepend=") prepend))
+    ∙ ap after_first e
+    ∙ append_assoc (setting_words (codes "pref=") pref2) (setting_words (codes "med=") med2) (setting_words (codes "prepend=") prepend2) in
     let first = setting_exact (codes "pref=") pref pref2 more more2 h.0 g.0 (after_pref med prepend) (after_pref med2 prepend2) tails in
     let second = setting_exact (codes "med=") med med2 _ _ h.1 g.1 (after_med prepend) (after_med prepend2) first.1 in
     let third = last_exact (codes "prepend=") prepend prepend2 (small_repeat prepend h.2) (small_repeat prepend2 g.2) second.1 in
