@@ -1,4 +1,6 @@
+pub mod Known
 mod Lists
+mod Matches
 mod MessagesOfTurns
 mod Questions
 mod Runs

@@ -15,7 +15,7 @@ mod steps;
 mod trace;
 mod turns;
 
-pub use laws::traces_follow_looks;
+pub use laws::{longest_match_is_longest, traces_follow_looks};
 pub use machine::Machine;
 pub use rows::{Queue, RouteKey};
 pub use session_queue::Direction;
