@@ -1,16 +1,15 @@
 -- The longest match of a router is the longest of all prefixes that contain the address and have a chosen route.
-use Rattle.std.proofs.Common.{◌≡◌, ℕ, ◌<◌, ◌≤◌, Bool, true, false, cond, ◌&&◌, ◌||◌, ◌==◌, ◌/◌, ◌-◌, ◌^◌, nat_lt, List, [], ◌∷◌, filter, fold, Option, Some, None, is_some, if◌then◌else◌, refl, sym, ap, subst, ◌∙◌, arith}
+use Rattle.std.proofs.Common.{◌≡◌, ℕ, ◌≤◌, Bool, true, false, cond, ◌||◌, ◌/◌, ◌-◌, ◌^◌, nat_lt, List, [], ◌∷◌, filter, fold, Option, Some, None, is_some, if◌then◌else◌, refl, sym, ap, subst, ◌∙◌, arith}
 use Rattle.std.specs.Cmp.{unsigned_Decides}
 use Rattle.std.specs.List.{list_any}
 use Rattle.std.proofs.lemmas.Bool.{true≢false, and_parts, and_from, ltb-true, ltb-false}
 use Rattle.net_prefix.specs.declared.addr.Addr.{Addr}
-use Rattle.net_prefix.specs.Block.{Block, Contains, same_block}
-use Rattle.net_prefix.specs.LongestMatch.{IsLongest, HasNone}
+use Rattle.net_prefix.specs.Block.{Block, same_block}
 use Rattle.reference_machine.specs.Network.{Network}
 use Rattle.reference_machine.specs.Decision.{best}
 use Rattle.reference_machine.specs.Advertising.{prefixes_at, in_order}
 use Rattle.reference_machine.specs.Tracing.{matches, longer, longest, forwards_by, longest_match, IsMatch, IsLongestMatch, LongestMatchLaw}
-use Rattle.reference_machine.proofs.Known.{same_block_true, same_block_itself, chosen_known}
+use Rattle.reference_machine.proofs.Known.{same_block_true, chosen_known}
 
 -- THE LONGEST OF A LIST
 

@@ -5,7 +5,7 @@ use Rattle.net_prefix.specs.declared.addr.Addr.{Addr}
 use Rattle.net_prefix.specs.Block.{Block, Contains}
 use Rattle.net_prefix.specs.LongestMatch.{IsLongest, HasNone}
 use Rattle.igp_cost.specs.Trees.{Reached as Costs, first_hop_in}
-use Rattle.net_conf.specs.Configuration.{Configuration, is_virtual}
+use Rattle.net_conf.specs.Configuration.{is_virtual}
 use Rattle.net_conf.specs.Costs.{costs_of}
 use Rattle.route_select.specs.declared.candidate.Candidate.{Candidate}
 use Rattle.route_select.specs.Selection.{is_own}

@@ -1,4 +1,4 @@
-use Rattle.std.proofs.Common.{◌≡◌, ◌∙◌, None, sym, ap}
+use Rattle.std.proofs.Common.{◌∙◌, sym, ap}
 use Rattle.reference_machine.specs.Machine.{ask_refusal}
 use Rattle.reference_machine.proofs.Questions.{asks_somebody}
 use Rattle.reference_machine.proofs.state.State.report.Goals as goal
