@@ -1,5 +1,5 @@
 -- The sources of standings, in order, and why each one's route was chosen or dropped.
-use Rattle.std.proofs.Common.{◌≡◌, Bool, true, false, cond, ◌&&◌, T, List, [], ◌∷◌, ◌++◌, map, fold, Option, Some, None, option_map, refl, sym, ap, subst, ◌∙◌}
+use Rattle.std.proofs.Common.{◌≡◌, Bool, true, false, cond, ◌&&◌, T, List, [], ◌∷◌, map, fold, Option, Some, option_map, refl, sym, ap, ◌∙◌}
 use Rattle.std.specs.declared.cmp.Ordering.{Ordering}
 use Rattle.std.specs.declared.cmp.Ordering.TheVariants.{Less, Equal, Greater}
 use Rattle.std.specs.Ordering.{is_eq, is_lt, ordering_reverse, match_ordering}
@@ -87,9 +87,10 @@ module _ {K X : Type 0} {R : K → K → Ordering} (o : IsTotalOrder R) where
   -- each entry of a list in order is found at its key
   all_found : (es : List (K × X)) → T (is_sorted R es) → AllByRecursion (λ x. find R x.0 es ≡ Some x.1) es
   all_found [] sorted = tt
-  all_found (e ∷ es) sorted =
-      (ap (λ r. cond (is_eq r) (Some e.1) (find R e.0 es)) (tied_itself o e.0),
-      all_behind e es es (first (below_all R e.0 es) (is_sorted R es) sorted) (all_found es (second (below_all R e.0 es) (is_sorted R es) sorted)))
+  all_found (e ∷ es) sorted = (
+    ap (λ r. cond (is_eq r) (Some e.1) (find R e.0 es)) (tied_itself o e.0),
+    all_behind e es es (first (below_all R e.0 es) (is_sorted R es) sorted) (all_found es (second (below_all R e.0 es) (is_sorted R es) sorted)),
+  )
 
 module _ (standings : Standings) where
   abbrev at_source : Source → Option (Source × Reason)

@@ -94,7 +94,11 @@ fn sources_at(
 }
 
 /// Adds the router itself, if it originates the prefix.
-fn add_own(sources: &mut BTreeSet<Source>, site: &SiteConf, prefix: Prefix) -> Result<(), AllocError>
+fn add_own(
+    sources: &mut BTreeSet<Source>,
+    site: &SiteConf,
+    prefix: Prefix,
+) -> Result<(), AllocError>
     ensures { OnOk result (sources.new.keys ≡ fold (λ ks e. insert_key source_cmp ks e.0) sources.old.keys (own_standings site.now prefix)) }
 {
     if is_originated(site, prefix) {

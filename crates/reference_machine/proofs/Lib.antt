@@ -1,0 +1,3 @@
+pub mod Known
+mod Matches
+pub mod Traces

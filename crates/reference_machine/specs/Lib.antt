@@ -4,4 +4,3 @@ pub mod Advertising
 pub mod Reports
 pub mod Tracing
 pub mod Machine
-pub mod TraceLemmas

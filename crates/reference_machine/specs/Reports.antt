@@ -1,5 +1,5 @@
 -- What the machine reports of its state.
-use Rattle.std.specs.Prelude.{ℕ, Bool, true, false, List, [], ◌∷◌, ◌++◌, map, Option, Some, None, option_map, option_and_then, if◌then◌else◌}
+use Rattle.std.specs.Prelude.{ℕ, Bool, true, false, List, [], ◌∷◌, map, Option, Some, None, option_map, option_and_then, if◌then◌else◌}
 use Rattle.std.specs.Option.{unwrap_or}
 use Rattle.std.specs.List.{filter_map, list_all}
 use Rattle.net_prefix.specs.declared.addr.Addr.{Addr}
@@ -18,7 +18,6 @@ use Rattle.route_select.specs.declared.candidate.Reason.{Reason}
 use Rattle.session_queue.specs.declared.message.Message.{Message}
 use Rattle.sim_event.specs.declared.reply.Held.{Held}
 use Rattle.session_queue.specs.declared.direction.Direction.{Direction}
-use Rattle.reference_machine.specs.declared.rows.Queue.{Queue}
 use Rattle.std.specs.FinMap as finite
 use Rattle.reference_machine.specs.declared.rows.RouteKey.{RouteKey}
 use Rattle.reference_machine.specs.Network.{Network, routes_from, messages_in}

@@ -1,4 +1,3 @@
--- No public contract cites this file.
 -- A trace: no router forwards twice, so that its looks are enough, and it follows them.
 use Rattle.std.proofs.Common.{◌≡◌, ℕ, zero, suc, ◌+◌, ◌-◌, ◌<◌, ◌≤◌, Bool, true, false, ◌||◌, List, [], ◌∷◌, ◌++◌, map, length, Option, Some, None, option_map, option_and_then, is_some, if◌then◌else◌, refl, sym, ap, subst, ◌∙◌, arith, append_assoc, append-nil, length-append}
 use Rattle.std.specs.List.{list_any, IsDistinct}
@@ -14,22 +13,20 @@ use Rattle.net_prefix.specs.declared.addr.Addr.{Addr}
 use Rattle.net_prefix.specs.Address.{addr_cmp}
 use Rattle.net_prefix.specs.Block.{Block}
 use Rattle.net_prefix.specs.Orders.{addr_total}
-use Rattle.igp_cost.specs.Trees.{Reached as Costs, first_hop_in}
-use Rattle.net_conf.specs.Configuration.{Configuration, node_at, has_node, is_virtual, cluster_id, is_reflector, origins_of}
+use Rattle.igp_cost.specs.Trees.{Reached as Costs}
+use Rattle.net_conf.specs.Configuration.{node_at, has_node, is_virtual, cluster_id, is_reflector, origins_of}
 use Rattle.net_conf.specs.Costs.{costs_of}
 use Rattle.net_conf.specs.Sites.{site_of, sessions_of}
-use Rattle.net_conf.specs.declared.site.SiteConf.{SiteConf}
-use Rattle.net_conf.specs.declared.tables.Node.{Node}
 use Rattle.route_select.specs.declared.candidate.Candidate.{Candidate}
-use Rattle.route_select.specs.Selection.{is_own, best_of}
+use Rattle.route_select.specs.Selection.{best_of}
 use Rattle.sim_event.specs.declared.reply.TraceEnd.{TraceEnd}
-use Rattle.sim_event.specs.declared.reply.TraceEnd.TheVariants.{Reached, NoRoute, Loop}
+use Rattle.sim_event.specs.declared.reply.TraceEnd.TheVariants.{Reached, Loop}
 use Rattle.reference_machine.specs.declared.tracing.Look.{Look}
 use Rattle.reference_machine.specs.declared.tracing.Look.TheVariants.{Ends, Forwards}
 use Rattle.reference_machine.specs.declared.tracing.Traced.{Traced}
-use Rattle.reference_machine.specs.Network.{Network, same_addr}
+use Rattle.reference_machine.specs.Network.{Network}
 use Rattle.reference_machine.specs.Decision.{best, standings}
-use Rattle.reference_machine.specs.Tracing.{has_passed, onward, by_route, by_prefix, longest_match, look, ended, after_look, trace_from, trace, IsTrace, TraceLaw, OneTraceLaw}
+use Rattle.reference_machine.specs.Tracing.{has_passed, by_route, by_prefix, longest_match, look, ended, after_look, trace_from, trace, IsTrace, TraceLaw, OneTraceLaw}
 
 -- WHO FORWARDS
 

@@ -1,10 +1,11 @@
 -- The way of what a router forwards (RFC 4271, 9.1.2.1 and 9.1.4: by the longest prefix that matches).
-use Rattle.std.specs.Prelude.{◌≡◌, ℕ, zero, suc, Bool, ◌==◌, ◌&&◌, ◌/◌, ◌-◌, ◌^◌, nat_lt, List, [], ◌∷◌, ◌++◌, filter, fold, length, Option, Some, None, is_some, if◌then◌else◌}
+use Rattle.std.specs.Prelude.{◌≡◌, ℕ, zero, suc, Bool, true, ◌==◌, ◌&&◌, ◌/◌, ◌-◌, ◌^◌, nat_lt, List, [], ◌∷◌, ◌++◌, filter, fold, length, Option, Some, None, is_some, if◌then◌else◌}
 use Rattle.std.specs.List.{list_any}
 use Rattle.net_prefix.specs.declared.addr.Addr.{Addr}
-use Rattle.net_prefix.specs.Block.{Block}
+use Rattle.net_prefix.specs.Block.{Block, Contains}
+use Rattle.net_prefix.specs.LongestMatch.{IsLongest, HasNone}
 use Rattle.igp_cost.specs.Trees.{Reached as Costs, first_hop_in}
-use Rattle.net_conf.specs.Configuration.{Configuration, is_virtual}
+use Rattle.net_conf.specs.Configuration.{is_virtual}
 use Rattle.net_conf.specs.Costs.{costs_of}
 use Rattle.route_select.specs.declared.candidate.Candidate.{Candidate}
 use Rattle.route_select.specs.Selection.{is_own}
@@ -36,6 +37,20 @@ forwards_by s r d p = matches d p && is_some (best s r p)
 -- the longest prefix that matches the address and has a chosen route at the router
 unfoldable pub longest_match : Network → Addr → Addr → Option Block
 longest_match s r d = longest (filter (forwards_by s r d) (in_order (prefixes_at s r)))
+
+-- the prefix contains the address, and the router has chosen a route for it
+pub record IsMatch (s : Network) (r d : Addr) (p : Block) : Type 0 where
+  pub contains : Contains p d
+  pub chosen : is_some (best s r p) ≡ true
+
+-- the longest of all such prefixes (RFC 4271, 9.1.4); and where there is none, None
+abbrev pub IsLongestMatch : Network → Addr → Addr → Option Block → Type 0
+IsLongestMatch s r d None = HasNone (IsMatch s r d)
+IsLongestMatch s r d (Some p) = IsLongest (IsMatch s r d) p
+
+-- the longest match is that
+abbrev pub LongestMatchLaw : Type 0
+LongestMatchLaw = (s : Network) (r d : Addr) → IsLongestMatch s r d (longest_match s r d)
 
 abbrev pub has_passed : Addr → List (Addr × Block) → Bool
 has_passed r hops = list_any (λ h. same_addr h.0 r) hops

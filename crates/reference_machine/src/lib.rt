@@ -7,7 +7,7 @@ mod machine;
 mod rows;
 mod tracing;
 
-pub use laws::traces_follow_looks;
+pub use laws::{longest_match_is_longest, traces_follow_looks};
 pub use machine::Machine;
 pub use rows::{Queue, RouteKey};
 pub use session_queue::Direction;

@@ -1,4 +1,4 @@
-use Rattle.reference_machine.specs.TraceLemmas.{trace_law, one_trace_law}
+use Rattle.reference_machine.proofs.Traces.{trace_law, one_trace_law}
 use Rattle.reference_machine.proofs.laws.traces_follow_looks.Goals as goal
 
 pub returns-clause-follows : goal.returns-clause-follows

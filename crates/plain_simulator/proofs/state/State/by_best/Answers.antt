@@ -1,8 +1,8 @@
-use Rattle.std.proofs.Common.{◌≡◌, ◌∙◌, sym, ap, Option, Some, None}
+use Rattle.std.proofs.Common.{◌∙◌, sym, ap}
 use Rattle.net_conf.specs.Costs.{costs_of}
 use Rattle.route_select.specs.Selection.{best_of}
 use Rattle.reference_machine.specs.Network.{Network}
-use Rattle.reference_machine.specs.Decision.{best, standings}
+use Rattle.reference_machine.specs.Decision.{standings}
 use Rattle.reference_machine.specs.Tracing.{by_route}
 use Rattle.plain_simulator.proofs.Sites.{none_chosen, chosen_at, site_costs}
 use Rattle.plain_simulator.proofs.state.State.by_best.Goals as goal

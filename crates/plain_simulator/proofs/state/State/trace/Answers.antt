@@ -3,7 +3,7 @@ use Rattle.net_prefix.specs.declared.addr.Addr.{Addr}
 use Rattle.net_prefix.specs.Block.{Block}
 use Rattle.reference_machine.specs.declared.tracing.Look.TheVariants.{Forwards}
 use Rattle.reference_machine.specs.Tracing.{trace, trace_from, look}
-use Rattle.reference_machine.specs.TraceLemmas.{HaveForwarded, none_have, one_more_has, all_left, ends_here, goes_on, fewer_left}
+use Rattle.reference_machine.proofs.Traces.{HaveForwarded, none_have, one_more_has, all_left, ends_here, goes_on, fewer_left}
 use Rattle.plain_simulator.proofs.state.State.trace.Goals as goal
 
 pub hop-init : goal.hop-init

@@ -1,6 +1,6 @@
 use Rattle.std.proofs.Common.{◌≡◌, suc, ◌-◌, [], length}
 use Rattle.reference_machine.specs.Tracing.{trace_from}
-use Rattle.reference_machine.specs.TraceLemmas.{HaveForwarded}
+use Rattle.reference_machine.proofs.Traces.{HaveForwarded}
 use Rattle.plain_simulator.proofs.state.State.trace.Given as goal
 
 -- no router has forwarded twice, and the way goes on from here
