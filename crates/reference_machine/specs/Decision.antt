@@ -59,7 +59,9 @@ abbrev pub is_denial : Action → Bool
 is_denial Deny = true
 is_denial (Permit pref med prepend) = false
 
--- why the router may not choose a peer's route: the first test that holds
+-- why the router may not choose a peer's route: the first test that holds. A route with the router itself as NEXT_HOP needs no
+-- test (RFC 4271, 5.1.3): the router put itself there in a route that it advertised inside its AS, which comes back only by
+-- reflection, and so with the router as ORIGINATOR_ID
 abbrev pub exclusion : SiteConf → Action → Attr → Option Reason
 exclusion site action attr =
     -- its AS_PATH holds the router's AS (RFC 4271, 9.1.2)
