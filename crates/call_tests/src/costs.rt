@@ -230,4 +230,3 @@ fn full_size(rt: HostRuntime) -> Result<(), Fail> {
     assert!(rt; !is_topology(&nodes, &edges));
     Ok(())
 }
-

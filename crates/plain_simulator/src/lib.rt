@@ -12,4 +12,3 @@ mod steps;
 mod trace;
 
 pub use simulator::Simulator;
-
