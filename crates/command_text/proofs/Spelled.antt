@@ -22,11 +22,11 @@ use Rattle.route_policy.specs.declared.rule.Match.{Match}
 use Rattle.route_policy.specs.declared.rule.Match.TheVariants.{Any, Is, Under, Path, First}
 use Rattle.route_policy.specs.declared.rule.Action.{Action}
 use Rattle.route_policy.specs.declared.rule.Action.TheVariants.{Deny, Permit}
-use Rattle.net_conf.specs.declared.tables.Way.{Way}
-use Rattle.net_conf.specs.declared.tables.Way.TheVariants.{In, Out}
+use Rattle.net_conf.specs.declared.tables.PolicySide.{PolicySide}
+use Rattle.net_conf.specs.declared.tables.PolicySide.TheVariants.{Import, Export}
 use Rattle.sim_event.specs.Events.{IsAddress, IsAsNumber, IsPrefix, IsMatch, IsAction}
 use Rattle.sim_event.specs.Wording.{none_text, numbers_text, segment_text, path_text, maybe_number_text, origin_text}
-use Rattle.command_text.specs.Words.{switch_word, way_word, match_words, setting_words, action_words}
+use Rattle.command_text.specs.Words.{switch_word, side_word, match_words, setting_words, action_words}
 use Rattle.command_text.specs.Rules.{IsRule, rule_words, BeginsWith, IsMaybeNumber}
 use Rattle.command_text.specs.Paths.{IsAsPath, IsPart, AreParts}
 use Rattle.command_text.proofs.FirstWords.{differ}
@@ -55,16 +55,16 @@ switch_exact a b e = sym (back a) ∙ ap switch_of e ∙ back b
     back true = refl
     back false = refl
 
-way_of : List ℕ → Way
-way_of word = cond (bytes_eq word (codes "in")) In Out
+side_of : List ℕ → PolicySide
+side_of word = cond (bytes_eq word (codes "in")) Import Export
 
-pub way_exact : (a b : Way) → way_word a ≡ way_word b → a ≡ b
-unfolding way_of
-way_exact a b e = sym (back a) ∙ ap way_of e ∙ back b
+pub side_exact : (a b : PolicySide) → side_word a ≡ side_word b → a ≡ b
+unfolding side_of
+side_exact a b e = sym (back a) ∙ ap side_of e ∙ back b
   where
-    back : (a : Way) → way_of (way_word a) ≡ a
-    back In = refl
-    back Out = refl
+    back : (a : PolicySide) → side_of (side_word a) ≡ a
+    back Import = refl
+    back Export = refl
 
 origin_of : List ℕ → Origin
 origin_of word = cond (bytes_eq word (codes "igp")) Igp (cond (bytes_eq word (codes "egp")) Egp Incomplete)

@@ -4,7 +4,7 @@ use Rattle.std.specs.Str.{bytes_eq}
 use Rattle.net_prefix.specs.declared.addr.Addr.{Addr}
 use Rattle.net_prefix.specs.Block.{Block}
 use Rattle.route_policy.specs.declared.rule.Rule.{Rule}
-use Rattle.net_conf.specs.declared.tables.Way.{Way}
+use Rattle.net_conf.specs.declared.tables.PolicySide.{PolicySide}
 use Rattle.net_conf.specs.declared.edit.Edit.TheVariants.{Router, Virtual, Link, Metric, Fail, Mend, Join, Stop, Start, Client, OwnNext, Cluster, Rule as AddRule, Clear, Origin, NoOrigin}
 use Rattle.sim_event.specs.declared.event.Event.{Event}
 use Rattle.sim_event.specs.declared.event.Event.TheVariants.{Edit as AnEdit, Feed as AFeed, Deliver, Ask as AnAsk}
@@ -22,10 +22,10 @@ use Rattle.command_text.specs.declared.verb.SwitchVerb.TheVariants as switch
 use Rattle.command_text.specs.declared.verb.PrefixVerb.TheVariants as prefix
 use Rattle.command_text.specs.Words.{words_of, news_words}
 use Rattle.command_text.specs.Verbs.{verb_word}
-use Rattle.command_text.specs.Arguments.{AreAddresses, addresses_words, IsNumberedAddress, numbered_words, AreEndsAndMetric, metric_words, IsAddressAndPrefix, prefix_words, AreEnds, switch_words, way_words, IsAddedRule, added_words, address_words}
+use Rattle.command_text.specs.Arguments.{AreAddresses, addresses_words, IsNumberedAddress, numbered_words, AreEndsAndMetric, metric_words, IsAddressAndPrefix, prefix_words, AreEnds, switch_words, side_words, IsAddedRule, added_words, address_words}
 use Rattle.command_text.specs.Spelling.{WordsTell, OneMeaning}
 use Rattle.command_text.proofs.FirstWords.{IsFeed, feed_words}
-use Rattle.command_text.proofs.Spelled.{address_exact, prefix_exact, small_exact, switch_exact, way_exact, origin_exact, maybe_exact, path_exact, rule_exact, apart}
+use Rattle.command_text.proofs.Spelled.{address_exact, prefix_exact, small_exact, switch_exact, side_exact, origin_exact, maybe_exact, path_exact, rule_exact, apart}
 
 -- the verb that a word spells; none for `feed`
 verb_of : List ℕ → Option Verb
@@ -94,8 +94,8 @@ Follows (verb.Link v) = Addr × Addr × ℕ
 Follows (verb.Pair v) = Addr × Addr
 Follows (verb.Switch v) = Addr × Addr × Bool
 Follows (verb.Prefix v) = Addr × Block
-Follows verb.Rule = Addr × Addr × Way × Rule
-Follows verb.Clear = Addr × Addr × Way
+Follows verb.Rule = Addr × Addr × PolicySide × Rule
+Follows verb.Clear = Addr × Addr × PolicySide
 Follows verb.Routes = Addr
 Follows verb.Quiet = Unit {0}
 
@@ -119,7 +119,7 @@ more_words (verb.Pair v) x = addresses_words x
 more_words (verb.Switch v) x = switch_words x
 more_words (verb.Prefix v) x = prefix_words x
 more_words verb.Rule x = added_words x
-more_words verb.Clear x = way_words x
+more_words verb.Clear x = side_words x
 more_words verb.Routes x = address_words x
 more_words verb.Quiet x = []
 
@@ -189,8 +189,8 @@ kind_of (AnEdit (Origin a p)) h = by_verb (record { made_verb = verb.Prefix pref
 kind_of (AnEdit (NoOrigin a p)) h = by_verb (record { made_verb = verb.Prefix prefix.NoOrigin; more = (a, p); is_in = h; made = refl; spelled = refl })
 kind_of (AnAsk (Best a p)) h = by_verb (record { made_verb = verb.Prefix prefix.Best; more = (a, p); is_in = h; made = refl; spelled = refl })
 kind_of (AnAsk (Why a p)) h = by_verb (record { made_verb = verb.Prefix prefix.Why; more = (a, p); is_in = h; made = refl; spelled = refl })
-kind_of (AnEdit (AddRule a b way rule)) h = by_verb (record { made_verb = verb.Rule; more = (a, b, way, rule); is_in = (h.0, h.1, (h.2, h.3)); made = refl; spelled = refl })
-kind_of (AnEdit (Clear a b way)) h = by_verb (record { made_verb = verb.Clear; more = (a, b, way); is_in = h; made = refl; spelled = refl })
+kind_of (AnEdit (AddRule a b side rule)) h = by_verb (record { made_verb = verb.Rule; more = (a, b, side, rule); is_in = (h.0, h.1, (h.2, h.3)); made = refl; spelled = refl })
+kind_of (AnEdit (Clear a b side)) h = by_verb (record { made_verb = verb.Clear; more = (a, b, side); is_in = h; made = refl; spelled = refl })
 kind_of (AnAsk (Routes r)) h = by_verb (record { made_verb = verb.Routes; more = r; is_in = h; made = refl; spelled = refl })
 kind_of (AnAsk Quiet) h = by_verb (record { made_verb = verb.Quiet; more = tt; is_in = tt; made = refl; spelled = refl })
 kind_of (AFeed f) h = by_feed f h refl refl
@@ -223,14 +223,14 @@ more_exact (verb.Prefix v) x y h g e =
 more_exact verb.Rule x y h g e =
     let a = address_exact x.0 y.0 h.0 g.0 (cc) in
     let b = address_exact x.1 y.1 h.1 g.1 (cc) in
-    let way = way_exact x.2 y.2 (cc) in
+    let side = side_exact x.2 y.2 (cc) in
     let rule = rule_exact x.3 y.3 h.2 g.2 (cc) in
-    λ i. (a i, b i, way i, rule i)
+    λ i. (a i, b i, side i, rule i)
 more_exact verb.Clear x y h g e =
     let a = address_exact x.0 y.0 h.0 g.0 (cc) in
     let b = address_exact x.1 y.1 h.1 g.1 (cc) in
-    let way = way_exact x.2 y.2 (cc) in
-    λ i. (a i, b i, way i)
+    let side = side_exact x.2 y.2 (cc) in
+    λ i. (a i, b i, side i)
 more_exact verb.Routes x y h g e = address_exact x y h g (cc)
 more_exact verb.Quiet x y h g e = refl
 
