@@ -2,6 +2,7 @@
 
 ghost use Rattle.std.specs.Prelude.{◌≡◌, false};
 ghost use Rattle.watched.specs.Streams.{AppendsFront};
+ghost use Rattle.sim_text.specs.Serving.{fault_text};
 ghost use Rattle.bgpsim.specs.Status.{status_of, told, IsScriptRun};
 
 use plain_simulator::Simulator;
@@ -36,8 +37,15 @@ fn tell<E: Write>(served: &Result<u64, ServeFault>, errors: &mut Output<E>)
     ensures { AppendsFront errors.old.written errors.new.written (told served.now) }
 {
     if let Err(fault) = served {
-        let _ = write_fault(*fault, errors);
+        tell_fault(*fault, errors);
     }
+}
+
+/// Tells a fault. A failure to do so is passed over.
+fn tell_fault<E: Write>(fault: ServeFault, errors: &mut Output<E>)
+    ensures { AppendsFront errors.old.written errors.new.written (fault_text fault) }
+{
+    let _ = write_fault(fault, errors);
 }
 
 fn status_of(served: &Result<u64, ServeFault>) -> u8

@@ -64,3 +64,8 @@ module _ {E : Type 0} where
   -- nothing was to be written
   pub writes_none : (old : Writing) (r : Result Unit E) (u : Unit {0}) → r ≡ Ok u → Writes old [] r old
   writes_none old r u is = subst (λ x. Writes old [] x old) (sym is) (appends_none old.written, refl, sym (or_false old.held))
+
+  -- whether or not all of it went out, a front of it did
+  pub front_written : (old new : Writing) (a : List ℕ) (r : Result Unit E) → Writes old a r new → AppendsFront old.written new.written a
+  front_written old new a (Ok u) h = appends_all old.written new.written a h.0
+  front_written old new a (Err e) h = h.0
