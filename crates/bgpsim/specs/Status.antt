@@ -4,6 +4,7 @@ use Rattle.std.specs.Process.{exit_status}
 use Rattle.std.specs.declared.process.ExitCode.{ExitCode}
 use Rattle.clap.specs.declared.error.kind.ErrorKind.{ErrorKind}
 use Rattle.clap.specs.declared.error.kind.ErrorKind.TheVariants.{OutOfMemory, DisplayHelp, DisplayVersion}
+use Rattle.std.specs.Io.KnownBytes.{Appends}
 use Rattle.watched.specs.Streams.{Reading, Writing, AppendsFront}
 use Rattle.reference_machine.specs.Network.{Network}
 use Rattle.reference_machine.specs.Machine.{nothing}
@@ -37,11 +38,15 @@ abbrev pub told : Result ℕ ServeFault → List ℕ
 told (Ok lines) = []
 told (Err fault) = fault_text fault
 
+-- all of the text was written, or the writer failed, after a front of it
+abbrev pub IsTold : Writing → List ℕ → Writing → Type 0
+IsTold old text new = Appends old.written new.written text ⊎ ((new.failed ≡ true) × AppendsFront old.written new.written text)
+
 -- a script was run from the empty network: it was served, as far as its bytes are known; the status tells how serving
--- ended; the writer failed just where that was a fault of writing, and the reader only where it was one of reading; and of
--- a fault all that is told was written, or a front of it
+-- ended; the writer failed just where that was a fault of writing, and the reader only where it was one of reading; and a
+-- fault was told
 abbrev pub IsScriptRun : Option (List ℕ) → Writing → Writing → ℕ → Reading → Writing → Writing → Type 0
 IsScriptRun bytes o errors status i' o' errors' = (served : Result ℕ ServeFault) × (status ≡ status_of served)
     × IfSome bytes (λ known. (end : Network) × IsServing known nothing o served end o' i')
     × (o'.failed ≡ is_write_fault served) × (i'.failed ≡ true → is_read_fault served ≡ true)
-    × AppendsFront errors.written errors'.written (told served)
+    × IsTold errors (told served) errors'

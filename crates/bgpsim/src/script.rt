@@ -1,9 +1,8 @@
 //! `bgpsim script`: a script on standard input, its replies on standard output.
 
 ghost use Rattle.std.specs.Prelude.{◌≡◌, false};
-ghost use Rattle.watched.specs.Streams.{AppendsFront};
 ghost use Rattle.sim_text.specs.Serving.{fault_text};
-ghost use Rattle.bgpsim.specs.Status.{status_of, told, IsScriptRun};
+ghost use Rattle.bgpsim.specs.Status.{status_of, told, IsTold, IsScriptRun};
 
 use plain_simulator::Simulator;
 use route_select::FilterCell;
@@ -34,7 +33,7 @@ pub fn run_script<R: Read, W: Write, E: Write>(
 
 /// Tells a fault.
 fn tell<E: Write>(served: &Result<u64, ServeFault>, errors: &mut Output<E>)
-    ensures { AppendsFront errors.old.written errors.new.written (told served.now) }
+    ensures { IsTold errors.old (told served.now) errors.new }
 {
     if let Err(fault) = served {
         tell_fault(*fault, errors);
@@ -43,7 +42,7 @@ fn tell<E: Write>(served: &Result<u64, ServeFault>, errors: &mut Output<E>)
 
 /// Tells a fault. A failure to do so is passed over.
 fn tell_fault<E: Write>(fault: ServeFault, errors: &mut Output<E>)
-    ensures { AppendsFront errors.old.written errors.new.written (fault_text fault) }
+    ensures { IsTold errors.old (fault_text fault) errors.new }
 {
     let _ = write_fault(fault, errors);
 }

@@ -1,6 +1,6 @@
-use Rattle.watched.specs.Writing.{front_written}
 use Rattle.sim_text.specs.Serving.{fault_text}
+use Rattle.bgpsim.proofs.Told.{told_by}
 use Rattle.bgpsim.proofs.script.tell_fault.Goals as goal
 
 pub returns : goal.returns
-returns g c = front_written c.args.errors.now c.write_fault.new.output (fault_text c.args.fault) c.write_fault.result c.write_fault.ensures
+returns g c = told_by c.args.errors.now c.write_fault.new.output (fault_text c.args.fault) c.write_fault.result c.write_fault.ensures
