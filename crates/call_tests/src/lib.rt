@@ -5,6 +5,8 @@
 #[cfg(test)]
 mod common;
 #[cfg(test)]
+mod configuration;
+#[cfg(test)]
 mod costs;
 #[cfg(test)]
 mod events;
