@@ -5,6 +5,7 @@ ghost use Rattle.net_prefix.specs.Block.{block_text};
 ghost use Rattle.sim_event.specs.declared.event.News.{News};
 ghost use Rattle.sim_event.specs.Events.{IsEvent, IsNews, IsPrefix};
 ghost use Rattle.sim_event.specs.Wording.{origin_text, maybe_number_text};
+ghost use Rattle.command_text.specs.declared.limits.TheConstants.{MAX_LINE};
 ghost use Rattle.command_text.specs.Words.{words_of, news_words};
 ghost use Rattle.command_text.specs.Lines.{tokens, is_route, feeds_route};
 ghost use Rattle.command_text.specs.Paths.{HasPath};
@@ -22,7 +23,7 @@ use std::alloc::Global;
 
 /// `feed V R`, and the news
 pub(crate) fn read_feed(alloc: Global, words: &[u8]) -> Result<Event, Refusal>
-    requires { length words.now ≤ 4096 }
+    requires { length words.now ≤ MAX_LINE }
     ensures { Makes IsEvent feeds_route words_of (codes "feed" ∷ tokens words.now) result }
 {
     let (from, rest) = next_address(words).ok_or(Refusal::Syntax)?;
@@ -33,7 +34,7 @@ pub(crate) fn read_feed(alloc: Global, words: &[u8]) -> Result<Event, Refusal>
 
 /// `update P PATH ORIGIN MED` or `withdraw P`
 fn read_news(alloc: Global, words: &[u8]) -> Result<News, Refusal>
-    requires { length words.now ≤ 4096 }
+    requires { length words.now ≤ MAX_LINE }
     ensures { Makes IsNews is_route news_words (tokens words.now) result }
 {
     let (first, rest) = next_word(words).ok_or(Refusal::Syntax)?;
@@ -57,7 +58,7 @@ fn read_withdraw(words: &[u8]) -> Result<News, Refusal>
 
 /// `update P PATH ORIGIN MED`
 fn read_update(alloc: Global, words: &[u8]) -> Result<News, Refusal>
-    requires { length words.now ≤ 4096 }
+    requires { length words.now ≤ MAX_LINE }
     ensures { Makes IsNews is_route news_words (codes "update" ∷ tokens words.now) result }
 {
     let Some(update) = update_of(words) else {
@@ -80,12 +81,12 @@ struct UpdateWords<'a> {
 
 /// The four words of an update. It takes no memory.
 fn update_of(words: &[u8]) -> Option<UpdateWords<'_>>
-    requires { length words.now ≤ 4096 }
+    requires { length words.now ≤ MAX_LINE }
     ensures found { IfSome result (λ u. tokens words.now ≡ block_text u.prefix ∷ u.path.now ∷ origin_text u.origin ∷ maybe_number_text u.med ∷ []) }
     ensures prefix { IfSome result (λ u. IsPrefix u.prefix) }
     ensures path { IfSome result (λ u. HasPath u.path.now) }
     ensures med { IfSome result (λ u. IfSome u.med (λ m. m < 2 ^ 32)) }
-    ensures within { IfSome result (λ u. length u.path.now ≤ 4096) }
+    ensures within { IfSome result (λ u. length u.path.now ≤ MAX_LINE) }
     ensures none { IfNone result ((n : News) → IsNews n → codes "update" ∷ tokens words.now ≡ news_words n → ⊥) }
 {
     let (prefix, path, origin, med) = four_words(words)?;

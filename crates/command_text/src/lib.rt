@@ -5,6 +5,7 @@ mod arguments;
 mod command;
 mod feed;
 mod laws;
+mod limits;
 mod line;
 mod path;
 mod rule;
@@ -13,4 +14,5 @@ mod verb;
 mod words;
 
 pub use laws::one_meaning;
+pub use limits::MAX_LINE;
 pub use line::read_line;

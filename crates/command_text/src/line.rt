@@ -4,13 +4,11 @@ ghost use Rattle.std.specs.Prelude.{◌≡◌, ℕ, List, ◌∷◌};
 ghost use Rattle.command_text.specs.Lines.{IsReading, are_silent};
 
 use crate::command::read_command;
+use crate::limits::MAX_LINE;
 use crate::words::next_word;
 use net_conf::Refusal;
 use sim_event::Event;
 use std::alloc::Global;
-
-/// The most bytes of a line, without its end.
-const MAX_LINE: usize = 4096;
 
 /// The event that a line spells, without its end: the first word names the command, and words are parted by spaces.
 /// None for a blank line and for a comment, whose first word begins with `#`. Over 4,096 bytes the line is a fault of

@@ -2,18 +2,19 @@
 //! before any memory is taken, so that want of memory never hides a fault of syntax.
 
 ghost use Rattle.std.specs.Prelude.{◌≡◌, ◌↔◌, ℕ, ◌≤◌, List, [], ◌∷◌, ◌++◌, length, IfSome, IfNone, IfOk, IsTrue};
+ghost use Rattle.command_text.specs.declared.limits.TheConstants.{MAX_LINE};
 ghost use Rattle.command_text.specs.Paths.{HasNumber, HasNumbers, AreNumbers, HasAscending, IsPart, HasSegment, AreParts, HasSegments, IsAsPath, HasPath};
 ghost use Rattle.sim_event.specs.Wording.{segment_text, path_text};
 
 use crate::values::{asn_of, is_dash};
 use decimal::cut_at;
 use path_attr::{AsPath, Asn, Segment};
-use seq::Seq;
+use seq::{Seq, SharedSeq};
 use std::alloc::{AllocError, Global};
 
 /// Whether the text spells a path of AS numbers. It takes no memory.
 pub(crate) fn is_path(text: &[u8]) -> bool
-    requires { length text.now ≤ 4096 }
+    requires { length text.now ≤ MAX_LINE }
     ensures { IsTrue result ↔ HasPath text.now }
 {
     is_dash(text) || are_segments(text)
@@ -22,14 +23,15 @@ pub(crate) fn is_path(text: &[u8]) -> bool
 /// The path that the text spells.
 pub(crate) fn build_path(alloc: Global, text: &[u8]) -> Result<AsPath, AllocError>
     requires spelled { HasPath text.now }
-    requires short { length text.now ≤ 4096 }
+    requires short { length text.now ≤ MAX_LINE }
     ensures { IfOk result (λ p. IsAsPath p × (text.now ≡ path_text p)) }
 {
     if is_dash(text) {
-        return Ok(AsPath::empty(alloc));
+        return Ok(AsPath::empty());
     }
     let segments = build_segments(alloc, text)?;
-    Ok(AsPath::new(segments).unwrap())
+    let shared = SharedSeq::of(alloc, segments)?;
+    Ok(AsPath::new(shared).unwrap())
 }
 
 /// Whether the text spells segments joined by underscores.

@@ -7,6 +7,7 @@ mod conditions;
 mod graph;
 mod label;
 mod laws;
+mod limits;
 mod link;
 mod mended;
 mod metric;
@@ -23,5 +24,6 @@ pub use label::Label;
 pub use laws::{
     costs_are_least, costs_are_one, first_hops_are_least, first_hops_are_one, trees_are_one,
 };
+pub use limits::MAX_NODES;
 pub use metric::Metric;
 pub use tree::Tree;

@@ -1,6 +1,7 @@
 //! A graph by the places of its nodes, and the source of a tree.
 
 ghost use Rattle.std.specs.Prelude.{◌≡◌, ◌<◌, ◌≤◌, ◌+◌, All, length};
+ghost use Rattle.igp_cost.specs.declared.limits.TheConstants.{MAX_NODES};
 ghost use Rattle.igp_cost.specs.Labels.{IsWithin};
 ghost use Rattle.igp_cost.specs.Wired.{IsRising};
 
@@ -16,7 +17,7 @@ pub struct RootedGraph<'a> {
     pub links: &'a [Link],
     pub starts: &'a [usize],
     pub source: usize,
-    ghost size: { length nodes.now ≤ 4096 },
+    ghost size: { length nodes.now ≤ MAX_NODES },
     ghost rising: { IsRising nodes.now },
     ghost within: { IsWithin nodes.now links.now },
     ghost count: { length starts.now ≡ length nodes.now + 1 },

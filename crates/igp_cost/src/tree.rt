@@ -1,13 +1,13 @@
 //! The costs and first hops from one router.
 
-ghost use Rattle.std.specs.Prelude.{◌≡◌, ◌++◌, length, IfOk, OnOk};
+ghost use Rattle.std.specs.Prelude.{◌≡◌, length, IfOk};
 ghost use Rattle.igp_cost.specs.Trees.{source_of, label_in, cost_in, first_hop_in};
 ghost use Rattle.igp_cost.specs.Wired.{IsRising, row, rows_of};
 
 use crate::label::Label;
 use net_prefix::Addr;
 use path_attr::Asn;
-use seq::{Copied, Seq};
+use seq::{Copied, Seq, push_some};
 use std::alloc::{AllocError, Global};
 use std::marker::Model;
 
@@ -107,14 +107,11 @@ impl Clone for Tree {
     }
 }
 
-// Adds the row of an address, if it has a label.
-fn add(rows: &mut Vec<(Addr, Label)>, addr: Addr, label: Option<Label>) -> Result<(), AllocError>
-    ensures { OnOk result (rows.new.items ≡ rows.old.items ++ row addr label) }
+// The row of an address, if it has a label.
+fn row(addr: Addr, label: Option<Label>) -> Option<(Addr, Label)>
+    ensures { result ≡ row addr label }
 {
-    if let Some(label) = label {
-        rows.push((addr, label))?;
-    }
-    Ok(())
+    Some((addr, label?))
 }
 
 // The nodes that have a label, each with its label.
@@ -128,7 +125,7 @@ fn labelled(
 {
     let mut rows = Vec::with_capacity(alloc, nodes.len())?;
     for at in 0..nodes.len() {
-        add(&mut rows, nodes[at].0, labels[at])?;
+        push_some(&mut rows, row(nodes[at].0, labels[at]))?;
     }
     Ok(rows)
 }

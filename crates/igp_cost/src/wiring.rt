@@ -1,6 +1,7 @@
 //! Links between the places of nodes, from edges between their addresses.
 
 ghost use Rattle.std.specs.Prelude.{◌≡◌, ◌≤◌, [], ◌∷◌, ◌++◌, length, IsTrue, IfOk, OnOk};
+ghost use Rattle.igp_cost.specs.declared.limits.TheConstants.{MAX_NODES};
 ghost use Rattle.igp_cost.specs.Labels.{IsIndexed};
 ghost use Rattle.igp_cost.specs.Topology.{is_node, IsTopology};
 ghost use Rattle.igp_cost.specs.Wired.{IsRising, IsFound, IsWired};
@@ -76,7 +77,7 @@ pub fn starts_of(
     nodes: &[(Addr, Asn)],
     links: &[Link],
 ) -> Result<Vec<usize>, AllocError>
-    requires size { length nodes.now ≤ 4096 }
+    requires size { length nodes.now ≤ MAX_NODES }
     ensures { IfOk result (λ v. IsIndexed nodes.now links.now v.items) }
 {
     let mut starts = Vec::with_capacity(alloc, nodes.len() + 1)?;

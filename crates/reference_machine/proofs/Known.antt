@@ -13,6 +13,7 @@ use Rattle.std.proofs.lemmas.Cmp.{nat_eq_equiv}
 use Rattle.std.proofs.lemmas.List.{nil_from_length}
 use Rattle.std.proofs.lemmas.List.Folds.{list_any-append}
 use Rattle.net_prefix.specs.declared.addr.Addr.{Addr}
+use Rattle.net_prefix.specs.Address.{same_addr}
 use Rattle.net_prefix.specs.Block.{Block, same_block, block_cmp}
 use Rattle.net_prefix.specs.Orders.{block_exact}
 use Rattle.path_attr.specs.declared.attr.Attr.{Attr}
@@ -26,7 +27,7 @@ use Rattle.route_select.specs.declared.candidate.Source.{Source}
 use Rattle.route_select.specs.declared.candidate.Standing.{Standing}
 use Rattle.route_select.specs.Selection.{best_of, best_among, considered_in, source_cmp}
 use Rattle.reference_machine.specs.declared.rows.RouteKey.{RouteKey}
-use Rattle.reference_machine.specs.Network.{Network, same_addr, route_cmp, received_by}
+use Rattle.reference_machine.specs.Network.{Network, route_cmp, received_by}
 use Rattle.reference_machine.specs.Decision.{route_from, is_originated, standing_over, standing_from, routes_at, added, standings, best}
 use Rattle.reference_machine.specs.Advertising.{prefixes_at, in_order}
 

@@ -1,3 +1,3 @@
 pub mod Known
-mod Matches
+pub mod Matches
 pub mod Traces

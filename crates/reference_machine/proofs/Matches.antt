@@ -1,14 +1,15 @@
 -- The longest match of a router is the longest of all prefixes that contain the address and have a chosen route.
-use Rattle.std.proofs.Common.{◌≡◌, ℕ, ◌≤◌, Bool, true, false, cond, ◌||◌, ◌/◌, ◌-◌, ◌^◌, nat_lt, List, [], ◌∷◌, filter, fold, Option, Some, None, is_some, if◌then◌else◌, refl, sym, ap, subst, ◌∙◌, arith}
+use Rattle.std.proofs.Common.{◌≡◌, ℕ, ◌≤◌, Bool, true, false, cond, ◌||◌, nat_lt, List, [], ◌∷◌, filter, fold, Option, Some, None, is_some, if◌then◌else◌, refl, sym, ap, subst, ◌∙◌, arith}
 use Rattle.std.specs.Cmp.{unsigned_Decides}
 use Rattle.std.specs.List.{list_any}
 use Rattle.std.proofs.lemmas.Bool.{true≢false, and_parts, and_from, ltb-true, ltb-false}
 use Rattle.net_prefix.specs.declared.addr.Addr.{Addr}
-use Rattle.net_prefix.specs.Block.{Block, same_block}
+use Rattle.net_prefix.specs.Block.{Block, first_bits, same_block}
+use Rattle.net_prefix.specs.Tests.{contains}
 use Rattle.reference_machine.specs.Network.{Network}
 use Rattle.reference_machine.specs.Decision.{best}
 use Rattle.reference_machine.specs.Advertising.{prefixes_at, in_order}
-use Rattle.reference_machine.specs.Tracing.{matches, longer, longest, forwards_by, longest_match, IsMatch, IsLongestMatch, LongestMatchLaw}
+use Rattle.reference_machine.specs.Tracing.{longer, longest, forwards_by, longest_match, IsMatch, IsLongestMatch, LongestMatchLaw}
 use Rattle.reference_machine.proofs.Known.{same_block_true, chosen_known}
 
 -- THE LONGEST OF A LIST
@@ -88,11 +89,11 @@ stays test q passes (p ∷ ps) h = stays_by test q p ps (same_block q p) (test p
 module _ (s : Network) (r d : Addr) where
   has_route : (p : Block) → forwards_by s r d p ≡ true → IsMatch s r d p
   has_route p h =
-      let parts = and_parts (matches d p) (is_some (best s r p)) h in
-      record { contains = (unsigned_Decides (d.0 / 2 ^ (32 - p.len)) (p.addr.0 / 2 ^ (32 - p.len))).0 parts.0; chosen = parts.1 }
+      let parts = and_parts (contains p d) (is_some (best s r p)) h in
+      record { contains = (unsigned_Decides (first_bits p.len d) (first_bits p.len p.addr)).0 parts.0; chosen = parts.1 }
 
   forwards : (p : Block) → IsMatch s r d p → forwards_by s r d p ≡ true
-  forwards p h = and_from (matches d p) (is_some (best s r p)) ((unsigned_Decides (d.0 / 2 ^ (32 - p.len)) (p.addr.0 / 2 ^ (32 - p.len))).1 h.contains) h.chosen
+  forwards p h = and_from (contains p d) (is_some (best s r p)) ((unsigned_Decides (first_bits p.len d) (first_bits p.len p.addr)).1 h.contains) h.chosen
 
   reached : (p : Block) → IsMatch s r d p → Reaches p.len (longest (filter (forwards_by s r d) (in_order (prefixes_at s r))))
   reached p h = longest_reaches p (filter (forwards_by s r d) (in_order (prefixes_at s r))) None (stays (forwards_by s r d) p (forwards p h) (in_order (prefixes_at s r)) (chosen_known s r p h.chosen))

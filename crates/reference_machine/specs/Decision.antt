@@ -6,6 +6,7 @@ use Rattle.std.specs.Map.{lookup}
 use Rattle.std.specs.BTreeMap.{is_at}
 use Rattle.std.specs.FinMap as finite
 use Rattle.net_prefix.specs.declared.addr.Addr.{Addr}
+use Rattle.net_prefix.specs.Address.{same_addr}
 use Rattle.net_prefix.specs.Block.{Block, same_block}
 use Rattle.path_attr.specs.Path.{holds}
 use Rattle.path_attr.specs.declared.attr.Attr.{Attr}
@@ -27,7 +28,7 @@ use Rattle.route_select.specs.declared.candidate.Standing.{Standing}
 use Rattle.route_select.specs.declared.candidate.Standing.TheVariants.{Excluded, Considered}
 use Rattle.route_select.specs.Selection.{Standings, best_of}
 use Rattle.reference_machine.specs.declared.rows.RouteKey.{RouteKey}
-use Rattle.reference_machine.specs.Network.{Network, same_addr, route_cmp}
+use Rattle.reference_machine.specs.Network.{Network, route_cmp}
 
 -- the preference of a route for which nothing sets one (own)
 abbrev pub default_preference : ℕ

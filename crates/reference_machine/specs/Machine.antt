@@ -27,6 +27,7 @@ use Rattle.sim_event.specs.declared.reply.Report.TheVariants.{Routes as TheRoute
 use Rattle.sim_event.specs.declared.reply.Reply.{Reply}
 use Rattle.sim_event.specs.declared.reply.Reply.TheVariants.{Done, Took, Report as AReport, Refused}
 use Rattle.session_queue.specs.declared.direction.Direction.{Direction}
+use Rattle.reference_machine.specs.declared.limits.TheConstants.{MOST_FED_NUMBERS}
 use Rattle.reference_machine.specs.declared.rows.RouteKey.{RouteKey}
 use Rattle.reference_machine.specs.declared.rows.Queue.{Queue}
 use Rattle.reference_machine.specs.Network.{Network, with_route, without_route, messages_in, with_direction, with_more, with_message, without_head}
@@ -88,9 +89,9 @@ abbrev pub has_foreign_first : Configuration → Addr → News → Bool
 has_foreign_first c v (Update p path origin med) = not (same_number (neighbour path) (as_of c v))
 has_foreign_first c v (Withdraw p) = false
 
--- the path holds more than 255 AS numbers (own)
+-- the path holds more AS numbers than one that is fed may (own)
 abbrev pub is_too_long : News → Bool
-is_too_long (Update p path origin med) = nat_lt 255 (number_count path)
+is_too_long (Update p path origin med) = nat_lt MOST_FED_NUMBERS (number_count path)
 is_too_long (Withdraw p) = false
 
 -- why the feed is refused: the first test that holds, in the order of their numbers

@@ -1,11 +1,11 @@
 -- The state of a network: what is configured, what each router has received, and what is on its way. Nothing else.
-use Rattle.std.specs.Prelude.{ℕ, Bool, ◌==◌, ◌&&◌, List, [], ◌∷◌, ◌++◌, map, filter, Option, option_map, find, if◌then◌else◌}
+use Rattle.std.specs.Prelude.{ℕ, Bool, ◌&&◌, List, [], ◌∷◌, ◌++◌, map, filter, Option, option_map, find, if◌then◌else◌}
 use Rattle.std.specs.Map.{remove_entry}
 use Rattle.std.specs.BTreeMap.{insert_entry, is_at}
 use Rattle.std.specs.declared.cmp.Ordering.{Ordering}
 use Rattle.std.specs.Ordering.{is_lt, is_gt, ordering_then}
 use Rattle.net_prefix.specs.declared.addr.Addr.{Addr}
-use Rattle.net_prefix.specs.Address.{addr_cmp}
+use Rattle.net_prefix.specs.Address.{same_addr, addr_cmp}
 use Rattle.net_prefix.specs.Block.{block_cmp}
 use Rattle.path_attr.specs.declared.attr.Attr.{Attr}
 use Rattle.session_queue.specs.declared.message.Message.{Message}
@@ -21,9 +21,6 @@ pub record Network : Type 0 where
   pub conf : Configuration
   pub received : List (RouteKey × Attr)
   pub queues : List Queue
-
-abbrev pub same_addr : Addr → Addr → Bool
-same_addr a b = a.0 == b.0
 
 -- RECEIVED ROUTES
 

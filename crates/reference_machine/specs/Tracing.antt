@@ -1,8 +1,10 @@
 -- The way of what a router forwards (RFC 4271, 9.1.2.1 and 9.1.4: by the longest prefix that matches).
-use Rattle.std.specs.Prelude.{◌≡◌, ℕ, zero, suc, Bool, true, ◌==◌, ◌&&◌, ◌/◌, ◌-◌, ◌^◌, nat_lt, List, [], ◌∷◌, ◌++◌, filter, fold, length, Option, Some, None, is_some, if◌then◌else◌}
+use Rattle.std.specs.Prelude.{◌≡◌, ℕ, zero, suc, Bool, true, ◌&&◌, nat_lt, List, [], ◌∷◌, ◌++◌, filter, fold, length, Option, Some, None, is_some, if◌then◌else◌}
 use Rattle.std.specs.List.{list_any}
 use Rattle.net_prefix.specs.declared.addr.Addr.{Addr}
+use Rattle.net_prefix.specs.Address.{same_addr}
 use Rattle.net_prefix.specs.Block.{Block, Contains}
+use Rattle.net_prefix.specs.Tests.{contains}
 use Rattle.net_prefix.specs.LongestMatch.{IsLongest, HasNone}
 use Rattle.igp_cost.specs.Trees.{Reached as Costs, first_hop_in}
 use Rattle.net_conf.specs.Configuration.{is_virtual}
@@ -14,13 +16,9 @@ use Rattle.sim_event.specs.declared.reply.TraceEnd.TheVariants.{Reached, NoRoute
 use Rattle.reference_machine.specs.declared.tracing.Look.{Look}
 use Rattle.reference_machine.specs.declared.tracing.Look.TheVariants.{Ends, Forwards}
 use Rattle.reference_machine.specs.declared.tracing.Traced.{Traced}
-use Rattle.reference_machine.specs.Network.{Network, same_addr}
+use Rattle.reference_machine.specs.Network.{Network}
 use Rattle.reference_machine.specs.Decision.{best}
 use Rattle.reference_machine.specs.Advertising.{prefixes_at, in_order}
-
--- the address shares the first bits of the prefix
-abbrev pub matches : Addr → Block → Bool
-matches d p = d.0 / 2 ^ (32 - p.len) == p.addr.0 / 2 ^ (32 - p.len)
 
 -- the longer of a prefix and one that may be missing
 abbrev pub longer : Option Block → Block → Option Block
@@ -30,15 +28,15 @@ longer (Some q) p = if nat_lt q.len p.len then Some p else Some q
 abbrev pub longest : List Block → Option Block
 longest ps = fold longer None ps
 
--- the prefix matches the address, and the router has chosen a route for it
+-- the prefix contains the address, and the router has chosen a route for it
 abbrev pub forwards_by : Network → Addr → Addr → Block → Bool
-forwards_by s r d p = matches d p && is_some (best s r p)
+forwards_by s r d p = contains p d && is_some (best s r p)
 
--- the longest prefix that matches the address and has a chosen route at the router
+-- the longest prefix that contains the address and has a chosen route at the router
 unfoldable pub longest_match : Network → Addr → Addr → Option Block
 longest_match s r d = longest (filter (forwards_by s r d) (in_order (prefixes_at s r)))
 
--- the prefix contains the address, and the router has chosen a route for it
+-- what `forwards_by` tests: the prefix contains the address, and the router has chosen a route for it
 pub record IsMatch (s : Network) (r d : Addr) (p : Block) : Type 0 where
   pub contains : Contains p d
   pub chosen : is_some (best s r p) ≡ true

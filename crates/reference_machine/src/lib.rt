@@ -3,11 +3,13 @@
 #![tactic(auto)]
 
 mod laws;
+mod limits;
 mod machine;
 mod rows;
 mod tracing;
 
 pub use laws::{longest_match_is_longest, traces_follow_looks};
+pub use limits::MOST_FED_NUMBERS;
 pub use machine::Machine;
 pub use rows::{Queue, RouteKey};
 pub use session_queue::Direction;

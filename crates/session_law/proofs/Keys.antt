@@ -7,11 +7,12 @@ use Rattle.std.specs.Cmp.{IsTotalOrder, unsigned_ties, both_tied, unsigned_Decid
 use Rattle.std.proofs.lemmas.Cmp.{then_total, on_total, nat_cmp_total}
 use Rattle.std.proofs.lemmas.Bool.{and_parts, and_from}
 use Rattle.net_prefix.specs.declared.addr.Addr.{Addr}
+use Rattle.net_prefix.specs.Address.{same_addr}
 use Rattle.net_prefix.specs.Block.{Block, same_block, block_cmp}
 use Rattle.session_queue.specs.declared.direction.Direction.{Direction}
 use Rattle.session_queue.specs.Waiting.{direction_cmp}
 use Rattle.reference_machine.specs.declared.rows.RouteKey.{RouteKey}
-use Rattle.reference_machine.specs.Network.{same_addr, route_cmp}
+use Rattle.reference_machine.specs.Network.{route_cmp}
 
 pub same_addr_true : (a b : Addr) → same_addr a b ≡ true → a ≡ b
 same_addr_true a b h = ap (λ n. record { 0 = n }) ((unsigned_Decides a.0 b.0).0 h)

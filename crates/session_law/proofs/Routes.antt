@@ -12,6 +12,7 @@ use Rattle.std.proofs.lemmas.Map.{lookup-remove_entry}
 use Rattle.std.proofs.lemmas.Map.Keys.{IsDistinct-from_sorted}
 use Rattle.std.proofs.lemmas.Map.Entries.{lookup-filter-keys}
 use Rattle.net_prefix.specs.declared.addr.Addr.{Addr}
+use Rattle.net_prefix.specs.Address.{same_addr}
 use Rattle.net_prefix.specs.Block.{Block, same_block}
 use Rattle.path_attr.specs.declared.attr.Attr.{Attr}
 use Rattle.session_queue.specs.declared.message.Message.{Message}
@@ -20,7 +21,7 @@ use Rattle.session_queue.specs.declared.direction.Direction.{Direction}
 use Rattle.net_conf.specs.Configuration.{Configuration}
 use Rattle.net_conf.specs.Costs.{is_up}
 use Rattle.reference_machine.specs.declared.rows.RouteKey.{RouteKey}
-use Rattle.reference_machine.specs.Network.{same_addr, route_cmp, received_by}
+use Rattle.reference_machine.specs.Network.{route_cmp, received_by}
 use Rattle.reference_machine.specs.Decision.{route_from}
 use Rattle.reference_machine.specs.Machine.{received_after, is_kept}
 use Rattle.session_law.specs.SessionLaw.{after_message}

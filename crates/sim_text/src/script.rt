@@ -54,7 +54,7 @@ fn flush<W: Write>(answered: u64, output: &mut Output<W>) -> Result<(), ServeFau
     }
 }
 
-/// Answers the line that ends in the buffer.
+/// Answers the line that ends in the buffer. What follows it is not known yet, so all is said for every rest of the input.
 fn answer_first<W: Write, M: Machine>(
     alloc: Global,
     script: &mut Script,
@@ -83,7 +83,8 @@ fn answer_first<W: Write, M: Machine>(
     Ok(())
 }
 
-/// Answers a last line with no line feed, if there is one.
+/// Answers a last line with no line feed, if there is one: at the end of the input, where nothing follows, and its length is still to be
+/// tested. So it is no call of `answer_first`.
 fn answer_last<W: Write, M: Machine>(
     alloc: Global,
     script: &mut Script,

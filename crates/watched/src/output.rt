@@ -60,12 +60,13 @@ impl<W: Write> Output<W> {
         result
     }
 
-    /// Sends on what the writer holds back.
+    /// Sends on what the writer holds back. After an error it may still hold all of it.
     pub fn flush(&mut self) -> Result<(), WriterFailed>
         ensures kept { Keeps self.old.written self.new.written }
         ensures calm { OnOk result (self.new.failed ≡ self.old.failed) }
         ensures sent { OnOk result (self.new.held ≡ false) }
         ensures failed { OnErr result (self.new.failed ≡ true) }
+        ensures unsent { OnErr result (self.new.held ≡ self.old.held) }
     {
         match self.writer.flush() {
             Ok(()) => {
