@@ -6,13 +6,11 @@ ghost use Rattle.reference_machine.specs.Machine.{has_foreign_first, is_too_long
 use net_conf::{Conf, Refusal};
 use net_prefix::Addr;
 use path_attr::Attr;
-use seq::{Copied, Seq};
+use reference_machine::MOST_FED_NUMBERS;
+use seq::SharedSeq;
 use session_queue::Message;
 use sim_event::{Feed, News};
-use std::alloc::{AllocError, Global};
-
-/// The most AS numbers in a path that is fed.
-const MOST_FED_NUMBERS: u64 = 255;
+use std::alloc::AllocError;
 
 /// Whether a fed path does not begin with the feeder's AS.
 fn has_foreign_first(conf: &Conf, feeder: Addr, news: &News) -> bool
@@ -55,21 +53,22 @@ pub fn feed_refusal(conf: &Conf, feed: &Feed) -> Option<Refusal>
     }
 }
 
-/// The message that is fed: a route has its feeder as next hop.
-pub fn fed_message(alloc: Global, feeder: Addr, news: &News) -> Result<Message, AllocError>
+/// The message that is fed: a route has its feeder as next hop. It shares the path: the only fault is that 2^63 owners
+/// share it.
+pub fn fed_message(feeder: Addr, news: &News) -> Result<Message, AllocError>
     ensures { IfOk result (λ message. message ≡ fed_message feeder news.now) }
 {
     match news {
         News::Update(prefix, path, origin, med) => Ok(Message::Update(
             *prefix,
             Attr {
-                path: path.copy(alloc)?,
+                path: path.share()?,
                 origin: *origin,
                 next: feeder,
                 med: *med,
                 pref: None,
                 oid: None,
-                clusters: Seq::new(alloc),
+                clusters: SharedSeq::empty(),
             },
         )),
         News::Withdraw(prefix) => Ok(Message::Withdraw(*prefix)),

@@ -3,7 +3,7 @@
 ghost use Rattle.std.specs.Prelude.{◌≡◌, Some, OnOk, OnErr, IfOk};
 ghost use Rattle.std.specs.List.{list_any};
 ghost use Rattle.std.specs.Option.{option_to_list};
-ghost use Rattle.reference_machine.specs.Network.{same_addr};
+ghost use Rattle.net_prefix.specs.Address.{same_addr};
 ghost use Rattle.reference_machine.specs.Decision.{own_candidate, is_originated, own_standings, has_cluster_loop, is_denial, exclusion, set_preference, set_med, preference, imported, peer_candidate, judged_standing, peer_standing, standing_over, added};
 
 use net_conf::{SiteConf, SiteSession};
@@ -11,26 +11,26 @@ use net_prefix::{Addr, Prefix};
 use path_attr::{AsPath, Attr, Origin};
 use route_policy::{Action, judge};
 use route_select::{Candidate, Reason, Selector, Source, Standing};
-use seq::{Copied, Seq};
-use std::alloc::{AllocError, Global};
+use seq::SharedSeq;
+use std::alloc::AllocError;
 
 /// The preference of a route that nothing sets.
 const DEFAULT_PREFERENCE: u32 = 100;
 
-/// The route that the router originates, as a candidate.
-pub fn own_candidate(alloc: Global, router: Addr) -> Candidate
+/// The route that the router originates, as a candidate. It takes no memory.
+pub fn own_candidate(router: Addr) -> Candidate
     ensures { result ≡ own_candidate router }
 {
     Candidate {
         source: Source::Own,
         attr: Attr {
-            path: AsPath::empty(alloc),
+            path: AsPath::empty(),
             origin: Origin::Igp,
             next: router,
             med: None,
             pref: Some(DEFAULT_PREFERENCE),
             oid: None,
-            clusters: Seq::new(alloc),
+            clusters: SharedSeq::empty(),
         },
         pref: DEFAULT_PREFERENCE,
         external: true,
@@ -122,24 +122,24 @@ fn preference(external: bool, action: Action, attr: &Attr) -> u32
     }
 }
 
-/// The attributes after import.
-fn imported(alloc: Global, external: bool, action: Action, attr: &Attr) -> Result<Attr, AllocError>
+/// The attributes after import, which share the path and the CLUSTER_LIST: the only fault is that 2^63 owners share one.
+fn imported(external: bool, action: Action, attr: &Attr) -> Result<Attr, AllocError>
     ensures { IfOk result (λ a. a ≡ imported external action attr.now) }
 {
     Ok(Attr {
-        path: attr.path.copy(alloc)?,
+        path: attr.path.share()?,
         origin: attr.origin,
         next: attr.next,
         med: set_med(action, attr.med),
         pref: Some(preference(external, action, attr)),
         oid: attr.oid,
-        clusters: Seq::copy_of(alloc, attr.clusters.as_slice())?,
+        clusters: attr.clusters.share()?,
     })
 }
 
-/// A peer's route as a candidate; its identifier is its ORIGINATOR_ID, or the peer's address (RFC 4456, 9).
+/// A peer's route as a candidate; its identifier is its ORIGINATOR_ID, or the peer's address (RFC 4456, 9). It shares the
+/// route's lists: the only fault is that 2^63 owners share one.
 pub fn peer_candidate(
-    alloc: Global,
     site: &SiteConf,
     from: &SiteSession,
     action: Action,
@@ -149,7 +149,7 @@ pub fn peer_candidate(
 {
     Ok(Candidate {
         source: Source::Peer(from.peer),
-        attr: imported(alloc, from.external, action, attr)?,
+        attr: imported(from.external, action, attr)?,
         pref: preference(from.external, action, attr),
         external: from.external,
         cost: site.costs.cost(attr.next).unwrap_or(0),
@@ -157,9 +157,8 @@ pub fn peer_candidate(
     })
 }
 
-/// How a route that the import policy judged stands at the router.
+/// How a route that the import policy judged stands at the router. The only fault is that 2^63 owners share one of its lists.
 fn judged_standing(
-    alloc: Global,
     site: &SiteConf,
     from: &SiteSession,
     action: Action,
@@ -169,13 +168,13 @@ fn judged_standing(
 {
     match exclusion(site, action, attr) {
         Some(reason) => Ok(Standing::Excluded(reason)),
-        None => Ok(Standing::Considered(peer_candidate(alloc, site, from, action, attr)?)),
+        None => Ok(Standing::Considered(peer_candidate(site, from, action, attr)?)),
     }
 }
 
-/// How a route from the peer of the session stands at the router.
+/// How a route from the peer of the session stands at the router. A candidate shares the route's lists: the only fault is
+/// that 2^63 owners share one.
 pub fn peer_standing(
-    alloc: Global,
     site: &SiteConf,
     prefix: Prefix,
     from: &SiteSession,
@@ -183,18 +182,11 @@ pub fn peer_standing(
 ) -> Result<Standing, AllocError>
     ensures { IfOk result (λ standing. standing ≡ peer_standing site.now prefix from.now attr.now) }
 {
-    judged_standing(
-        alloc,
-        site,
-        from,
-        judge(&from.policy_in, prefix, attr),
-        attr,
-    )
+    judged_standing(site, from, judge(&from.policy_in, prefix, attr), attr)
 }
 
 /// Puts the router's own route to the prefix among the choice's, if it originates it. An error changes nothing.
 pub fn put_own<S: Selector>(
-    alloc: Global,
     chosen: &mut S,
     site: &SiteConf,
     prefix: Prefix,
@@ -203,17 +195,13 @@ pub fn put_own<S: Selector>(
     ensures err { OnErr result (S.standings chosen.new ≡ S.standings chosen.old) }
 {
     if is_originated(site, prefix) {
-        chosen.put(
-            Source::Own,
-            Standing::Considered(own_candidate(alloc, site.me)),
-        )?;
+        chosen.put(Source::Own, Standing::Considered(own_candidate(site.me)))?;
     }
     Ok(())
 }
 
 /// Puts a route that was received over the session among the choice's, if the session is up. An error changes nothing.
 pub fn put_received<S: Selector>(
-    alloc: Global,
     chosen: &mut S,
     site: &SiteConf,
     prefix: Prefix,
@@ -224,7 +212,7 @@ pub fn put_received<S: Selector>(
     ensures err { OnErr result (S.standings chosen.new ≡ S.standings chosen.old) }
 {
     if from.up {
-        let standing = peer_standing(alloc, site, prefix, from, attr)?;
+        let standing = peer_standing(site, prefix, from, attr)?;
         chosen.put(Source::Peer(from.peer), standing)?;
     }
     Ok(())

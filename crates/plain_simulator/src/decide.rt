@@ -34,7 +34,6 @@ pub fn route_from(
 
 /// Adds the route that was received over the session, if there is one and the session is up.
 fn add_peer<S: Selector>(
-    alloc: Global,
     chosen: &mut S,
     site: &SiteConf,
     prefix: Prefix,
@@ -45,13 +44,12 @@ fn add_peer<S: Selector>(
 {
     match route_from(received, site.me, prefix, from.peer) {
         None => Ok(()),
-        Some(attr) => put_received(alloc, chosen, site, prefix, attr, from),
+        Some(attr) => put_received(chosen, site, prefix, attr, from),
     }
 }
 
 /// Adds the routes that were received over these sessions of the router.
 fn add_peers<S: Selector>(
-    alloc: Global,
     chosen: &mut S,
     site: &SiteConf,
     sessions: &[SiteSession],
@@ -61,7 +59,7 @@ fn add_peers<S: Selector>(
     ensures { OnOk result (S.standings chosen.new ≡ added (S.standings chosen.old) (filter_map (standing_from site.now prefix received.now.entries) sessions.now)) }
 {
     for from in sessions {
-        add_peer(alloc, chosen, site, prefix, received, from)?;
+        add_peer(chosen, site, prefix, received, from)?;
     }
     Ok(())
 }
@@ -76,9 +74,8 @@ pub fn standings<S: Selector + Drop>(
     ensures { IfOk result (λ chosen. S.standings chosen ≡ standings site.now prefix received.now.entries) }
 {
     let mut chosen = S::new(alloc);
-    put_own(alloc, &mut chosen, site, prefix)?;
+    put_own(&mut chosen, site, prefix)?;
     add_peers(
-        alloc,
         &mut chosen,
         site,
         site.sessions.as_slice(),

@@ -6,7 +6,8 @@ ghost use Rattle.net_conf.specs.Sites.{site_of};
 ghost use Rattle.reference_machine.specs.Advertising.{advertised};
 ghost use Rattle.std.specs.List.{filter_map, list_all};
 ghost use Rattle.std.specs.Option.{option_to_list};
-ghost use Rattle.reference_machine.specs.Network.{same_addr, routes_from};
+ghost use Rattle.net_prefix.specs.Address.{same_addr};
+ghost use Rattle.reference_machine.specs.Network.{routes_from};
 ghost use Rattle.reference_machine.specs.Decision.{best, standings};
 ghost use Rattle.reference_machine.specs.Reports.{held_of, loc_rib, choice, why, reasons_of, reasons_at, reasons, adj_rib_in, advert_at, adj_rib_out, queue, is_quiet};
 ghost use Rattle.reference_machine.specs.Machine.{asks_quiet, ask_refusal, report_of};
@@ -147,7 +148,7 @@ impl State {
         let mut routes = Vec::new(alloc);
         for (key, attr) in self.received.iter() {
             if is_between(router, peer, *key) {
-                routes.push((key.prefix, attr.copy(alloc)?))?;
+                routes.push((key.prefix, attr.share()?))?;
             }
         }
         Ok(routes)

@@ -66,7 +66,7 @@ impl State {
             from: feed.from,
             to: feed.to,
         };
-        let message = fed_message(alloc, feed.from, &feed.news)?;
+        let message = fed_message(feed.from, &feed.news)?;
         self.queues = queues::with_message(alloc, &self.queues, direction, &message)?;
         Ok(Reply::Done)
     }
@@ -219,7 +219,6 @@ fn with_queues(alloc: Global, queues: &[Queue], edit: &Edit) -> Result<Vec<Queue
 /// What was received, once the message has been taken.
 fn received_after(
     received: &BTreeMap<RouteKey, Attr>,
-    alloc: Global,
     direction: Direction,
     message: &Message,
 ) -> Result<BTreeMap<RouteKey, Attr>, AllocError>
@@ -231,7 +230,7 @@ fn received_after(
         from: direction.from,
     };
     match message {
-        Message::Update(_, attr) => with_route(received, key, attr.copy(alloc)?),
+        Message::Update(_, attr) => with_route(received, key, attr.share()?),
         Message::Withdraw(_) => without_route(received, key),
     }
 }
@@ -280,7 +279,7 @@ fn taken(
 {
     Ok(State {
         conf: state.conf.copy(alloc)?,
-        received: received_after(&state.received, alloc, direction, message)?,
+        received: received_after(&state.received, direction, message)?,
         queues: queues::without_head(alloc, &state.queues, direction)?,
     })
 }

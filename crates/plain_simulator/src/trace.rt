@@ -4,7 +4,8 @@ ghost use Rattle.std.specs.Prelude.{◌≡◌, filter, IfOk, if◌then◌else◌
 ghost use Rattle.net_conf.specs.Costs.{costs_of};
 ghost use Rattle.net_conf.specs.Sites.{site_of};
 ghost use Rattle.reference_machine.specs.Decision.{best};
-ghost use Rattle.reference_machine.specs.Tracing.{matches, forwards_by, longer, longest, longest_match, has_passed, onward, by_route, look, trace};
+ghost use Rattle.net_prefix.specs.Tests.{contains};
+ghost use Rattle.reference_machine.specs.Tracing.{forwards_by, longer, longest, longest_match, has_passed, onward, by_route, look, trace};
 
 use crate::decide;
 use crate::state::State;
@@ -65,7 +66,7 @@ impl State {
         }
     }
 
-    /// The longest prefix that matches the address and has a chosen route at the router of the site.
+    /// The longest prefix that contains the address and has a chosen route at the router of the site.
     #[tactic(auto, unfolding(reference_machine::specs::Tracing::longest_match))]
     fn longest_match<S: Selector + Drop>(
         &self,
@@ -81,7 +82,7 @@ impl State {
         self.longest_of::<S>(alloc, site, router, target, &prefixes)
     }
 
-    /// The longest of these prefixes that matches the address and has a chosen route.
+    /// The longest of these prefixes that contains the address and has a chosen route.
     fn longest_of<S: Selector + Drop>(
         &self,
         alloc: Global,
@@ -100,7 +101,7 @@ impl State {
         Ok(found)
     }
 
-    /// The longer of what was found and the prefix, if that matches the address and has a chosen route.
+    /// The longer of what was found and the prefix, if that contains the address and has a chosen route.
     fn consider<S: Selector + Drop>(
         &self,
         alloc: Global,
@@ -113,7 +114,7 @@ impl State {
         requires { site.now ≡ site_of self.now.conf router }
         ensures { IfOk result (λ after. after ≡ (if forwards_by self.now router target prefix then longer found prefix else found)) }
     {
-        if matches(target, prefix) && self.best_at::<S>(alloc, site, router, prefix)?.is_some() {
+        if contains(prefix, target) && self.best_at::<S>(alloc, site, router, prefix)?.is_some() {
             Ok(longer(found, prefix))
         } else {
             Ok(found)
@@ -164,9 +165,9 @@ fn onward(at: Addr, prefix: Prefix, hop: Option<Addr>) -> Look
     }
 }
 
-/// Whether the prefix holds the address.
-fn matches(target: Addr, prefix: Prefix) -> bool
-    ensures { result ≡ matches target prefix }
+/// Whether the prefix contains the address.
+fn contains(prefix: Prefix, target: Addr) -> bool
+    ensures { result ≡ contains prefix target }
 {
     prefix.contains(target)
 }

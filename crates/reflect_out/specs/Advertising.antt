@@ -1,11 +1,10 @@
 -- What a router advertises to a peer of the route that it chose (RFC 4271, 5.1, 9.1.3 and 9.2; RFC 4456, 6, 8 and 10).
-use Rattle.std.specs.Prelude.{ℕ, zero, suc, Bool, false, ◌||◌, ◌==◌, List, [], ◌∷◌, Option, Some, None, option_and_then, if◌then◌else◌}
+use Rattle.std.specs.Prelude.{ℕ, Bool, false, ◌||◌, ◌==◌, [], ◌∷◌, Option, Some, None, option_and_then, if◌then◌else◌}
 use Rattle.std.specs.Option.{unwrap_or, option_map_or}
 use Rattle.net_prefix.specs.declared.addr.Addr.{Addr}
 use Rattle.net_prefix.specs.Block.{Block}
-use Rattle.path_attr.specs.declared.path.Segment.{Segment}
 use Rattle.path_attr.specs.declared.attr.Attr.{Attr}
-use Rattle.path_attr.specs.Path.{prepended}
+use Rattle.path_attr.specs.Path.{prepended, prepended_times}
 use Rattle.route_policy.specs.declared.rule.Action.{Action}
 use Rattle.route_policy.specs.declared.rule.Action.TheVariants.{Deny, Permit}
 use Rattle.route_policy.specs.Judging.{judged}
@@ -20,11 +19,6 @@ use Rattle.net_conf.specs.Sites.{session_with}
 abbrev pub is_from : Addr → Source → Bool
 is_from u Own = false
 is_from u (FromPeer v) = v.0 == u.0
-
--- the path with the AS put in front n times
-abbrev pub prepended_times : ℕ → ℕ → List Segment → List Segment
-prepended_times zero asn path = path
-prepended_times (suc n) asn path = prepended asn (prepended_times n asn path)
 
 -- towards another AS: the own AS in front, once and once more for each prepend; the router as NEXT_HOP; no LOCAL_PREF,
 -- ORIGINATOR_ID or CLUSTER_LIST; ORIGIN as it is (RFC 4271, 5.1.1 to 5.1.5; RFC 4456, 8). (own) MED only where the export policy

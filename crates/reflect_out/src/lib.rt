@@ -3,14 +3,14 @@
 
 ghost use Rattle.std.specs.Prelude.{◌≡◌, ℕ, ◌∷◌, Some, IfOk, if◌then◌else◌};
 ghost use Rattle.std.specs.Option.{unwrap_or};
-ghost use Rattle.reflect_out.specs.Advertising.{is_from, prepended_times, to_other_as, to_own_as, reflected, is_client_of, reflected_to, inside, permitted, advertised_over, advert};
+ghost use Rattle.reflect_out.specs.Advertising.{is_from, to_other_as, to_own_as, reflected, is_client_of, reflected_to, inside, permitted, advertised_over, advert};
 
 use net_conf::{SiteConf, SiteSession};
 use net_prefix::{Addr, Prefix};
-use path_attr::{AsPath, Asn, Attr};
+use path_attr::Attr;
 use route_policy::{Action, Repeat, judge};
 use route_select::{Candidate, Source};
-use seq::{Copied, Seq};
+use seq::SharedSeq;
 use std::alloc::{AllocError, Global};
 
 /// What the router advertises to the peer of the route that it chose for the prefix: nothing where it learned the route
@@ -93,8 +93,9 @@ fn to_other_as(
     ensures { IfOk result (λ a. a ≡ to_other_as site.now med prepend attr.now) }
 {
     let times = prepend.map_or(0, |repeat| repeat.count());
-    let mut path = prepended(alloc, &attr.path, site.asn, times)?;
-    path.prepend(alloc, site.asn)?;
+    let path = attr
+        .path
+        .prepended_times(alloc, site.asn, u16::from(times) + 1)?;
     Ok(Attr {
         path,
         origin: attr.origin,
@@ -102,19 +103,8 @@ fn to_other_as(
         med,
         pref: None,
         oid: None,
-        clusters: Seq::new(alloc),
+        clusters: SharedSeq::empty(),
     })
-}
-
-/// The path with the AS put in front so many times.
-fn prepended(alloc: Global, path: &AsPath, asn: Asn, times: u8) -> Result<AsPath, AllocError>
-    ensures { IfOk result (λ p. p ≡ prepended_times times asn path.now) }
-{
-    let mut longer = path.copy(alloc)?;
-    for _time in 0..times {
-        longer.prepend(alloc, asn)?;
-    }
-    Ok(longer)
 }
 
 /// What is advertised inside the AS.
@@ -127,29 +117,25 @@ fn inside(
     ensures { IfOk result (λ attr. attr ≡ inside site.now to.now best.now) }
 {
     if best.external {
-        Ok(Some(to_own_as(alloc, site, to, best)?))
+        Ok(Some(to_own_as(site, to, best)?))
     } else {
         reflected_to(alloc, site, to, best)
     }
 }
 
-/// The attributes inside the AS, of the router's own route or an external one.
-fn to_own_as(
-    alloc: Global,
-    site: &SiteConf,
-    to: &SiteSession,
-    best: &Candidate,
-) -> Result<Attr, AllocError>
+/// The attributes inside the AS, of the router's own route or an external one. They share the path and take no memory: the
+/// only fault is that 2^63 owners share it.
+fn to_own_as(site: &SiteConf, to: &SiteSession, best: &Candidate) -> Result<Attr, AllocError>
     ensures { IfOk result (λ a. a ≡ to_own_as site.now to.now best.now) }
 {
     Ok(Attr {
-        path: best.attr.path.copy(alloc)?,
+        path: best.attr.path.share()?,
         origin: best.attr.origin,
         next: if to.own_next { site.me } else { best.attr.next },
         med: best.attr.med,
         pref: Some(best.pref),
         oid: None,
-        clusters: Seq::new(alloc),
+        clusters: SharedSeq::empty(),
     })
 }
 
@@ -186,8 +172,22 @@ fn is_client_of(site: &SiteConf, peer: Addr) -> bool
 fn reflected(alloc: Global, site: &SiteConf, peer: Addr, attr: &Attr) -> Result<Attr, AllocError>
     ensures { IfOk result (λ a. a ≡ reflected site.now peer attr.now) }
 {
-    let mut reflected = attr.copy(alloc)?;
+    let mut reflected = attr.share()?;
     reflected.oid = Some(attr.oid.unwrap_or(peer));
-    reflected.clusters.push_front(site.cluster)?;
+    reflected.clusters = with_cluster(alloc, site.cluster, &attr.clusters)?;
     Ok(reflected)
+}
+
+/// The CLUSTER_LIST with the CLUSTER_ID in front.
+fn with_cluster(
+    alloc: Global,
+    id: Addr,
+    clusters: &SharedSeq<Addr>,
+) -> Result<SharedSeq<Addr>, AllocError>
+    ensures { IfOk result (λ longer. longer ≡ id ∷ clusters.now) }
+{
+    let mut longer = Vec::new(alloc);
+    longer.push(id)?;
+    longer.extend_from_slice(clusters.as_slice())?;
+    SharedSeq::of(alloc, longer)
 }

@@ -10,7 +10,7 @@ use crate::text::Text;
 use net_prefix::{Addr, Prefix};
 use path_attr::{AsPath, Origin};
 use route_select::Source;
-use seq::Seq;
+use seq::SharedSeq;
 use session_queue::MessageKind;
 use std::io::Write;
 use watched::{Output, WriterFailed};
@@ -31,7 +31,7 @@ pub(crate) enum Part<'a> {
     Kind(MessageKind),
     Origin(Origin),
     Path(&'a AsPath),
-    Clusters(&'a Seq<Addr>),
+    Clusters(&'a SharedSeq<Addr>),
 }
 
 impl Text for Part<'_> {

@@ -5,8 +5,7 @@ ghost use Rattle.std.specs.Prelude.{◌≡◌, IfOk};
 use crate::message::Message;
 use net_prefix::Prefix;
 use path_attr::Attr;
-use seq::Copied;
-use std::alloc::{AllocError, Global};
+use std::alloc::AllocError;
 
 /// A message, borrowed from its queue.
 #[derive(Clone, Copy, Debug, PartialEq)]
@@ -30,12 +29,12 @@ impl<'a> View<'a> {
         }
     }
 
-    /// A copy of the message.
-    pub fn to_message(&self, alloc: Global) -> Result<Message, AllocError>
+    /// A copy of the message, which shares the attributes' lists: the only fault is that 2^63 owners share one.
+    pub fn to_message(&self) -> Result<Message, AllocError>
         ensures { IfOk result (λ message. message ≡ message_of self.now) }
     {
         match self {
-            View::Update(prefix, attr) => Ok(Message::Update(*prefix, attr.copy(alloc)?)),
+            View::Update(prefix, attr) => Ok(Message::Update(*prefix, attr.share()?)),
             View::Withdraw(prefix) => Ok(Message::Withdraw(*prefix)),
         }
     }

@@ -81,15 +81,15 @@ fn copy_rib(alloc: Global, routes: &[(Prefix, Attr)]) -> Result<Vec<(Prefix, Att
 {
     let mut copies = Vec::new(alloc);
     for route in routes {
-        copies.push(copy_route(alloc, route)?)?;
+        copies.push(copy_route(route)?)?;
     }
     Ok(copies)
 }
 
-fn copy_route(alloc: Global, route: &(Prefix, Attr)) -> Result<(Prefix, Attr), AllocError>
+fn copy_route(route: &(Prefix, Attr)) -> Result<(Prefix, Attr), AllocError>
     ensures { IfOk result (λ copy. copy ≡ route.now) }
 {
-    Ok((route.0, route.1.copy(alloc)?))
+    Ok((route.0, route.1.share()?))
 }
 
 fn copy_held(alloc: Global, held: &Option<Held>) -> Result<Option<Held>, AllocError>
