@@ -103,7 +103,7 @@ put_insert (e ∷ es) s v (suc i) is =
 abbrev pub others : Source → Entries → Entries
 others s es = where_key source_cmp (λ k. not (eq_by_cmp source_cmp s k)) es
 
-each_other : (p : Source × Standing → Bool) (es : Entries) → EachIsFrom es → EachIsFrom (filter p es)
+pub each_other : (p : Source × Standing → Bool) (es : Entries) → EachIsFrom es → EachIsFrom (filter p es)
 each_other p [] each = tt
 each_other p (e ∷ es) each = elim (p e) as (λ b. EachIsFrom (cond b (e ∷ filter p es) (filter p es))) [ true ↦ (each.0, each_other p es each.1) | false ↦ each_other p es each.1 ]
 
@@ -113,7 +113,7 @@ are_others es s are = record {
   own = each_other (λ e. not (eq_by_cmp source_cmp s e.0)) es are.own;
 }
 
-flipped : {A : Type 0} (b : Bool) (x y : A) → cond (not b) x y ≡ cond b y x
+pub flipped : {A : Type 0} (b : Bool) (x y : A) → cond (not b) x y ≡ cond b y x
 flipped true x y = refl
 flipped false x y = refl
 
@@ -134,7 +134,7 @@ find_place (e ∷ es) s (suc i) is =
     let first : source_cmp s e.0 ≡ Greater = is.after 0 (omega arith) in
     rw first (find_place es s i (record { in_range = omega (arith, is.in_range); after = λ j lt. is.after (suc j) (omega arith); here = is.here }))
 
-less_of : (o : Ordering) → is_lt o ≡ true → o ≡ Less
+pub less_of : (o : Ordering) → is_lt o ≡ true → o ≡ Less
 less_of Less e = refl
 less_of Equal e = absurd (false≢true e)
 less_of Greater e = absurd (false≢true e)
@@ -164,7 +164,7 @@ find_gap (e ∷ es) s (suc i) sorted is =
     let w = both_true (below_all source_cmp e.0 es) (is_sorted source_cmp es) sorted in
     rw first (find_gap es s i w.1 (record { in_range = omega (arith, is.in_range); after = λ j lt. is.after (suc j) (omega arith); before = λ lt. is.before (omega arith) }))
 
-tied : (s : Source) → source_cmp s s ≡ Equal
+pub tied : (s : Source) → source_cmp s s ≡ Equal
 tied Own = refl
 tied (FromPeer a) = tied_itself nat_cmp_total a.0
 

@@ -2,3 +2,4 @@ pub mod Selection
 pub mod Laws
 pub mod Leaders
 pub mod Entries
+pub mod Groups

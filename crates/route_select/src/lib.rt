@@ -6,9 +6,12 @@ mod chosen;
 mod entries;
 mod filter;
 mod filter_cell;
+mod group_cell;
+mod groups;
 mod laws;
 
 pub use candidate::{Candidate, Reason, Source, Standing};
 pub use chosen::{Chosen, Selector};
 pub use filter_cell::FilterCell;
+pub use group_cell::GroupCell;
 pub use laws::{none_is_left, one_is_left};

@@ -1,0 +1,109 @@
+-- No public contract cites this file. Standings in a vector, in groups: the routes of one neighbouring AS stand together, each
+-- group in the order of all filters, and behind the groups stands what is excluded, in order of source.
+use Rattle.std.specs.Prelude.{◌≡◌, ℕ, ◌+◌, ◌<◌, ◌≤◌, Bool, true, false, not, ◌&&◌, ◌||◌, ◌==◌, nat_lt, List, [], ◌∷◌, length, slice_index_or, Option, Some, None, ⊤}
+use Rattle.std.specs.declared.cmp.Ordering.TheVariants.{Equal}
+use Rattle.std.specs.Ordering.{is_lt, eq_by_cmp}
+use Rattle.std.specs.FinMap as map
+use Rattle.std.specs.FinMap.{find}
+use Rattle.std.specs.FinMap.Entries.{where_key}
+use Rattle.path_attr.specs.Path.{neighbour}
+use Rattle.route_select.specs.declared.candidate.Source.{Source}
+use Rattle.route_select.specs.declared.candidate.Source.TheVariants.{Own}
+use Rattle.route_select.specs.declared.candidate.Candidate.{Candidate}
+use Rattle.route_select.specs.declared.candidate.Reason.TheVariants.{Loop}
+use Rattle.route_select.specs.declared.candidate.Standing.{Standing}
+use Rattle.route_select.specs.declared.candidate.Standing.TheVariants.{Excluded, Considered}
+use Rattle.route_select.specs.Selection.{source_cmp, Standings, filters, candidate_of, considered_in}
+use Rattle.route_select.specs.Entries.{EachIsFrom, key_at, standing_at, candidate_at}
+use Rattle.route_select.specs.Leaders.{In, ahead, unmed, Leads, Led}
+
+abbrev pub number_rank : Option ℕ → ℕ
+number_rank None = 0
+number_rank (Some n) = n + 1
+
+-- the groups are in order of their neighbouring AS, and the routes with none come first
+abbrev pub group_rank : Candidate → ℕ
+group_rank c = number_rank (neighbour c.attr.path)
+
+-- whether a stands before b: in an earlier group, or in the same one and ahead
+abbrev pub stands_before : Candidate → Candidate → Bool
+stands_before a b = nat_lt (group_rank a) (group_rank b) || (group_rank a == group_rank b && ahead filters a b)
+
+-- the same of the entries of two sources: what is excluded comes last, in order of source
+abbrev pub before_by : Source → Source → Standing → Standing → Bool
+before_by s t (Considered a) (Considered b) = stands_before a b
+before_by s t (Considered a) (Excluded r) = true
+before_by s t (Excluded q) (Considered b) = false
+before_by s t (Excluded q) (Excluded r) = is_lt (source_cmp s t)
+
+abbrev pub before : Source × Standing → Source × Standing → Bool
+before e f = before_by e.0 f.0 e.1 f.1
+
+-- no entry is to stand before an earlier one
+abbrev pub AreRanked : List (Source × Standing) → Type 0
+AreRanked [] = ⊤
+AreRanked (e ∷ es) = ((f : Source × Standing) → In f es → before f e ≡ false) × AreRanked es
+
+-- each source once
+abbrev pub AreDistinct : List (Source × Standing) → Type 0
+AreDistinct [] = ⊤
+AreDistinct (e ∷ es) = (find source_cmp e.0 es ≡ None) × AreDistinct es
+
+-- the standing of each source
+abbrev pub standings_of : List (Source × Standing) → Standings
+standings_of es = map.from_entries es
+
+-- the entries of the other sources
+abbrev pub without : Source → List (Source × Standing) → List (Source × Standing)
+without source es = where_key source_cmp (λ other. not (eq_by_cmp source_cmp source other)) es
+
+-- the first of the leaders in the order without MED; None where nothing is considered
+abbrev pub IsBest : List Candidate → Option Candidate → Type 0
+IsBest set None = (n : Candidate) → In n set → ⊥
+IsBest set (Some b) = Leads set b × ((n : Candidate) → In n set → Led set b n)
+
+-- the groups and what is excluded, and the place of the best
+pub record AreGrouped (es : List (Source × Standing)) (at : ℕ) : Type 0 where
+  pub ranked : AreRanked es
+  pub distinct : AreDistinct es
+  pub own : EachIsFrom es
+  pub best : IsBest (considered_in es) (candidate_at es at)
+
+-- the same routes, in whatever order
+pub record SameMembers (xs ys : List Candidate) : Type 0 where
+  pub into : (n : Candidate) → In n xs → In n ys
+  pub back : (n : Candidate) → In n ys → In n xs
+
+-- the source's entry is at place i
+pub record IsPlaceOf (es : List (Source × Standing)) (source : Source) (i : ℕ) : Type 0 where
+  pub in_range : i < length es
+  pub tied : source_cmp source (key_at es i) ≡ Equal
+  pub found : find source_cmp source es ≡ Some (standing_at es i)
+
+abbrev pub entry_at : List (Source × Standing) → ℕ → Source × Standing
+entry_at es i = slice_index_or es i (Own, Excluded Loop)
+
+-- the entry goes to place i
+pub record IsSlot (es : List (Source × Standing)) (e : Source × Standing) (i : ℕ) : Type 0 where
+  pub in_range : i ≤ length es
+  pub after : (j : ℕ) → j < i → before e (entry_at es j) ≡ false
+  pub here : i < length es → before e (entry_at es i) ≡ true
+
+-- whether the route is of a group of lower rank
+abbrev pub below_by : ℕ → Option Candidate → Bool
+below_by rank None = false
+below_by rank (Some c) = nat_lt (group_rank c) rank
+
+abbrev pub is_below : ℕ → Source × Standing → Bool
+is_below rank e = below_by rank (candidate_of e.1)
+
+-- the groups of lower rank lie before place i, and the others from there on
+pub record IsGroupStart (es : List (Source × Standing)) (rank : ℕ) (i : ℕ) : Type 0 where
+  pub below : (j : ℕ) → j < i → (n : Candidate) → candidate_at es j ≡ Some n → group_rank n < rank
+  pub from : (k : ℕ) → i ≤ k → (n : Candidate) → candidate_at es k ≡ Some n → rank ≤ group_rank n
+
+-- whether c is there and ahead of b in the order without MED
+abbrev pub is_better : Option Candidate → Option Candidate → Bool
+is_better (Some c) (Some b) = ahead unmed c b
+is_better (Some c) None = false
+is_better None o = false

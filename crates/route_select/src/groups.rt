@@ -1,0 +1,132 @@
+//! Standings in a vector, in groups: the routes of one neighbouring AS stand together, each group in the order of all filters, so
+//! that its leader comes first. The groups lie one behind the other, and behind them what is excluded.
+
+ghost use Rattle.std.specs.Prelude.{◌≡◌, ◌≤◌, true, IfSome, IfNone};
+ghost use Rattle.std.specs.Option.{option_copied};
+ghost use Rattle.std.specs.FinMap.{find};
+ghost use Rattle.route_select.specs.Selection.{considered_in, same_neighbour, source_cmp};
+ghost use Rattle.route_select.specs.Entries.{candidate_at};
+ghost use Rattle.route_select.specs.Leaders.{In, Leads};
+ghost use Rattle.route_select.specs.Groups.{group_rank, stands_before, before, AreRanked, IsBest, IsPlaceOf, IsSlot, IsGroupStart, is_below, is_better};
+
+use crate::candidate::{Candidate, Source, Standing};
+use crate::filter::{FILTERS, UNMED};
+
+/// The route at a place, where there is one that is considered.
+pub(crate) fn candidate_at(entries: &[(Source, Standing)], at: usize) -> Option<&Candidate>
+    ensures { option_copied result ≡ candidate_at entries.now at }
+{
+    match entries.get(at) {
+        Some(entry) => entry.1.candidate(),
+        None => None,
+    }
+}
+
+/// Where the route's group stands among the groups: the number of the neighbouring AS, plus 1, and 0 for none.
+fn group_rank(candidate: &Candidate) -> u64
+    ensures value { result ≡ group_rank candidate.now }
+    ensures bound { result ≤ 4294967296 }
+{
+    match candidate.attr.path.neighbour() {
+        Some(asn) => u64::from(asn.number()) + 1,
+        None => 0,
+    }
+}
+
+/// Whether the first stands before the second: in an earlier group, or in the same one and ahead.
+fn stands_before(a: &Candidate, b: &Candidate) -> bool
+    ensures { result ≡ stands_before a.now b.now }
+{
+    let (mine, theirs) = (group_rank(a), group_rank(b));
+    mine < theirs || (mine == theirs && a.is_ahead(&FILTERS, b))
+}
+
+/// Whether an entry stands before another. What is excluded comes last, in order of source.
+fn goes_before(source: Source, standing: &Standing, other: &(Source, Standing)) -> bool
+    ensures { result ≡ before (source, standing.now) other.now }
+{
+    match (standing, &other.1) {
+        (Standing::Considered(a), Standing::Considered(b)) => stands_before(a, b),
+        (Standing::Considered(_), Standing::Excluded(_)) => true,
+        (Standing::Excluded(_), Standing::Considered(_)) => false,
+        (Standing::Excluded(_), Standing::Excluded(_)) => source < other.0,
+    }
+}
+
+/// The place of the source's entry.
+pub(crate) fn place_of(entries: &[(Source, Standing)], source: Source) -> Option<usize>
+    ensures found { IfSome result (IsPlaceOf entries.now source) }
+    ensures absent { IfNone result (find source_cmp source entries.now ≡ None) }
+{
+    for (i, entry) in entries.iter().enumerate() {
+        if source.cmp(&entry.0).is_eq() {
+            return Some(i);
+        }
+    }
+    None
+}
+
+/// The place where an entry goes.
+pub(crate) fn slot(entries: &[(Source, Standing)], source: Source, standing: &Standing) -> usize
+    requires { AreRanked entries.now }
+    ensures { IsSlot entries.now (source, standing.now) result }
+{
+    entries.partition_point(|entry| !goes_before(source, standing, entry))
+}
+
+/// Whether an entry is of a group of lower rank.
+fn is_below(entry: &(Source, Standing), rank: u64) -> bool
+    ensures { result ≡ is_below rank entry.now }
+{
+    match entry.1.candidate() {
+        Some(candidate) => group_rank(candidate) < rank,
+        None => false,
+    }
+}
+
+/// The place behind the groups of lower rank.
+fn group_start(entries: &[(Source, Standing)], rank: u64) -> usize
+    requires { AreRanked entries.now }
+    ensures { IsGroupStart entries.now rank result }
+{
+    entries.partition_point(|entry| is_below(entry, rank))
+}
+
+/// Whether the route at a place is ahead of the best so far in the order without MED.
+fn is_better(entries: &[(Source, Standing)], at: usize, best: usize) -> bool
+    ensures { result ≡ is_better (candidate_at entries.now at) (candidate_at entries.now best) }
+{
+    match (candidate_at(entries, at), candidate_at(entries, best)) {
+        (Some(c), Some(b)) => c.is_ahead(&UNMED, b),
+        _ => false,
+    }
+}
+
+/// The place of the best: of the leaders the first in the order without MED. Where nothing is considered, no route is there.
+pub(crate) fn best_place(entries: &[(Source, Standing)]) -> usize
+    requires { AreRanked entries.now }
+    ensures { IsBest (considered_in entries.now) (candidate_at entries.now result) }
+{
+    let mut best = 0;
+    let mut at = 0;
+    while let Some(leader) = candidate_at(entries, at) {
+        if is_better(entries, at, best) {
+            best = at;
+        }
+        at = group_start(entries, group_rank(leader) + 1);
+    }
+    best
+}
+
+/// The leader of a route's group: the first of its neighbour.
+pub(crate) fn leader<'a>(entries: &'a [(Source, Standing)], like: &Candidate) -> &'a Candidate
+    requires ranked { AreRanked entries.now }
+    requires member { In like.now (considered_in entries.now) }
+    ensures leads { Leads (considered_in entries.now) result.now }
+    ensures same { same_neighbour like.now result.now ≡ true }
+{
+    match candidate_at(entries, group_start(entries, group_rank(like))) {
+        Some(first) => first,
+        None => unreachable!(),
+    }
+}
