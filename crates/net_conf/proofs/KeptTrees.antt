@@ -18,9 +18,10 @@ use Rattle.net_conf.specs.declared.tables.Ends.{Ends}
 use Rattle.net_conf.specs.declared.tables.Node.{Node}
 use Rattle.net_conf.specs.Configuration.{Configuration, has_node, ends_of, ends_cmp, has_session}
 use Rattle.net_conf.specs.Costs.{costs_of}
-use Rattle.net_conf.specs.Kept.{HasEnds, IsSound, has_none, trees_of}
+use Rattle.net_conf.specs.Configured.{HasEnds}
+use Rattle.net_conf.specs.Kept.{IsSound, has_none, trees_of}
 
-equal_when : (o : Ordering) → is_eq o ≡ true → o ≡ Equal
+pub equal_when : (o : Ordering) → is_eq o ≡ true → o ≡ Equal
 equal_when Less is = absurd (true≢false (sym is))
 equal_when Equal is = refl
 equal_when Greater is = absurd (true≢false (sym is))
@@ -30,7 +31,7 @@ ends_exact x y same =
     let ends : Addr × Addr → Ends = λ parts. record { low = parts.0; high = parts.1 } in
     ap ends (exact_pairs addr_cmp addr_cmp addr_exact addr_exact (x.low, x.high) (y.low, y.high) same)
 
-same_ends : (x y : Ends) → is_at (ends_cmp x) y ≡ true → x ≡ y
+pub same_ends : (x y : Ends) → is_at (ends_cmp x) y ≡ true → x ≡ y
 same_ends x y is = ends_exact x y (equal_when (ends_cmp x y) is)
 
 -- the tree of an address that is a key

@@ -1,4 +1,8 @@
 mod Nodes
 mod TreeList
+mod SiteList
 mod Soundness
-mod KeptTrees
+pub mod KeptTrees
+pub mod Picked
+pub mod Peers
+pub mod RouterLaws

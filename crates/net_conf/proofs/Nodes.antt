@@ -10,14 +10,15 @@ use Rattle.std.proofs.lemmas.Map.Made.{lookup-map_values, keys_of-map_values}
 use Rattle.net_prefix.specs.declared.addr.Addr.{Addr}
 use Rattle.net_prefix.specs.Address.{addr_cmp}
 use Rattle.igp_cost.specs.Topology.{is_node, IsTopology}
-use Rattle.net_conf.specs.declared.limits.TheConstants.{MAX_NODES}
+use Rattle.igp_cost.specs.declared.limits.TheConstants.{MAX_NODES}
 use Rattle.net_conf.specs.declared.tables.Ends.{Ends}
 use Rattle.net_conf.specs.declared.tables.Link.{Link}
 use Rattle.net_conf.specs.Configuration.{Configuration, node_at, has_node}
 use Rattle.igp_cost.specs.Trees.{Reached, tree_of}
 use Rattle.net_conf.specs.declared.tables.Node.{Node}
 use Rattle.net_conf.specs.Costs.{nodes_of, edge_of, edges_of, costs_of}
-use Rattle.net_conf.specs.Kept.{HasEnds, IsSound, has_none}
+use Rattle.net_conf.specs.Configured.{HasEnds}
+use Rattle.net_conf.specs.Kept.{IsSound, has_none}
 
 some_mapped : {A B : Type 0} (f : A → B) (o : Option A) → is_some (option_map f o) ≡ is_some o
 some_mapped f None = refl

@@ -1,18 +1,19 @@
 -- Edits that are not refused keep a configuration sound.
-use Rattle.std.proofs.Common.{◌≡◌, ℕ, ◌+◌, ◌≤◌, ◌<◌, Bool, true, false, not, ◌&&◌, nat_le, cond, List, [], ◌∷◌, length, map, get_or, Option, Some, None, Result, Ok, Err, OnOk, OnErr, All, is_some, if◌then◌else◌, refl, sym, ap, subst, ◌∙◌, arith}
+use Rattle.std.proofs.Common.{◌≡◌, ℕ, ◌+◌, ◌≤◌, ◌<◌, Bool, true, false, not, ◌&&◌, ◌==◌, nat_le, cond, List, [], ◌∷◌, length, map, get_or, Option, Some, None, Result, Ok, Err, OnOk, OnErr, All, is_some, if◌then◌else◌, refl, sym, ap, subst, ◌∙◌, arith}
 use Rattle.std.specs.declared.cmp.Ordering.{Ordering}
 use Rattle.std.specs.declared.cmp.Ordering.TheVariants.{Less, Equal, Greater}
 use Rattle.std.specs.Ordering.{match_ordering}
 use Rattle.std.specs.List.{AllByRecursion}
 use Rattle.std.specs.Map.{keys_of, lookup}
 use Rattle.std.specs.BTreeMap.{is_at, insert_entry}
-use Rattle.std.proofs.lemmas.Map.Views.{All-keys-insert_entry}
-use Rattle.std.proofs.lemmas.Bool.{true≢false}
+use Rattle.std.proofs.lemmas.Map.Views.{All-keys-insert_entry, Contains-keys_from_lookup}
+use Rattle.std.proofs.lemmas.List.Elements.{All-contains}
+use Rattle.std.proofs.lemmas.Bool.{true≢false, not-false}
 use Rattle.std.proofs.lemmas.Bool.Decides.{nat_tests}
 use Rattle.net_prefix.specs.declared.addr.Addr.{Addr}
 use Rattle.net_prefix.specs.Address.{addr_cmp}
 use Rattle.igp_cost.specs.Trees.{Reached}
-use Rattle.net_conf.specs.declared.limits.TheConstants.{MAX_NODES}
+use Rattle.igp_cost.specs.declared.limits.TheConstants.{MAX_NODES}
 use Rattle.net_conf.specs.declared.tables.Ends.{Ends}
 use Rattle.net_conf.specs.declared.tables.Link.{Link as TheLink}
 use Rattle.net_conf.specs.declared.tables.Node.{Node}
@@ -20,10 +21,12 @@ use Rattle.net_conf.specs.declared.edit.Edit.{Edit}
 use Rattle.net_conf.specs.declared.edit.Edit.TheVariants.{Router, Virtual, Link, Metric, Fail, Mend, Join, Stop, Start, Client, OwnNext, Cluster, Rule as AddRule, Clear, Origin, NoOrigin}
 use Rattle.net_conf.specs.declared.tables.PolicySide.TheVariants.{Import, Export}
 use Rattle.net_conf.specs.declared.refusal.Refusal.{Refusal}
-use Rattle.net_conf.specs.Configuration.{Configuration, has_node, ends_of, ends_cmp, link_between}
-use Rattle.net_conf.specs.Edits.{first_of, tests_of, refusal_of, edited, lacks_node, lacks_either, is_past_limit, with_link, with_link_changed, with_session}
+use Rattle.net_conf.specs.Configuration.{Configuration, has_node, ends_of, ends_cmp, link_between, has_session}
+use Rattle.net_conf.specs.Edits.{first_of, tests_of, refusal_of, edited, lacks_node, lacks_either, has_one_end, lacks_session, is_past_limit, with_link, with_link_changed, with_session}
 use Rattle.net_conf.specs.Costs.{costs_of}
-use Rattle.net_conf.specs.Kept.{HasEnds, IsSound, has_none, trees_of, keeps_trees}
+use Rattle.net_conf.specs.Configured.{AreApart, HasEnds}
+use Rattle.net_conf.specs.Kept.{IsSound, has_none, trees_of, keeps_trees}
+use Rattle.net_conf.proofs.KeptTrees.{same_ends}
 
 -- what is found is found still, once an entry is put in
 module _ {K X : Type 0} (cmp : K → K → Ordering) (test : K → Bool) (k : K) (v : X) where
@@ -87,6 +90,18 @@ ends_there c a b first second = by (nat_le a.0 b.0)
     by true = (first, second)
     by false = (second, first)
 
+-- the ends of two that differ do
+ends_apart : (a b : Addr) → (a.0 == b.0) ≡ false → AreApart (ends_of a b)
+ends_apart a b differ = by (nat_le a.0 b.0) refl
+  where
+    by : (le : Bool) → nat_le a.0 b.0 ≡ le → AreApart (if le then record { low = a; high = b } else record { low = b; high = a })
+    by true is = grind (arith, nat_tests)
+    by false is = grind (arith, nat_tests)
+
+-- what holds of the keys holds of one that is found
+of_found : {X : Type 0} (a b : Addr) (es : List (Ends × X)) → All AreApart (keys_of es) → is_some (lookup (is_at (ends_cmp (ends_of a b))) es) ≡ true → AreApart (ends_of a b)
+of_found a b es all found = All-contains AreApart (keys_of es) (ends_of a b) all (Contains-keys_from_lookup {eq = λ x. is_at (ends_cmp x)} same_ends (ends_of a b) es found)
+
 module _ (c : Configuration) (sound : IsSound c) where
   -- a node more
   with_node : (a : Addr) (n : Node) → length c.nodes < MAX_NODES → IsSound (record c { nodes = insert_entry addr_cmp c.nodes a n })
@@ -94,20 +109,37 @@ module _ (c : Configuration) (sound : IsSound c) where
     size = omega (arith, one_longer addr_cmp a n c.nodes, room);
     links = λ k d lt. still (get_or (keys_of c.links) k d) (sound.links k d lt);
     sessions = λ k d lt. still (get_or (keys_of c.sessions) k d) (sound.sessions k d lt);
+    links_apart = sound.links_apart;
+    sessions_apart = sound.sessions_apart;
   }
     where
       still : (e : Ends) → HasEnds c e → HasEnds (record c { nodes = insert_entry addr_cmp c.nodes a n }) e
       still e has = (found_still addr_cmp (is_at (addr_cmp e.low)) a n c.nodes has.0, found_still addr_cmp (is_at (addr_cmp e.high)) a n c.nodes has.1)
 
-  linked : (a b : Addr) (link : TheLink) → HasEnds c (ends_of a b) → IsSound (with_link c a b link)
-  linked a b link has = record { size = sound.size; links = All-keys-insert_entry ends_cmp (ends_of a b) link (HasEnds c) c.links sound.links has; sessions = sound.sessions }
+  linked : (a b : Addr) (link : TheLink) → HasEnds c (ends_of a b) → AreApart (ends_of a b) → IsSound (with_link c a b link)
+  linked a b link has apart = record {
+    size = sound.size;
+    links = All-keys-insert_entry ends_cmp (ends_of a b) link (HasEnds c) c.links sound.links has;
+    sessions = sound.sessions;
+    links_apart = All-keys-insert_entry ends_cmp (ends_of a b) link AreApart c.links sound.links_apart apart;
+    sessions_apart = sound.sessions_apart;
+  }
 
-  changed : (a b : Addr) (change : TheLink → TheLink) (link : Option TheLink) → HasEnds c (ends_of a b) → IsSound (with_link_changed c a b change link)
-  changed a b change None has = sound
-  changed a b change (Some link) has = linked a b (change link) has
+  changed : (a b : Addr) (change : TheLink → TheLink) (link : Option TheLink) → link_between c a b ≡ link → HasEnds c (ends_of a b) → IsSound (with_link_changed c a b change link)
+  changed a b change None is has = sound
+  changed a b change (Some link) is has = linked a b (change link) has (of_found a b c.links sound.links_apart (ap is_some is))
 
-  joined : (a b : Addr) (enabled : Bool) → HasEnds c (ends_of a b) → IsSound (with_session c a b enabled)
-  joined a b enabled has = record { size = sound.size; links = sound.links; sessions = All-keys-insert_entry ends_cmp (ends_of a b) enabled (HasEnds c) c.sessions sound.sessions has }
+  joined : (a b : Addr) (enabled : Bool) → HasEnds c (ends_of a b) → AreApart (ends_of a b) → IsSound (with_session c a b enabled)
+  joined a b enabled has apart = record {
+    size = sound.size;
+    links = sound.links;
+    sessions = All-keys-insert_entry ends_cmp (ends_of a b) enabled (HasEnds c) c.sessions sound.sessions has;
+    links_apart = sound.links_apart;
+    sessions_apart = All-keys-insert_entry ends_cmp (ends_of a b) enabled AreApart c.sessions sound.sessions_apart apart;
+  }
+
+  session_apart : (a b : Addr) → not (has_session c a b) ≡ false → AreApart (ends_of a b)
+  session_apart a b there = of_found a b c.sessions sound.sessions_apart (not-false (has_session c a b) there)
 
   ends : (a b : Addr) → lacks_either c a b ≡ false → HasEnds c (ends_of a b)
   ends a b is = let there = both_there (has_node c a) (has_node c b) is in ends_there c a b there.0 there.1
@@ -117,36 +149,36 @@ module _ (c : Configuration) (sound : IsSound c) where
     size = subst (λ n. length n ≤ MAX_NODES) (sym nodes) sound.size;
     links = subst (λ n. All (λ e. (is_some (lookup (is_at (addr_cmp e.low)) n) ≡ true) × (is_some (lookup (is_at (addr_cmp e.high)) n) ≡ true)) (keys_of d.links)) (sym nodes) (subst (λ l. All (HasEnds c) (keys_of l)) (sym links) sound.links);
     sessions = subst (λ n. All (λ e. (is_some (lookup (is_at (addr_cmp e.low)) n) ≡ true) × (is_some (lookup (is_at (addr_cmp e.high)) n) ≡ true)) (keys_of d.sessions)) (sym nodes) (subst (λ l. All (HasEnds c) (keys_of l)) (sym sessions) sound.sessions);
+    links_apart = subst (λ l. All AreApart (keys_of l)) (sym links) sound.links_apart;
+    sessions_apart = subst (λ l. All AreApart (keys_of l)) (sym sessions) sound.sessions_apart;
   }
 
-  -- an edit whose nodes are there, and that passes no limit
-  pub sound_edited : (e : Edit) → lacks_node c e ≡ false → is_past_limit c e ≡ false → IsSound (edited c e)
-  sound_edited (Router a n) there room = with_node a _ (below_limit (length c.nodes) room)
-  sound_edited (Virtual a n) there room = with_node a _ (below_limit (length c.nodes) room)
-  sound_edited (Link a b m) there room = linked a b _ (ends a b there)
-  sound_edited (Metric a b m) there room = changed a b _ (link_between c a b) (ends a b there)
-  sound_edited (Fail a b) there room = changed a b _ (link_between c a b) (ends a b there)
-  sound_edited (Mend a b) there room = changed a b _ (link_between c a b) (ends a b there)
-  sound_edited (Join a b) there room = joined a b true (ends a b there)
-  sound_edited (Stop a b) there room = joined a b false (ends a b there)
-  sound_edited (Start a b) there room = joined a b true (ends a b there)
-  sound_edited (Client a b on) there room = same_tables _ refl refl refl
-  sound_edited (OwnNext a b on) there room = same_tables _ refl refl refl
-  sound_edited (Cluster a id) there room = same_tables _ refl refl refl
-  sound_edited (AddRule a b Import rule) there room = same_tables _ refl refl refl
-  sound_edited (AddRule a b Export rule) there room = same_tables _ refl refl refl
-  sound_edited (Clear a b Import) there room = same_tables _ refl refl refl
-  sound_edited (Clear a b Export) there room = same_tables _ refl refl refl
-  sound_edited (Origin a p) there room = same_tables _ refl refl refl
-  sound_edited (NoOrigin a p) there room = same_tables _ refl refl refl
-
--- an edit that is not refused has its nodes, and passes no limit
-pub not_refused : (c : Configuration) (e : Edit) → refusal_of c e ≡ None → (lacks_node c e ≡ false) × (is_past_limit c e ≡ false)
-unfolding refusal_of
-not_refused c e none = let all = all_fail (tests_of c e) none in (all.0, all.1.1.1.1.1.1.1.1.1.1.1.1.1.1.0)
+  -- an edit between two that are there and differ, of a session that is there, and that passes no limit
+  pub sound_edited : (e : Edit) → lacks_node c e ≡ false → has_one_end e ≡ false → lacks_session c e ≡ false → is_past_limit c e ≡ false → IsSound (edited c e)
+  sound_edited (Router a n) there two session room = with_node a _ (below_limit (length c.nodes) room)
+  sound_edited (Virtual a n) there two session room = with_node a _ (below_limit (length c.nodes) room)
+  sound_edited (Link a b m) there two session room = linked a b _ (ends a b there) (ends_apart a b two)
+  sound_edited (Metric a b m) there two session room = changed a b _ (link_between c a b) refl (ends a b there)
+  sound_edited (Fail a b) there two session room = changed a b _ (link_between c a b) refl (ends a b there)
+  sound_edited (Mend a b) there two session room = changed a b _ (link_between c a b) refl (ends a b there)
+  sound_edited (Join a b) there two session room = joined a b true (ends a b there) (ends_apart a b two)
+  sound_edited (Stop a b) there two session room = joined a b false (ends a b there) (session_apart a b session)
+  sound_edited (Start a b) there two session room = joined a b true (ends a b there) (session_apart a b session)
+  sound_edited (Client a b on) there two session room = same_tables _ refl refl refl
+  sound_edited (OwnNext a b on) there two session room = same_tables _ refl refl refl
+  sound_edited (Cluster a id) there two session room = same_tables _ refl refl refl
+  sound_edited (AddRule a b Import rule) there two session room = same_tables _ refl refl refl
+  sound_edited (AddRule a b Export rule) there two session room = same_tables _ refl refl refl
+  sound_edited (Clear a b Import) there two session room = same_tables _ refl refl refl
+  sound_edited (Clear a b Export) there two session room = same_tables _ refl refl refl
+  sound_edited (Origin a p) there two session room = same_tables _ refl refl refl
+  sound_edited (NoOrigin a p) there two session room = same_tables _ refl refl refl
 
 pub sound_after : (c : Configuration) (e : Edit) → IsSound c → refusal_of c e ≡ None → IsSound (edited c e)
-sound_after c e sound none = let tests = not_refused c e none in sound_edited c sound e tests.0 tests.1
+unfolding refusal_of
+sound_after c e sound none =
+    let all = all_fail (tests_of c e) none in
+    sound_edited c sound e all.0 all.1.1.0 all.1.1.1.1.1.1.1.1.0 all.1.1.1.1.1.1.1.1.1.1.1.1.1.1.0
 
 -- where an entry is put in, there is one
 one_put_in : {K X : Type 0} (cmp : K → K → Ordering) (es : List (K × X)) (k : K) (v : X) → has_none (insert_entry cmp es k v) ≡ false

@@ -11,7 +11,8 @@ use Rattle.route_policy.specs.declared.rule.Rule.{Rule}
 use Rattle.route_policy.specs.declared.rule.Action.{Action}
 use Rattle.route_policy.specs.declared.rule.Action.TheVariants.{Deny, Permit}
 use Rattle.route_policy.specs.Limits.{is_full}
-use Rattle.net_conf.specs.declared.limits.TheConstants.{MAX_NODES, MAX_LINKS, MAX_SESSIONS}
+use Rattle.igp_cost.specs.declared.limits.TheConstants.{MAX_NODES}
+use Rattle.net_conf.specs.declared.limits.TheConstants.{MAX_LINKS, MAX_SESSIONS}
 use Rattle.net_conf.specs.declared.tables.End.{End}
 use Rattle.net_conf.specs.declared.tables.Link.{Link as TheLink}
 use Rattle.net_conf.specs.declared.tables.PolicySide.{PolicySide}
@@ -259,3 +260,8 @@ refusal_or_memory (Some r) = r
 abbrev pub IsEdit : Configuration → Edit → Result Unit Refusal → Configuration → Type 0
 IsEdit c e (Ok u) d = (refusal_of c e ≡ None) × (d ≡ edited c e)
 IsEdit c e (Err r) d = (refusal_or_memory (refusal_of c e) ≡ r) × (d ≡ c)
+
+-- the configuration after an edit, made beside the one before: there is none where a test holds, or for want of memory
+abbrev pub IsEdited : Configuration → Edit → Result Configuration Refusal → Type 0
+IsEdited c e (Ok d) = (refusal_of c e ≡ None) × (d ≡ edited c e)
+IsEdited c e (Err r) = refusal_or_memory (refusal_of c e) ≡ r

@@ -3,4 +3,7 @@ pub mod Configuration
 pub mod Edits
 pub mod Costs
 pub mod Sites
+pub mod RouterSites
+pub mod Configured
+pub mod Laws
 pub mod Kept

@@ -6,9 +6,10 @@ ghost use Rattle.net_conf.specs.Edits.{lacks_either, lacks_node, repeats_node, h
 
 use crate::conf_tables::ConfTables;
 use crate::edit::Edit;
-use crate::limits::{MAX_LINKS, MAX_NODES, MAX_SESSIONS};
+use crate::limits::{MAX_LINKS, MAX_SESSIONS};
 use crate::refusal::Refusal;
 use crate::tables::{End, PolicySide};
+use igp_cost::MAX_NODES;
 use net_prefix::Addr;
 use route_policy::{Action, MAX_RULES, Policy};
 use std::collections::BTreeMap;

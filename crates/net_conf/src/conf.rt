@@ -3,6 +3,7 @@
 ghost use Rattle.std.specs.Prelude.{◌≡◌, true, None, Some, IfOk, OnOk, OnErr, MatchResult, option_map, is_some, length};
 ghost use Rattle.net_conf.specs.Configuration.{unconfigured, node_at, has_node, is_virtual, as_of, has_session, origins_of};
 ghost use Rattle.net_conf.specs.Costs.{cost, is_connected, session_up, is_up};
+ghost use Rattle.net_conf.specs.Configured.{IsConfigured};
 ghost use Rattle.net_conf.specs.Edits.{refusal_of, edited, IsEdit};
 ghost use Rattle.net_conf.specs.Kept.{is_setting, is_of_session, keeps_trees};
 
@@ -48,6 +49,13 @@ impl Conf {
         }
     }
 
+    /// A call gives the caller's proof what holds of every configuration.
+    pub fn facts(&self)
+        ensures configured { IsConfigured self.now }
+    {
+        self.tables.orders();
+    }
+
     /// Whether the edit may be made: the first test that holds refuses it. It takes no memory.
     pub fn check(&self, edit: &Edit) -> Result<(), Refusal>
         ensures { MatchResult result (λ _. refusal_of self.now edit.now ≡ None) (λ r. refusal_of self.now edit.now ≡ Some r) }
@@ -72,16 +80,13 @@ impl Conf {
         if self.keeps_trees(edit) {
             self.tables.apply(alloc, edit)
         } else {
-            let mut tables = self.tables.copy(alloc)?;
-            tables.apply(alloc, edit)?;
-            let trees = tables.trees(alloc)?;
-            *self = Conf { tables, trees };
+            *self = self.made(alloc, edit)?;
             Ok(())
         }
     }
 
     /// Whether the edit leaves all trees as they are.
-    fn keeps_trees(&self, edit: &Edit) -> bool
+    pub(crate) fn keeps_trees(&self, edit: &Edit) -> bool
         ensures { result ≡ keeps_trees self.now edit.now }
     {
         is_setting(edit) || is_of_session(edit) && !self.tables.has_no_session()

@@ -5,6 +5,7 @@ ghost use Rattle.std.specs.Map.{remove_entry};
 ghost use Rattle.std.specs.BTreeMap.{insert_entry, is_at};
 ghost use Rattle.net_prefix.specs.Address.{addr_cmp};
 ghost use Rattle.net_conf.specs.Configuration.{unconfigured, node_at, has_node, is_virtual, as_of, is_external, link_between, has_link, has_link_up, session_between, has_session, session_count, is_client, is_reflector, cluster_id, puts_itself, rules_at, import_rules, export_rules, originates, origins_of, end_of};
+ghost use Rattle.net_conf.specs.Configured.{IsInOrder};
 
 use crate::tables::{End, Ends, Kind, Link, Node, Origination};
 use net_prefix::{Addr, Prefix};
@@ -63,6 +64,21 @@ impl ConfTables {
             clusters: BTreeMap::new(alloc),
             origins: BTreeSet::new(alloc),
         }
+    }
+
+    /// A call gives the caller's proof that each table is in order: reading a map or a set tells that.
+    pub fn orders(&self)
+        ensures { IsInOrder self.now }
+    {
+        let _ = self.nodes.len();
+        let _ = self.links.len();
+        let _ = self.sessions.len();
+        let _ = self.clients.len();
+        let _ = self.own_next.len();
+        let _ = self.imports.len();
+        let _ = self.exports.len();
+        let _ = self.clusters.len();
+        let _ = self.origins.len();
     }
 
     /// The router or virtual peer at the address.

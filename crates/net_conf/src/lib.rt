@@ -7,6 +7,8 @@ mod checks;
 mod conf;
 mod conf_tables;
 mod edit;
+mod edited;
+mod laws;
 mod limits;
 mod refusal;
 mod site;
@@ -15,8 +17,11 @@ mod trees;
 
 pub use conf::Conf;
 pub use edit::Edit;
-pub use igp_cost::Metric;
-pub use limits::{MAX_LINKS, MAX_NODES, MAX_SESSIONS};
+pub use igp_cost::{MAX_NODES, Metric};
+pub use laws::{
+    origins_are_listed, peers_are_those_of_sessions, sites_are_found, sites_are_of_routers,
+};
+pub use limits::{MAX_LINKS, MAX_SESSIONS};
 pub use refusal::Refusal;
 pub use site::{SiteConf, SiteSession};
 pub use tables::{End, Ends, Kind, Link, Node, Origination, PolicySide};

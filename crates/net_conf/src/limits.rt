@@ -1,7 +1,5 @@
-//! How much a configuration holds (own): limits that refusals cite.
-
-/// How many routers and virtual peers there may be.
-pub const MAX_NODES: usize = 4096;
+//! How much a configuration holds (own): limits that refusals cite. There may be as many routers and virtual peers as nodes
+//! of a graph.
 
 /// How many links there may be.
 pub const MAX_LINKS: usize = 16384;

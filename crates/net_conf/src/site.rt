@@ -13,6 +13,7 @@ use path_attr::Asn;
 use route_policy::Policy;
 use seq::{Copied, Seq};
 use std::alloc::{AllocError, Global};
+use std::collections::BTreeMap;
 
 /// One router's part of the configuration: all that what it decides and advertises depends on.
 #[derive(Drop)]
@@ -67,11 +68,46 @@ impl SiteConf {
     }
 }
 
+impl Copied for SiteConf {
+    fn copy(&self, alloc: Global) -> Result<SiteConf, AllocError> {
+        Ok(SiteConf {
+            me: self.me,
+            asn: self.asn,
+            cluster: self.cluster,
+            reflector: self.reflector,
+            origins: Seq::copy_of(alloc, self.origins.as_slice())?,
+            sessions: self.sessions.copy(alloc)?,
+            costs: self.costs.copy(alloc)?,
+        })
+    }
+}
+
+impl Copied for SiteSession {
+    fn copy(&self, alloc: Global) -> Result<SiteSession, AllocError> {
+        Ok(SiteSession {
+            peer: self.peer,
+            peer_asn: self.peer_asn,
+            up: self.up,
+            external: self.external,
+            client: self.client,
+            own_next: self.own_next,
+            policy_in: self.policy_in.copy(alloc)?,
+            policy_out: self.policy_out.copy(alloc)?,
+        })
+    }
+}
+
 impl Conf {
-    ghost use Rattle.std.specs.Prelude.{◌≡◌, true, map, IfOk};
+    ghost use Rattle.std.specs.Prelude.{◌≡◌, true, map, IfOk, OnOk};
+    ghost use Rattle.std.specs.List.{filter_map};
+    ghost use Rattle.std.specs.List.Sorted.{IsStrictlySortedBy};
+    ghost use Rattle.std.specs.Map.{keys_of};
+    ghost use Rattle.net_prefix.specs.Address.{addr_cmp};
     ghost use Rattle.net_conf.specs.Configuration.{has_node};
     ghost use Rattle.net_conf.specs.Costs.{costs_of};
     ghost use Rattle.net_conf.specs.Sites.{session_of, peers_of, sessions_of, site_of, IsSite};
+    ghost use Rattle.net_conf.specs.RouterSites.{router_site, site_entry, sites_of};
+    ghost use Rattle.net_conf.specs.Kept.{with_site};
 
     /// The router's own part of the configuration. It is refused where there is no router, where a virtual peer stands,
     /// and for want of memory.
@@ -107,6 +143,56 @@ impl Conf {
             sessions: Seq::of(self.sessions_of(alloc, router)?),
             costs: self.costs(alloc, router)?,
         }))
+    }
+
+    /// The router's own part of the configuration, where there is a router: none where a virtual peer stands.
+    pub fn router_site(&self, alloc: Global, router: Addr) -> Result<Option<SiteConf>, AllocError>
+        ensures { IfOk result (λ site. site ≡ router_site self.now router) }
+    {
+        if self.is_virtual(router) {
+            Ok(None)
+        } else {
+            self.site_at(alloc, router)
+        }
+    }
+
+    /// The sites of all routers, by address.
+    pub fn sites(&self, alloc: Global) -> Result<BTreeMap<Addr, SiteConf>, AllocError>
+        ensures { IfOk result (λ sites. sites.entries ≡ sites_of self.now) }
+    {
+        let nodes = self.tables.node_list(alloc)?;
+        self.sites_at(alloc, &nodes)
+    }
+
+    /// The sites of these routers; of a virtual peer none.
+    fn sites_at(
+        &self,
+        alloc: Global,
+        nodes: &[(Addr, Asn)],
+    ) -> Result<BTreeMap<Addr, SiteConf>, AllocError>
+        requires { IsStrictlySortedBy addr_cmp (keys_of nodes.now) }
+        ensures { IfOk result (λ sites. sites.entries ≡ filter_map (λ n. site_entry self.now n.0) nodes.now) }
+    {
+        let mut sites = BTreeMap::new(alloc);
+        for node in nodes {
+            self.add_site(alloc, &mut sites, node.0)?;
+        }
+        Ok(sites)
+    }
+
+    /// Adds the router's site, where there is a router.
+    fn add_site(
+        &self,
+        alloc: Global,
+        sites: &mut BTreeMap<Addr, SiteConf>,
+        router: Addr,
+    ) -> Result<(), AllocError>
+        ensures { OnOk result (sites.new.entries ≡ with_site sites.old.entries router (router_site self.now router)) }
+    {
+        if let Some(site) = self.router_site(alloc, router)? {
+            sites.insert(router, site)?;
+        }
+        Ok(())
     }
 
     /// All costs and first hops of a router or peer.

@@ -20,7 +20,7 @@ use std::collections::BTreeMap;
 
 impl ConfTables {
     /// The routers and peers, each with its AS, in order of address.
-    fn node_list(&self, alloc: Global) -> Result<Vec<(Addr, Asn)>, AllocError>
+    pub fn node_list(&self, alloc: Global) -> Result<Vec<(Addr, Asn)>, AllocError>
         ensures list { IfOk result (λ v. v.items ≡ nodes_of self.now) }
         ensures ascending { IsStrictlySortedBy addr_cmp (keys_of self.now.nodes) }
     {

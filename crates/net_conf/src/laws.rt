@@ -1,0 +1,29 @@
+//! What holds of configurations. A function here does nothing: a call gives the caller's proof what it ensures.
+
+ghost use Rattle.net_conf.specs.Laws.{PeersAreInOrder, PeersHaveSessions, SitesAreOfTheirRouters, SiteSessionsAreInOrder, SitesHaveSessions, SitesKnowSessionsUp, OriginsAreListed, RouterSitesAreSites, SitesAreInOrder, SitesAreFound};
+
+/// The peers of a router are in order of address, and are those with which it has a session.
+pub fn peers_are_those_of_sessions()
+    ensures in_order { PeersAreInOrder }
+    ensures sessions { PeersHaveSessions }
+{}
+
+/// A site is its router's, and has its sessions, in order of the peers' addresses, each up where it is by the configuration.
+pub fn sites_are_of_routers()
+    ensures address { SitesAreOfTheirRouters }
+    ensures in_order { SiteSessionsAreInOrder }
+    ensures sessions { SitesHaveSessions }
+    ensures up { SitesKnowSessionsUp }
+{}
+
+/// The prefixes that are listed for a router are those that it originates.
+pub fn origins_are_listed()
+    ensures law { OriginsAreListed }
+{}
+
+/// Among the sites of all routers, which are in order of address, is just that of each.
+pub fn sites_are_found()
+    ensures sites { RouterSitesAreSites }
+    ensures in_order { SitesAreInOrder }
+    ensures found { SitesAreFound }
+{}
