@@ -1,0 +1,4 @@
+pub mod Cells
+pub mod Coding
+pub mod Senders
+pub mod Updates

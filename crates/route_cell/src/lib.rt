@@ -1,0 +1,15 @@
+//! What one router has received for one prefix, how each route stands there, and what the router sends when that changes.
+#![tactic(auto)]
+
+mod cell;
+mod changes;
+mod keeping;
+mod outcome;
+mod received_routes;
+mod sends;
+mod standings;
+
+pub use cell::Cell;
+pub use changes::{deliver, refresh, store};
+pub use keeping::keep;
+pub use outcome::Outcome;
