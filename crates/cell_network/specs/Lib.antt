@@ -1,0 +1,5 @@
+pub mod Editing
+pub mod Engine
+pub mod Keeping
+pub mod Reporting
+pub mod Sending
