@@ -1,0 +1,169 @@
+-- An engine that grows by an empty cell or by spare places keeps the same.
+use Rattle.std.proofs.Common.{◌≡◌, Bool, true, false, cond, List, [], ◌∷◌, map, slice_get, Option, Some, None, is_some, unwrap_or, Result, Ok, Err, OnOk, OnErr, option_copied, refl, sym, ap, subst, ◌∙◌}
+use Rattle.std.proofs.lemmas.Bool.{true≢false}
+use Rattle.std.proofs.lemmas.Option.{none-some, same_Some}
+use Rattle.std.specs.Borrow.{Bor}
+use Rattle.std.specs.declared.cmp.Ordering.{Ordering}
+use Rattle.std.specs.declared.cmp.Ordering.TheVariants.{Less, Equal, Greater}
+use Rattle.std.specs.Ordering.{is_eq}
+use Rattle.std.specs.List.Sorted.{IsStrictlySortedBy}
+use Rattle.net_prefix.specs.declared.addr.Addr.{Addr}
+use Rattle.net_prefix.specs.Address.{addr_cmp}
+use Rattle.net_prefix.specs.Block.{Block, IsBlock, block_cmp}
+use Rattle.net_prefix.specs.Orders.{addr_exact, block_exact}
+use Rattle.prefix_table.specs.Tables.{Table}
+use Rattle.session_queue.specs.declared.direction.Direction.{Direction}
+use Rattle.session_queue.specs.declared.message.Message.{Message}
+use Rattle.session_queue.specs.Telling.{prefix_of}
+use Rattle.session_queue.specs.Waiting.{WaitingByDirection, queue_at, IsQuiet}
+use Rattle.net_conf.specs.Configuration.{unconfigured}
+use Rattle.net_conf.specs.RouterSites.{router_site}
+use Rattle.reference_machine.specs.Machine.{nothing}
+use Rattle.router_tables.specs.RouterTables.{value_at, with_value}
+use Rattle.route_cell.specs.Cells.{Heard, Outcome, nothing_heard}
+use Rattle.cell_network.specs.Engine.{Engine, IsSound, heard_at, network, queue_of}
+use Rattle.cell_network.specs.Reporting.{AreOfPrefixes}
+use Rattle.cell_network.proofs.Matches.{prefixes_with_cell}
+use Rattle.cell_network.proofs.Decided.{value_with_cell, sound_with_empty_cell}
+use Rattle.cell_network.proofs.Queues.{network_same}
+use Rattle.cell_network.proofs.Received.{entries_with_empty_cell}
+use Rattle.cell_network.proofs.Taken.{value_here}
+use Rattle.cell_engine.specs.Deliveries.{outcome_by, outcome_at, IsOfHead, KeepsSame}
+use Rattle.cell_engine.proofs.Delivered.{sound_with_queues}
+
+-- THE NETWORK STAYS
+
+pub network_kept : (e e' : Engine) → KeepsSame e e' → network e' ≡ network e
+unfolding network
+network_kept e e' same =
+    (λ i. record { conf = same.conf i; received = same.received i; queues = map (queue_of e'.queues) (same.directions i) })
+    ∙ network_same e e'.queues same.queue
+
+pub same_itself : (e : Engine) → KeepsSame e e
+same_itself e = record { conf = refl; directions = refl; received = refl; heard = λ r p. refl; queue = λ f t. refl }
+
+pub same_then : (e e' e'' : Engine) → KeepsSame e e' → KeepsSame e' e'' → KeepsSame e e''
+same_then e e' e'' one two = record {
+  conf = two.conf ∙ one.conf;
+  directions = two.directions ∙ one.directions;
+  received = two.received ∙ one.received;
+  heard = λ r p. two.heard r p ∙ one.heard r p;
+  queue = λ f t. two.queue f t ∙ one.queue f t;
+}
+
+-- what is made of the message at the head is the head's outcome
+pub head_of : (e : Engine) (d : Direction) (m : Message) (o : Outcome) → slice_get (queue_at e.queues d.from d.to) 0 ≡ Some m → o ≡ outcome_at e d m → IsOfHead e d (prefix_of m) o
+head_of e d m o first is = by (queue_at e.queues d.from d.to) refl first
+  where
+    by : (ms : List Message) → queue_at e.queues d.from d.to ≡ ms → slice_get ms 0 ≡ Some m → IsOfHead e d (prefix_of m) o
+    by [] waits first = absurd (none-some m first)
+    by (w ∷ ws) waits first = record { message = m; rest = ws; waits = waits ∙ ap (λ x. x ∷ ws) (same_Some w m first); prefix = refl; outcome = is }
+
+-- and stays it
+pub head_kept : (e e' : Engine) → KeepsSame e e' → (d : Direction) (p : Block) (o : Outcome) → IsOfHead e d p o → IsOfHead e' d p o
+head_kept e e' same d p o head = record {
+  message = head.message;
+  rest = head.rest;
+  waits = same.queue d.from d.to ∙ head.waits;
+  prefix = head.prefix;
+  outcome = head.outcome ∙ sym (λ i. outcome_by (router_site (same.conf i) d.to) (same.heard d.to (prefix_of head.message) i) d.from head.message);
+}
+
+-- PLACES
+
+pub same_with_places : (e : Engine) (q : WaitingByDirection) → ((f t : Addr) → queue_at q f t ≡ queue_at e.queues f t) → KeepsSame e (record e { queues = q })
+same_with_places e q same = record { conf = refl; directions = refl; received = refl; heard = λ r p. refl; queue = same }
+
+pub sound_with_places : (e : Engine) (q : WaitingByDirection) → ((f t : Addr) → queue_at q f t ≡ queue_at e.queues f t) → IsSound e → IsSound (record e { queues = q })
+sound_with_places e q same sound = sound_with_queues e q sound (λ f t none. same f t ∙ sound.silent f t none)
+
+-- AN EMPTY CELL
+
+module _ (e : Engine) (r : Addr) (p : Block) (sound : IsSound e) (none : value_at r p e.tables ≡ None) where
+  heard_by : (s : Addr) (q : Block) (a b : Ordering) → addr_cmp s r ≡ a → block_cmp q p ≡ b → unwrap_or (cond (is_eq a) (cond (is_eq b) (Some nothing_heard) (value_at s q e.tables)) (value_at s q e.tables)) nothing_heard ≡ heard_at s q e.tables
+  heard_by s q Less b is also = refl
+  heard_by s q Equal Less is also = refl
+  heard_by s q Equal Equal is also =
+      let here : value_at s q e.tables ≡ None = (λ i. value_at (addr_exact s r is i) (block_exact q p also i) e.tables) ∙ none in
+      sym (ap (λ x. unwrap_or x nothing_heard) here)
+  heard_by s q Equal Greater is also = refl
+  heard_by s q Greater b is also = refl
+
+  pub same_with_empty_cell : KeepsSame e (record e { tables = with_value r p nothing_heard e.tables })
+  same_with_empty_cell = record {
+    conf = refl;
+    directions = refl;
+    received = entries_with_empty_cell e.tables sound.by_address r p none;
+    heard = λ s q. ap (λ x. unwrap_or x nothing_heard) (value_with_cell r p nothing_heard e.tables s q) ∙ heard_by s q (addr_cmp s r) (block_cmp q p) refl refl;
+    queue = λ f t. refl;
+  }
+
+none_of : {X : Type 0} (x : Option X) → is_some x ≡ false → x ≡ None
+none_of None h = refl
+none_of (Some y) h = absurd (true≢false h)
+
+-- the tables, once an empty cell was put in, or was not for want of memory
+module _ {A F : Type 0} (e : Engine) (r : Addr) (p : Block) (ts : List (Addr × Table Heard)) (o : Result A F) (ok : OnOk o (ts ≡ with_value r p nothing_heard e.tables)) where
+  -- all that have a cell are prefixes
+  pub grown_prefixes : OnErr o (ts ≡ e.tables) → IsBlock p.addr p.len → AreOfPrefixes e.tables → AreOfPrefixes ts
+  grown_prefixes err block are = by o ok err
+    where
+      by : (o : Result A F) → OnOk o (ts ≡ with_value r p nothing_heard e.tables) → OnErr o (ts ≡ e.tables) → AreOfPrefixes ts
+      by (Ok x) ok err = subst AreOfPrefixes (sym ok) (prefixes_with_cell r p nothing_heard e.tables block are)
+      by (Err x) ok err = subst AreOfPrefixes (sym err) are
+
+  module _ (err : OnErr o (ts ≡ e.tables)) (sound : IsSound e) (absent : is_some (value_at r p e.tables) ≡ false) where
+    pub grown_sound : IsSound (record e { tables = ts })
+    grown_sound = by o ok err
+      where
+        by : (o : Result A F) → OnOk o (ts ≡ with_value r p nothing_heard e.tables) → OnErr o (ts ≡ e.tables) → IsSound (record e { tables = ts })
+        by (Ok x) ok err = subst (λ ts. IsSound (record e { tables = ts })) (sym ok) (sound_with_empty_cell e sound r p (none_of _ absent))
+        by (Err x) ok err = subst (λ ts. IsSound (record e { tables = ts })) (sym err) sound
+
+    pub grown_same : KeepsSame e (record e { tables = ts })
+    grown_same = by o ok err
+      where
+        by : (o : Result A F) → OnOk o (ts ≡ with_value r p nothing_heard e.tables) → OnErr o (ts ≡ e.tables) → KeepsSame e (record e { tables = ts })
+        by (Ok x) ok err = subst (λ ts. KeepsSame e (record e { tables = ts })) (sym ok) (same_with_empty_cell e r p sound (none_of _ absent))
+        by (Err x) ok err = subst (λ ts. KeepsSame e (record e { tables = ts })) (sym err) (same_itself e)
+
+  pub grown_there : OnOk o (is_some (value_at r p ts) ≡ true)
+  grown_there = by o ok
+    where
+      by : (o : Result A F) → OnOk o (ts ≡ with_value r p nothing_heard e.tables) → OnOk o (is_some (value_at r p ts) ≡ true)
+      by (Ok x) ok = ap (λ ts. is_some (value_at r p ts)) ok ∙ ap is_some (value_here r p nothing_heard e.tables)
+      by (Err x) ok = tt
+
+-- a cell that was not found is not there
+pub not_found : (r : Addr) (p : Block) (ts ts' : List (Addr × Table Heard)) (found : Option (Bor Heard)) (is_found : Bool) → ts ≡ ts' → option_copied found ≡ value_at r p ts' → is_found ≡ is_some found → is_found ≡ false → is_some (value_at r p ts) ≡ false
+not_found r p ts ts' found is_found same is test off = ap (λ ts. is_some (value_at r p ts)) same ∙ ap is_some (sym is) ∙ some_copied found ∙ sym test ∙ off
+  where
+    some_copied : {X : Type 0} (o : Option (Bor X)) → is_some (option_copied o) ≡ is_some o
+    some_copied None = refl
+    some_copied (Some x) = refl
+
+-- what a reference shows, or another where there is none
+pub shown_or : {X : Type 0} (o : Option (Bor X)) (other : Bor X) → (unwrap_or o other).now ≡ unwrap_or (option_copied o) other.now
+shown_or None other = refl
+shown_or (Some x) other = refl
+
+-- NOTHING
+
+-- an engine of which nothing is configured, received or on its way, but perhaps places are
+abbrev pub blank : WaitingByDirection → Engine
+blank q = record { conf = unconfigured; tables = []; directions = []; queues = q }
+
+pub blank_sound : (q : WaitingByDirection) → IsQuiet q → IsSound (blank q)
+unfolding IsStrictlySortedBy
+blank_sound q quiet = record {
+  by_address = refl;
+  cells = tt;
+  origins = λ r p own. absurd (true≢false (sym own));
+  in_order = tt;
+  sessions = λ d. refl;
+  silent = λ f t none. quiet f t;
+}
+
+pub blank_network : (q : WaitingByDirection) → network (blank q) ≡ nothing
+unfolding network
+blank_network q = refl

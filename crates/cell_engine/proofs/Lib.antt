@@ -1,0 +1,7 @@
+pub mod Counts
+pub mod Delivered
+pub mod Growth
+pub mod Placing
+pub mod Reconfigured
+pub mod Remade
+pub mod Walks

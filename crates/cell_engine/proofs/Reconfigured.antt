@@ -1,0 +1,68 @@
+-- An edit's plan carried out: queues over sessions that are not up cleared, the plan's parts put in and its messages sent are the
+-- machine's own next state, and the engine stays sound.
+use Rattle.std.proofs.Common.{◌≡◌, Bool, true, false, [], ◌++◌, None, if◌then◌else◌, refl, sym, ap, subst, ◌∙◌}
+use Rattle.std.specs.List.{list_any}
+use Rattle.net_prefix.specs.declared.addr.Addr.{Addr}
+use Rattle.session_queue.specs.declared.direction.Direction.{Direction}
+use Rattle.session_queue.specs.Waiting.{WaitingByDirection, queue_at}
+use Rattle.net_conf.specs.declared.edit.Edit.{Edit}
+use Rattle.net_conf.specs.Configuration.{Configuration, has_session}
+use Rattle.net_conf.specs.Configured.{IsConfigured}
+use Rattle.net_conf.specs.Costs.{is_up}
+use Rattle.net_conf.specs.Edits.{edited, refusal_of}
+use Rattle.reference_machine.specs.Advertising.{sent}
+use Rattle.reference_machine.specs.Machine.{after_edit, with_sent, reconfigured}
+use Rattle.cell_network.specs.Engine.{Engine, IsSound, network, is_direction}
+use Rattle.cell_network.specs.Editing.{with_origin, left_at, all_sends, told_by_all}
+use Rattle.cell_network.proofs.Edited.{sound_edited}
+use Rattle.cell_network.proofs.Refreshed.{told_edited, network_edited}
+use Rattle.cell_engine.specs.Edits.{Planned, planned, IsPlanned}
+use Rattle.cell_engine.proofs.Delivered.{down_without_session, sent_without_session}
+
+-- of the directions of the engine those are cleared whose session is not up
+pub record IsCleared (e : Engine) (c : Configuration) (q : WaitingByDirection) : Type 0 where
+  pub up : (f t : Addr) → is_up c f t ≡ true → queue_at q f t ≡ queue_at e.queues f t
+  pub down : (d : Direction) → list_any (is_direction d) e.directions ≡ true → is_up c d.from d.to ≡ false → queue_at q d.from d.to ≡ []
+  pub empty : (f t : Addr) → queue_at e.queues f t ≡ [] → queue_at q f t ≡ []
+
+module _ (e : Engine) (sound : IsSound e) (c : Configuration) (q : WaitingByDirection) (cleared : IsCleared e c q) where
+  -- what is left is what was on its way over sessions that are up
+  left_over : (f t : Addr) → queue_at q f t ≡ left_at c e.queues f t
+  left_over f t = by (is_up c f t) refl where
+    none_by : (session : Bool) → has_session e.conf f t ≡ session → is_up c f t ≡ false → queue_at q f t ≡ []
+    none_by true is off = cleared.down (record { from = f; to = t }) (sound.sessions (record { from = f; to = t }) ∙ is) off
+    none_by false is off = cleared.empty f t (sound.silent f t is)
+
+    by : (up : Bool) → is_up c f t ≡ up → queue_at q f t ≡ (if up then queue_at e.queues f t else [])
+    by true is = cleared.up f t is
+    by false is = none_by (has_session e.conf f t) refl is
+
+-- the engine with the plan's parts and these queues
+abbrev pub with_plan : Planned → WaitingByDirection → Engine
+with_plan x r = record { conf = x.conf; tables = x.tables; directions = x.directions; queues = r }
+
+-- the queues are those that were cleared, with the plan's messages at their ends
+abbrev pub IsPushed : Planned → WaitingByDirection → WaitingByDirection → Type 0
+IsPushed x q r = (f t : Addr) → queue_at r f t ≡ queue_at q f t ++ told_by_all x.sends f t
+
+module _ (e : Engine) (sound : IsSound e) (configured : IsConfigured e.conf) (edit : Edit) where
+  abbrev Follows : Planned → Type 0
+  Follows x = IsConfigured x.conf → (q r : WaitingByDirection) → IsCleared e x.conf q → IsPushed x q r → IsSound (with_plan x r) × (network (with_plan x r) ≡ with_sent (network e) (after_edit (network e) edit))
+
+  module _ (allowed : refusal_of e.conf edit ≡ None) where
+    sent_without : (f t : Addr) → has_session (edited e.conf edit) f t ≡ false → sent (network e) (after_edit (network e) edit) f t ≡ []
+    unfolding network reconfigured
+    sent_without f t none = sent_without_session (network e) (after_edit (network e) edit) f t none
+
+    follows : Follows (planned e edit)
+    follows then_ q r cleared pushed =
+        let new = edited e.conf edit in
+        let left = left_over e sound new q cleared in
+        let sends = all_sends e.conf new (with_origin edit e.tables) in
+        let silent : (f t : Addr) → has_session new f t ≡ false → queue_at r f t ≡ [] =
+        λ f t none. pushed f t ∙ (λ i. (left f t ∙ ap (λ b. if b then queue_at e.queues f t else []) (down_without_session new f t none)) i ++ (told_edited e sound edit configured then_ allowed f t ∙ sent_without f t none) i) in
+        (sound_edited e sound edit allowed r silent, network_edited e sound edit configured then_ allowed r (λ f t. pushed f t ∙ ap (λ l. l ++ told_by_all sends f t) (left f t)))
+
+  -- the plan of an edit that is not refused
+  pub plan_followed : (x : Planned) → IsPlanned e edit x → Follows x
+  plan_followed x is = subst Follows (sym is.plan) (follows is.allowed)

@@ -1,0 +1,4 @@
+pub mod Coding
+pub mod Counts
+pub mod Deliveries
+pub mod Edits

@@ -1,0 +1,132 @@
+//! What the engine does with a message at the head of a queue.
+
+ghost use Rattle.std.specs.Prelude.{◌≡◌, ◌≤◌, ◌+◌, ◌++◌, length, true, is_some, IfOk, OnOk, OnErr};
+ghost use Rattle.net_conf.specs.Configuration.{has_session};
+ghost use Rattle.session_queue.specs.Waiting.{queue_at, spare_at};
+ghost use Rattle.router_tables.specs.RouterTables.{value_at, with_value};
+ghost use Rattle.route_cell.specs.Cells.{nothing_heard};
+ghost use Rattle.reference_machine.specs.Network.{messages_in};
+ghost use Rattle.reference_machine.specs.Machine.{head_step};
+ghost use Rattle.cell_network.specs.Engine.{network};
+ghost use Rattle.cell_network.specs.Sending.{told, told_from};
+ghost use Rattle.cell_engine.specs.Deliveries.{outcome_at, HasRoom, IsOfHead, KeepsSame};
+
+use crate::state::State;
+use net_prefix::{Addr, Prefix};
+use prefix_table::PrefixTable;
+use route_cell::{Cell, Outcome, deliver, store};
+use route_select::Selector;
+use router_tables::RouterTables;
+use session_queue::{Direction, Message, Queues};
+use std::alloc::{AllocError, Global};
+
+/// Gives the router an empty cell of the prefix.
+fn add_cell<S: Selector + Drop, T: PrefixTable<Cell<S>> + Drop>(
+    alloc: Global,
+    tables: &mut RouterTables<Cell<S>, T>,
+    router: Addr,
+    prefix: Prefix,
+) -> Result<(), AllocError>
+    ensures ok { OnOk result (tables.new ≡ with_value router prefix nothing_heard tables.old) }
+    ensures err { OnErr result (tables.new ≡ tables.old) }
+{
+    match tables.insert(alloc, router, prefix, Cell::new(alloc)) {
+        Ok(()) => Ok(()),
+        Err(_) => Err(AllocError),
+    }
+}
+
+/// Sees to it that there is a place for each message, where each goes to a peer of its own.
+fn reserve_all(
+    queues: &mut Queues,
+    router: Addr,
+    sends: &[(Addr, Message)],
+) -> Result<(), AllocError>
+    requires { (t : Addr) → length (told t sends.now) ≤ 1 }
+    ensures queue { (f t : Addr) → queue_at queues.new f t ≡ queue_at queues.old f t }
+    ensures spare { (f t : Addr) → spare_at queues.old f t ≤ spare_at queues.new f t }
+    ensures room { OnOk result ((t : Addr) → length (told t sends.now) ≤ spare_at queues.new router t) }
+{
+    for send in sends {
+        queues.reserve(router, send.0, 1)?;
+    }
+    Ok(())
+}
+
+/// Sends each message. It takes no memory.
+pub(crate) fn push_all(queues: &mut Queues, router: Addr, sends: Vec<(Addr, Message)>)
+    requires { (t : Addr) → length (told t sends.items) ≤ spare_at queues.old router t }
+    ensures queue { (f t : Addr) → queue_at queues.new f t ≡ queue_at queues.old f t ++ told_from router sends.items f t }
+    ensures spare { (f t : Addr) → spare_at queues.new f t + length (told_from router sends.items f t) ≡ spare_at queues.old f t }
+{
+    for (peer, message) in sends {
+        queues.push(router, peer, message);
+    }
+}
+
+impl<S: Selector + Drop, T: PrefixTable<Cell<S>> + Drop> State<S, T> {
+    /// What the receiver makes of the message (RFC 4271, 9): its cell of the prefix, and what it sends. A router decides by its own
+    /// site, a virtual peer keeps what it receives. The state stays as it is. Want of memory is the only error.
+    pub fn outcome(&self, direction: Direction, message: &Message) -> Result<Outcome<S>, AllocError>
+        ensures { IfOk result (λ outcome. outcome ≡ outcome_at self.now direction message.now) }
+    {
+        self.facts();
+        let nothing = Cell::new(self.alloc);
+        let cell = self
+            .cell(direction.to, message.prefix())
+            .unwrap_or(&nothing);
+        match self.site(direction.to) {
+            Some(site) => deliver(self.alloc, site, cell, direction.from, message),
+            None => store(self.alloc, cell, direction.from, message),
+        }
+    }
+
+    /// Sees to it that what the outcome needs is there: a cell, and a place for each message. The network stays as it is, also at
+    /// an error, which is want of memory.
+    pub fn make_room(
+        &mut self,
+        router: Addr,
+        prefix: Prefix,
+        outcome: &Outcome<S>,
+    ) -> Result<(), AllocError>
+        requires { (t : Addr) → length (told t outcome.now.sends) ≤ 1 }
+        ensures same { KeepsSame self.old self.new }
+        ensures network { network self.new ≡ network self.old }
+        ensures room { OnOk result (HasRoom self.new router prefix outcome.now.sends) }
+    {
+        self.make_cell(router, prefix)?;
+        reserve_all(&mut self.queues, router, &outcome.sends)
+    }
+
+    /// Sees to it that the router has a cell of the prefix.
+    pub(crate) fn make_cell(&mut self, router: Addr, prefix: Prefix) -> Result<(), AllocError>
+        ensures same { KeepsSame self.old self.new }
+        ensures queues { self.new.queues ≡ self.old.queues }
+        ensures there { OnOk result (is_some (value_at router prefix self.new.tables) ≡ true) }
+    {
+        if self.cell(router, prefix).is_some() {
+            return Ok(());
+        }
+        // The length tells that the prefix is one, which holds of all that have a cell.
+        let _ = prefix.len();
+        add_cell(self.alloc, &mut self.tables, router, prefix)
+    }
+
+    /// Takes the message at the head of the direction's queue: its outcome's cell takes the place of the receiver's, and the
+    /// receiver sends what changed. This is the machine's own next state. It takes no memory.
+    pub fn take(&mut self, direction: Direction, prefix: Prefix, outcome: Outcome<S>)
+        requires session { has_session self.old.conf direction.from direction.to ≡ true }
+        requires head { IsOfHead self.old direction prefix outcome }
+        requires room { HasRoom self.old direction.to prefix outcome.sends }
+        ensures { network self.new ≡ (head_step (network self.old) direction (messages_in (network self.old).queues direction)).next }
+    {
+        self.conf.facts();
+        let Outcome { cell, sends } = outcome;
+        self.queues.pop(direction.from, direction.to);
+        match self.tables.replace(direction.to, prefix, cell) {
+            Ok(_) => {}
+            Err(_) => unreachable!(),
+        }
+        push_all(&mut self.queues, direction.to, sends);
+    }
+}

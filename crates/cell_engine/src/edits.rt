@@ -1,0 +1,241 @@
+//! What the engine does with an edit: first all that takes memory, beside the state; then the change, which takes none.
+
+ghost use Rattle.std.specs.Prelude.{◌≡◌, ◌≤◌, ◌++◌, None, [], true, false, filter, length, IfOk, OnOk};
+ghost use Rattle.std.specs.List.{list_any};
+ghost use Rattle.std.specs.List.Sorted.{IsStrictlySortedBy};
+ghost use Rattle.std.specs.Ordering.{is_lt, is_gt};
+ghost use Rattle.net_conf.specs.Costs.{is_up};
+ghost use Rattle.net_conf.specs.Edits.{refusal_of};
+ghost use Rattle.std.specs.BTreeSet.{insert_key};
+ghost use Rattle.session_queue.specs.Waiting.{direction_cmp, queue_at, spare_at};
+ghost use Rattle.reference_machine.specs.Machine.{with_sent, after_edit};
+ghost use Rattle.cell_network.specs.Engine.{network, is_direction};
+ghost use Rattle.cell_network.specs.Editing.{with_directions, with_origin, told_by_all};
+ghost use Rattle.cell_engine.specs.Deliveries.{KeepsSame};
+ghost use Rattle.cell_engine.specs.Edits.{planned, IsPlanned, IsOfEdit, HasPlaces};
+
+use crate::deliveries::push_all;
+use crate::places::reserve_each;
+use crate::remaking::Remade;
+use crate::state::State;
+use net_conf::{Conf, Edit, SiteConf};
+use net_prefix::Addr;
+use prefix_table::PrefixTable;
+use route_cell::Cell;
+use route_select::Selector;
+use router_tables::RouterTables;
+use seq::Seq;
+use session_queue::{Direction, Message, Queues};
+use std::alloc::{AllocError, Global};
+use std::collections::BTreeMap;
+use std::marker::Model;
+
+/// What an edit will do: the configuration that it makes, the tables and directions for that, and what each router will send.
+#[derive(Drop)]
+pub struct Edited<S: Selector, T: PrefixTable<Cell<S>>> {
+    conf: Conf,
+    /// Those of the configuration.
+    sites: BTreeMap<Addr, SiteConf>,
+    tables: RouterTables<Cell<S>, T>,
+    directions: Seq<Direction>,
+    /// By router, what it sends to which peer.
+    sends: Seq<(Addr, Seq<(Addr, Message)>)>,
+}
+
+impl<S: Selector, T: PrefixTable<Cell<S>>> Model for Edited<S, T> {
+    ghost use Rattle.std.specs.Prelude.{◌≡◌};
+    ghost use Rattle.std.specs.Coded.{codes};
+    ghost use Rattle.net_conf.specs.RouterSites.{sites_of};
+    ghost use Rattle.cell_network.specs.Reporting.{AreOfPrefixes};
+    ghost use Rattle.cell_engine.specs.Coding.{coded_table};
+    ghost use Rattle.cell_engine.specs.Edits.{Planned};
+
+    ghost Value = { Planned };
+
+    ghost coded = { Prim.hlevel (codes, coded_table) };
+
+    ghost view = { λ x. record { conf = x.conf; tables = x.tables; directions = x.directions; sends = x.sends } };
+
+    ghost invariant = { λ x. (x.sites.entries ≡ sites_of x.conf) × AreOfPrefixes x.tables };
+}
+
+/// Adds the directions before this one.
+fn add_before(
+    some: &mut Vec<Direction>,
+    directions: &[Direction],
+    new: Direction,
+) -> Result<(), AllocError>
+    ensures { OnOk result (some.new.items ≡ some.old.items ++ filter (λ d. is_gt (direction_cmp new d)) directions.now) }
+{
+    for direction in directions {
+        if new.cmp(direction).is_gt() {
+            some.push(*direction)?;
+        }
+    }
+    Ok(())
+}
+
+/// Adds the directions after this one.
+fn add_after(
+    some: &mut Vec<Direction>,
+    directions: &[Direction],
+    new: Direction,
+) -> Result<(), AllocError>
+    ensures { OnOk result (some.new.items ≡ some.old.items ++ filter (λ d. is_lt (direction_cmp new d)) directions.now) }
+{
+    for direction in directions {
+        if new.cmp(direction).is_lt() {
+            some.push(*direction)?;
+        }
+    }
+    Ok(())
+}
+
+/// The directions, with this one at its place.
+fn with_direction(
+    alloc: Global,
+    directions: &[Direction],
+    new: Direction,
+) -> Result<Seq<Direction>, AllocError>
+    requires { IsStrictlySortedBy direction_cmp directions.now }
+    ensures { IfOk result (λ more. more ≡ insert_key direction_cmp directions.now new) }
+{
+    let mut more = Vec::new(alloc);
+    add_before(&mut more, directions, new)?;
+    more.push(new)?;
+    add_after(&mut more, directions, new)?;
+    Ok(Seq::of(more))
+}
+
+/// The directions of the sessions after the edit.
+fn directions_after(
+    alloc: Global,
+    directions: &[Direction],
+    edit: &Edit,
+) -> Result<Seq<Direction>, AllocError>
+    requires { IsStrictlySortedBy direction_cmp directions.now }
+    ensures { IfOk result (λ after. after ≡ with_directions edit.now directions.now) }
+{
+    match edit {
+        Edit::Join(one, other) => {
+            let (one, other) = (*one, *other);
+            let back = Direction {
+                from: other,
+                to: one,
+            };
+            let there = Direction {
+                from: one,
+                to: other,
+            };
+            let more = with_direction(alloc, directions, back)?;
+            with_direction(alloc, more.as_slice(), there)
+        }
+        _ => Seq::copy_of(alloc, directions),
+    }
+}
+
+/// Removes what is on its way in those of the directions whose session is not up. It takes no memory.
+fn clear_down(queues: &mut Queues, conf: &Conf, directions: &[Direction])
+    ensures up { (f t : Addr) → is_up conf.now f t ≡ true → queue_at queues.new f t ≡ queue_at queues.old f t }
+    ensures down { (d : Direction) → list_any (is_direction d) directions.now ≡ true → is_up conf.now d.from d.to ≡ false → queue_at queues.new d.from d.to ≡ [] }
+    ensures empty { (f t : Addr) → queue_at queues.old f t ≡ [] → queue_at queues.new f t ≡ [] }
+    ensures spare { (f t : Addr) → spare_at queues.new f t ≡ spare_at queues.old f t }
+{
+    for direction in directions {
+        if !conf.is_up(direction.from, direction.to) {
+            queues.clear(direction.from, direction.to);
+        }
+    }
+}
+
+/// Sends each message. It takes no memory.
+fn push_each(queues: &mut Queues, all: Vec<(Addr, Seq<(Addr, Message)>)>)
+    requires { (f t : Addr) → length (told_by_all all.items f t) ≤ spare_at queues.old f t }
+    ensures { (f t : Addr) → queue_at queues.new f t ≡ queue_at queues.old f t ++ told_by_all all.items f t }
+{
+    for (router, sends) in all {
+        push_all(queues, router, sends.into_vec());
+    }
+}
+
+impl<S: Selector + Drop, T: PrefixTable<Cell<S>> + Drop> State<S, T> {
+    /// What the edit will do. The network stays as it is, also at an error, which is want of memory; of the state no more changes than
+    /// that a router gets an empty cell for a prefix that it is to originate.
+    pub fn edited(&mut self, edit: &Edit) -> Result<Edited<S, T>, AllocError>
+        requires { refusal_of self.old.conf edit.now ≡ None }
+        ensures same { KeepsSame self.old self.new }
+        ensures network { network self.new ≡ network self.old }
+        ensures planned { IfOk result (λ edited. edited ≡ planned self.new edit.now) }
+    {
+        self.make_origin(edit)?;
+        self.plan(edit)
+    }
+
+    /// Sees to it that a router that the edit makes originate a prefix has a cell of it.
+    fn make_origin(&mut self, edit: &Edit) -> Result<(), AllocError>
+        ensures same { KeepsSame self.old self.new }
+        ensures there { OnOk result (with_origin edit.now self.new.tables ≡ self.new.tables) }
+    {
+        match edit {
+            Edit::Origin(router, prefix) => self.make_cell(*router, *prefix),
+            _ => Ok(()),
+        }
+    }
+
+    /// What the edit will do, where a router has a cell for what it is to originate.
+    fn plan(&self, edit: &Edit) -> Result<Edited<S, T>, AllocError>
+        requires { with_origin edit.now self.now.tables ≡ self.now.tables }
+        ensures { IfOk result (λ edited. edited ≡ planned self.now edit.now) }
+    {
+        self.facts();
+        let conf = match self.conf.edited(self.alloc, edit) {
+            Ok(conf) => conf,
+            Err(_) => return Err(AllocError),
+        };
+        let sites = conf.sites(self.alloc)?;
+        let directions = directions_after(self.alloc, self.directions.as_slice(), edit)?;
+        let Remade { tables, sends } = self.remade(&conf, &sites)?;
+        Ok(Edited {
+            conf,
+            sites,
+            tables,
+            directions,
+            sends,
+        })
+    }
+
+    /// Sees to it that there is a place for each message that will be sent. The network stays as it is, also at an error, which is
+    /// want of memory.
+    pub fn make_room_for(&mut self, edited: &Edited<S, T>) -> Result<(), AllocError>
+        ensures same { KeepsSame self.old self.new }
+        ensures tables { self.new.tables ≡ self.old.tables }
+        ensures network { network self.new ≡ network self.old }
+        ensures room { OnOk result (HasPlaces self.new edited.now) }
+    {
+        reserve_each(self.alloc, &mut self.queues, edited.sends.as_slice())
+    }
+
+    /// Does what the edit will do: this is the machine's own next state (RFC 4271, 6, 8 and 9). What was on its way over sessions that
+    /// are not up is lost. It takes no memory.
+    pub fn reconfigure(&mut self, edited: Edited<S, T>)
+        requires of { IsOfEdit self.old edited }
+        requires room { HasPlaces self.old edited }
+        ensures { (edit : Edit) → IsPlanned self.old edit edited → network self.new ≡ with_sent (network self.old) (after_edit (network self.old) edit) }
+    {
+        self.conf.facts();
+        edited.conf.facts();
+        let Edited {
+            conf,
+            sites,
+            tables,
+            directions,
+            sends,
+        } = edited;
+        clear_down(&mut self.queues, &conf, self.directions.as_slice());
+        self.conf = conf;
+        self.sites = sites;
+        self.tables = tables;
+        self.directions = directions;
+        push_each(&mut self.queues, sends.into_vec());
+    }
+}

@@ -1,0 +1,13 @@
+//! The engine: tables of cells, the sites of all routers beside the configuration, and the queues; and what it does with a message and with an edit.
+#![tactic(auto)]
+
+mod deliveries;
+mod edits;
+mod feeds;
+mod places;
+mod remaking;
+mod state;
+
+pub use edits::Edited;
+pub use route_cell::{Cell, Outcome, deliver, refresh, store};
+pub use state::State;

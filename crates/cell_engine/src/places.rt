@@ -1,0 +1,88 @@
+//! Places for what an edit sends.
+
+ghost use Rattle.std.specs.Prelude.{◌≡◌, ◌≤◌, ◌+◌, length, cond, IfOk, OnOk};
+ghost use Rattle.session_queue.specs.Waiting.{queue_at, spare_at, same_direction};
+ghost use Rattle.cell_network.specs.Sending.{told_from};
+ghost use Rattle.cell_network.specs.Editing.{told_by_all};
+ghost use Rattle.cell_engine.specs.Counts.{count_at};
+
+use net_prefix::Addr;
+use seq::Seq;
+use session_queue::{Direction, Message, Queues};
+use std::alloc::{AllocError, Global};
+use std::collections::BTreeMap;
+
+/// Counts one message more in the direction. What cannot be counted finds no place either: the error is want of memory, and leaves
+/// any count.
+fn count_one(
+    counts: &mut BTreeMap<Direction, usize>,
+    direction: Direction,
+) -> Result<(), AllocError>
+    ensures { OnOk result ((f t : Addr) → count_at counts.new.entries f t ≡ count_at counts.old.entries f t + cond (same_direction direction.from direction.to f t) 1 0) }
+{
+    let before = counts.get(&direction).copied().unwrap_or(0);
+    if before == usize::MAX {
+        return Err(AllocError);
+    }
+    counts.insert(direction, before + 1)?;
+    Ok(())
+}
+
+/// Counts what the router sends.
+fn count_sends(
+    counts: &mut BTreeMap<Direction, usize>,
+    router: Addr,
+    sends: &[(Addr, Message)],
+) -> Result<(), AllocError>
+    ensures { OnOk result ((f t : Addr) → count_at counts.new.entries f t ≡ count_at counts.old.entries f t + length (told_from router sends.now f t)) }
+{
+    for send in sends {
+        let direction = Direction {
+            from: router,
+            to: send.0,
+        };
+        count_one(counts, direction)?;
+    }
+    Ok(())
+}
+
+/// How many messages go in each direction.
+fn counts_of(
+    alloc: Global,
+    all: &[(Addr, Seq<(Addr, Message)>)],
+) -> Result<BTreeMap<Direction, usize>, AllocError>
+    ensures { IfOk result (λ counts. (f t : Addr) → count_at counts.entries f t ≡ length (told_by_all all.now f t)) }
+{
+    let mut counts = BTreeMap::new(alloc);
+    for each in all {
+        count_sends(&mut counts, each.0, each.1.as_slice())?;
+    }
+    Ok(counts)
+}
+
+/// Sees to it that each direction has as many places as were counted.
+fn reserve_counts(
+    queues: &mut Queues,
+    counts: &BTreeMap<Direction, usize>,
+) -> Result<(), AllocError>
+    ensures queue { (f t : Addr) → queue_at queues.new f t ≡ queue_at queues.old f t }
+    ensures room { OnOk result ((f t : Addr) → count_at counts.now.entries f t ≤ spare_at queues.new f t) }
+{
+    for (direction, count) in counts {
+        queues.reserve(direction.from, direction.to, *count)?;
+    }
+    Ok(())
+}
+
+/// Sees to it that there is a place for each message. Each direction is asked for its places once.
+pub(crate) fn reserve_each(
+    alloc: Global,
+    queues: &mut Queues,
+    all: &[(Addr, Seq<(Addr, Message)>)],
+) -> Result<(), AllocError>
+    ensures queue { (f t : Addr) → queue_at queues.new f t ≡ queue_at queues.old f t }
+    ensures room { OnOk result ((f t : Addr) → length (told_by_all all.now f t) ≤ spare_at queues.new f t) }
+{
+    let counts = counts_of(alloc, all)?;
+    reserve_counts(queues, &counts)
+}

@@ -1,0 +1,121 @@
+//! The state, as the engine keeps it.
+
+ghost use Rattle.std.specs.Prelude.{◌≡◌};
+ghost use Rattle.std.specs.Option.{option_copied, option_map};
+ghost use Rattle.net_conf.specs.Configured.{IsConfigured};
+ghost use Rattle.net_conf.specs.RouterSites.{router_site};
+ghost use Rattle.reference_machine.specs.Machine.{nothing};
+ghost use Rattle.router_tables.specs.RouterTables.{value_at, next_of};
+ghost use Rattle.std.specs.FinMap.Entries.{find};
+ghost use Rattle.net_prefix.specs.Address.{addr_cmp};
+ghost use Rattle.cell_network.specs.Engine.{network, IsSound};
+ghost use Rattle.cell_network.specs.Reporting.{AreOfPrefixes};
+
+use net_conf::{Conf, SiteConf};
+use net_prefix::{Addr, Prefix};
+use prefix_table::PrefixTable;
+use route_cell::Cell;
+use route_select::Selector;
+use router_tables::RouterTables;
+use seq::Seq;
+use session_queue::{Direction, Queues};
+use std::alloc::Global;
+use std::collections::BTreeMap;
+use std::marker::Model;
+
+/// What is configured, what was received, by router and prefix with the choice among it, and what is on its way.
+#[derive(Drop)]
+pub struct State<S: Selector, T: PrefixTable<Cell<S>>> {
+    pub(crate) alloc: Global,
+    pub(crate) conf: Conf,
+    /// The site of each router, made once an edit.
+    pub(crate) sites: BTreeMap<Addr, SiteConf>,
+    pub(crate) tables: RouterTables<Cell<S>, T>,
+    /// Those of all sessions.
+    pub(crate) directions: Seq<Direction>,
+    pub(crate) queues: Queues,
+}
+
+impl<S: Selector, T: PrefixTable<Cell<S>>> Model for State<S, T> {
+    ghost use Rattle.std.specs.Prelude.{◌≡◌};
+    ghost use Rattle.std.specs.Coded.{codes};
+    ghost use Rattle.net_conf.specs.RouterSites.{sites_of};
+    ghost use Rattle.cell_network.specs.Engine.{Engine, IsSound};
+    ghost use Rattle.cell_network.specs.Reporting.{AreOfPrefixes};
+    ghost use Rattle.cell_engine.specs.Coding.{coded_table};
+
+    ghost Value = { Engine };
+
+    ghost coded = { Prim.hlevel (codes, coded_table) };
+
+    ghost view = { λ s. record { conf = s.conf; tables = s.tables; directions = s.directions; queues = s.queues } };
+
+    ghost invariant = { λ s. IsSound (record { conf = s.conf; tables = s.tables; directions = s.directions; queues = s.queues }) × (s.sites.entries ≡ sites_of s.conf) × AreOfPrefixes s.tables };
+}
+
+impl<S: Selector, T: PrefixTable<Cell<S>>> State<S, T> {
+    /// Nothing is configured, received or on its way. It takes no memory.
+    pub fn new(alloc: Global) -> Self
+        ensures { network result ≡ nothing }
+    {
+        State {
+            alloc,
+            conf: Conf::new(alloc),
+            sites: BTreeMap::new(alloc),
+            tables: RouterTables::new(alloc),
+            directions: Seq::new(alloc),
+            queues: Queues::new(alloc),
+        }
+    }
+
+    /// A call gives the caller's proof what holds of every state.
+    pub fn facts(&self)
+        ensures sound { IsSound self.now }
+        ensures configured { IsConfigured self.now.conf }
+        ensures prefixes { AreOfPrefixes self.now.tables }
+    {
+        self.conf.facts();
+    }
+
+    /// What is configured.
+    pub fn conf(&self) -> &Conf
+        ensures { result.now ≡ self.now.conf }
+    {
+        &self.conf
+    }
+
+    /// What is on its way.
+    pub fn queues(&self) -> &Queues
+        ensures { result.now ≡ self.now.queues }
+    {
+        &self.queues
+    }
+
+    /// The router's site: none where a virtual peer stands, or nobody.
+    pub fn site(&self, router: Addr) -> Option<&SiteConf>
+        ensures { option_copied result ≡ router_site self.now.conf router }
+    {
+        self.sites.get(&router)
+    }
+
+    /// The cells of the router, by prefix. None where it has none.
+    pub fn table(&self, router: Addr) -> Option<&T>
+        ensures { option_map T.table (option_copied result) ≡ find addr_cmp router self.now.tables }
+    {
+        self.tables.table(router)
+    }
+
+    /// The next address that has a table, past this one, or the first of all.
+    pub fn next_table(&self, past: Option<Addr>) -> Option<Addr>
+        ensures { result ≡ next_of self.now.tables past }
+    {
+        self.tables.next_table(past)
+    }
+
+    /// The cell of the router and prefix, where there is one.
+    pub fn cell(&self, router: Addr, prefix: Prefix) -> Option<&Cell<S>>
+        ensures { option_copied result ≡ value_at router prefix self.now.tables }
+    {
+        self.tables.get(router, prefix)
+    }
+}
