@@ -1,0 +1,5 @@
+mod Forwarding
+mod Lists
+mod Matching
+mod Questions
+mod Routers
