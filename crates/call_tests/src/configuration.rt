@@ -3,6 +3,8 @@
 use crate::common::asn;
 use net_conf::{Conf, Edit, Kind, Metric, Refusal};
 use net_prefix::Addr;
+use seq::Copied;
+use std::alloc::Global;
 use std::test::Fail;
 
 const ROUTER: Addr = Addr(0x0100_0001);
@@ -11,9 +13,8 @@ const PEER: Addr = Addr(0x0200_0001);
 
 const NOBODY: Addr = Addr(0x0300_0001);
 
-#[test]
-fn sites_routers_and_sessions(rt: HostRuntime) -> Result<(), Fail> {
-    let alloc = rt.alloc();
+/// A router that has a session with a virtual peer over a link.
+fn peered(alloc: Global) -> Result<Conf, Fail> {
     let mut conf = Conf::new(alloc);
     let cost = Metric::new(10).ok_or("no metric")?;
     let edits = [
@@ -25,6 +26,13 @@ fn sites_routers_and_sessions(rt: HostRuntime) -> Result<(), Fail> {
     for edit in &edits {
         conf.edit(alloc, edit).map_err(|_| "an edit is refused")?;
     }
+    Ok(conf)
+}
+
+#[test]
+fn sites_routers_and_sessions(rt: HostRuntime) -> Result<(), Fail> {
+    let alloc = rt.alloc();
+    let conf = peered(alloc)?;
     assert_eq!(rt; conf.router(ROUTER), Some((asn(1)?, Kind::Router)));
     assert_eq!(rt; conf.router(PEER), Some((asn(2)?, Kind::Virtual)));
     assert_eq!(rt; conf.router(NOBODY), None);
@@ -37,5 +45,33 @@ fn sites_routers_and_sessions(rt: HostRuntime) -> Result<(), Fail> {
     let session = site.session(PEER).ok_or("no session")?;
     assert_eq!(rt; session.peer_asn, Some(asn(2)?));
     assert!(rt; session.up && session.external);
+    Ok(())
+}
+
+#[test]
+fn sites_of_all_routers(rt: HostRuntime) -> Result<(), Fail> {
+    let alloc = rt.alloc();
+    let conf = peered(alloc)?;
+    conf.facts();
+    let sites = conf.sites(alloc).map_err(|_| "no sites")?;
+    assert_eq!(rt; sites.len(), 1);
+    let site = sites.get(&ROUTER).ok_or("no site")?;
+    let copy = site.copy(alloc).map_err(|_| "no copy")?;
+    assert_eq!(rt; copy.me, ROUTER);
+    assert!(rt; copy.session(PEER).is_some());
+    assert!(rt; matches!(conf.router_site(alloc, PEER), Ok(None)));
+    Ok(())
+}
+
+#[test]
+fn edits_beside_what_stays(rt: HostRuntime) -> Result<(), Fail> {
+    let alloc = rt.alloc();
+    let conf = peered(alloc)?;
+    let stop = Edit::Stop(ROUTER, PEER);
+    let stopped = conf.edited(alloc, &stop).map_err(|_| "an edit is refused")?;
+    assert_eq!(rt; stopped.session_up(ROUTER, PEER), Some(false));
+    assert_eq!(rt; conf.session_up(ROUTER, PEER), Some(true));
+    let join = Edit::Join(ROUTER, PEER);
+    assert!(rt; matches!(conf.edited(alloc, &join), Err(Refusal::SessionExists)));
     Ok(())
 }

@@ -4,7 +4,7 @@ use net_conf::{Edit, Refusal};
 use net_prefix::{Addr, Prefix};
 use path_attr::{AsPath, Asn, Attr, Origin};
 use route_select::Source;
-use seq::{Copied, Seq};
+use seq::{Copied, Seq, SharedSeq};
 use session_queue::MessageKind;
 use sim_event::{Ask, Event, Feed, Held, News, Reply, Report};
 use std::alloc::{AllocError, Global};
@@ -31,7 +31,7 @@ fn ten() -> Result<Prefix, Fail> {
 /// The path 7.
 fn path(alloc: Global) -> Result<AsPath, Fail> {
     let seven = Asn::new(7).ok_or("an AS has a number")?;
-    let mut path = AsPath::empty(alloc);
+    let mut path = AsPath::empty();
     if path.prepend(alloc, seven).is_err() {
         path.prepend(alloc, seven)?;
     }
@@ -50,7 +50,7 @@ fn held(alloc: Global) -> Result<Held, Fail> {
             med: None,
             pref: Some(100),
             oid: None,
-            clusters: Seq::new(alloc),
+            clusters: SharedSeq::empty(),
         },
     })
 }

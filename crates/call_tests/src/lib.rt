@@ -28,3 +28,5 @@ mod selection;
 mod table_callers;
 #[cfg(test)]
 mod tables;
+#[cfg(test)]
+mod tables_by_router;

@@ -1,7 +1,7 @@
 //! Lists with ample memory, and where memory is refused once.
 
-use crate::common::again;
-use seq::{Copied, Seq, copy_all};
+use crate::common::{again, shared};
+use seq::{Copied, Seq, SharedSeq, copy_all};
 use std::alloc::{AllocError, Global};
 use std::process::Abort;
 use std::test::Fail;
@@ -69,5 +69,25 @@ fn copies(rt: HostRuntime) -> Result<(), Fail> {
     assert_eq!(rt; vec.as_slice(), list.as_slice());
     assert_ne!(rt; again(|| words(alloc, &["as", "path"]))?, list);
     assert_ne!(rt; again(|| words(alloc, &["as", "patH", ""]))?, list);
+    Ok(())
+}
+
+#[test]
+fn shares(rt: HostRuntime) -> Result<(), Fail> {
+    let alloc = rt.alloc();
+    let texts = again(|| words(alloc, &["as", "path"]))?;
+    let list = shared(alloc, texts.as_slice())?;
+    let other = list.share()?;
+    assert_eq!(rt; other.as_slice(), texts.as_slice());
+    assert_eq!(rt; list.copy(alloc)?, other);
+    assert_eq!(rt; list.clone()?, other);
+    assert_eq!(rt; other.len(), 2);
+    assert!(rt; !other.is_empty());
+
+    let none: SharedSeq<Word> = SharedSeq::empty();
+    assert_ne!(rt; none, other);
+    assert_eq!(rt; none.share()?, SharedSeq::of(alloc, Vec::new(alloc))?);
+    assert_eq!(rt; none.len(), 0);
+    assert!(rt; none.is_empty());
     Ok(())
 }

@@ -1,9 +1,9 @@
 //! Worked paths and attributes, with ample memory and where memory is refused once.
 
-use crate::common::{again, asn};
+use crate::common::{again, asn, shared};
 use net_prefix::Addr;
 use path_attr::{AsPath, Asn, Attr, Origin, Segment};
-use seq::{Copied, Seq};
+use seq::{Copied, Seq, SharedSeq};
 use std::alloc::{AllocError, Global};
 use std::process::Abort;
 use std::test::Fail;
@@ -20,7 +20,7 @@ fn list(alloc: Global, numbers: &[u32]) -> Result<Seq<Asn>, Fail> {
 fn alone(alloc: Global, segment: Segment) -> Result<Option<AsPath>, Fail> {
     let mut segments = again(|| Vec::with_capacity(alloc, 1))?;
     segments.push(segment)?;
-    Ok(AsPath::new(segments))
+    Ok(AsPath::new(shared(alloc, &segments)?))
 }
 
 /// A sequence and a set.
@@ -28,13 +28,13 @@ fn path(alloc: Global, sequence: &[u32], set: &[u32]) -> Result<AsPath, Fail> {
     let mut segments = again(|| Vec::with_capacity(alloc, 2))?;
     segments.push(Segment::Seq(list(alloc, sequence)?))?;
     segments.push(Segment::Set(list(alloc, set)?))?;
-    Ok(AsPath::new(segments).ok_or("a sequence and a set are a path")?)
+    Ok(AsPath::new(shared(alloc, &segments)?).ok_or("a sequence and a set are a path")?)
 }
 
 /// Puts an AS in front, once more where memory was refused and the path is as before.
 fn prepend(rt: &impl Abort, alloc: Global, path: &mut AsPath, number: u32) -> Result<(), Fail> {
     let asn = asn(number)?;
-    let before = again(|| path.copy(alloc))?;
+    let before = path.share()?;
     if path.prepend(alloc, asn).is_err() {
         assert!(rt; path.is_same(&before));
         path.prepend(alloc, asn)?;
@@ -88,7 +88,7 @@ fn begins_with_a_set(rt: HostRuntime) -> Result<(), Fail> {
 #[test]
 fn prepends_to_nothing_and_to_a_full_sequence(rt: HostRuntime) -> Result<(), Fail> {
     let alloc = rt.alloc();
-    let mut worked = AsPath::empty(alloc);
+    let mut worked = AsPath::empty();
     prepend(&rt, alloc, &mut worked, 9)?;
     let nine = Segment::Seq(list(alloc, &[9])?);
     assert_eq!(rt; worked.segments().first(), Some(&nine));
@@ -98,6 +98,21 @@ fn prepends_to_nothing_and_to_a_full_sequence(rt: HostRuntime) -> Result<(), Fai
     prepend(&rt, alloc, &mut worked, 9)?;
     assert_eq!(rt; worked.length(), 256);
     assert_eq!(rt; worked.segments(), [nine, full].as_slice());
+    Ok(())
+}
+
+#[test]
+fn prepends_several_times_and_leaves_other_owners(rt: HostRuntime) -> Result<(), Fail> {
+    let alloc = rt.alloc();
+    let worked = path(alloc, &[7], &[1, 2])?;
+    let mut other = worked.share()?;
+    prepend(&rt, alloc, &mut other, 9)?;
+    assert_eq!(rt; other, path(alloc, &[9, 7], &[1, 2])?);
+    assert_eq!(rt; worked, path(alloc, &[7], &[1, 2])?);
+    let nine = asn(9)?;
+    let thrice = again(|| worked.prepended_times(alloc, nine, 3))?;
+    assert_eq!(rt; thrice, path(alloc, &[9, 9, 9, 7], &[1, 2])?);
+    assert_eq!(rt; again(|| worked.prepended(alloc, nine))?, other);
     Ok(())
 }
 
@@ -131,9 +146,9 @@ fn compares_seven_attributes(rt: HostRuntime) -> Result<(), Fail> {
         med: Some(5),
         pref: Some(100),
         oid: Some(Addr(2)),
-        clusters: again(|| Seq::copy_of(alloc, &[Addr(3), Addr(4)]))?,
+        clusters: again(|| SharedSeq::of(alloc, Vec::from_slice(alloc, &[Addr(3), Addr(4)])?))?,
     };
-    let mut other = again(|| whole.copy(alloc))?;
+    let mut other = whole.share()?;
     other.origin = Origin::Egp;
     differ(&rt, &whole, &other);
     other.origin = whole.origin;
@@ -151,10 +166,10 @@ fn compares_seven_attributes(rt: HostRuntime) -> Result<(), Fail> {
     other.oid = whole.oid;
     assert_eq!(rt; other, whole);
     let clusters = other.clusters;
-    other.clusters = Seq::new(alloc);
+    other.clusters = SharedSeq::empty();
     differ(&rt, &whole, &other);
     other.clusters = clusters;
-    other.path = AsPath::empty(alloc);
+    other.path = AsPath::empty();
     differ(&rt, &whole, &other);
     Ok(())
 }

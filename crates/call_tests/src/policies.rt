@@ -1,10 +1,10 @@
 //! Worked policies, with ample memory and where memory is refused once.
 
-use crate::common::{again, asn};
+use crate::common::{again, asn, shared};
 use net_prefix::{Addr, Prefix, read_prefix};
 use path_attr::{AsPath, Asn, Attr, Origin, Segment};
 use route_policy::{Action, AddFault, MAX_RULES, Match, Policy, Repeat, Rule, judge};
-use seq::{Copied, Seq};
+use seq::{Copied, Seq, SharedSeq};
 use std::alloc::{AllocError, Global};
 use std::process::Abort;
 use std::test::Fail;
@@ -40,7 +40,7 @@ fn list(alloc: Global, numbers: &[u32]) -> Result<Seq<Asn>, Fail> {
 }
 
 /// A route of this path.
-fn route(alloc: Global, path: AsPath) -> Attr {
+fn route(path: AsPath) -> Attr {
     Attr {
         path,
         origin: Origin::Igp,
@@ -48,7 +48,7 @@ fn route(alloc: Global, path: AsPath) -> Attr {
         med: None,
         pref: None,
         oid: None,
-        clusters: Seq::new(alloc),
+        clusters: SharedSeq::empty(),
     }
 }
 
@@ -59,8 +59,8 @@ fn route_with_set(alloc: Global, sequence: &[u32], set: &[u32]) -> Result<Attr, 
         segments.push(Segment::Seq(list(alloc, sequence)?))?;
     }
     segments.push(Segment::Set(list(alloc, set)?))?;
-    let path = AsPath::new(segments).ok_or("a set is a path")?;
-    Ok(route(alloc, path))
+    let path = AsPath::new(shared(alloc, &segments)?).ok_or("a set is a path")?;
+    Ok(route(path))
 }
 
 /// Adds a rule, once more where memory was refused and the policy is as long as before.
@@ -99,7 +99,7 @@ fn repeats_up_to_sixteen_times(rt: HostRuntime) {
 fn judges_by_the_first_rule(rt: HostRuntime) -> Result<(), Fail> {
     let alloc = rt.alloc();
     let mut policy = worked(&rt, alloc)?;
-    let attr = route(alloc, AsPath::empty(alloc));
+    let attr = route(AsPath::empty());
     for (text, action) in [
         ("10.1.0.0/16", Action::Deny),
         ("10.0.0.0/8", Action::Deny),
@@ -121,7 +121,7 @@ fn judges_by_the_first_rule(rt: HostRuntime) -> Result<(), Fail> {
 #[test]
 fn matches_prefixes(rt: HostRuntime) -> Result<(), Fail> {
     let alloc = rt.alloc();
-    let attr = route(alloc, AsPath::empty(alloc));
+    let attr = route(AsPath::empty());
     let sixteen = prefix("10.1.0.0/16")?;
     for (cond, text, matches) in [
         (Match::Any, "0.0.0.0/0", true),
@@ -158,7 +158,7 @@ fn matches_paths(rt: HostRuntime) -> Result<(), Fail> {
     let set = route_with_set(alloc, &[], &[2, 3])?;
     assert!(rt; Match::Path(asn(2)?).matches(ten, &set));
     assert!(rt; !Match::First(asn(2)?).matches(ten, &set));
-    let empty = route(alloc, AsPath::empty(alloc));
+    let empty = route(AsPath::empty());
     assert!(rt; !Match::Path(asn(2)?).matches(ten, &empty));
     assert!(rt; !Match::First(asn(2)?).matches(ten, &empty));
     Ok(())

@@ -6,7 +6,7 @@ mod refusals;
 use crate::common::again;
 use net_prefix::{Addr, Prefix};
 use path_attr::{AsPath, Asn, Attr, Origin};
-use seq::{Copied, Seq};
+use seq::{Copied, SharedSeq};
 use session_queue::{Message, MessageKind, Queues, View};
 use std::alloc::{AllocError, Global};
 use std::process::Abort;
@@ -15,7 +15,7 @@ use std::test::Fail;
 /// The path 7.
 fn path(alloc: Global) -> Result<AsPath, Fail> {
     let seven = Asn::new(7).ok_or("an AS has a number")?;
-    let mut path = AsPath::empty(alloc);
+    let mut path = AsPath::empty();
     if path.prepend(alloc, seven).is_err() {
         path.prepend(alloc, seven)?;
     }
@@ -30,7 +30,7 @@ fn attr(alloc: Global, med: Option<u32>) -> Result<Attr, Fail> {
         med,
         pref: Some(100),
         oid: Some(Addr(2)),
-        clusters: again(|| Seq::copy_of(alloc, &[Addr(3)]))?,
+        clusters: again(|| SharedSeq::of(alloc, Vec::from_slice(alloc, &[Addr(3)])?))?,
     })
 }
 
@@ -131,7 +131,7 @@ fn tells_of_a_prefix(rt: HostRuntime) -> Result<(), Fail> {
     assert!(rt; !withdraw.is_same(&Message::Withdraw(prefix(8)?)));
     assert_eq!(rt; again(|| update.copy(alloc))?, update);
     assert_eq!(rt; again(|| withdraw.copy(alloc))?, withdraw);
-    assert_eq!(rt; again(|| View::of(&update).to_message(alloc))?, update);
-    assert_eq!(rt; again(|| View::of(&withdraw).to_message(alloc))?, withdraw);
+    assert_eq!(rt; again(|| View::of(&update).to_message())?, update);
+    assert_eq!(rt; again(|| View::of(&withdraw).to_message())?, withdraw);
     Ok(())
 }

@@ -1,5 +1,8 @@
 //! Standings, whatever the order in which they come, and callers that know the traits alone.
 
+mod agreement;
+mod refusals;
+
 ghost use Rattle.std.specs.Prelude.{◌≡◌, IfOk};
 ghost use Rattle.std.specs.FinMap as map;
 ghost use Rattle.std.specs.Option.{option_map};
@@ -7,9 +10,10 @@ ghost use Rattle.route_select.specs.Selection.{best_of, reason_in};
 
 use net_prefix::Addr;
 use path_attr::{AsPath, Asn, Attr, Origin, Segment};
-use route_select::{Candidate, Chosen, FilterCell, Reason, Selector, Source, Standing};
-use seq::{Copied, Seq};
+use route_select::{Candidate, Chosen, FilterCell, GroupCell, Reason, Selector, Source, Standing};
+use seq::{Copied, Seq, SharedSeq};
 use std::alloc::{AllocError, Global};
+use std::process::Abort;
 use std::test::Fail;
 
 const A: Addr = Addr(0x0100_0001);
@@ -63,11 +67,11 @@ fn numbers(alloc: Global, given: &[u32]) -> Result<Seq<Asn>, Fail> {
 fn path(alloc: Global, given: &[u32]) -> Result<AsPath, Fail> {
     let mut segments = Vec::new(alloc);
     segments.push(Segment::Seq(numbers(alloc, given)?))?;
-    Ok(AsPath::new(segments).ok_or("the path is not well formed")?)
+    Ok(AsPath::new(SharedSeq::of(alloc, segments)?).ok_or("the path is not well formed")?)
 }
 
 /// A route from a peer whose identifier is its address. It has no MED, and its cost is 10.
-fn from_peer(alloc: Global, peer: Addr, path: AsPath) -> Candidate {
+fn from_peer(peer: Addr, path: AsPath) -> Candidate {
     Candidate {
         source: Source::Peer(peer),
         attr: Attr {
@@ -77,7 +81,7 @@ fn from_peer(alloc: Global, peer: Addr, path: AsPath) -> Candidate {
             med: None,
             pref: None,
             oid: None,
-            clusters: Seq::new(alloc),
+            clusters: SharedSeq::empty(),
         },
         pref: 100,
         external: true,
@@ -94,7 +98,7 @@ fn priced(
     med: Option<u32>,
     cost: u32,
 ) -> Result<Candidate, Fail> {
-    let mut candidate = from_peer(alloc, peer, path(alloc, &[neighbour])?);
+    let mut candidate = from_peer(peer, path(alloc, &[neighbour])?);
     candidate.attr.med = med;
     candidate.cost = cost;
     Ok(candidate)
@@ -113,12 +117,39 @@ fn example(alloc: Global, peer: Addr) -> Result<Candidate, Fail> {
 
 /// A route whose CLUSTER_LIST has this length.
 fn reflected(alloc: Global, peer: Addr, ident: Addr, clusters: u32) -> Result<Candidate, Fail> {
-    let mut candidate = from_peer(alloc, peer, path(alloc, &[1])?);
+    let mut candidate = from_peer(peer, path(alloc, &[1])?);
     candidate.ident = ident;
+    let mut ids = Vec::new(alloc);
     for cluster in 0..clusters {
-        candidate.attr.clusters.push(Addr(cluster))?;
+        ids.push(Addr(cluster))?;
     }
+    candidate.attr.clusters = SharedSeq::of(alloc, ids)?;
     Ok(candidate)
+}
+
+/// The routes of the example come in this order, and then the one that loses by its cost is withdrawn.
+fn compares_med<S: Selector + Drop>(
+    rt: &impl Abort,
+    alloc: Global,
+    mut chosen: S,
+    order: [Addr; 3],
+) -> Result<(), Fail> {
+    for peer in order {
+        consider(&mut chosen, example(alloc, peer)?)?;
+    }
+    assert_eq!(rt; chosen.reason(Source::Peer(A)), Some(Reason::Med));
+    assert_eq!(rt; chosen.reason(Source::Peer(B)), Some(Reason::Cost));
+    assert_eq!(rt; chosen.reason(Source::Peer(C)), Some(Reason::Best));
+    assert_eq!(rt;
+        chosen.best().map(|best| best.source),
+        Some(Source::Peer(C))
+    );
+
+    chosen.drop_source(Source::Peer(B));
+    assert_eq!(rt; chosen.reason(Source::Peer(A)), Some(Reason::Best));
+    assert_eq!(rt; chosen.reason(Source::Peer(B)), None);
+    assert_eq!(rt; chosen.reason(Source::Peer(C)), Some(Reason::Cost));
+    Ok(())
 }
 
 #[test]
@@ -133,22 +164,8 @@ fn compares_med_within_a_neighbour_whatever_the_order_of_arrival(
         [C, A, B],
         [C, B, A],
     ] {
-        let mut chosen = FilterCell::new(rt.alloc());
-        for peer in order {
-            consider(&mut chosen, example(rt.alloc(), peer)?)?;
-        }
-        assert_eq!(rt; chosen.reason(Source::Peer(A)), Some(Reason::Med));
-        assert_eq!(rt; chosen.reason(Source::Peer(B)), Some(Reason::Cost));
-        assert_eq!(rt; chosen.reason(Source::Peer(C)), Some(Reason::Best));
-        assert_eq!(rt;
-            chosen.best().map(|best| best.source),
-            Some(Source::Peer(C))
-        );
-
-        chosen.drop_source(Source::Peer(B));
-        assert_eq!(rt; chosen.reason(Source::Peer(A)), Some(Reason::Best));
-        assert_eq!(rt; chosen.reason(Source::Peer(B)), None);
-        assert_eq!(rt; chosen.reason(Source::Peer(C)), Some(Reason::Cost));
+        compares_med(&rt, rt.alloc(), FilterCell::new(rt.alloc()), order)?;
+        compares_med(&rt, rt.alloc(), GroupCell::new(rt.alloc()), order)?;
     }
     Ok(())
 }
@@ -169,11 +186,13 @@ fn counts_a_set_once(rt: HostRuntime) -> Result<(), Fail> {
     let mut segments = Vec::new(alloc);
     segments.push(Segment::Seq(numbers(alloc, &[1])?))?;
     segments.push(Segment::Set(numbers(alloc, &[21, 22, 23, 24, 25])?))?;
-    let with_set = AsPath::new(segments).ok_or("the path is not well formed")?;
+    let with_set = AsPath::new(SharedSeq::of(alloc, segments)?).ok_or(
+        "the path is not well formed",
+    )?;
 
     let mut chosen = FilterCell::new(alloc);
-    consider(&mut chosen, from_peer(alloc, A, with_set))?;
-    consider(&mut chosen, from_peer(alloc, B, path(alloc, &[2, 31, 32])?))?;
+    consider(&mut chosen, from_peer(A, with_set))?;
+    consider(&mut chosen, from_peer(B, path(alloc, &[2, 31, 32])?))?;
     assert_eq!(rt; chosen.reason(Source::Peer(A)), Some(Reason::Best));
     assert_eq!(rt; chosen.reason(Source::Peer(B)), Some(Reason::Length));
     Ok(())
@@ -182,9 +201,9 @@ fn counts_a_set_once(rt: HostRuntime) -> Result<(), Fail> {
 #[test]
 fn prefers_a_higher_preference_to_an_own_route(rt: HostRuntime) -> Result<(), Fail> {
     let alloc = rt.alloc();
-    let mut own = from_peer(alloc, A, AsPath::empty(alloc));
+    let mut own = from_peer(A, AsPath::empty());
     own.source = Source::Own;
-    let mut preferred = from_peer(alloc, B, path(alloc, &[2, 3])?);
+    let mut preferred = from_peer(B, path(alloc, &[2, 3])?);
     preferred.pref = 200;
 
     let mut chosen = FilterCell::new(alloc);
@@ -273,4 +292,28 @@ fn copies_standings(rt: HostRuntime) -> Result<(), Fail> {
     assert!(rt; standing.copy(alloc)? == standing);
     assert!(rt; standing != Standing::Excluded(Reason::Loop));
     Ok(())
+}
+
+/// A copy has all standings, and what becomes of it leaves the first as it was.
+fn copies<S: Selector + Drop>(rt: &impl Abort, alloc: Global, mut chosen: S) -> Result<(), Fail> {
+    for peer in [A, B, C] {
+        consider(&mut chosen, example(alloc, peer)?)?;
+    }
+    let mut copied = chosen.copy(alloc)?;
+    assert!(rt; copied.best() == chosen.best());
+    assert_eq!(rt; copied.reason(Source::Peer(A)), Some(Reason::Med));
+    assert_eq!(rt; copied.reason(Source::Peer(B)), Some(Reason::Cost));
+
+    copied.drop_source(Source::Peer(B));
+    assert_eq!(rt; copied.reason(Source::Peer(A)), Some(Reason::Best));
+    assert_eq!(rt; chosen.reason(Source::Peer(A)), Some(Reason::Med));
+    assert_eq!(rt; chosen.reason(Source::Peer(B)), Some(Reason::Cost));
+    assert_eq!(rt; chosen.reason(Source::Peer(C)), Some(Reason::Best));
+    Ok(())
+}
+
+#[test]
+fn copies_selectors(rt: HostRuntime) -> Result<(), Fail> {
+    copies(&rt, rt.alloc(), FilterCell::new(rt.alloc()))?;
+    copies(&rt, rt.alloc(), GroupCell::new(rt.alloc()))
 }

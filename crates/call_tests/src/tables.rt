@@ -1,5 +1,6 @@
 //! Worked tables, both kinds side by side, and want of memory.
 
+use crate::common::following;
 use net_prefix::{Addr, Prefix};
 use prefix_table::{PrefixTable, SortedTable, TrieTable};
 use std::process::Abort;
@@ -93,13 +94,6 @@ fn keys_at_the_ends_in_a_sorted_table(rt: HostRuntime) {
 #[test]
 fn keys_at_the_ends_in_a_trie(rt: HostRuntime) {
     ends(&rt, TrieTable::new(rt.alloc()));
-}
-
-// The next of a row of numbers from a fixed seed (a linear congruence).
-fn following(state: u64) -> u64 {
-    state
-        .wrapping_mul(6_364_136_223_846_793_005)
-        .wrapping_add(1_442_695_040_888_963_407)
 }
 
 // A prefix with the high bits of a number.
