@@ -2,3 +2,4 @@ pub mod Coding
 pub mod Counts
 pub mod Deliveries
 pub mod Edits
+pub mod Sites

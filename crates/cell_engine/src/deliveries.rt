@@ -75,7 +75,8 @@ impl<S: Selector + Drop, T: PrefixTable<Cell<S>> + Drop> State<S, T> {
         let cell = self
             .cell(direction.to, message.prefix())
             .unwrap_or(&nothing);
-        match self.site(direction.to) {
+        let made = self.made_site(direction.to)?;
+        match self.site(direction.to, &made) {
             Some(site) => deliver(self.alloc, site, cell, direction.from, message),
             None => store(self.alloc, cell, direction.from, message),
         }

@@ -17,6 +17,7 @@ ghost use Rattle.cell_engine.specs.Edits.{planned, IsPlanned, IsOfEdit, HasPlace
 use crate::deliveries::push_all;
 use crate::places::reserve_each;
 use crate::remaking::Remade;
+use crate::sites::kept_sites;
 use crate::state::State;
 use net_conf::{Conf, Edit, SiteConf};
 use net_prefix::Addr;
@@ -33,8 +34,14 @@ use std::marker::Model;
 /// What an edit will do: the configuration that it makes, the tables and directions for that, and what each router will send.
 #[derive(Drop)]
 pub struct Edited<S: Selector, T: PrefixTable<Cell<S>>> {
+    parts: Box<Parts<S, T>>,
+}
+
+/// The parts of what an edit will do.
+#[derive(Drop)]
+struct Parts<S: Selector, T: PrefixTable<Cell<S>>> {
     conf: Conf,
-    /// Those of the configuration.
+    /// Those that are kept beside the configuration.
     sites: BTreeMap<Addr, SiteConf>,
     tables: RouterTables<Cell<S>, T>,
     directions: Seq<Direction>,
@@ -45,18 +52,18 @@ pub struct Edited<S: Selector, T: PrefixTable<Cell<S>>> {
 impl<S: Selector, T: PrefixTable<Cell<S>>> Model for Edited<S, T> {
     ghost use Rattle.std.specs.Prelude.{◌≡◌};
     ghost use Rattle.std.specs.Coded.{codes};
-    ghost use Rattle.net_conf.specs.RouterSites.{sites_of};
     ghost use Rattle.cell_network.specs.Reporting.{AreOfPrefixes};
     ghost use Rattle.cell_engine.specs.Coding.{coded_table};
     ghost use Rattle.cell_engine.specs.Edits.{Planned};
+    ghost use Rattle.cell_engine.specs.Sites.{sites_kept};
 
     ghost Value = { Planned };
 
     ghost coded = { Prim.hlevel (codes, coded_table) };
 
-    ghost view = { λ x. record { conf = x.conf; tables = x.tables; directions = x.directions; sends = x.sends } };
+    ghost view = { λ x. record { conf = x.parts.value.conf; tables = x.parts.value.tables; directions = x.parts.value.directions; sends = x.parts.value.sends } };
 
-    ghost invariant = { λ x. (x.sites.entries ≡ sites_of x.conf) × AreOfPrefixes x.tables };
+    ghost invariant = { λ x. (x.parts.value.sites.entries ≡ sites_kept x.parts.value.directions x.parts.value.conf) × AreOfPrefixes x.parts.value.tables };
 }
 
 /// Adds the directions before this one.
@@ -192,15 +199,18 @@ impl<S: Selector + Drop, T: PrefixTable<Cell<S>> + Drop> State<S, T> {
             Ok(conf) => conf,
             Err(_) => return Err(AllocError),
         };
-        let sites = conf.sites(self.alloc)?;
         let directions = directions_after(self.alloc, self.directions.as_slice(), edit)?;
-        let Remade { tables, sends } = self.remade(&conf, &sites)?;
-        Ok(Edited {
+        let sites = kept_sites(self.alloc, &conf, directions.as_slice())?;
+        let Remade { tables, sends } = self.remade(&conf, directions.as_slice(), &sites)?;
+        let parts = Parts {
             conf,
             sites,
             tables,
             directions,
             sends,
+        };
+        Ok(Edited {
+            parts: Box::new(self.alloc, parts)?,
         })
     }
 
@@ -212,7 +222,7 @@ impl<S: Selector + Drop, T: PrefixTable<Cell<S>> + Drop> State<S, T> {
         ensures network { network self.new ≡ network self.old }
         ensures room { OnOk result (HasPlaces self.new edited.now) }
     {
-        reserve_each(self.alloc, &mut self.queues, edited.sends.as_slice())
+        reserve_each(self.alloc, &mut self.queues, edited.parts.sends.as_slice())
     }
 
     /// Does what the edit will do: this is the machine's own next state (RFC 4271, 6, 8 and 9). What was on its way over sessions that
@@ -223,14 +233,14 @@ impl<S: Selector + Drop, T: PrefixTable<Cell<S>> + Drop> State<S, T> {
         ensures { (edit : Edit) → IsPlanned self.old edit edited → network self.new ≡ with_sent (network self.old) (after_edit (network self.old) edit) }
     {
         self.conf.facts();
-        edited.conf.facts();
-        let Edited {
+        let Parts {
             conf,
             sites,
             tables,
             directions,
             sends,
-        } = edited;
+        } = Box::into_inner(edited.parts);
+        conf.facts();
         clear_down(&mut self.queues, &conf, self.directions.as_slice());
         self.conf = conf;
         self.sites = sites;

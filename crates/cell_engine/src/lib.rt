@@ -6,6 +6,7 @@ mod edits;
 mod feeds;
 mod places;
 mod remaking;
+mod sites;
 mod state;
 
 pub use edits::Edited;

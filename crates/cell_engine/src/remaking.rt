@@ -5,11 +5,13 @@ ghost use Rattle.std.specs.List.{flat_map};
 ghost use Rattle.std.specs.Option.{option_copied};
 ghost use Rattle.std.specs.FinMap as finite;
 ghost use Rattle.net_prefix.specs.Address.{addr_cmp};
-ghost use Rattle.net_conf.specs.RouterSites.{router_site, sites_of};
+ghost use Rattle.net_conf.specs.RouterSites.{router_site};
 ghost use Rattle.router_tables.specs.RouterTables.{table_at};
 ghost use Rattle.cell_network.specs.Keeping.{kept_cell, kept_table, kept_tables};
 ghost use Rattle.cell_network.specs.Editing.{sends_between, router_sends, all_sends};
+ghost use Rattle.cell_engine.specs.Sites.{sites_kept};
 
+use crate::sites::{made_site, site_in};
 use crate::state::State;
 use net_conf::{Conf, SiteConf};
 use net_prefix::{Addr, Prefix};
@@ -18,7 +20,7 @@ use route_cell::{Cell, Outcome, keep, refresh};
 use route_select::Selector;
 use router_tables::RouterTables;
 use seq::Seq;
-use session_queue::Message;
+use session_queue::{Direction, Message};
 use std::alloc::{AllocError, Global};
 use std::collections::BTreeMap;
 
@@ -130,20 +132,23 @@ impl<S: Selector + Drop, T: PrefixTable<Cell<S>> + Drop> State<S, T> {
     fn remade_at(
         &self,
         conf: &Conf,
+        directions: &[Direction],
         sites: &BTreeMap<Addr, SiteConf>,
         router: Addr,
     ) -> Result<RemadeTable<T>, AllocError>
-        requires { sites.now.entries ≡ sites_of conf.now }
+        requires { sites.now.entries ≡ sites_kept directions.now conf.now }
         ensures table { IfOk result (λ made. T.table made.table ≡ kept_table conf.now router (table_at router self.now.tables)) }
         ensures sends { IfOk result (λ made. made.sends ≡ router_sends self.now.conf conf.now router (finite.entries (table_at router self.now.tables))) }
     {
         let empty = T::new(self.alloc);
         let table = self.table(router).unwrap_or(&empty);
+        let before = self.made_site(router)?;
+        let after = made_site(self.alloc, conf, directions, router)?;
         remade_table(
             self.alloc,
             conf,
-            self.site(router),
-            sites.get(&router),
+            self.site(router, &before),
+            site_in(conf, directions, sites, &after, router),
             router,
             table,
         )
@@ -153,9 +158,10 @@ impl<S: Selector + Drop, T: PrefixTable<Cell<S>> + Drop> State<S, T> {
     pub(crate) fn remade(
         &self,
         conf: &Conf,
+        directions: &[Direction],
         sites: &BTreeMap<Addr, SiteConf>,
     ) -> Result<Remade<S, T>, AllocError>
-        requires { sites.now.entries ≡ sites_of conf.now }
+        requires { sites.now.entries ≡ sites_kept directions.now conf.now }
         ensures tables { IfOk result (λ made. made.tables ≡ kept_tables conf.now self.now.tables) }
         ensures sends { IfOk result (λ made. made.sends ≡ all_sends self.now.conf conf.now self.now.tables) }
     {
@@ -167,7 +173,7 @@ impl<S: Selector + Drop, T: PrefixTable<Cell<S>> + Drop> State<S, T> {
             match self.next_table(past) {
                 None => return Ok(Remade { tables, sends }),
                 Some(router) => {
-                    let made = self.remade_at(conf, sites, router)?;
+                    let made = self.remade_at(conf, directions, sites, router)?;
                     let RemadeTable { table, sends: sent } = made;
                     put_table(&mut tables, router, table)?;
                     sends.push((router, sent))?;

@@ -1,6 +1,6 @@
 //! The state, as the engine keeps it.
 
-ghost use Rattle.std.specs.Prelude.{◌≡◌};
+ghost use Rattle.std.specs.Prelude.{◌≡◌, IfOk};
 ghost use Rattle.std.specs.Option.{option_copied, option_map};
 ghost use Rattle.net_conf.specs.Configured.{IsConfigured};
 ghost use Rattle.net_conf.specs.RouterSites.{router_site};
@@ -10,7 +10,9 @@ ghost use Rattle.std.specs.FinMap.Entries.{find};
 ghost use Rattle.net_prefix.specs.Address.{addr_cmp};
 ghost use Rattle.cell_network.specs.Engine.{network, IsSound};
 ghost use Rattle.cell_network.specs.Reporting.{AreOfPrefixes};
+ghost use Rattle.cell_engine.specs.Sites.{site_made};
 
+use crate::sites::{made_site, site_in};
 use net_conf::{Conf, SiteConf};
 use net_prefix::{Addr, Prefix};
 use prefix_table::PrefixTable;
@@ -19,7 +21,7 @@ use route_select::Selector;
 use router_tables::RouterTables;
 use seq::Seq;
 use session_queue::{Direction, Queues};
-use std::alloc::Global;
+use std::alloc::{AllocError, Global};
 use std::collections::BTreeMap;
 use std::marker::Model;
 
@@ -28,7 +30,7 @@ use std::marker::Model;
 pub struct State<S: Selector, T: PrefixTable<Cell<S>>> {
     pub(crate) alloc: Global,
     pub(crate) conf: Conf,
-    /// The site of each router, made once an edit.
+    /// The site of each router, made once an edit, while there is a session.
     pub(crate) sites: BTreeMap<Addr, SiteConf>,
     pub(crate) tables: RouterTables<Cell<S>, T>,
     /// Those of all sessions.
@@ -39,10 +41,10 @@ pub struct State<S: Selector, T: PrefixTable<Cell<S>>> {
 impl<S: Selector, T: PrefixTable<Cell<S>>> Model for State<S, T> {
     ghost use Rattle.std.specs.Prelude.{◌≡◌};
     ghost use Rattle.std.specs.Coded.{codes};
-    ghost use Rattle.net_conf.specs.RouterSites.{sites_of};
     ghost use Rattle.cell_network.specs.Engine.{Engine, IsSound};
     ghost use Rattle.cell_network.specs.Reporting.{AreOfPrefixes};
     ghost use Rattle.cell_engine.specs.Coding.{coded_table};
+    ghost use Rattle.cell_engine.specs.Sites.{sites_kept};
 
     ghost Value = { Engine };
 
@@ -50,7 +52,7 @@ impl<S: Selector, T: PrefixTable<Cell<S>>> Model for State<S, T> {
 
     ghost view = { λ s. record { conf = s.conf; tables = s.tables; directions = s.directions; queues = s.queues } };
 
-    ghost invariant = { λ s. IsSound (record { conf = s.conf; tables = s.tables; directions = s.directions; queues = s.queues }) × (s.sites.entries ≡ sites_of s.conf) × AreOfPrefixes s.tables };
+    ghost invariant = { λ s. IsSound (record { conf = s.conf; tables = s.tables; directions = s.directions; queues = s.queues }) × (s.sites.entries ≡ sites_kept s.directions s.conf) × AreOfPrefixes s.tables };
 }
 
 impl<S: Selector, T: PrefixTable<Cell<S>>> State<S, T> {
@@ -91,11 +93,25 @@ impl<S: Selector, T: PrefixTable<Cell<S>>> State<S, T> {
         &self.queues
     }
 
-    /// The router's site: none where a virtual peer stands, or nobody.
-    pub fn site(&self, router: Addr) -> Option<&SiteConf>
+    /// The router's site, where none is kept: while there is a session they are, and this makes none.
+    pub fn made_site(&self, router: Addr) -> Result<Option<SiteConf>, AllocError>
+        ensures { IfOk result (λ made. made ≡ site_made self.now.directions self.now.conf router) }
+    {
+        made_site(self.alloc, &self.conf, self.directions.as_slice(), router)
+    }
+
+    /// The router's site: what `made_site` made, or the one that is kept. None where a virtual peer stands, or nobody.
+    pub fn site<'a>(&'a self, router: Addr, made: &'a Option<SiteConf>) -> Option<&'a SiteConf>
+        requires { made.now ≡ site_made self.now.directions self.now.conf router }
         ensures { option_copied result ≡ router_site self.now.conf router }
     {
-        self.sites.get(&router)
+        site_in(
+            &self.conf,
+            self.directions.as_slice(),
+            &self.sites,
+            made,
+            router,
+        )
     }
 
     /// The cells of the router, by prefix. None where it has none.

@@ -112,6 +112,7 @@ pub(crate) fn adj_rib_out<S: Selector, T: PrefixTable<Cell<S>>>(
 {
     state.facts();
     let up = state.conf().is_up(router, peer);
-    let site = state.site(router);
+    let made = state.made_site(router)?;
+    let site = state.site(router, &made);
     lines(alloc, state, router, &AdvertTo { up, site, peer })
 }

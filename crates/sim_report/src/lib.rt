@@ -71,7 +71,7 @@ fn report<S: Selector, T: PrefixTable<Cell<S>>>(
         )?))),
         Ask::Quiet => Ok(Report::Quiet(queues::is_quiet(state))),
         Ask::Cost(router, target) => {
-            Ok(Report::Cost(costs::cost_and_hop(state, router, target)))
+            Ok(Report::Cost(costs::cost_and_hop(state, router, target)?))
         }
         Ask::Trace(router, target) => {
             let traced = trace::trace(alloc, state, router, target)?;

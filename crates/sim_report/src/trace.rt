@@ -29,7 +29,8 @@ pub(crate) fn trace<S: Selector, T: PrefixTable<Cell<S>>>(
     let mut hops = Seq::new(alloc);
     let mut at = router;
     'hop: loop {
-        match look(state, hops.as_slice(), at, target) {
+        let seen = look(state, hops.as_slice(), at, target)?;
+        match seen {
             Look::Ends(ending) => return Ok(Traced { hops, ending }),
             Look::Forwards(prefix, next) => {
                 hops.push((at, prefix))?;
@@ -39,20 +40,20 @@ pub(crate) fn trace<S: Selector, T: PrefixTable<Cell<S>>>(
     }
 }
 
-/// What becomes of it at the address, where it came over the hops. It takes no memory.
+/// What becomes of it at the address, where it came over the hops. It takes no memory where the router's site is kept.
 #[tactic(auto, unfolding(reference_machine::specs::Tracing::look, cell_network::specs::Engine::network))]
 fn look<S: Selector, T: PrefixTable<Cell<S>>>(
     state: &State<S, T>,
     hops: &[(Addr, Prefix)],
     at: Addr,
     target: Addr,
-) -> Look
-    ensures { result ≡ look (network state.now) target hops.now at }
+) -> Result<Look, AllocError>
+    ensures { IfOk result (λ seen. seen ≡ look (network state.now) target hops.now at) }
 {
     if has_passed(at, hops) {
-        Look::Ends(TraceEnd::Loop(at))
+        Ok(Look::Ends(TraceEnd::Loop(at)))
     } else if state.conf().is_virtual(at) {
-        Look::Ends(TraceEnd::Reached(at))
+        Ok(Look::Ends(TraceEnd::Reached(at)))
     } else {
         by_prefix(state, at, target)
     }
@@ -63,16 +64,17 @@ fn by_prefix<S: Selector, T: PrefixTable<Cell<S>>>(
     state: &State<S, T>,
     at: Addr,
     target: Addr,
-) -> Look
+) -> Result<Look, AllocError>
     requires { is_virtual state.now.conf at ≡ false }
-    ensures { result ≡ by_prefix (network state.now) at (longest_match (network state.now) at target) }
+    ensures { IfOk result (λ seen. seen ≡ by_prefix (network state.now) at (longest_match (network state.now) at target)) }
 {
     let Some(found) = longest_chosen(state, at, target) else {
-        return Look::Ends(TraceEnd::NoRoute(at));
+        return Ok(Look::Ends(TraceEnd::NoRoute(at)));
     };
-    match state.site(at) {
-        None => Look::Ends(TraceEnd::NoRoute(at)),
-        Some(site) => by_route(&site.costs, at, found.0, found.1),
+    let made = state.made_site(at)?;
+    match state.site(at, &made) {
+        None => Ok(Look::Ends(TraceEnd::NoRoute(at))),
+        Some(site) => Ok(by_route(&site.costs, at, found.0, found.1)),
     }
 }
 

@@ -1,19 +1,11 @@
 use Rattle.std.proofs.Common.{◌≡◌, unwrap_or, ap, ◌∙◌}
 use Rattle.std.specs.List.{flat_map}
-use Rattle.std.specs.Map.{lookup}
-use Rattle.std.specs.BTreeMap.{is_at}
 use Rattle.std.specs.FinMap as finite
-use Rattle.net_prefix.specs.Address.{addr_cmp}
-use Rattle.net_conf.proofs.RouterLaws.{site_found}
 use Rattle.router_tables.specs.RouterTables.{table_at}
 use Rattle.router_tables.proofs.Seen.{when_ok}
 use Rattle.cell_network.specs.Editing.{sends_between}
 use Rattle.cell_engine.proofs.Remade.{table_or}
 use Rattle.cell_engine.proofs.state.State.remade_at.Goals as goal
-
-pub remade_table-requires : goal.remade_table-requires
-remade_table-requires g c =
-    c.get.ensures.value ∙ ap (lookup (is_at (addr_cmp c.args.router))) c.requires ∙ site_found c.args.conf.now c.args.router
 
 pub returns-clause-sends : goal.returns-clause-sends
 returns-clause-sends g c =
@@ -22,7 +14,6 @@ returns-clause-sends g c =
     ap (λ b. g.T.PrefixTable.table b.now) c.unwrap_or-table.ensures
     ∙ table_or g.T.PrefixTable.table c.table.result _
     ∙ (λ i. unwrap_or (c.table.ensures i) (c.new-empty.ensures i)) in
-    let after = c.get.ensures.value ∙ ap (lookup (is_at (addr_cmp r))) c.requires ∙ site_found c.args.conf.now r in
     when_ok c.remade_table.result _ _ (λ made is.
-    is ∙ (λ i. flat_map (λ e. sends_between (c.site.ensures i) (after i) e.0 e.1) (finite.entries (there i)))
+    is ∙ (λ i. flat_map (λ e. sends_between (c.site.ensures i) (c.site_in.ensures i) e.0 e.1) (finite.entries (there i)))
     ) c.remade_table.ensures.sends
