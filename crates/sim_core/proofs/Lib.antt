@@ -1,0 +1,5 @@
+pub mod Accepted
+pub mod Carried
+pub mod Prepared
+pub mod Refusals
+pub mod Runs

@@ -1,0 +1,84 @@
+//! Deliveries.
+
+ghost use Rattle.std.specs.Prelude.{◌≡◌, true, Some, None, slice_get, IfOk};
+ghost use Rattle.net_conf.specs.Configuration.{has_session};
+ghost use Rattle.session_queue.specs.Waiting.{queue_at};
+ghost use Rattle.sim_event.specs.declared.event.Event.TheVariants.{Deliver};
+ghost use Rattle.reference_machine.specs.Network.{messages_in};
+ghost use Rattle.reference_machine.specs.Machine.{delivery_refusal, head_step};
+ghost use Rattle.cell_network.specs.Engine.{network};
+ghost use Rattle.cell_engine.specs.Deliveries.{IsOfHead, HasRoom};
+ghost use Rattle.sim_core.specs.Plans.{IsPrepared, Prepares};
+
+use crate::plan::{Plan, Taken};
+use crate::sim::Sim;
+use cell_engine::Cell;
+use machine_rules::delivery_refusal;
+use net_conf::Refusal;
+use prefix_table::PrefixTable;
+use route_select::Selector;
+use session_queue::{Direction, Message};
+use sim_event::Reply;
+use std::alloc::AllocError;
+
+impl<S: Selector + Drop, T: PrefixTable<Cell<S>> + Drop> Sim<S, T> {
+    /// Makes a delivery ready.
+    pub(crate) fn prepare_delivery(&mut self, direction: Direction) -> Result<Plan<S, T>, Refusal>
+        ensures network { network self.new ≡ network self.old }
+        ensures prepares { Prepares self.new (Deliver direction.from direction.to) result }
+    {
+        self.state.facts();
+        if let Some(refusal) = delivery_refusal(self.state.conf(), direction) {
+            return Err(refusal);
+        }
+        let Some(head) = self.state.queues().head(direction.from, direction.to) else {
+            return Err(Refusal::QueueEmpty);
+        };
+        let Ok(message) = head.to_message() else {
+            return Err(Refusal::Memory);
+        };
+        match self.taking(direction, &message) {
+            Ok(plan) => Ok(plan),
+            Err(_) => Err(Refusal::Memory),
+        }
+    }
+
+    /// The plan of a delivery that is not refused: what the receiver makes of the message, and room for that.
+    fn taking(&mut self, direction: Direction, message: &Message) -> Result<Plan<S, T>, AllocError>
+        requires allowed { delivery_refusal self.old.conf direction ≡ None }
+        requires head { slice_get (queue_at self.old.queues direction.from direction.to) 0 ≡ Some message.now }
+        ensures network { network self.new ≡ network self.old }
+        ensures plan { IfOk result (λ plan. IsPrepared self.new (Deliver direction.from direction.to) plan) }
+    {
+        self.state.facts();
+        let prefix = message.prefix();
+        let outcome = self.state.outcome(direction, message)?;
+        self.state.make_room(direction.to, prefix, &outcome)?;
+        let taken = Taken {
+            direction,
+            prefix,
+            outcome,
+        };
+        Ok(Plan {
+            reply: Reply::Took(prefix, message.kind()),
+            pushed: None,
+            taken: Some(Box::new(self.alloc, taken)?),
+            edited: None,
+        })
+    }
+
+    /// Takes the message at the head of the queue. It takes no memory.
+    pub(crate) fn take(&mut self, taken: Box<Taken<S>>)
+        requires session { has_session self.old.conf taken.value.direction.from taken.value.direction.to ≡ true }
+        requires head { IsOfHead self.old taken.value.direction taken.value.prefix taken.value.outcome }
+        requires room { HasRoom self.old taken.value.direction.to taken.value.prefix taken.value.outcome.sends }
+        ensures { network self.new ≡ (head_step (network self.old) taken.value.direction (messages_in (network self.old).queues taken.value.direction)).next }
+    {
+        let Taken {
+            direction,
+            prefix,
+            outcome,
+        } = Box::into_inner(taken);
+        self.state.take(direction, prefix, outcome);
+    }
+}

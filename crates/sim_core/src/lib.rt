@@ -1,0 +1,12 @@
+//! The machine, run by the engine: an event is prepared, which takes all the memory that it needs, and then done without any.
+#![tactic(auto)]
+
+mod deliveries;
+mod edits;
+mod feeds;
+mod plan;
+mod questions;
+mod sim;
+
+pub use plan::Plan;
+pub use sim::Sim;

@@ -1,0 +1,30 @@
+//! Questions.
+
+ghost use Rattle.sim_event.specs.declared.event.Event.TheVariants.{Ask as AnAsk};
+ghost use Rattle.sim_core.specs.Plans.{Prepares};
+
+use crate::plan::Plan;
+use crate::sim::Sim;
+use cell_engine::Cell;
+use net_conf::Refusal;
+use prefix_table::PrefixTable;
+use route_select::Selector;
+use sim_event::{Ask, Reply};
+use sim_report::ask;
+
+impl<S: Selector, T: PrefixTable<Cell<S>>> Sim<S, T> {
+    /// Makes an answer ready.
+    pub(crate) fn prepare_answer(&self, question: &Ask) -> Result<Plan<S, T>, Refusal>
+        ensures { Prepares self.now (AnAsk question.now) result }
+    {
+        match ask(self.alloc, &self.state, question) {
+            Ok(report) => Ok(Plan {
+                reply: Reply::Report(report),
+                pushed: None,
+                taken: None,
+                edited: None,
+            }),
+            Err(refusal) => Err(refusal),
+        }
+    }
+}
