@@ -2,20 +2,26 @@
 #![tactic(auto)]
 
 mod command_line;
-mod script;
 
 ghost use Rattle.std.specs.Prelude.{◌≡◌};
 ghost use Rattle.std.specs.Process.{exit_status};
 ghost use Rattle.clap.specs.Words.{kind_of};
 ghost use Rattle.bgpsim.specs.Status.{no_memory, status_of_kind, IsEnd};
 
+use cell_engine::Cell;
 use clap::Error;
 use clap::error::ErrorKind;
 use command_line::{Choice, choose};
-use script::run_script;
+use prefix_table::TrieTable;
+use route_select::GroupCell;
+use script_run::run_script;
+use sim_core::Sim;
 use std::env;
 use std::io::{self, BufWriter, Write};
 use std::process::ExitCode;
+
+/// The machine that runs scripts: cells that keep groups of one neighbouring AS, in tries.
+type Engine = Sim<GroupCell, TrieTable<Cell<GroupCell>>>;
 
 /// The exit status of a mistaken command line.
 const MISTAKEN: u8 = 2;
@@ -81,8 +87,6 @@ fn serve_streams(
     let mut input = watched::Input::new(rt.reader());
     let mut output = watched::Output::new(writer);
     let mut errors = watched::Output::new(errors);
-    ExitCode::from(run_script(alloc, &mut input, &mut output, &mut errors))
+    let mut machine: Engine = Sim::new(alloc);
+    ExitCode::from(run_script(alloc, &mut machine, &mut input, &mut output, &mut errors))
 }
-
-#[cfg(test)]
-mod tests;

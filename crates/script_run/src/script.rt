@@ -1,20 +1,21 @@
-//! `bgpsim script`: a script on standard input, its replies on standard output.
+//! A script on one stream, its replies on a second, and what is told of a fault on a third.
 
 ghost use Rattle.std.specs.Prelude.{◌≡◌, false};
+ghost use Rattle.reference_machine.specs.Machine.{nothing};
 ghost use Rattle.sim_text.specs.Serving.{fault_text};
-ghost use Rattle.bgpsim.specs.Status.{status_of, told, IsTold, IsScriptRun};
+ghost use Rattle.script_run.specs.ScriptRun.{status_of, told, IsTold, IsScriptRun};
 
-use plain_simulator::Simulator;
-use route_select::FilterCell;
+use reference_machine::Machine;
 use sim_text::{ServeFault, serve, write_fault};
 use std::alloc::Global;
 use std::io::{Read, Write};
 use watched::{Input, Output};
 
-/// Serves the script on the reader to the writer, from the empty network, and tells a fault on the third stream, whose own
-/// failure is passed over. The exit status: 0 done, 3 read fault, 4 write fault.
-pub fn run_script<R: Read, W: Write, E: Write>(
+/// Serves the script on the reader to the writer, by a machine that begins with the empty network, and tells a fault on the third
+/// stream, whose own failure is passed over. The exit status: 0 done, 3 read fault, 4 write fault.
+pub fn run_script<M: Machine, R: Read, W: Write, E: Write>(
     alloc: Global,
+    machine: &mut M,
     input: &mut Input<R>,
     output: &mut Output<W>,
     errors: &mut Output<E>,
@@ -22,11 +23,11 @@ pub fn run_script<R: Read, W: Write, E: Write>(
     requires calm_input { input.old.failed ≡ false }
     requires calm_output { output.old.failed ≡ false }
     requires shown { output.old.held ≡ false }
+    requires empty { M.network machine.old ≡ nothing }
     ensures sent { output.new.failed ≡ false → output.new.held ≡ false }
-    ensures run { IsScriptRun input.old.remaining output.old errors.old result input.new output.new errors.new }
+    ensures run { IsScriptRun input.old.remaining output.old errors.old result (M.network machine.new) input.new output.new errors.new }
 {
-    let mut machine: Simulator<FilterCell> = Simulator::new(alloc);
-    let served = serve(alloc, input, output, &mut machine);
+    let served = serve(alloc, input, output, machine);
     tell(&served, errors);
     status_of(&served)
 }

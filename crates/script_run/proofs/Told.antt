@@ -2,7 +2,7 @@
 use Rattle.std.proofs.Common.{List, [], ℕ, Result, Ok, Err, inl, inr}
 use Rattle.watched.specs.Streams.{Writing, Writes}
 use Rattle.watched.specs.Writing.{appends_none}
-use Rattle.bgpsim.specs.Status.{IsTold}
+use Rattle.script_run.specs.ScriptRun.{IsTold}
 
 pub nothing_told : (old : Writing) → IsTold old [] old
 nothing_told old = inl (appends_none old.written)

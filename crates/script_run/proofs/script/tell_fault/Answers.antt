@@ -1,6 +1,6 @@
 use Rattle.sim_text.specs.Serving.{fault_text}
-use Rattle.bgpsim.proofs.Told.{told_by}
-use Rattle.bgpsim.proofs.script.tell_fault.Goals as goal
+use Rattle.script_run.proofs.Told.{told_by}
+use Rattle.script_run.proofs.script.tell_fault.Goals as goal
 
 pub returns : goal.returns
 returns g c = told_by c.args.errors.now c.write_fault.new.output (fault_text c.args.fault) c.write_fault.result c.write_fault.ensures

@@ -1,11 +1,12 @@
 //! A user at a terminal: each reply stands there before the next line is typed.
 
-use plain_simulator::Simulator;
-use route_select::FilterCell;
+use crate::machines::{PlainMachine, SortedMachine, TrieMachine};
+use reference_machine::Machine;
 use sim_text::serve;
+use std::alloc::Global;
 use std::cell::Cell;
 use std::io::{self, Read, Write};
-use std::test::Fail;
+use std::process::Abort;
 use watched::{Input, Output};
 
 /// Lines with one line of reply each.
@@ -62,9 +63,7 @@ impl Write for Screen<'_> {
     }
 }
 
-#[test]
-fn each_reply_is_shown_before_more_is_read(rt: HostRuntime) -> Result<(), Fail> {
-    let alloc = rt.alloc();
+fn is_answered_at_once<M: Machine + Drop>(rt: &impl Abort, alloc: Global, mut machine: M) {
     let shown = Cell::new(0);
     let mut input = Input::new(Typist {
         typed: 0,
@@ -74,9 +73,15 @@ fn each_reply_is_shown_before_more_is_read(rt: HostRuntime) -> Result<(), Fail> 
         held: 0,
         shown: &shown,
     });
-    let mut machine: Simulator<FilterCell> = Simulator::new(alloc);
     let served = serve(alloc, &mut input, &mut output, &mut machine);
     assert_eq!(rt; served, Ok(5));
     assert_eq!(rt; shown.get(), 5);
-    Ok(())
+}
+
+#[test]
+fn each_reply_is_shown_before_more_is_read(rt: HostRuntime) {
+    let alloc = rt.alloc();
+    is_answered_at_once(&rt, alloc, PlainMachine::new(alloc));
+    is_answered_at_once(&rt, alloc, SortedMachine::new(alloc));
+    is_answered_at_once(&rt, alloc, TrieMachine::new(alloc));
 }

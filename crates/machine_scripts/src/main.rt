@@ -1,0 +1,79 @@
+//! `machine_scripts plain|sorted|trie`: a script on standard input, served as `bgpsim script` serves it, by the machine of that name.
+#![tactic(auto)]
+
+mod command_line;
+mod machines;
+
+ghost use Rattle.std.specs.Prelude.{◌≡◌};
+ghost use Rattle.std.specs.Process.{exit_status};
+ghost use Rattle.reference_machine.specs.Machine.{nothing};
+ghost use Rattle.machine_scripts.specs.Status.{mistaken, no_memory, IsEnd};
+
+use command_line::{Kind, choose};
+use machines::{PlainMachine, SortedMachine, TrieMachine};
+use reference_machine::Machine;
+use script_run::run_script;
+use std::env;
+use std::io::{self, BufWriter, Write};
+use std::process::ExitCode;
+
+/// The exit status of a mistaken command line.
+const MISTAKEN: u8 = 2;
+
+/// The exit status of want of memory.
+const NO_MEMORY: u8 = 5;
+
+fn main(rt: HostRuntime) -> ExitCode {
+    let alloc = rt.alloc();
+    let words = match env::args(&rt) {
+        Ok(words) => words,
+        Err(error) if error.kind() == io::ErrorKind::OutOfMemory => return without_memory(&rt),
+        Err(_) => return without_machine(&rt),
+    };
+    let words: Vec<String> = match words.collect(alloc) {
+        Ok(words) => words,
+        Err(_) => return without_memory(&rt),
+    };
+    match choose(words.as_slice()) {
+        Some(Kind::Plain) => serve_streams(&rt, rt.stderr(), PlainMachine::new(alloc)),
+        Some(Kind::Sorted) => serve_streams(&rt, rt.stderr(), SortedMachine::new(alloc)),
+        Some(Kind::Trie) => serve_streams(&rt, rt.stderr(), TrieMachine::new(alloc)),
+        None => without_machine(&rt),
+    }
+}
+
+fn without_machine(rt: &impl Eprint) -> ExitCode
+    ensures { exit_status result ≡ mistaken }
+{
+    let _ = rt.eprintln("use: machine_scripts plain|sorted|trie");
+    ExitCode::from(MISTAKEN)
+}
+
+fn without_memory(rt: &impl Eprint) -> ExitCode
+    ensures { exit_status result ≡ no_memory }
+{
+    let _ = rt.eprintln("memory");
+    ExitCode::from(NO_MEMORY)
+}
+
+/// Serves standard input to standard output, by a machine that begins with the empty network.
+fn serve_streams<M: Machine + Drop>(
+    rt: &(impl Print + Eprint + Input + AllocGlobal),
+    errors: impl Write + Drop,
+    mut machine: M,
+) -> ExitCode
+    requires { M.network machine ≡ nothing }
+    ensures { IsEnd result }
+{
+    let alloc = rt.alloc();
+    let Ok(writer) = BufWriter::new(alloc, io::writer(rt)) else {
+        return without_memory(rt);
+    };
+    let mut input = watched::Input::new(rt.reader());
+    let mut output = watched::Output::new(writer);
+    let mut errors = watched::Output::new(errors);
+    ExitCode::from(run_script(alloc, &mut machine, &mut input, &mut output, &mut errors))
+}
+
+#[cfg(test)]
+mod tests;

@@ -1,0 +1,52 @@
+//! What only a call can show, on each machine: readers and writers that fail, memory that is refused, a reader that waits for its replies.
+//! Whole scripts are data, in cases/ at the top of the repository.
+
+mod faults;
+mod memory;
+mod prompt;
+
+use reference_machine::Machine;
+use sim_text::serve;
+use std::alloc::Global;
+use std::test::Fail;
+use watched::{Input, Output};
+
+/// The reply where memory was refused.
+const WITHOUT_MEMORY: &[u8] = b"refused 20 memory\n";
+
+/// Lines, and the reply to each.
+type Lines = &'static [(&'static str, &'static str)];
+
+/// Two routers, a route on its way from one to the other, and the second one's table.
+const FIRST_PATH: Lines = &[
+    ("router 1.0.0.1 1\n", "ok\n"),
+    ("router 2.0.0.1 2\n", "ok\n"),
+    ("link 1.0.0.1 2.0.0.1 10\n", "ok\n"),
+    ("join 1.0.0.1 2.0.0.1\n", "ok\n"),
+    ("origin 1.0.0.1 10.0.0.0/8\n", "ok\n"),
+    ("deliver 1.0.0.1 2.0.0.1\n", "took 10.0.0.0/8 update\n"),
+    (
+        "routes 2.0.0.1\n",
+        "10.0.0.0/8 from 1.0.0.1 path=1 origin=igp next=1.0.0.1 med=- pref=100 oid=- clusters=-\nend 1\n",
+    ),
+];
+
+/// What the machine answers to lines.
+fn asked<M: Machine>(alloc: Global, machine: &mut M, lines: &str) -> Result<Vec<u8>, Fail> {
+    let mut written = Vec::with_capacity(alloc, 500).or_else(|_| Vec::with_capacity(alloc, 500))?;
+    let mut input = Input::new(lines.as_bytes());
+    let mut output = Output::new(&mut written);
+    let served = serve(alloc, &mut input, &mut output, machine);
+    drop(output);
+    served.map_err(|_| "a fault")?;
+    Ok(written)
+}
+
+/// What it answers to a line, which is given once more where memory was refused.
+fn repeated<M: Machine>(alloc: Global, machine: &mut M, line: &str) -> Result<Vec<u8>, Fail> {
+    let answer = asked(alloc, machine, line)?;
+    if answer.as_slice() == WITHOUT_MEMORY {
+        return asked(alloc, machine, line);
+    }
+    Ok(answer)
+}

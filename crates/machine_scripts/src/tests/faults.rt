@@ -1,0 +1,164 @@
+//! Readers and writers that fail midway.
+
+use super::{FIRST_PATH, asked};
+use crate::machines::{PlainMachine, SortedMachine, TrieMachine};
+use reference_machine::Machine;
+use sim_text::{ServeFault, serve};
+use std::alloc::Global;
+use std::io::{self, Read, Write};
+use std::process::Abort;
+use std::test::Fail;
+use watched::{Input, Output};
+
+/// What the second router's table shows once this many lines were taken.
+fn table_after(lines: usize) -> &'static str {
+    if lines < 2 {
+        "refused 2 no-router\n"
+    } else if lines < 6 {
+        "end 0\n"
+    } else {
+        FIRST_PATH[6].1
+    }
+}
+
+/// The script and its replies, up to a line.
+fn joined(alloc: Global, lines: usize) -> Result<(String, String), Fail> {
+    let mut script = String::new(alloc);
+    let mut replies = String::new(alloc);
+    for (line, reply) in FIRST_PATH.iter().take(lines) {
+        script.push_str(line)?;
+        replies.push_str(reply)?;
+    }
+    Ok((script, replies))
+}
+
+/// Gives 20 bytes at a time, and fails when its reads are used up.
+#[derive(Drop)]
+struct Faltering<'a> {
+    rest: &'a [u8],
+    reads_left: usize,
+}
+
+impl Read for Faltering<'_> {
+    fn read(&mut self, buffer: &mut [u8]) -> io::Result<usize> {
+        if self.reads_left == 0 {
+            return Err(io::Error::from(io::ErrorKind::Other));
+        }
+        self.reads_left -= 1;
+        let length = self.rest.len().min(buffer.len()).min(20);
+        for (to, from) in buffer.iter_mut().zip(self.rest.iter().take(length)) {
+            *to = *from;
+        }
+        self.rest = &self.rest[length..];
+        Ok(length)
+    }
+}
+
+/// Takes bytes, and fails when its writes are used up.
+#[derive(Drop)]
+struct Full {
+    taken: Vec<u8>,
+    writes_left: usize,
+}
+
+impl Write for Full {
+    fn write(&mut self, bytes: &[u8]) -> io::Result<usize> {
+        if self.writes_left == 0 {
+            return Err(io::Error::from(io::ErrorKind::Other));
+        }
+        self.writes_left -= 1;
+        self.taken.extend_from_slice(bytes)?;
+        Ok(bytes.len())
+    }
+
+    fn flush(&mut self) -> io::Result<()> {
+        Ok(())
+    }
+}
+
+/// After so many reads: each line that was given whole is answered, and the fault names the next one.
+fn reader_fails<M: Machine + Drop>(
+    rt: &impl Abort,
+    alloc: Global,
+    mut machine: M,
+    reads: usize,
+) -> Result<(), Fail> {
+    let (script, _) = joined(alloc, 7)?;
+    let given = script.as_bytes().len().min(reads.saturating_mul(20));
+    let lines = script.as_bytes()[..given]
+        .iter()
+        .filter(|b| **b == b'\n')
+        .count();
+    let (_, replies) = joined(alloc, lines)?;
+    let mut written = Vec::new(alloc);
+    let mut input = Input::new(Faltering {
+        rest: script.as_bytes(),
+        reads_left: reads,
+    });
+    let mut output = Output::new(&mut written);
+    let served = serve(alloc, &mut input, &mut output, &mut machine);
+    drop(output);
+    assert_eq!(rt;
+        served,
+        Err(ServeFault::Read {
+            line: lines as u64 + 1
+        })
+    );
+    assert_eq!(rt; written.as_slice(), replies.as_bytes());
+    let table = asked(alloc, &mut machine, "routes 2.0.0.1\n")?;
+    assert_eq!(rt; table.as_slice(), table_after(lines).as_bytes());
+    Ok(())
+}
+
+#[test]
+fn a_reader_that_fails_at_each_read(rt: HostRuntime) -> Result<(), Fail> {
+    let alloc = rt.alloc();
+    for reads in 0..8 {
+        reader_fails(&rt, alloc, PlainMachine::new(alloc), reads)?;
+        reader_fails(&rt, alloc, SortedMachine::new(alloc), reads)?;
+        reader_fails(&rt, alloc, TrieMachine::new(alloc), reads)?;
+    }
+    Ok(())
+}
+
+/// After so many writes: the replies before the fault's line were written, and a front of its own; its event was taken.
+fn writer_fails<M: Machine + Drop>(
+    rt: &impl Abort,
+    alloc: Global,
+    mut machine: M,
+    writes: usize,
+) -> Result<(), Fail> {
+    let (script, replies) = joined(alloc, 7)?;
+    let mut full = Full {
+        taken: Vec::new(alloc),
+        writes_left: writes,
+    };
+    let mut input = Input::new(script.as_bytes());
+    let mut output = Output::new(&mut full);
+    let served = serve(alloc, &mut input, &mut output, &mut machine);
+    drop(output);
+    let Err(ServeFault::Write { line }) = served else {
+        return Err("no write fault".into());
+    };
+    assert!(rt; replies.as_bytes().starts_with(full.taken.as_slice()));
+    let lines = line as usize;
+    assert!(rt; 1 <= lines && lines <= 7);
+    let (_, earlier) = joined(alloc, lines - 1)?;
+    let (_, with_it) = joined(alloc, lines)?;
+    assert!(rt; earlier.len() <= full.taken.len());
+    assert!(rt; full.taken.len() < with_it.len());
+    let table = asked(alloc, &mut machine, "routes 2.0.0.1\n")?;
+    assert_eq!(rt; table.as_slice(), table_after(lines).as_bytes());
+    Ok(())
+}
+
+#[test]
+fn a_writer_that_fails_at_each_write(rt: HostRuntime) -> Result<(), Fail> {
+    let alloc = rt.alloc();
+    for writes in 0..10 {
+        writer_fails(&rt, alloc, PlainMachine::new(alloc), writes)?;
+        writer_fails(&rt, alloc, SortedMachine::new(alloc), writes)?;
+        writer_fails(&rt, alloc, TrieMachine::new(alloc), writes)?;
+    }
+    Ok(())
+}

@@ -1,0 +1,33 @@
+-- What it means to run a script: its exit status, and what is told of a fault.
+use Rattle.std.specs.Prelude.{◌≡◌, ◌⊎◌, ℕ, true, List, [], Option, IfSome, Result, Ok, Err}
+use Rattle.std.specs.Io.KnownBytes.{Appends}
+use Rattle.watched.specs.Streams.{Reading, Writing, AppendsFront}
+use Rattle.reference_machine.specs.Network.{Network}
+use Rattle.reference_machine.specs.Machine.{nothing}
+use Rattle.sim_text.specs.Serving.{IsServing, fault_text, is_read_fault, is_write_fault}
+use Rattle.sim_text.specs.declared.fault.ServeFault.{ServeFault}
+use Rattle.sim_text.specs.declared.fault.ServeFault.TheVariants.{Read, Write}
+
+-- 0 where the script was served to its end, 3 at a fault of reading, 4 at one of writing
+abbrev pub status_of : Result ℕ ServeFault → ℕ
+status_of (Ok lines) = 0
+status_of (Err (Read line)) = 3
+status_of (Err (Write line)) = 4
+
+-- what is told on the third stream: nothing where the script was served to its end
+abbrev pub told : Result ℕ ServeFault → List ℕ
+told (Ok lines) = []
+told (Err fault) = fault_text fault
+
+-- all of the text was written, or the writer failed, after a front of it
+abbrev pub IsTold : Writing → List ℕ → Writing → Type 0
+IsTold old text new = Appends old.written new.written text ⊎ ((new.failed ≡ true) × AppendsFront old.written new.written text)
+
+-- a script was run from the empty network to this one: it was served, as far as its bytes are known; the status tells how
+-- serving ended; the writer failed just where that was a fault of writing, and the reader only where it was one of reading; and
+-- a fault was told
+abbrev pub IsScriptRun : Option (List ℕ) → Writing → Writing → ℕ → Network → Reading → Writing → Writing → Type 0
+IsScriptRun bytes o errors status end i' o' errors' = (served : Result ℕ ServeFault) × (status ≡ status_of served)
+    × IfSome bytes (λ known. IsServing known nothing o served end o' i')
+    × (o'.failed ≡ is_write_fault served) × (i'.failed ≡ true → is_read_fault served ≡ true)
+    × IsTold errors (told served) errors'
