@@ -6,3 +6,5 @@ pub mod KeptTrees
 pub mod Picked
 pub mod Peers
 pub mod RouterLaws
+pub mod OthersStay
+pub mod SitesPlaced

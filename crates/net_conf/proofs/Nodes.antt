@@ -20,7 +20,7 @@ use Rattle.net_conf.specs.Costs.{nodes_of, edge_of, edges_of, costs_of}
 use Rattle.net_conf.specs.Configured.{HasEnds}
 use Rattle.net_conf.specs.Kept.{IsSound, has_none}
 
-some_mapped : {A B : Type 0} (f : A → B) (o : Option A) → is_some (option_map f o) ≡ is_some o
+pub some_mapped : {A B : Type 0} (f : A → B) (o : Option A) → is_some (option_map f o) ≡ is_some o
 some_mapped f None = refl
 some_mapped f (Some a) = refl
 

@@ -70,11 +70,11 @@ passed false r ts none = (refl, none)
 passed true r ts none = absurd (some_none r none)
 
 -- each test of a list without a first one fails
-all_fail : (ts : List (Bool × Refusal)) → first_of ts ≡ None → AllByRecursion (λ t. t.0 ≡ false) ts
+pub all_fail : (ts : List (Bool × Refusal)) → first_of ts ≡ None → AllByRecursion (λ t. t.0 ≡ false) ts
 all_fail [] none = tt
 all_fail ((b, r) ∷ ts) none = let rest = passed b r ts none in (rest.0, all_fail ts rest.1)
 
-both_there : (p q : Bool) → not (p && q) ≡ false → (p ≡ true) × (q ≡ true)
+pub both_there : (p q : Bool) → not (p && q) ≡ false → (p ≡ true) × (q ≡ true)
 both_there true true is = (refl, refl)
 both_there true false is = absurd (true≢false is)
 both_there false q is = absurd (true≢false is)

@@ -5,5 +5,6 @@ pub mod Costs
 pub mod Sites
 pub mod RouterSites
 pub mod Configured
+pub mod Scopes
 pub mod Laws
 pub mod Kept

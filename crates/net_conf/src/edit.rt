@@ -1,5 +1,8 @@
 //! Changes of a configuration.
 
+ghost use Rattle.std.specs.Prelude.{◌≡◌};
+ghost use Rattle.net_conf.specs.Scopes.{scope, router_in};
+
 use crate::tables::PolicySide;
 use igp_cost::Metric;
 use net_prefix::{Addr, Prefix};
@@ -41,4 +44,43 @@ pub enum Edit {
     Origin(Addr, Prefix),
     /// The router originates the prefix no more.
     NoOrigin(Addr, Prefix),
+}
+
+/// How much of what routers decide an edit can change.
+#[derive(Clone, Copy, Debug, PartialEq, Eq)]
+pub enum Scope {
+    /// Any route of any router.
+    Network,
+    /// The routes of this router, and what it sends.
+    Site(Addr),
+    /// This router's route to the prefix, and what it sends of that.
+    Route(Addr, Prefix),
+}
+
+impl Scope {
+    /// The one router whose part of the configuration changes. None where it may be more than one.
+    pub fn router(&self) -> Option<Addr>
+        ensures { result ≡ router_in self.now }
+    {
+        match self {
+            Scope::Network => None,
+            Scope::Site(router) | Scope::Route(router, _) => Some(*router),
+        }
+    }
+}
+
+impl Edit {
+    /// How much of what routers decide the edit can change.
+    pub fn scope(&self) -> Scope
+        ensures { result ≡ scope self.now }
+    {
+        match self {
+            Edit::Client(router, _, _) | Edit::OwnNext(router, _, _) => Scope::Site(*router),
+            Edit::Cluster(router, _) => Scope::Site(*router),
+            Edit::Rule(router, _, _, _) | Edit::Clear(router, _, _) => Scope::Site(*router),
+            Edit::Origin(router, prefix) => Scope::Route(*router, *prefix),
+            Edit::NoOrigin(router, prefix) => Scope::Route(*router, *prefix),
+            _ => Scope::Network,
+        }
+    }
 }

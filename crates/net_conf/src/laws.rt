@@ -1,6 +1,7 @@
 //! What holds of configurations. A function here does nothing: a call gives the caller's proof what it ensures.
 
 ghost use Rattle.net_conf.specs.Laws.{PeersAreInOrder, PeersHaveSessions, SitesAreOfTheirRouters, SiteSessionsAreInOrder, SitesHaveSessions, SitesKnowSessionsUp, OriginsAreListed, RouterSitesAreSites, SitesAreInOrder, SitesAreFound};
+ghost use Rattle.net_conf.specs.Scopes.{SitesOfOthersStay, SessionsStay, AreRoutersBefore, AreRoutersAfter, OriginsAloneChange, OtherOriginsStay};
 
 /// The peers of a router are in order of address, and are those with which it has a session.
 pub fn peers_are_those_of_sessions()
@@ -26,4 +27,15 @@ pub fn sites_are_found()
     ensures sites { RouterSitesAreSites }
     ensures in_order { SitesAreInOrder }
     ensures found { SitesAreFound }
+{}
+
+/// An edit of one router's settings, or of what it originates, leaves all other sites, and all sessions up or down. Where it is not
+/// refused, the one is a router.
+pub fn edits_keep_their_scope()
+    ensures others { SitesOfOthersStay }
+    ensures sessions { SessionsStay }
+    ensures before { AreRoutersBefore }
+    ensures after { AreRoutersAfter }
+    ensures settings { OriginsAloneChange }
+    ensures origins { OtherOriginsStay }
 {}

@@ -16,10 +16,11 @@ mod tables;
 mod trees;
 
 pub use conf::Conf;
-pub use edit::Edit;
+pub use edit::{Edit, Scope};
 pub use igp_cost::{MAX_NODES, Metric};
 pub use laws::{
-    origins_are_listed, peers_are_those_of_sessions, sites_are_found, sites_are_of_routers,
+    edits_keep_their_scope, origins_are_listed, peers_are_those_of_sessions, sites_are_found,
+    sites_are_of_routers,
 };
 pub use limits::{MAX_LINKS, MAX_SESSIONS};
 pub use refusal::Refusal;
