@@ -204,7 +204,7 @@ best_heard e sound r p router =
     ∙ ap (λ b. best_of (decided (cond b None (site_of e.conf r)) p (heard_at r p e.tables).received).standings) (sym router)
     ∙ ap (λ (h : Heard). best_of h.standings) (sym (heard_decided e sound r p))
 
-still_there : (b c : Bool) (h : Heard) (x : Option Heard) → is_some x ≡ true → is_some (cond b (cond c (Some h) x) x) ≡ true
+pub still_there : (b c : Bool) (h : Heard) (x : Option Heard) → is_some x ≡ true → is_some (cond b (cond c (Some h) x) x) ≡ true
 still_there true true h x is = refl
 still_there true false h x is = is
 still_there false c h x is = is

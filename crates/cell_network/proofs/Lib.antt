@@ -8,7 +8,9 @@ pub mod Kept
 pub mod Listed
 pub mod Matches
 pub mod Offers
+pub mod OverSessions
 pub mod Picks
+pub mod Placed
 pub mod Pushes
 pub mod Queues
 pub mod Reasons
@@ -16,7 +18,9 @@ pub mod Received
 pub mod Refreshed
 pub mod Reports
 pub mod Senders
+pub mod Settled
 pub mod Sites
 pub mod Taken
 pub mod Told
+pub mod ToldByChanges
 pub mod Walks

@@ -68,13 +68,13 @@ picked_each : {K V A : Type 0} (g : K × V → List A) (f : K → Option A) (es 
 picked_each g f [] all = refl
 picked_each g f (e ∷ es) all = (λ i. all.0 i ++ picked_each g f es all.1 i) ∙ option_cons (f e.0) (filter_map f (keys_of es))
 
-all_from : {A : Type 0} (P Q : A → Type 0) → ((x : A) → P x → Q x) → (xs : List A) → AllByRecursion P xs → AllByRecursion Q xs
+pub all_from : {A : Type 0} (P Q : A → Type 0) → ((x : A) → P x → Q x) → (xs : List A) → AllByRecursion P xs → AllByRecursion Q xs
 all_from P Q h [] all = tt
 all_from P Q h (x ∷ xs) all = (h x all.0, all_from P Q h xs all.1)
 
 -- ENTRIES IN ORDER
 
-less_of : (o : Ordering) → is_lt o ≡ true → o ≡ Less
+pub less_of : (o : Ordering) → is_lt o ≡ true → o ≡ Less
 less_of Less h = refl
 less_of Equal h = absurd (true≢false (sym h))
 less_of Greater h = absurd (true≢false (sym h))
@@ -101,7 +101,7 @@ module _ {K X : Type 0} {R : K → K → Ordering} (o : IsTotalOrder R) where
       let after : R x.0 e.0 ≡ Greater = o.antisymm x.0 e.0 ∙ ap ordering_reverse (less_of (R e.0 x.0) parts.0) in
       (ap (λ r. cond (is_eq r) (Some e.1) (entries.find R x.0 es)) after ∙ all.0, found_later e es xs parts.1 all.1)
 
-  found_each : (es : List (K × X)) → entries.is_sorted R es ≡ true → AllByRecursion (λ x. entries.find R x.0 es ≡ Some x.1) es
+  pub found_each : (es : List (K × X)) → entries.is_sorted R es ≡ true → AllByRecursion (λ x. entries.find R x.0 es ≡ Some x.1) es
   found_each [] h = tt
   found_each (e ∷ es) h =
       let parts = and_parts (entries.below_all R e.0 es) (entries.is_sorted R es) h in
@@ -109,7 +109,7 @@ module _ {K X : Type 0} {R : K → K → Ordering} (o : IsTotalOrder R) where
 
 -- WHAT ONE IS TOLD BY ALL
 
-told_append : (t : Addr) (xs ys : List (Addr × Message)) → told t (xs ++ ys) ≡ told t xs ++ told t ys
+pub told_append : (t : Addr) (xs ys : List (Addr × Message)) → told t (xs ++ ys) ≡ told t xs ++ told t ys
 told_append t xs ys =
     ap (map (λ e. e.1)) (filter-append (λ e. same_addr t e.0) xs ys) ∙ map-append (λ e. e.1) (filter (λ e. same_addr t e.0) xs) (filter (λ e. same_addr t e.0) ys)
 
@@ -146,7 +146,7 @@ module _ (c d : Configuration) (t : Addr) where
   told_by false f x xs is below rest = rest
 
   -- what a router sends it sends for the cells of its table
-  told_at : (f : Addr) (ts : List (Addr × Table Heard)) → entries.is_sorted addr_cmp ts ≡ true → Told f ts
+  pub told_at : (f : Addr) (ts : List (Addr × Table Heard)) → entries.is_sorted addr_cmp ts ≡ true → Told f ts
   told_at f [] h = sym (ap (λ es. told t (router_sends c d f es)) no_cells)
   told_at f (x ∷ xs) h =
       let parts = and_parts (entries.below_all addr_cmp x.0 xs) (entries.is_sorted addr_cmp xs) h in
@@ -160,7 +160,7 @@ site_none true true o is h = refl
 site_none true false o is h = refl
 site_none false there o is h = ap (λ b. b && true) (sym is ∙ ap is_some h)
 
-some_mapped : {A B : Type 0} (f : A → B) (o : Option A) → is_some (option_map f o) ≡ is_some o
+pub some_mapped : {A B : Type 0} (f : A → B) (o : Option A) → is_some (option_map f o) ≡ is_some o
 some_mapped f None = refl
 some_mapped f (Some x) = refl
 

@@ -1,0 +1,246 @@
+-- The changes of an edit, each put in its place: the tables with each of their cells decided anew.
+use Rattle.std.proofs.Common.{◌≡◌, Bool, true, false, cond, ◌&&◌, ◌||◌, List, [], ◌∷◌, ◌++◌, Option, Some, None, option_map, is_some, IsTrue, unwrap_or, refl, sym, ap, ◌∙◌}
+use Rattle.std.proofs.lemmas.Bool.{true≢false, and_parts}
+use Rattle.std.proofs.lemmas.List.Folds.{list_any-append}
+use Rattle.std.specs.declared.cmp.Ordering.{Ordering}
+use Rattle.std.specs.declared.cmp.Ordering.TheVariants.{Less, Equal, Greater}
+use Rattle.std.specs.Ordering.{is_eq, eq_by_cmp}
+use Rattle.std.specs.Cmp.{tied_itself, Equal-is}
+use Rattle.std.specs.Option.{option_to_list}
+use Rattle.std.specs.List.{AllByRecursion, list_any, flat_map}
+use Rattle.std.specs.FinMap as finite
+use Rattle.std.specs.FinMap.Entries as entries
+use Rattle.net_prefix.specs.declared.addr.Addr.{Addr}
+use Rattle.net_prefix.specs.Address.{same_addr, addr_cmp}
+use Rattle.net_prefix.specs.Block.{Block, block_cmp, same_block}
+use Rattle.net_prefix.specs.Orders.{addr_total, addr_exact, block_total, block_exact}
+use Rattle.prefix_table.specs.Tables.{Table}
+use Rattle.net_conf.specs.Configuration.{Configuration}
+use Rattle.router_tables.specs.RouterTables.{table_at, value_at, with_value}
+use Rattle.route_cell.specs.Cells.{Heard}
+use Rattle.net_conf.specs.declared.edit.Scope.{Scope}
+use Rattle.net_conf.specs.declared.edit.Scope.TheVariants.{Network, Site, Route}
+use Rattle.cell_network.specs.Keeping.{kept_cell, kept_table, kept_tables}
+use Rattle.cell_network.specs.Changes.{Change, cell_change, router_changes, changes_in, with_changes}
+use Rattle.cell_network.specs.Settled.{is_in, AreSettledOutside, AreThere}
+use Rattle.cell_network.proofs.Chunks.{T_of, of_T}
+use Rattle.cell_network.proofs.Decided.{value_with_cell, by_address_with_cell, still_there}
+use Rattle.cell_network.proofs.Kept.{find_revalued, value_kept, by_address_kept}
+use Rattle.cell_network.proofs.Offers.{same_addr_true, block_tied}
+use Rattle.cell_network.proofs.Refreshed.{all_from, found_each, some_mapped}
+
+-- TABLES THAT ARE ALIKE
+
+same_option : {V : Type 0} (o u : Option (Table V)) → is_some o ≡ is_some u → ((p : Block) → finite.get (unwrap_or o finite.empty) p ≡ finite.get (unwrap_or u finite.empty) p) → o ≡ u
+same_option None None there same = refl
+same_option None (Some u) there same = absurd (true≢false (sym there))
+same_option (Some t) None there same = absurd (true≢false there)
+same_option (Some t) (Some u) there same = ap Some (finite.same_map block_total block_exact t u same)
+
+-- tables of the same routers with the same values are the same
+pub tables_same : {V : Type 0} (ts us : List (Addr × Table V)) → IsTrue (entries.is_sorted addr_cmp ts) → IsTrue (entries.is_sorted addr_cmp us)
+    → ((r : Addr) → is_some (entries.find addr_cmp r ts) ≡ is_some (entries.find addr_cmp r us))
+    → ((r : Addr) (p : Block) → value_at r p ts ≡ value_at r p us)
+    → ts ≡ us
+tables_same ts us sorted sorted_too there same =
+    entries.same_entries addr_cmp addr_total addr_exact ts us (T_of _ sorted) (T_of _ sorted_too) (λ r. same_option (entries.find addr_cmp r ts) (entries.find addr_cmp r us) (there r) (same r))
+
+-- where there is a value, there is a table
+table_there : {V : Type 0} (p : Block) (o : Option (Table V)) → is_some (finite.get (unwrap_or o finite.empty) p) ≡ true → is_some o ≡ true
+table_there p None there = sym (ap is_some (finite.get-empty block_cmp p)) ∙ there
+table_there p (Some t) there = refl
+
+-- LISTS AND TESTS
+
+all_append : {A : Type 0} (P : A → Type 0) (xs ys : List A) → AllByRecursion P xs → AllByRecursion P ys → AllByRecursion P (xs ++ ys)
+all_append P [] ys all more = more
+all_append P (x ∷ xs) ys all more = (all.0, all_append P xs ys all.1 more)
+
+or_true : (a b : Bool) → b ≡ true → (a || b) ≡ true
+or_true true b h = refl
+or_true false b h = h
+
+either_way : {A : Type 0} (a b : Bool) (x y : A) → cond b x (cond a x y) ≡ cond (a || b) x y
+either_way true true x y = refl
+either_way true false x y = refl
+either_way false b x y = refl
+
+no_matter : {A : Type 0} (b : Bool) (x : A) → cond b x x ≡ x
+no_matter true x = refl
+no_matter false x = refl
+
+same_block_true : (p q : Block) → same_block p q ≡ true → p ≡ q
+same_block_true p q h = block_exact p q ((Equal-is (block_cmp p q)).0 (sym (block_tied p q) ∙ h))
+
+-- CHANGES OF CELLS THAT ARE THERE
+
+-- the change is for the router's cell
+abbrev is_for : Addr → Block → Change → Bool
+is_for r p x = eq_by_cmp addr_cmp r x.router && eq_by_cmp block_cmp p x.prefix
+
+-- one of the changes is
+abbrev has_one : Addr → Block → List Change → Bool
+has_one r p xs = list_any (is_for r p) xs
+
+module _ (c d : Configuration) (ts : List (Addr × Table Heard)) where
+  -- the router's cell, decided anew
+  abbrev kept_at : Addr → Block → Option Heard
+  kept_at r p = option_map (kept_cell d r p) (value_at r p ts)
+
+  -- the change is of a cell that is there, and makes of it the one that is kept
+  abbrev IsKept : Change → Type 0
+  IsKept x = kept_at x.router x.prefix ≡ Some x.outcome.heard
+
+  kept_there : (x : Change) → IsKept x → is_some (value_at x.router x.prefix ts) ≡ true
+  kept_there x is = sym (some_mapped (kept_cell d x.router x.prefix) (value_at x.router x.prefix ts)) ∙ ap is_some is
+
+  -- of a router's table
+  cells_found : (r : Addr) (t : Table Heard) → table_at r ts ≡ t → AllByRecursion (λ e. value_at r e.0 ts ≡ Some e.1) (finite.entries t)
+  cells_found r t at =
+      all_from (λ e. entries.find block_cmp e.0 (finite.entries t) ≡ Some e.1) _ (λ e found. ap (λ x. finite.get x e.0) at ∙ finite.get-entries t e.0 ∙ found) (finite.entries t)
+      (found_each block_total (finite.entries t) (of_T _ (finite.entries_sorted t)))
+
+  router_kept : (r : Addr) (cells : List (Block × Heard)) → AllByRecursion (λ e. value_at r e.0 ts ≡ Some e.1) cells → AllByRecursion IsKept (router_changes c d r cells)
+  router_kept r [] all = tt
+  router_kept r (e ∷ es) all = (ap (option_map (kept_cell d r e.0)) all.0, router_kept r es all.1)
+
+  -- of all routers
+  network_kept : (us : List (Addr × Table Heard)) → AllByRecursion (λ t. entries.find addr_cmp t.0 ts ≡ Some t.1) us → AllByRecursion IsKept (flat_map (λ t. router_changes c d t.0 (finite.entries t.1)) us)
+  network_kept [] all = tt
+  network_kept (t ∷ us) all =
+      all_append IsKept (router_changes c d t.0 (finite.entries t.1)) (flat_map (λ t. router_changes c d t.0 (finite.entries t.1)) us)
+      (router_kept t.0 (finite.entries t.1) (cells_found t.0 t.1 (ap (λ o. unwrap_or o finite.empty) all.0)))
+      (network_kept us all.1)
+
+  -- of one cell
+  route_kept : (r : Addr) (p : Block) (o : Option Heard) → value_at r p ts ≡ o → AllByRecursion IsKept (option_to_list (option_map (cell_change c d r p) o))
+  route_kept r p None at = tt
+  route_kept r p (Some h) at = (ap (option_map (kept_cell d r p)) at, tt)
+
+  changes_kept : (s : Scope) → IsTrue (entries.is_sorted addr_cmp ts) → AllByRecursion IsKept (changes_in s c d ts)
+  changes_kept Network sorted = network_kept ts (found_each addr_total ts sorted)
+  changes_kept (Site a) sorted = router_kept a (finite.entries (table_at a ts)) (cells_found a (table_at a ts) refl)
+  changes_kept (Route a p) sorted = route_kept a p (value_at a p ts) refl
+
+  -- THE TABLES AFTER THEM
+
+  one_placed : (x : Change) → IsKept x → (us : List (Addr × Table Heard)) (r : Addr) (p : Block) → value_at r p (with_value x.router x.prefix x.outcome.heard us) ≡ cond (is_for r p x) (kept_at r p) (value_at r p us)
+  one_placed x is us r p = value_with_cell x.router x.prefix x.outcome.heard us r p ∙ by_orders (addr_cmp r x.router) (block_cmp p x.prefix) refl refl where
+    by_orders : (a b : Ordering) → addr_cmp r x.router ≡ a → block_cmp p x.prefix ≡ b
+        → cond (is_eq a) (cond (is_eq b) (Some x.outcome.heard) (value_at r p us)) (value_at r p us) ≡ cond (is_eq a && is_eq b) (kept_at r p) (value_at r p us)
+    by_orders Less b q u = refl
+    by_orders Greater b q u = refl
+    by_orders Equal Less q u = refl
+    by_orders Equal Greater q u = refl
+    by_orders Equal Equal q u = sym is ∙ (λ i. kept_at (sym (addr_exact r x.router q) i) (sym (block_exact p x.prefix u) i))
+
+  -- the cells that the changes are for are those that are kept, and each other is as it was
+  value_placed : (xs : List Change) → AllByRecursion IsKept xs → (us : List (Addr × Table Heard)) (r : Addr) (p : Block) → value_at r p (with_changes xs us) ≡ cond (has_one r p xs) (kept_at r p) (value_at r p us)
+  value_placed [] all us r p = refl
+  value_placed (x ∷ xs) all us r p =
+      value_placed xs all.1 (with_value x.router x.prefix x.outcome.heard us) r p
+      ∙ ap (cond (has_one r p xs) (kept_at r p)) (one_placed x all.0 us r p)
+      ∙ either_way (is_for r p x) (has_one r p xs) (kept_at r p) (value_at r p us)
+
+  -- tables of the same routers as before
+  abbrev HaveSameRouters : List (Addr × Table Heard) → Type 0
+  HaveSameRouters us = (r : Addr) → is_some (entries.find addr_cmp r us) ≡ is_some (entries.find addr_cmp r ts)
+
+  same_routers : (x : Change) → IsKept x → (us : List (Addr × Table Heard)) → HaveSameRouters us → HaveSameRouters (with_value x.router x.prefix x.outcome.heard us)
+  same_routers x is us same r =
+      let new = finite.insert (table_at x.router us) x.prefix x.outcome.heard in
+      ap is_some (entries.find-put addr_cmp addr_total r x.router new us)
+      ∙ elim (addr_cmp r x.router) as (λ o. addr_cmp r x.router ≡ o → is_some (cond (is_eq o) (Some new) (entries.find addr_cmp r us)) ≡ is_some (entries.find addr_cmp r ts)) [
+        | Less ↦ λ q. same r
+        | Equal ↦ λ q. sym (ap (λ k. is_some (entries.find addr_cmp k ts)) (addr_exact r x.router q) ∙ table_there x.prefix (entries.find addr_cmp x.router ts) (kept_there x is))
+        | Greater ↦ λ q. same r
+      ] refl
+
+  routers_placed : (xs : List Change) → AllByRecursion IsKept xs → (us : List (Addr × Table Heard)) → HaveSameRouters us → HaveSameRouters (with_changes xs us)
+  routers_placed [] all us same = same
+  routers_placed (x ∷ xs) all us same = routers_placed xs all.1 (with_value x.router x.prefix x.outcome.heard us) (same_routers x all.0 us same)
+
+-- by address still
+pub by_address_with_changes : (xs : List Change) (ts : List (Addr × Table Heard)) → IsTrue (entries.is_sorted addr_cmp ts) → IsTrue (entries.is_sorted addr_cmp (with_changes xs ts))
+by_address_with_changes [] ts sorted = sorted
+by_address_with_changes (x ∷ xs) ts sorted =
+    by_address_with_changes xs (with_value x.router x.prefix x.outcome.heard ts) (by_address_with_cell x.router x.prefix x.outcome.heard ts sorted)
+
+-- EACH CELL THAT AN EDIT CAN CHANGE
+
+module _ (c d : Configuration) (r : Addr) (p : Block) where
+  one_of_router : (cells : List (Block × Heard)) → has_one r p (router_changes c d r cells) ≡ is_some (entries.find block_cmp p cells)
+  one_of_router [] = refl
+  one_of_router (e ∷ es) =
+      ap (λ o. (is_eq o && eq_by_cmp block_cmp p e.0) || has_one r p (router_changes c d r es)) (tied_itself addr_total r)
+      ∙ elim (eq_by_cmp block_cmp p e.0) as (λ b. (b || has_one r p (router_changes c d r es)) ≡ is_some (cond b (Some e.1) (entries.find block_cmp p es))) [
+        | true ↦ refl
+        | false ↦ one_of_router es
+      ]
+
+  one_of_table : (t : Table Heard) → is_some (finite.get t p) ≡ true → has_one r p (router_changes c d r (finite.entries t)) ≡ true
+  one_of_table t there = one_of_router (finite.entries t) ∙ sym (ap is_some (finite.get-entries t p)) ∙ there
+
+  one_of_network : (ts : List (Addr × Table Heard)) → is_some (value_at r p ts) ≡ true → has_one r p (flat_map (λ t. router_changes c d t.0 (finite.entries t.1)) ts) ≡ true
+  one_of_network [] there = sym (ap is_some (finite.get-empty block_cmp p)) ∙ there
+  one_of_network (t ∷ ts) there =
+      let rest = flat_map (λ t. router_changes c d t.0 (finite.entries t.1)) ts in
+      list_any-append (is_for r p) (router_changes c d t.0 (finite.entries t.1)) rest
+      ∙ elim (addr_cmp r t.0) as (λ o. addr_cmp r t.0 ≡ o → is_some (finite.get (unwrap_or (cond (is_eq o) (Some t.1) (entries.find addr_cmp r ts)) finite.empty) p) ≡ true → (has_one r p (router_changes c d t.0 (finite.entries t.1)) || has_one r p rest) ≡ true) [
+        | Less ↦ λ q is. or_true (has_one r p (router_changes c d t.0 (finite.entries t.1))) (has_one r p rest) (one_of_network ts is)
+        | Equal ↦ λ q is.
+            ap (λ b. b || has_one r p rest) (ap (λ k. has_one r p (router_changes c d k (finite.entries t.1))) (sym (addr_exact r t.0 q)) ∙ one_of_table t.1 is)
+        | Greater ↦ λ q is. or_true (has_one r p (router_changes c d t.0 (finite.entries t.1))) (has_one r p rest) (one_of_network ts is)
+      ] refl there
+
+  one_of_route : (h : Heard) → has_one r p (cell_change c d r p h ∷ []) ≡ true
+  one_of_route h = λ i. (is_eq (tied_itself addr_total r i) && is_eq (tied_itself block_total p i)) || false
+
+  one_in : (s : Scope) (ts : List (Addr × Table Heard)) (h : Heard) → value_at r p ts ≡ Some h → is_in s r p ≡ true → has_one r p (changes_in s c d ts) ≡ true
+  one_in Network ts h at is = one_of_network ts (ap is_some at)
+  one_in (Site a) ts h at is =
+      ap (λ k. has_one r p (router_changes c d k (finite.entries (table_at k ts)))) (sym (same_addr_true r a is)) ∙ one_of_table (table_at r ts) (ap is_some at)
+  one_in (Route a q) ts h at is =
+      let parts = and_parts (same_addr r a) (same_block p q) is in
+      let router = sym (same_addr_true r a parts.0) in
+      let prefix = sym (same_block_true p q parts.1) in
+      (λ i. has_one r p (option_to_list (option_map (cell_change c d (router i) (prefix i)) (value_at (router i) (prefix i) ts))))
+      ∙ ap (λ o. has_one r p (option_to_list (option_map (cell_change c d r p) o))) at
+      ∙ one_of_route h
+
+-- THE TABLES
+
+module _ (s : Scope) (c d : Configuration) (ts : List (Addr × Table Heard)) (sorted : IsTrue (entries.is_sorted addr_cmp ts)) where
+  -- each change is of a cell that is there
+  pub changes_there : AreThere (changes_in s c d ts) ts
+  changes_there = all_from (IsKept c d ts) (λ x. is_some (value_at x.router x.prefix ts) ≡ true) (kept_there c d ts) (changes_in s c d ts) (changes_kept c d ts s sorted)
+
+  module _ (settled : AreSettledOutside s c d ts) where
+    value_by : (r : Addr) (p : Block) (o : Option Heard) → value_at r p ts ≡ o → cond (has_one r p (changes_in s c d ts)) (option_map (kept_cell d r p) o) o ≡ option_map (kept_cell d r p) o
+    value_by r p None at = no_matter (has_one r p (changes_in s c d ts)) None
+    value_by r p (Some h) at = by_scope (is_in s r p) refl where
+      by_scope : (b : Bool) → is_in s r p ≡ b → cond (has_one r p (changes_in s c d ts)) (Some (kept_cell d r p h)) (Some h) ≡ Some (kept_cell d r p h)
+      by_scope true is = ap (λ b. cond b (Some (kept_cell d r p h)) (Some h)) (one_in c d r p s ts h at is)
+      by_scope false out =
+          ap (λ x. cond (has_one r p (changes_in s c d ts)) (Some (kept_cell d r p h)) (Some x)) (sym (settled r p h at out).cell)
+          ∙ no_matter (has_one r p (changes_in s c d ts)) (Some (kept_cell d r p h))
+
+    value_changed : (r : Addr) (p : Block) → value_at r p (with_changes (changes_in s c d ts) ts) ≡ value_at r p (kept_tables d ts)
+    value_changed r p = value_placed c d ts (changes_in s c d ts) (changes_kept c d ts s sorted) ts r p ∙ value_by r p (value_at r p ts) refl ∙ sym (value_kept d r p ts)
+
+    routers_changed : (r : Addr) → is_some (entries.find addr_cmp r (with_changes (changes_in s c d ts) ts)) ≡ is_some (entries.find addr_cmp r (kept_tables d ts))
+    routers_changed r =
+        routers_placed c d ts (changes_in s c d ts) (changes_kept c d ts s sorted) ts (λ _. refl) r
+        ∙ sym (ap is_some (find_revalued addr_cmp (kept_table d) addr_exact r ts) ∙ some_mapped (kept_table d r) (entries.find addr_cmp r ts))
+
+    -- where all other cells are settled, the tables with the changes are those with each cell decided anew
+    pub changes_placed : with_changes (changes_in s c d ts) ts ≡ kept_tables d ts
+    changes_placed =
+        tables_same (with_changes (changes_in s c d ts) ts) (kept_tables d ts) (by_address_with_changes (changes_in s c d ts) ts sorted) (by_address_kept d ts sorted) routers_changed value_changed
+
+-- a cell put in leaves each of the others there
+pub there_still : (r : Addr) (p : Block) (h : Heard) (xs : List Change) (ts : List (Addr × Table Heard)) → AreThere xs ts → AreThere xs (with_value r p h ts)
+there_still r p h xs ts all =
+    all_from (λ x. is_some (value_at x.router x.prefix ts) ≡ true) (λ x. is_some (value_at x.router x.prefix (with_value r p h ts)) ≡ true)
+    (λ x there. ap is_some (value_with_cell r p h ts x.router x.prefix) ∙ still_there _ _ h (value_at x.router x.prefix ts) there)
+    xs all

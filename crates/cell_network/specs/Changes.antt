@@ -1,0 +1,50 @@
+-- What an edit changes of an engine's tables, cell by cell, and what is sent for that.
+use Rattle.std.specs.Prelude.{◌≡◌, List, [], ◌∷◌, map, option_map}
+use Rattle.std.specs.Option.{option_to_list}
+use Rattle.std.specs.List.{flat_map}
+use Rattle.std.specs.FinMap as finite
+use Rattle.net_prefix.specs.declared.addr.Addr.{Addr}
+use Rattle.net_prefix.specs.Block.{Block}
+use Rattle.session_queue.specs.declared.message.Message.{Message}
+use Rattle.net_conf.specs.Configuration.{Configuration}
+use Rattle.net_conf.specs.declared.edit.Scope.{Scope}
+use Rattle.net_conf.specs.declared.edit.Scope.TheVariants.{Network, Site, Route}
+use Rattle.prefix_table.specs.Tables.{Table}
+use Rattle.router_tables.specs.RouterTables.{table_at, value_at, with_value}
+use Rattle.route_cell.specs.Cells.{Heard, Outcome}
+use Rattle.cell_network.specs.Engine.{heard_at}
+use Rattle.cell_network.specs.Keeping.{kept_from, kept_cell}
+use Rattle.cell_network.specs.Editing.{cell_sends}
+
+-- a cell that is decided anew: its router and prefix, and what comes of it
+pub record Change : Type 0 where
+  pub router : Addr
+  pub prefix : Block
+  pub outcome : Outcome
+
+-- the router's cell, when the configuration c becomes d
+abbrev pub cell_change : Configuration → Configuration → Addr → Block → Heard → Change
+cell_change c d r p h = record { router = r; prefix = p; outcome = record { heard = kept_cell d r p h; sends = cell_sends c d r p h } }
+
+-- the router's cells, in order of prefix
+abbrev pub router_changes : Configuration → Configuration → Addr → List (Block × Heard) → List Change
+router_changes c d r cells = map (λ e. cell_change c d r e.0 e.1) cells
+
+-- those that an edit of this scope can change, in order of router, then prefix
+abbrev pub changes_in : Scope → Configuration → Configuration → List (Addr × Table Heard) → List Change
+changes_in Network c d ts = flat_map (λ t. router_changes c d t.0 (finite.entries t.1)) ts
+changes_in (Site a) c d ts = router_changes c d a (finite.entries (table_at a ts))
+changes_in (Route a p) c d ts = option_to_list (option_map (cell_change c d a p) (value_at a p ts))
+
+-- the tables, with each changed cell in its place
+abbrev pub with_changes : List Change → List (Addr × Table Heard) → List (Addr × Table Heard)
+with_changes [] ts = ts
+with_changes (x ∷ xs) ts = with_changes xs (with_value x.router x.prefix x.outcome.heard ts)
+
+-- what the routers send for the changes
+abbrev pub sends_for : List Change → List (Addr × List (Addr × Message))
+sends_for xs = map (λ x. (x.router, x.outcome.sends)) xs
+
+-- all routes in the tables came over sessions that are up
+abbrev pub AreOverSessionsUp : Configuration → List (Addr × Table Heard) → Type 0
+AreOverSessionsUp c ts = (r : Addr) (p : Block) → kept_from c r (heard_at r p ts).received ≡ (heard_at r p ts).received
