@@ -26,10 +26,13 @@ use Rattle.reference_machine.specs.Machine.{taken, head_step, with_sent}
 use Rattle.router_tables.specs.RouterTables.{with_value}
 use Rattle.route_cell.specs.Cells.{Heard, Outcome, with_news, decided, is_up_in, delivered, stored}
 use Rattle.cell_network.specs.Engine.{Engine, IsSound, heard_at, network}
+use Rattle.cell_network.specs.Keeping.{kept_from}
+use Rattle.cell_network.specs.Changes.{AreOverSessionsUp}
 use Rattle.cell_network.specs.Sending.{told, told_from}
 use Rattle.cell_network.proofs.Decided.{best_heard}
 use Rattle.cell_network.proofs.Offers.{best_stays, sent_by_one, same_addr_true, nothing_if}
 use Rattle.cell_network.proofs.Queues.{network_popped, network_sent, messages_on_session}
+use Rattle.cell_network.proofs.OverSessions.{up_with_cell, delivered_kept, stored_kept}
 use Rattle.cell_network.proofs.Sites.{up_in_site, site_of_router}
 use Rattle.cell_network.proofs.Taken.{cell_after, after_news, heard_here, route_elsewhere, sound_after_news, network_after_news}
 use Rattle.cell_network.proofs.Told.{told_one, delivered_is_sent}
@@ -235,3 +238,16 @@ module _ (e : Engine) (sound : IsSound e) (configured : IsConfigured e.conf) (d 
   next_after_head session =
       ap (λ x. network (record e { tables = with_value d.to x o.heard e.tables; queues = r })) head.prefix
       ∙ delivered_next e sound configured d head.message o head.outcome q r popped others pushed head.rest session head.waits
+
+  -- all routes come over sessions that are up still
+  pub ups_after_head : is_up e.conf d.from d.to ≡ true → AreOverSessionsUp e.conf e.tables → AreOverSessionsUp e.conf (with_value d.to p o.heard e.tables)
+  ups_after_head on up =
+      let m = head.message in
+      let h = heard_at d.to (prefix_of m) e.tables in
+      let kept : (x : Option SiteConf) → kept_from e.conf d.to (outcome_by x h d.from m).heard.received ≡ (outcome_by x h d.from m).heard.received =
+      λ x. kept_by x h (up d.to (prefix_of m)) in
+      up_with_cell e.conf e.tables d.to p o.heard up (subst (λ (y : Outcome). kept_from e.conf d.to y.heard.received ≡ y.heard.received) (sym head.outcome) (kept (router_site e.conf d.to)))
+    where
+      kept_by : (x : Option SiteConf) (h : Heard) → kept_from e.conf d.to h.received ≡ h.received → kept_from e.conf d.to (outcome_by x h d.from head.message).heard.received ≡ (outcome_by x h d.from head.message).heard.received
+      kept_by None h is = stored_kept e.conf d.to d.from h head.message on is
+      kept_by (Some site) h is = delivered_kept e.conf d.to d.from site h head.message on is

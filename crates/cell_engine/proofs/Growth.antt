@@ -7,6 +7,7 @@ use Rattle.std.specs.declared.cmp.Ordering.{Ordering}
 use Rattle.std.specs.declared.cmp.Ordering.TheVariants.{Less, Equal, Greater}
 use Rattle.std.specs.Ordering.{is_eq}
 use Rattle.std.specs.List.Sorted.{IsStrictlySortedBy}
+use Rattle.std.specs.FinMap as finite
 use Rattle.net_prefix.specs.declared.addr.Addr.{Addr}
 use Rattle.net_prefix.specs.Address.{addr_cmp}
 use Rattle.net_prefix.specs.Block.{Block, IsBlock, block_cmp}
@@ -16,12 +17,14 @@ use Rattle.session_queue.specs.declared.direction.Direction.{Direction}
 use Rattle.session_queue.specs.declared.message.Message.{Message}
 use Rattle.session_queue.specs.Telling.{prefix_of}
 use Rattle.session_queue.specs.Waiting.{WaitingByDirection, queue_at, IsQuiet}
-use Rattle.net_conf.specs.Configuration.{unconfigured}
+use Rattle.net_conf.specs.Configuration.{Configuration, unconfigured}
 use Rattle.net_conf.specs.RouterSites.{router_site}
 use Rattle.reference_machine.specs.Machine.{nothing}
 use Rattle.router_tables.specs.RouterTables.{value_at, with_value}
 use Rattle.route_cell.specs.Cells.{Heard, Outcome, nothing_heard}
 use Rattle.cell_network.specs.Engine.{Engine, IsSound, heard_at, network, queue_of}
+use Rattle.cell_network.specs.Keeping.{kept_from}
+use Rattle.cell_network.specs.Changes.{AreOverSessionsUp}
 use Rattle.cell_network.specs.Reporting.{AreOfPrefixes}
 use Rattle.cell_network.proofs.Matches.{prefixes_with_cell}
 use Rattle.cell_network.proofs.Decided.{value_with_cell, sound_with_empty_cell}
@@ -50,6 +53,11 @@ same_then e e' e'' one two = record {
   heard = λ r p. two.heard r p ∙ one.heard r p;
   queue = λ f t. two.queue f t ∙ one.queue f t;
 }
+
+-- and all routes come over sessions that are up still
+pub ups_kept : (e e' : Engine) → KeepsSame e e' → AreOverSessionsUp e.conf e.tables → AreOverSessionsUp e'.conf e'.tables
+ups_kept e e' same up r p =
+    (λ i. kept_from (same.conf i) r (same.heard r p i).received) ∙ up r p ∙ sym (ap (λ (h : Heard). h.received) (same.heard r p))
 
 -- what is made of the message at the head is the head's outcome
 pub head_of : (e : Engine) (d : Direction) (m : Message) (o : Outcome) → slice_get (queue_at e.queues d.from d.to) 0 ≡ Some m → o ≡ outcome_at e d m → IsOfHead e d (prefix_of m) o
@@ -163,6 +171,11 @@ blank_sound q quiet = record {
   sessions = λ d. refl;
   silent = λ f t none. quiet f t;
 }
+
+pub no_routes : (c : Configuration) → AreOverSessionsUp c []
+no_routes c r p =
+    let none : value_at r p [] ≡ None = finite.get-empty block_cmp p in
+    ap (λ x. kept_from c r (unwrap_or x nothing_heard).received) none ∙ sym (ap (λ x. (unwrap_or x nothing_heard).received) none)
 
 pub blank_network : (q : WaitingByDirection) → network (blank q) ≡ nothing
 unfolding network

@@ -5,4 +5,5 @@ pub mod Joined
 pub mod Placing
 pub mod Reconfigured
 pub mod Remade
+pub mod Renewed
 pub mod Walks

@@ -10,11 +10,22 @@ use Rattle.net_conf.specs.Configuration.{Configuration, has_session}
 use Rattle.net_conf.specs.Configured.{IsConfigured}
 use Rattle.net_conf.specs.Costs.{is_up}
 use Rattle.net_conf.specs.Edits.{edited, refusal_of}
+use Rattle.net_conf.specs.Scopes.{scope}
+use Rattle.net_conf.proofs.OthersStay.{sites_of_others, sessions_stay, origins_alone, other_origins}
 use Rattle.reference_machine.specs.Advertising.{sent}
 use Rattle.reference_machine.specs.Machine.{after_edit, with_sent, reconfigured}
 use Rattle.cell_network.specs.Engine.{Engine, IsSound, network, is_direction}
-use Rattle.cell_network.specs.Editing.{with_origin, left_at, all_sends, told_by_all}
+use Rattle.cell_network.specs.Keeping.{kept_tables}
+use Rattle.cell_network.specs.Editing.{with_origin, left_at, edited_tables, edited_engine, all_sends, told_by_all}
+use Rattle.cell_network.specs.Changes.{with_changes, sends_for, AreOverSessionsUp}
+use Rattle.cell_network.specs.Settled.{AreSettledOutside, AreThere}
+use Rattle.cell_network.specs.Reporting.{AreOfPrefixes}
 use Rattle.cell_network.proofs.Edited.{sound_edited}
+use Rattle.cell_network.proofs.Matches.{prefixes_kept}
+use Rattle.cell_network.proofs.Placed.{changes_there, changes_placed}
+use Rattle.cell_network.proofs.ToldByChanges.{told_by_changes}
+use Rattle.cell_network.proofs.Settled.{settled_outside}
+use Rattle.cell_network.proofs.OverSessions.{up_after}
 use Rattle.cell_network.proofs.Refreshed.{told_edited, network_edited}
 use Rattle.cell_engine.specs.Edits.{Planned, planned, IsPlanned}
 use Rattle.cell_engine.proofs.Delivered.{down_without_session, sent_without_session}
@@ -37,32 +48,65 @@ module _ (e : Engine) (sound : IsSound e) (c : Configuration) (q : WaitingByDire
     by true is = cleared.up f t is
     by false is = none_by (has_session e.conf f t) refl is
 
--- the engine with the plan's parts and these queues
-abbrev pub with_plan : Planned → WaitingByDirection → Engine
-with_plan x r = record { conf = x.conf; tables = x.tables; directions = x.directions; queues = r }
+-- the engine with what the plan makes and these queues
+abbrev pub with_plan : Engine → Planned → WaitingByDirection → Engine
+with_plan e x r = record { conf = x.conf; tables = with_changes x.changes e.tables; directions = x.directions; queues = r }
 
 -- the queues are those that were cleared, with the plan's messages at their ends
 abbrev pub IsPushed : Planned → WaitingByDirection → WaitingByDirection → Type 0
-IsPushed x q r = (f t : Addr) → queue_at r f t ≡ queue_at q f t ++ told_by_all x.sends f t
+IsPushed x q r = (f t : Addr) → queue_at r f t ≡ queue_at q f t ++ told_by_all (sends_for x.changes) f t
 
-module _ (e : Engine) (sound : IsSound e) (configured : IsConfigured e.conf) (edit : Edit) where
+module _ (e : Engine) (sound : IsSound e) (configured : IsConfigured e.conf) (up : AreOverSessionsUp e.conf e.tables) (edit : Edit) where
+  abbrev new : Configuration
+  new = edited e.conf edit
+
+  settled : AreSettledOutside (scope edit) e.conf new e.tables
+  settled = settled_outside sites_of_others sessions_stay origins_alone other_origins e sound configured edit up
+
+  -- with the changes in their places, each cell is decided anew
+  tables_are : with_changes (planned e edit).changes e.tables ≡ kept_tables new e.tables
+  tables_are = changes_placed (scope edit) e.conf new e.tables sound.by_address settled
+
+  -- each has a cell already
+  pub plan_there : (x : Planned) → IsPlanned e edit x → AreThere x.changes e.tables
+  plan_there x is = subst (λ (y : Planned). AreThere y.changes e.tables) (sym is.plan) (changes_there (scope edit) e.conf new e.tables sound.by_address)
+
+  -- all routes in the tables come over sessions that are up then
+  pub plan_over_sessions_up : (x : Planned) → IsPlanned e edit x → AreOverSessionsUp x.conf (with_changes x.changes e.tables)
+  plan_over_sessions_up x is = subst (λ (y : Planned). AreOverSessionsUp y.conf (with_changes y.changes e.tables)) (sym is.plan) (subst (AreOverSessionsUp new) (sym tables_are) (up_after new e.tables))
+
+  -- whatever has a cell is a prefix still
+  pub plan_of_prefixes : (x : Planned) → IsPlanned e edit x → AreOfPrefixes e.tables → AreOfPrefixes (with_changes x.changes e.tables)
+  plan_of_prefixes x is are = subst (λ (y : Planned). AreOfPrefixes (with_changes y.changes e.tables)) (sym is.plan) (subst AreOfPrefixes (sym tables_are) (prefixes_kept new e.tables are))
+
   abbrev Follows : Planned → Type 0
-  Follows x = IsConfigured x.conf → (q r : WaitingByDirection) → IsCleared e x.conf q → IsPushed x q r → IsSound (with_plan x r) × (network (with_plan x r) ≡ with_sent (network e) (after_edit (network e) edit))
+  Follows x = IsConfigured x.conf → (q r : WaitingByDirection) → IsCleared e x.conf q → IsPushed x q r → IsSound (with_plan e x r) × (network (with_plan e x r) ≡ with_sent (network e) (after_edit (network e) edit))
 
-  module _ (allowed : refusal_of e.conf edit ≡ None) where
-    sent_without : (f t : Addr) → has_session (edited e.conf edit) f t ≡ false → sent (network e) (after_edit (network e) edit) f t ≡ []
+  module _ (allowed : refusal_of e.conf edit ≡ None) (origin : with_origin edit e.tables ≡ e.tables) where
+    sent_without : (f t : Addr) → has_session new f t ≡ false → sent (network e) (after_edit (network e) edit) f t ≡ []
     unfolding network reconfigured
     sent_without f t none = sent_without_session (network e) (after_edit (network e) edit) f t none
 
+    all_tables : with_changes (planned e edit).changes e.tables ≡ edited_tables new edit e.tables
+    all_tables = tables_are ∙ ap (kept_tables new) (sym origin)
+
+    all_told : (f t : Addr) → told_by_all (sends_for (planned e edit).changes) f t ≡ told_by_all (all_sends e.conf new (with_origin edit e.tables)) f t
+    all_told f t =
+        told_by_changes (scope edit) e.conf new e.tables sound.by_address settled f t
+        ∙ ap (λ ts. told_by_all (all_sends e.conf new ts) f t) (sym origin)
+
     follows : Follows (planned e edit)
     follows then_ q r cleared pushed =
-        let new = edited e.conf edit in
         let left = left_over e sound new q cleared in
         let sends = all_sends e.conf new (with_origin edit e.tables) in
+        let queued : (f t : Addr) → queue_at r f t ≡ queue_at q f t ++ told_by_all sends f t = λ f t. pushed f t ∙ ap (λ l. queue_at q f t ++ l) (all_told f t) in
         let silent : (f t : Addr) → has_session new f t ≡ false → queue_at r f t ≡ [] =
-        λ f t none. pushed f t ∙ (λ i. (left f t ∙ ap (λ b. if b then queue_at e.queues f t else []) (down_without_session new f t none)) i ++ (told_edited e sound edit configured then_ allowed f t ∙ sent_without f t none) i) in
-        (sound_edited e sound edit allowed r silent, network_edited e sound edit configured then_ allowed r (λ f t. pushed f t ∙ ap (λ l. l ++ told_by_all sends f t) (left f t)))
+        λ f t none. queued f t ∙ (λ i. (left f t ∙ ap (λ b. if b then queue_at e.queues f t else []) (down_without_session new f t none)) i ++ (told_edited e sound edit configured then_ allowed f t ∙ sent_without f t none) i) in
+        let engine : with_plan e (planned e edit) r ≡ edited_engine e edit r = ap (λ ts. record (edited_engine e edit r) { tables = ts }) all_tables in (
+          subst IsSound (sym engine) (sound_edited e sound edit allowed r silent),
+          ap network engine ∙ network_edited e sound edit configured then_ allowed r (λ f t. queued f t ∙ ap (λ l. l ++ told_by_all sends f t) (left f t)),
+        )
 
   -- the plan of an edit that is not refused
   pub plan_followed : (x : Planned) → IsPlanned e edit x → Follows x
-  plan_followed x is = subst Follows (sym is.plan) (follows is.allowed)
+  plan_followed x is = subst Follows (sym is.plan) (follows is.allowed is.origin)

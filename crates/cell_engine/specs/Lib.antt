@@ -1,3 +1,4 @@
+pub mod Changes
 pub mod Coding
 pub mod Counts
 pub mod Deliveries

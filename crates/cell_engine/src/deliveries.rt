@@ -1,7 +1,7 @@
 //! What the engine does with a message at the head of a queue.
 
 ghost use Rattle.std.specs.Prelude.{◌≡◌, ◌≤◌, ◌+◌, ◌++◌, length, true, is_some, IfOk, OnOk, OnErr};
-ghost use Rattle.net_conf.specs.Configuration.{has_session};
+ghost use Rattle.net_conf.specs.Costs.{is_up};
 ghost use Rattle.session_queue.specs.Waiting.{queue_at, spare_at};
 ghost use Rattle.router_tables.specs.RouterTables.{value_at, with_value};
 ghost use Rattle.route_cell.specs.Cells.{nothing_heard};
@@ -116,7 +116,7 @@ impl<S: Selector + Drop, T: PrefixTable<Cell<S>> + Drop> State<S, T> {
     /// Takes the message at the head of the direction's queue: its outcome's cell takes the place of the receiver's, and the
     /// receiver sends what changed. This is the machine's own next state. It takes no memory.
     pub fn take(&mut self, direction: Direction, prefix: Prefix, outcome: Outcome<S>)
-        requires session { has_session self.old.conf direction.from direction.to ≡ true }
+        requires up { is_up self.old.conf direction.from direction.to ≡ true }
         requires head { IsOfHead self.old direction prefix outcome }
         requires room { HasRoom self.old direction.to prefix outcome.sends }
         ensures { network self.new ≡ (head_step (network self.old) direction (messages_in (network self.old).queues direction)).next }

@@ -1,69 +1,72 @@
 //! What the engine does with an edit: first all that takes memory, beside the state; then the change, which takes none.
 
-ghost use Rattle.std.specs.Prelude.{◌≡◌, ◌≤◌, ◌++◌, None, [], true, false, filter, length, IfOk, OnOk};
+ghost use Rattle.std.specs.Prelude.{◌≡◌, ◌++◌, None, [], true, false, filter, IfOk, OnOk};
 ghost use Rattle.std.specs.List.{list_any};
 ghost use Rattle.std.specs.List.Sorted.{IsStrictlySortedBy};
 ghost use Rattle.std.specs.Ordering.{is_lt, is_gt};
 ghost use Rattle.net_conf.specs.Costs.{is_up};
 ghost use Rattle.net_conf.specs.Edits.{refusal_of};
+ghost use Rattle.net_conf.specs.Scopes.{router_in};
+ghost use Rattle.net_conf.specs.declared.edit.Scope.TheVariants.{Network, Site, Route};
 ghost use Rattle.std.specs.BTreeSet.{insert_key};
 ghost use Rattle.session_queue.specs.Waiting.{direction_cmp, queue_at, spare_at};
 ghost use Rattle.reference_machine.specs.Machine.{with_sent, after_edit};
 ghost use Rattle.cell_network.specs.Engine.{network, is_direction};
-ghost use Rattle.cell_network.specs.Editing.{with_directions, with_origin, told_by_all};
+ghost use Rattle.cell_network.specs.Changes.{changes_in};
+ghost use Rattle.cell_network.specs.Editing.{with_directions, with_origin};
 ghost use Rattle.cell_engine.specs.Deliveries.{KeepsSame};
 ghost use Rattle.cell_engine.specs.Edits.{planned, IsPlanned, IsOfEdit, HasPlaces};
+ghost use Rattle.cell_engine.specs.Sites.{AreMade};
 
-use crate::deliveries::push_all;
+use crate::changes::{Change, place_changes};
 use crate::places::reserve_each;
-use crate::remaking::Remade;
-use crate::sites::kept_sites;
+use crate::sites::{kept_sites, renew_sites, site_to_keep};
 use crate::state::State;
-use net_conf::{Conf, Edit, SiteConf};
-use net_prefix::Addr;
+use net_conf::{Conf, Edit, Scope, SiteConf};
+use net_prefix::{Addr, Prefix};
 use prefix_table::PrefixTable;
 use route_cell::Cell;
 use route_select::Selector;
-use router_tables::RouterTables;
 use seq::Seq;
-use session_queue::{Direction, Message, Queues};
+use session_queue::{Direction, Queues};
 use std::alloc::{AllocError, Global};
 use std::collections::BTreeMap;
 use std::marker::Model;
 
-/// What an edit will do: the configuration that it makes, the tables and directions for that, and what each router will send.
+/// What an edit will do: the configuration that it makes, the directions for that, and the cells that are decided anew, with what
+/// each router sends for that.
 #[derive(Drop)]
-pub struct Edited<S: Selector, T: PrefixTable<Cell<S>>> {
-    parts: Box<Parts<S, T>>,
+pub struct Edited<S: Selector> {
+    parts: Box<Parts<S>>,
 }
 
 /// The parts of what an edit will do.
 #[derive(Drop)]
-struct Parts<S: Selector, T: PrefixTable<Cell<S>>> {
+struct Parts<S: Selector> {
+    scope: Scope,
     conf: Conf,
-    /// Those that are kept beside the configuration.
-    sites: BTreeMap<Addr, SiteConf>,
-    tables: RouterTables<Cell<S>, T>,
     directions: Seq<Direction>,
-    /// By router, what it sends to which peer.
-    sends: Seq<(Addr, Seq<(Addr, Message)>)>,
+    /// Those that will be kept beside the configuration, where those of more than one router may change.
+    sites: BTreeMap<Addr, SiteConf>,
+    /// The one that changes, where it is one and is kept.
+    site: Option<SiteConf>,
+    changes: Seq<Change<S>>,
 }
 
-impl<S: Selector, T: PrefixTable<Cell<S>>> Model for Edited<S, T> {
-    ghost use Rattle.std.specs.Prelude.{◌≡◌};
+impl<S: Selector> Model for Edited<S> {
     ghost use Rattle.std.specs.Coded.{codes};
-    ghost use Rattle.cell_network.specs.Reporting.{AreOfPrefixes};
-    ghost use Rattle.cell_engine.specs.Coding.{coded_table};
+    ghost use Rattle.net_conf.specs.Scopes.{router_in};
+    ghost use Rattle.cell_engine.specs.Coding.{coded_change};
     ghost use Rattle.cell_engine.specs.Edits.{Planned};
-    ghost use Rattle.cell_engine.specs.Sites.{sites_kept};
+    ghost use Rattle.cell_engine.specs.Sites.{AreMade};
 
     ghost Value = { Planned };
 
-    ghost coded = { Prim.hlevel (codes, coded_table) };
+    ghost coded = { Prim.hlevel (codes, coded_change) };
 
-    ghost view = { λ x. record { conf = x.parts.value.conf; tables = x.parts.value.tables; directions = x.parts.value.directions; sends = x.parts.value.sends } };
+    ghost view = { λ x. record { scope = x.parts.value.scope; conf = x.parts.value.conf; directions = x.parts.value.directions; changes = x.parts.value.changes } };
 
-    ghost invariant = { λ x. (x.parts.value.sites.entries ≡ sites_kept x.parts.value.directions x.parts.value.conf) × AreOfPrefixes x.parts.value.tables };
+    ghost invariant = { λ x. AreMade (router_in x.parts.value.scope) x.parts.value.directions x.parts.value.conf x.parts.value.sites.entries x.parts.value.site };
 }
 
 /// Adds the directions before this one.
@@ -155,24 +158,24 @@ fn clear_down(queues: &mut Queues, conf: &Conf, directions: &[Direction])
     }
 }
 
-/// Sends each message. It takes no memory.
-fn push_each(queues: &mut Queues, all: Vec<(Addr, Seq<(Addr, Message)>)>)
-    requires { (f t : Addr) → length (told_by_all all.items f t) ≤ spare_at queues.old f t }
-    ensures { (f t : Addr) → queue_at queues.new f t ≡ queue_at queues.old f t ++ told_by_all all.items f t }
+/// Sees to it that what an edit will do stands behind one pointer.
+fn boxed<S: Selector + Drop>(alloc: Global, parts: Parts<S>) -> Result<Edited<S>, AllocError>
+    requires { AreMade (router_in parts.scope) parts.directions parts.conf parts.sites.entries parts.site }
+    ensures { IfOk result (λ edited. edited ≡ record { scope = parts.scope; conf = parts.conf; directions = parts.directions; changes = parts.changes }) }
 {
-    for (router, sends) in all {
-        push_all(queues, router, sends.into_vec());
-    }
+    Ok(Edited {
+        parts: Box::new(alloc, parts)?,
+    })
 }
 
 impl<S: Selector + Drop, T: PrefixTable<Cell<S>> + Drop> State<S, T> {
     /// What the edit will do. The network stays as it is, also at an error, which is want of memory; of the state no more changes than
     /// that a router gets an empty cell for a prefix that it is to originate.
-    pub fn edited(&mut self, edit: &Edit) -> Result<Edited<S, T>, AllocError>
+    pub fn edited(&mut self, edit: &Edit) -> Result<Edited<S>, AllocError>
         requires { refusal_of self.old.conf edit.now ≡ None }
         ensures same { KeepsSame self.old self.new }
         ensures network { network self.new ≡ network self.old }
-        ensures planned { IfOk result (λ edited. edited ≡ planned self.new edit.now) }
+        ensures planned { IfOk result (λ edited. IsPlanned self.new edit.now edited) }
     {
         self.make_origin(edit)?;
         self.plan(edit)
@@ -190,8 +193,7 @@ impl<S: Selector + Drop, T: PrefixTable<Cell<S>> + Drop> State<S, T> {
     }
 
     /// What the edit will do, where a router has a cell for what it is to originate.
-    fn plan(&self, edit: &Edit) -> Result<Edited<S, T>, AllocError>
-        requires { with_origin edit.now self.now.tables ≡ self.now.tables }
+    fn plan(&self, edit: &Edit) -> Result<Edited<S>, AllocError>
         ensures { IfOk result (λ edited. edited ≡ planned self.now edit.now) }
     {
         self.facts();
@@ -200,52 +202,113 @@ impl<S: Selector + Drop, T: PrefixTable<Cell<S>> + Drop> State<S, T> {
             Err(_) => return Err(AllocError),
         };
         let directions = directions_after(self.alloc, self.directions.as_slice(), edit)?;
+        match edit.scope() {
+            Scope::Network => self.plan_network(conf, directions),
+            Scope::Site(router) => self.plan_site(conf, directions, router),
+            Scope::Route(router, prefix) => self.plan_route(conf, directions, router, prefix),
+        }
+    }
+
+    /// What an edit that makes this configuration will do, where any route may change.
+    fn plan_network(&self, conf: Conf, directions: Seq<Direction>) -> Result<Edited<S>, AllocError>
+        ensures { IfOk result (λ edited. edited ≡ record { scope = Network; conf = conf; directions = directions; changes = changes_in Network self.now.conf conf self.now.tables }) }
+    {
         let sites = kept_sites(self.alloc, &conf, directions.as_slice())?;
-        let Remade { tables, sends } = self.remade(&conf, directions.as_slice(), &sites)?;
+        let changes = self.network_changes(&conf, directions.as_slice(), &sites)?;
         let parts = Parts {
+            scope: Scope::Network,
             conf,
-            sites,
-            tables,
             directions,
-            sends,
+            sites,
+            site: None,
+            changes,
         };
-        Ok(Edited {
-            parts: Box::new(self.alloc, parts)?,
-        })
+        boxed(self.alloc, parts)
+    }
+
+    /// What an edit that makes this configuration will do, where the routes of this router alone may change.
+    fn plan_site(
+        &self,
+        conf: Conf,
+        directions: Seq<Direction>,
+        router: Addr,
+    ) -> Result<Edited<S>, AllocError>
+        ensures { IfOk result (λ edited. edited ≡ record { scope = Site router; conf = conf; directions = directions; changes = changes_in (Site router) self.now.conf conf self.now.tables }) }
+    {
+        let site = conf.router_site(self.alloc, router)?;
+        let changes = self.site_changes(&conf, site.as_ref(), router)?;
+        let site = site_to_keep(directions.as_slice(), site);
+        let parts = Parts {
+            scope: Scope::Site(router),
+            conf,
+            directions,
+            sites: BTreeMap::new(self.alloc),
+            site,
+            changes,
+        };
+        boxed(self.alloc, parts)
+    }
+
+    /// What an edit that makes this configuration will do, where this router's route to the prefix alone may change.
+    fn plan_route(
+        &self,
+        conf: Conf,
+        directions: Seq<Direction>,
+        router: Addr,
+        prefix: Prefix,
+    ) -> Result<Edited<S>, AllocError>
+        ensures { IfOk result (λ edited. edited ≡ record { scope = Route router prefix; conf = conf; directions = directions; changes = changes_in (Route router prefix) self.now.conf conf self.now.tables }) }
+    {
+        let site = conf.router_site(self.alloc, router)?;
+        let changes = self.route_changes(&conf, site.as_ref(), router, prefix)?;
+        let site = site_to_keep(directions.as_slice(), site);
+        let parts = Parts {
+            scope: Scope::Route(router, prefix),
+            conf,
+            directions,
+            sites: BTreeMap::new(self.alloc),
+            site,
+            changes,
+        };
+        boxed(self.alloc, parts)
     }
 
     /// Sees to it that there is a place for each message that will be sent. The network stays as it is, also at an error, which is
     /// want of memory.
-    pub fn make_room_for(&mut self, edited: &Edited<S, T>) -> Result<(), AllocError>
+    pub fn make_room_for(&mut self, edited: &Edited<S>) -> Result<(), AllocError>
         ensures same { KeepsSame self.old self.new }
         ensures tables { self.new.tables ≡ self.old.tables }
         ensures network { network self.new ≡ network self.old }
         ensures room { OnOk result (HasPlaces self.new edited.now) }
     {
-        reserve_each(self.alloc, &mut self.queues, edited.parts.sends.as_slice())
+        reserve_each(
+            self.alloc,
+            &mut self.queues,
+            edited.parts.changes.as_slice(),
+        )
     }
 
     /// Does what the edit will do: this is the machine's own next state (RFC 4271, 6, 8 and 9). What was on its way over sessions that
     /// are not up is lost. It takes no memory.
-    pub fn reconfigure(&mut self, edited: Edited<S, T>)
+    pub fn reconfigure(&mut self, edited: Edited<S>)
         requires of { IsOfEdit self.old edited }
         requires room { HasPlaces self.old edited }
         ensures { (edit : Edit) → IsPlanned self.old edit edited → network self.new ≡ with_sent (network self.old) (after_edit (network self.old) edit) }
     {
         self.conf.facts();
         let Parts {
+            scope,
             conf,
-            sites,
-            tables,
             directions,
-            sends,
+            sites,
+            site,
+            changes,
         } = Box::into_inner(edited.parts);
         conf.facts();
         clear_down(&mut self.queues, &conf, self.directions.as_slice());
+        renew_sites(&mut self.sites, scope.router(), sites, site);
         self.conf = conf;
-        self.sites = sites;
-        self.tables = tables;
         self.directions = directions;
-        push_each(&mut self.queues, sends.into_vec());
+        place_changes(&mut self.tables, &mut self.queues, changes.into_vec());
     }
 }

@@ -1,11 +1,11 @@
 //! The engine: tables of cells, the sites of all routers beside the configuration, and the queues; and what it does with a message and with an edit.
 #![tactic(auto)]
 
+mod changes;
 mod deliveries;
 mod edits;
 mod feeds;
 mod places;
-mod remaking;
 mod sites;
 mod state;
 

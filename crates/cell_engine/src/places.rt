@@ -4,10 +4,12 @@ ghost use Rattle.std.specs.Prelude.{◌≡◌, ◌≤◌, ◌+◌, length, cond,
 ghost use Rattle.session_queue.specs.Waiting.{queue_at, spare_at, same_direction};
 ghost use Rattle.cell_network.specs.Sending.{told_from};
 ghost use Rattle.cell_network.specs.Editing.{told_by_all};
+ghost use Rattle.cell_network.specs.Changes.{sends_for};
 ghost use Rattle.cell_engine.specs.Counts.{count_at};
 
+use crate::changes::Change;
 use net_prefix::Addr;
-use seq::Seq;
+use route_select::Selector;
 use session_queue::{Direction, Message, Queues};
 use std::alloc::{AllocError, Global};
 use std::collections::BTreeMap;
@@ -46,16 +48,16 @@ fn count_sends(
     Ok(())
 }
 
-/// How many messages go in each direction.
-fn counts_of(
+/// How many messages the changes send in each direction.
+fn counts_of<S: Selector>(
     alloc: Global,
-    all: &[(Addr, Seq<(Addr, Message)>)],
+    changes: &[Change<S>],
 ) -> Result<BTreeMap<Direction, usize>, AllocError>
-    ensures { IfOk result (λ counts. (f t : Addr) → count_at counts.entries f t ≡ length (told_by_all all.now f t)) }
+    ensures { IfOk result (λ counts. (f t : Addr) → count_at counts.entries f t ≡ length (told_by_all (sends_for changes.now) f t)) }
 {
     let mut counts = BTreeMap::new(alloc);
-    for each in all {
-        count_sends(&mut counts, each.0, each.1.as_slice())?;
+    for change in changes {
+        count_sends(&mut counts, change.router, &change.outcome.sends)?;
     }
     Ok(counts)
 }
@@ -74,15 +76,15 @@ fn reserve_counts(
     Ok(())
 }
 
-/// Sees to it that there is a place for each message. Each direction is asked for its places once.
-pub(crate) fn reserve_each(
+/// Sees to it that there is a place for each message that the changes send. Each direction is asked for its places once.
+pub(crate) fn reserve_each<S: Selector>(
     alloc: Global,
     queues: &mut Queues,
-    all: &[(Addr, Seq<(Addr, Message)>)],
+    changes: &[Change<S>],
 ) -> Result<(), AllocError>
     ensures queue { (f t : Addr) → queue_at queues.new f t ≡ queue_at queues.old f t }
-    ensures room { OnOk result ((f t : Addr) → length (told_by_all all.now f t) ≤ spare_at queues.new f t) }
+    ensures room { OnOk result ((f t : Addr) → length (told_by_all (sends_for changes.now) f t) ≤ spare_at queues.new f t) }
 {
-    let counts = counts_of(alloc, all)?;
+    let counts = counts_of(alloc, changes)?;
     reserve_counts(queues, &counts)
 }

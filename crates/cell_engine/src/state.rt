@@ -10,6 +10,7 @@ ghost use Rattle.std.specs.FinMap.Entries.{find};
 ghost use Rattle.net_prefix.specs.Address.{addr_cmp};
 ghost use Rattle.cell_network.specs.Engine.{network, IsSound};
 ghost use Rattle.cell_network.specs.Reporting.{AreOfPrefixes};
+ghost use Rattle.cell_network.specs.Changes.{AreOverSessionsUp};
 ghost use Rattle.cell_engine.specs.Sites.{site_made};
 
 use crate::sites::{made_site, site_in};
@@ -43,6 +44,7 @@ impl<S: Selector, T: PrefixTable<Cell<S>>> Model for State<S, T> {
     ghost use Rattle.std.specs.Coded.{codes};
     ghost use Rattle.cell_network.specs.Engine.{Engine, IsSound};
     ghost use Rattle.cell_network.specs.Reporting.{AreOfPrefixes};
+    ghost use Rattle.cell_network.specs.Changes.{AreOverSessionsUp};
     ghost use Rattle.cell_engine.specs.Coding.{coded_table};
     ghost use Rattle.cell_engine.specs.Sites.{sites_kept};
 
@@ -52,7 +54,7 @@ impl<S: Selector, T: PrefixTable<Cell<S>>> Model for State<S, T> {
 
     ghost view = { λ s. record { conf = s.conf; tables = s.tables; directions = s.directions; queues = s.queues } };
 
-    ghost invariant = { λ s. IsSound (record { conf = s.conf; tables = s.tables; directions = s.directions; queues = s.queues }) × (s.sites.entries ≡ sites_kept s.directions s.conf) × AreOfPrefixes s.tables };
+    ghost invariant = { λ s. IsSound (record { conf = s.conf; tables = s.tables; directions = s.directions; queues = s.queues }) × (s.sites.entries ≡ sites_kept s.directions s.conf) × AreOfPrefixes s.tables × AreOverSessionsUp s.conf s.tables };
 }
 
 impl<S: Selector, T: PrefixTable<Cell<S>>> State<S, T> {
@@ -75,6 +77,7 @@ impl<S: Selector, T: PrefixTable<Cell<S>>> State<S, T> {
         ensures sound { IsSound self.now }
         ensures configured { IsConfigured self.now.conf }
         ensures prefixes { AreOfPrefixes self.now.tables }
+        ensures sessions { AreOverSessionsUp self.now.conf self.now.tables }
     {
         self.conf.facts();
     }

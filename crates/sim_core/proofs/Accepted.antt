@@ -6,17 +6,17 @@ use Rattle.session_queue.specs.declared.direction.Direction.{Direction}
 use Rattle.session_queue.specs.declared.message.Message.{Message}
 use Rattle.session_queue.specs.Telling.{prefix_of, kind_of}
 use Rattle.session_queue.specs.Waiting.{queue_at}
-use Rattle.net_conf.specs.Configuration.{Configuration, has_node, has_session}
+use Rattle.net_conf.specs.Configuration.{Configuration, has_session}
 use Rattle.net_conf.specs.Costs.{is_up}
 use Rattle.net_conf.specs.declared.edit.Edit.{Edit}
 use Rattle.net_conf.specs.declared.refusal.Refusal.{Refusal}
-use Rattle.net_conf.specs.declared.refusal.Refusal.TheVariants.{NoRouter, NoSession, BadEnd, QueueEmpty}
+use Rattle.net_conf.specs.declared.refusal.Refusal.TheVariants.{NoRouter, NoSession, SessionDown, BadEnd, QueueEmpty}
 use Rattle.net_conf.specs.Edits.{refusal_of}
 use Rattle.sim_event.specs.declared.event.Feed.{Feed}
 use Rattle.sim_event.specs.declared.event.Ask.{Ask}
 use Rattle.sim_event.specs.declared.reply.Reply.TheVariants.{Done, Took, Report as AReport}
 use Rattle.reference_machine.specs.Network.{Network, messages_in}
-use Rattle.reference_machine.specs.Machine.{Outcome, unless_refused, refused, is_refusal, edit_step, after_edit, with_sent, feed_refusal, feed_step, after_feed, delivery_refusal, delivery_step, head_step, taken, ask_refusal, question_step, report_of}
+use Rattle.reference_machine.specs.Machine.{Outcome, unless_refused, refused, is_refusal, edit_step, after_edit, with_sent, feed_refusal, feed_step, after_feed, delivery_refusal, delivery_step, head_step, ask_refusal, question_step, report_of}
 use Rattle.cell_network.specs.Engine.{Engine, IsSound, network}
 use Rattle.cell_network.proofs.Queues.{messages_on_session}
 
@@ -90,6 +90,12 @@ pub delivery_session : (c : Configuration) (d : Direction) → delivery_refusal 
 unfolding delivery_refusal
 delivery_session c d none =
     not_false (has_session c d.from d.to) (passes (not (has_session c d.from d.to)) NoSession _ (later_passes _ NoRouter _ none))
+
+-- which is up
+pub delivery_up : (c : Configuration) (d : Direction) → delivery_refusal c d ≡ None → is_up c d.from d.to ≡ true
+unfolding delivery_refusal
+delivery_up c d none =
+    not_false (is_up c d.from d.to) (passes (not (is_up c d.from d.to)) SessionDown _ (later_passes _ NoSession _ (later_passes _ NoRouter _ none)))
 
 module _ (e : Engine) (sound : IsSound e) (d : Direction) (none : delivery_refusal e.conf d ≡ None) where
   refusal_of_network : delivery_refusal (network e).conf d ≡ None

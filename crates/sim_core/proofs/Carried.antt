@@ -1,22 +1,22 @@
 -- What a plan does says of which event it is.
-use Rattle.std.proofs.Common.{◌≡◌, ◌<◌, true, false, Option, Some, None, refl, sym, ap, subst, ◌∙◌}
+use Rattle.std.proofs.Common.{◌≡◌, ◌<◌, true, false, Some, None, refl, sym, ap, subst, ◌∙◌}
 use Rattle.std.proofs.lemmas.Option.{none-some, same_Some}
 use Rattle.session_queue.specs.declared.direction.Direction.{Direction}
 use Rattle.session_queue.specs.declared.message.Message.{Message}
 use Rattle.session_queue.specs.Waiting.{spare_at}
 use Rattle.net_conf.specs.Configuration.{has_session}
+use Rattle.net_conf.specs.Costs.{is_up}
 use Rattle.net_conf.specs.declared.edit.Edit.{Edit}
 use Rattle.sim_event.specs.declared.event.Event.{Event}
 use Rattle.sim_event.specs.declared.event.Event.TheVariants.{Edit as AnEdit, Feed as AFeed, Deliver, Ask as AnAsk}
-use Rattle.sim_event.specs.declared.event.Feed.{Feed}
 use Rattle.sim_event.specs.declared.event.Ask.{Ask}
 use Rattle.reference_machine.specs.Network.{Network, with_message, messages_in}
-use Rattle.reference_machine.specs.Machine.{step, is_refusal, with_sent, after_edit, head_step, edit_step, feed_step, delivery_step, question_step, delivery_refusal, feed_refusal, ask_refusal}
+use Rattle.reference_machine.specs.Machine.{step, is_refusal, with_sent, after_edit, head_step, edit_step, question_step, delivery_refusal, feed_refusal, ask_refusal}
 use Rattle.cell_network.specs.Engine.{Engine, network}
 use Rattle.cell_engine.specs.Deliveries.{HasRoom, IsOfHead}
-use Rattle.cell_engine.specs.Edits.{Planned, IsPlanned, IsOfEdit, HasPlaces}
-use Rattle.sim_core.specs.Plans.{Plan, Taken, fed_in, IsPrepared}
-use Rattle.sim_core.proofs.Accepted.{edit_accepted, edit_done, feed_accepted, feed_done, feed_session, delivery_accepted, delivery_is, delivery_session, question_answered, allowed}
+use Rattle.cell_engine.specs.Edits.{Planned, IsPlanned, HasPlaces}
+use Rattle.sim_core.specs.Plans.{Plan, Taken, IsPrepared}
+use Rattle.sim_core.proofs.Accepted.{edit_accepted, edit_done, feed_accepted, feed_done, feed_session, delivery_accepted, delivery_is, delivery_up, question_answered, allowed}
 
 -- EDITS
 
@@ -42,7 +42,7 @@ editing e (AnAsk q) p is x has = absurd (none-some x (sym is.does.edited ∙ has
 -- DELIVERIES
 
 pub record IsTaking (e : Engine) (event : Event) (t : Taken) : Type 0 where
-  pub session : has_session e.conf t.direction.from t.direction.to ≡ true
+  pub up : is_up e.conf t.direction.from t.direction.to ≡ true
   pub head : IsOfHead e t.direction t.prefix t.outcome
   pub room : HasRoom e t.direction.to t.prefix t.outcome.sends
   pub next : (step (network e) event).next ≡ (head_step (network e) t.direction (messages_in (network e).queues t.direction)).next
@@ -52,7 +52,7 @@ unfolding network
 delivered_as e d p is =
     let none : delivery_refusal e.conf d ≡ None = delivery_accepted (network e) d (sym (ap is_refusal is.reply) ∙ is.accepted) in
     record {
-      session = delivery_session e.conf d none;
+      up = delivery_up e.conf d none;
       head = is.does.head;
       room = is.does.room;
       next = ap (λ o. o.next) (delivery_is (network e) d none);

@@ -1,53 +1,52 @@
 -- What is prepared for each kind of event, after the state has grown.
-use Rattle.std.proofs.Common.{◌≡◌, ◌<◌, false, length, slice_get, Option, Some, None, Result, Ok, Err, refl, sym, ap, subst, ◌∙◌}
-use Rattle.net_prefix.specs.Block.{Block}
+use Rattle.std.proofs.Common.{◌≡◌, ◌<◌, slice_get, Some, None, refl, sym, ap, ◌∙◌}
 use Rattle.session_queue.specs.declared.direction.Direction.{Direction}
 use Rattle.session_queue.specs.declared.message.Message.{Message}
 use Rattle.session_queue.specs.Telling.{prefix_of, kind_of}
 use Rattle.session_queue.specs.Waiting.{queue_at, spare_at}
 use Rattle.net_conf.specs.declared.edit.Edit.{Edit}
 use Rattle.net_conf.specs.Edits.{edited, refusal_of}
+use Rattle.net_conf.specs.Scopes.{scope}
 use Rattle.sim_event.specs.declared.event.Event.{Event}
 use Rattle.sim_event.specs.declared.event.Event.TheVariants.{Edit as AnEdit, Feed as AFeed, Deliver, Ask as AnAsk}
 use Rattle.sim_event.specs.declared.event.Feed.{Feed}
 use Rattle.sim_event.specs.declared.event.Ask.{Ask}
 use Rattle.sim_event.specs.declared.reply.Report.{Report}
 use Rattle.sim_event.specs.declared.reply.Reply.TheVariants.{Done, Took, Report as AReport}
-use Rattle.reference_machine.specs.Machine.{step, is_refusal, feed_refusal, fed_message, delivery_refusal, ask_refusal, report_of}
+use Rattle.reference_machine.specs.Machine.{step, feed_refusal, fed_message, delivery_refusal, ask_refusal, report_of}
 use Rattle.route_cell.specs.Cells.{Outcome}
 use Rattle.cell_network.specs.Engine.{Engine, IsSound, network}
-use Rattle.cell_network.specs.Editing.{with_directions, with_origin, edited_tables, all_sends}
+use Rattle.cell_network.specs.Changes.{changes_in}
+use Rattle.cell_network.specs.Editing.{with_directions, with_origin}
 use Rattle.cell_engine.specs.Deliveries.{outcome_at, HasRoom, KeepsSame}
-use Rattle.cell_engine.specs.Edits.{Planned, planned, HasPlaces}
+use Rattle.cell_engine.specs.Edits.{Planned, IsPlanned, HasPlaces}
 use Rattle.cell_engine.proofs.Growth.{network_kept, head_of, head_kept}
-use Rattle.sim_core.specs.Plans.{Plan, Taken, fed_in, IsPrepared}
+use Rattle.sim_core.specs.Plans.{fed_in, IsPrepared}
 use Rattle.sim_core.proofs.Accepted.{edit_done, feed_done, delivery_takes, question_answered}
 
 -- the reply stays the machine's
 reply_kept : (e e' : Engine) → KeepsSame e e' → (event : Event) → (step (network e) event).reply ≡ (step (network e') event).reply
 reply_kept e e' same event = sym (ap (λ n. (step n event).reply) (network_kept e e' same))
 
-pub prepared_edit : (e e' : Engine) → KeepsSame e e' → e'.tables ≡ e.tables → (edit : Edit) (x : Planned) → refusal_of e.conf edit ≡ None → x ≡ planned e edit → HasPlaces e' x → IsPrepared e' (AnEdit edit) (record { reply = Done; pushed = None; taken = None; edited = Some x })
+-- a plan of an edit stays one while the tables stay
+planned_still : (e e' : Engine) → KeepsSame e e' → e'.tables ≡ e.tables → (edit : Edit) (x : Planned) → IsPlanned e edit x → IsPlanned e' edit x
+planned_still e e' same tables edit x is = record {
+  allowed = ap (λ c. refusal_of c edit) same.conf ∙ is.allowed;
+  origin = ap (with_origin edit) tables ∙ is.origin ∙ sym tables;
+  plan = is.plan ∙ sym (λ i. record {
+    scope = scope edit;
+    conf = edited (same.conf i) edit;
+    directions = with_directions edit (same.directions i);
+    changes = changes_in (scope edit) (same.conf i) (edited (same.conf i) edit) (tables i);
+  });
+}
+
+pub prepared_edit : (e e' : Engine) → KeepsSame e e' → e'.tables ≡ e.tables → (edit : Edit) (x : Planned) → IsPlanned e edit x → HasPlaces e' x → IsPrepared e' (AnEdit edit) (record { reply = Done; pushed = None; taken = None; edited = Some x })
 unfolding network
-prepared_edit e e' same tables edit x none is room = record {
-  reply = sym (ap (λ o. o.reply) (edit_done (network e) edit none)) ∙ reply_kept e e' same (AnEdit edit);
+prepared_edit e e' same tables edit x is room = record {
+  reply = sym (ap (λ o. o.reply) (edit_done (network e) edit is.allowed)) ∙ reply_kept e e' same (AnEdit edit);
   accepted = refl;
-  does = record {
-    plan = x;
-    pushed = refl;
-    taken = refl;
-    edited = refl;
-    is = record {
-      allowed = ap (λ c. refusal_of c edit) same.conf ∙ none;
-      plan = is ∙ sym (λ i. record {
-        conf = edited (same.conf i) edit;
-        tables = edited_tables (edited (same.conf i) edit) edit (tables i);
-        directions = with_directions edit (same.directions i);
-        sends = all_sends (same.conf i) (edited (same.conf i) edit) (with_origin edit (tables i));
-      });
-    };
-    room = room;
-  };
+  does = record { plan = x; pushed = refl; taken = refl; edited = refl; is = planned_still e e' same tables edit x is; room = room };
 }
 
 pub prepared_feed : (e e' : Engine) → KeepsSame e e' → (f : Feed) (m : Message) → feed_refusal e.conf f ≡ None → m ≡ fed_message f.from f.news → 0 < spare_at e'.queues f.from f.to → IsPrepared e' (AFeed f) (record { reply = Done; pushed = Some (fed_in f, m); taken = None; edited = None })

@@ -11,8 +11,7 @@ use Rattle.sim_event.specs.declared.event.Event.{Event}
 use Rattle.sim_event.specs.declared.event.Event.TheVariants.{Edit as AnEdit, Feed as AFeed, Deliver, Ask as AnAsk}
 use Rattle.sim_event.specs.declared.event.Feed.{Feed}
 use Rattle.sim_event.specs.declared.event.Ask.{Ask}
-use Rattle.reference_machine.specs.Network.{Network}
-use Rattle.reference_machine.specs.Machine.{step, refused, is_refusal, asks_quiet, feed_refusal, delivery_refusal, ask_refusal}
+use Rattle.reference_machine.specs.Machine.{step, is_refusal, asks_quiet, feed_refusal, delivery_refusal, ask_refusal}
 use Rattle.cell_network.specs.Engine.{Engine, IsSound, network}
 use Rattle.sim_report.specs.Answers.{IsAnswer}
 use Rattle.sim_core.specs.Plans.{IsRefused}

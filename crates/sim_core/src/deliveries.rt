@@ -1,7 +1,7 @@
 //! Deliveries.
 
 ghost use Rattle.std.specs.Prelude.{◌≡◌, true, Some, None, slice_get, IfOk};
-ghost use Rattle.net_conf.specs.Configuration.{has_session};
+ghost use Rattle.net_conf.specs.Costs.{is_up};
 ghost use Rattle.session_queue.specs.Waiting.{queue_at};
 ghost use Rattle.sim_event.specs.declared.event.Event.TheVariants.{Deliver};
 ghost use Rattle.reference_machine.specs.Network.{messages_in};
@@ -23,7 +23,7 @@ use std::alloc::AllocError;
 
 impl<S: Selector + Drop, T: PrefixTable<Cell<S>> + Drop> Sim<S, T> {
     /// Makes a delivery ready.
-    pub(crate) fn prepare_delivery(&mut self, direction: Direction) -> Result<Plan<S, T>, Refusal>
+    pub(crate) fn prepare_delivery(&mut self, direction: Direction) -> Result<Plan<S>, Refusal>
         ensures network { network self.new ≡ network self.old }
         ensures prepares { Prepares self.new (Deliver direction.from direction.to) result }
     {
@@ -44,7 +44,7 @@ impl<S: Selector + Drop, T: PrefixTable<Cell<S>> + Drop> Sim<S, T> {
     }
 
     /// The plan of a delivery that is not refused: what the receiver makes of the message, and room for that.
-    fn taking(&mut self, direction: Direction, message: &Message) -> Result<Plan<S, T>, AllocError>
+    fn taking(&mut self, direction: Direction, message: &Message) -> Result<Plan<S>, AllocError>
         requires allowed { delivery_refusal self.old.conf direction ≡ None }
         requires head { slice_get (queue_at self.old.queues direction.from direction.to) 0 ≡ Some message.now }
         ensures network { network self.new ≡ network self.old }
@@ -69,7 +69,7 @@ impl<S: Selector + Drop, T: PrefixTable<Cell<S>> + Drop> Sim<S, T> {
 
     /// Takes the message at the head of the queue. It takes no memory.
     pub(crate) fn take(&mut self, taken: Box<Taken<S>>)
-        requires session { has_session self.old.conf taken.value.direction.from taken.value.direction.to ≡ true }
+        requires up { is_up self.old.conf taken.value.direction.from taken.value.direction.to ≡ true }
         requires head { IsOfHead self.old taken.value.direction taken.value.prefix taken.value.outcome }
         requires room { HasRoom self.old taken.value.direction.to taken.value.prefix taken.value.outcome.sends }
         ensures { network self.new ≡ (head_step (network self.old) taken.value.direction (messages_in (network self.old).queues taken.value.direction)).next }

@@ -17,7 +17,7 @@ use std::alloc::AllocError;
 
 impl<S: Selector + Drop, T: PrefixTable<Cell<S>> + Drop> Sim<S, T> {
     /// Makes an edit ready.
-    pub(crate) fn prepare_edit(&mut self, edit: &Edit) -> Result<Plan<S, T>, Refusal>
+    pub(crate) fn prepare_edit(&mut self, edit: &Edit) -> Result<Plan<S>, Refusal>
         ensures network { network self.new ≡ network self.old }
         ensures prepares { Prepares self.new (AnEdit edit.now) result }
     {
@@ -31,7 +31,7 @@ impl<S: Selector + Drop, T: PrefixTable<Cell<S>> + Drop> Sim<S, T> {
     }
 
     /// The plan of an edit that is not refused: all that it makes, and room for what is sent.
-    fn editing(&mut self, edit: &Edit) -> Result<Plan<S, T>, AllocError>
+    fn editing(&mut self, edit: &Edit) -> Result<Plan<S>, AllocError>
         requires { refusal_of self.old.conf edit.now ≡ None }
         ensures network { network self.new ≡ network self.old }
         ensures plan { IfOk result (λ plan. IsPrepared self.new (AnEdit edit.now) plan) }

@@ -19,7 +19,7 @@ use std::alloc::AllocError;
 
 impl<S: Selector + Drop, T: PrefixTable<Cell<S>> + Drop> Sim<S, T> {
     /// Makes a feed ready.
-    pub(crate) fn prepare_feed(&mut self, feed: &Feed) -> Result<Plan<S, T>, Refusal>
+    pub(crate) fn prepare_feed(&mut self, feed: &Feed) -> Result<Plan<S>, Refusal>
         ensures network { network self.new ≡ network self.old }
         ensures prepares { Prepares self.new (AFeed feed.now) result }
     {
@@ -33,7 +33,7 @@ impl<S: Selector + Drop, T: PrefixTable<Cell<S>> + Drop> Sim<S, T> {
     }
 
     /// The plan of a feed that is not refused: the message and its place.
-    fn feeding(&mut self, feed: &Feed) -> Result<Plan<S, T>, AllocError>
+    fn feeding(&mut self, feed: &Feed) -> Result<Plan<S>, AllocError>
         requires { feed_refusal self.old.conf feed.now ≡ None }
         ensures network { network self.new ≡ network self.old }
         ensures plan { IfOk result (λ plan. IsPrepared self.new (AFeed feed.now) plan) }

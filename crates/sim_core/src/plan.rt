@@ -2,9 +2,8 @@
 
 ghost use Rattle.std.specs.Prelude.{◌≡◌};
 
-use cell_engine::{Cell, Edited, Outcome};
+use cell_engine::{Edited, Outcome};
 use net_prefix::Prefix;
-use prefix_table::PrefixTable;
 use route_select::Selector;
 use session_queue::{Direction, Message};
 use sim_event::Reply;
@@ -34,29 +33,29 @@ impl<S: Selector> Model for Taken<S> {
 /// What an event will do, with all that this takes: a message is put on its way, or one is taken, or the configuration is edited, or
 /// nothing changes.
 #[derive(Drop)]
-pub struct Plan<S: Selector, T: PrefixTable<Cell<S>>> {
+pub struct Plan<S: Selector> {
     pub(crate) reply: Reply,
     pub(crate) pushed: Option<(Direction, Message)>,
     // In boxes: the borrow checker follows a plan by value only where its parts that depend on the selector stand behind one.
     pub(crate) taken: Option<Box<Taken<S>>>,
-    pub(crate) edited: Option<Edited<S, T>>,
+    pub(crate) edited: Option<Edited<S>>,
 }
 
-impl<S: Selector, T: PrefixTable<Cell<S>>> Model for Plan<S, T> {
+impl<S: Selector> Model for Plan<S> {
     ghost use Rattle.std.specs.Option.{option_map};
     ghost use Rattle.std.specs.Coded.{codes};
-    ghost use Rattle.cell_engine.specs.Coding.{coded_table};
+    ghost use Rattle.cell_engine.specs.Coding.{coded_change};
     ghost use Rattle.sim_core.specs.Coding.{coded_taken};
     ghost use Rattle.sim_core.specs.Plans as plans;
 
     ghost Value = { plans.Plan };
 
-    ghost coded = { Prim.hlevel (codes, coded_table, coded_taken) };
+    ghost coded = { Prim.hlevel (codes, coded_change, coded_taken) };
 
     ghost view = { λ x. record { reply = x.reply; pushed = x.pushed; taken = option_map (λ t. t.value) x.taken; edited = x.edited } };
 }
 
-impl<S: Selector, T: PrefixTable<Cell<S>>> Plan<S, T> {
+impl<S: Selector> Plan<S> {
     /// What will be answered once the plan is carried out.
     pub fn reply(&self) -> &Reply
         ensures { result.now ≡ self.now.reply }

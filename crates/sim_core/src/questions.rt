@@ -14,7 +14,7 @@ use sim_report::ask;
 
 impl<S: Selector, T: PrefixTable<Cell<S>>> Sim<S, T> {
     /// Makes an answer ready.
-    pub(crate) fn prepare_answer(&self, question: &Ask) -> Result<Plan<S, T>, Refusal>
+    pub(crate) fn prepare_answer(&self, question: &Ask) -> Result<Plan<S>, Refusal>
         ensures { Prepares self.now (AnAsk question.now) result }
     {
         match ask(self.alloc, &self.state, question) {

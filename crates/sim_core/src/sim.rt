@@ -58,7 +58,7 @@ impl<S: Selector, T: PrefixTable<Cell<S>>> Sim<S, T> {
 impl<S: Selector + Drop, T: PrefixTable<Cell<S>> + Drop> Sim<S, T> {
     /// Makes ready what the event will do, with all the memory that this takes. The network stays as it is. The refusal is the machine's
     /// own, or want of memory where the machine refuses nothing; the tests come before the first growth.
-    pub fn prepare(&mut self, event: &Event) -> Result<Plan<S, T>, Refusal>
+    pub fn prepare(&mut self, event: &Event) -> Result<Plan<S>, Refusal>
         ensures network { network self.new ≡ network self.old }
         ensures prepares { Prepares self.new event.now result }
     {
@@ -74,7 +74,7 @@ impl<S: Selector + Drop, T: PrefixTable<Cell<S>> + Drop> Sim<S, T> {
     }
 
     /// Carries out a plan that was prepared from this state: this is the machine's own step. It takes no memory.
-    pub fn apply(&mut self, plan: Plan<S, T>) -> Reply
+    pub fn apply(&mut self, plan: Plan<S>) -> Reply
         requires { IsOfEvent self.old plan }
         ensures reply { result ≡ plan.reply }
         ensures next { (event : Event) → IsPrepared self.old event plan → network self.new ≡ (step (network self.old) event).next }

@@ -1,4 +1,4 @@
-use Rattle.std.proofs.Common.{◌≡◌, ◌<◌, true, Some, None, sym, ap, subst, option_map, ◌∙◌}
+use Rattle.std.proofs.Common.{◌≡◌, ◌<◌, true, sym, ap, subst, option_map, ◌∙◌}
 use Rattle.net_conf.specs.Configuration.{has_session}
 use Rattle.session_queue.specs.Waiting.{spare_at}
 use Rattle.reference_machine.specs.Network.{with_message}
@@ -29,9 +29,9 @@ returns-in-Some-clause-next g c = λ event is.
     ∙ ap (λ n. with_sent (network n) (after_edit (network n) done.edit)) c.self.view_is
     ∙ sym done.next
 
-pub take-requires-clause-session : goal.take-requires-clause-session
-take-requires-clause-session g c =
-    (taking c.args.self.now c.requires.event c.args.plan c.requires.is c.in-Some-taken.taken.value (sym (ap (λ p. p.taken) c.plan.view_is) ∙ ap (option_map (λ t. t.value)) c.in-Some-taken.is)).session
+pub take-requires-clause-up : goal.take-requires-clause-up
+take-requires-clause-up g c =
+    (taking c.args.self.now c.requires.event c.args.plan c.requires.is c.in-Some-taken.taken.value (sym (ap (λ p. p.taken) c.plan.view_is) ∙ ap (option_map (λ t. t.value)) c.in-Some-taken.is)).up
 
 pub take-requires-clause-head : goal.take-requires-clause-head
 take-requires-clause-head g c =

@@ -1,0 +1,48 @@
+use Rattle.std.proofs.Common.{◌++◌, length, Some, ap, sym, arith}
+use Rattle.std.specs.FinMap as finite
+use Rattle.net_conf.specs.declared.edit.Scope.TheVariants.{Network}
+use Rattle.router_tables.specs.RouterTables.{table_at}
+use Rattle.cell_network.specs.Changes.{router_changes, changes_in}
+use Rattle.cell_network.proofs.Chunks.{T_of}
+use Rattle.cell_engine.proofs.Walks.{tables_past, tables_start, tables_step, tables_end}
+use Rattle.cell_engine.proofs.Remade.{gathered_more, gathered_all}
+use Rattle.cell_engine.proofs.state.State.network_changes.Goals as goal
+
+pub walk-init : goal.walk-init
+walk-init g c =
+    let ts = c.args.self.now.tables in
+    λ i. c.new-changes.ensures i ++ changes_in Network c.args.self.now.conf c.args.conf.now (tables_start ts i)
+
+pub returns-in-None : goal.returns-in-None
+returns-in-None g c =
+    let ts = c.args.self.now.tables in
+    let made = changes_in Network c.args.self.now.conf c.args.conf.now in
+    gathered_all c.walk.changes (made (tables_past c.walk.past ts)) (made ts) (ap made (tables_end ts c.walk.past (sym c.in-None.ensures))) c.walk.invariant
+
+pub walk-smaller : goal.walk-smaller
+walk-smaller g c =
+    let step = tables_step c.args.self.now.tables c.walk.past c.in-Some.router (T_of _ c.facts.ensures.sound.by_address) (sym c.in-Some.ensures) in
+    let n = ap length step in omega (arith, n)
+
+pub walk-preserved : goal.walk-preserved
+walk-preserved g c =
+    let ts = c.args.self.now.tables in
+    let r = c.in-Some.router in
+    let made = changes_in Network c.args.self.now.conf c.args.conf.now in
+    let step = tables_step ts c.walk.past r (T_of _ c.facts.ensures.sound.by_address) (sym c.in-Some.ensures) in
+    gathered_more c.walk.changes (router_changes c.args.self.now.conf c.args.conf.now r (finite.entries (table_at r ts))) (made (tables_past (Some r) ts)) (made (tables_past c.walk.past ts)) (made ts) c.add_router.new.changes
+    (sym (ap made step)) c.walk.invariant c.in_ok-add_router-in-Some.ensures
+
+pub walk-smaller-in_ok-add_router-in-Some : goal.walk-smaller-in_ok-add_router-in-Some
+walk-smaller-in_ok-add_router-in-Some g c =
+    let step = tables_step c.args.self.now.tables c.walk.past c.in-Some.router (T_of _ c.facts.ensures.sound.by_address) (sym c.in-Some.ensures) in
+    let n = ap length step in omega (arith, n)
+
+pub walk-preserved-in_ok-add_router-in-Some : goal.walk-preserved-in_ok-add_router-in-Some
+walk-preserved-in_ok-add_router-in-Some g c =
+    let ts = c.args.self.now.tables in
+    let r = c.in-Some.router in
+    let made = changes_in Network c.args.self.now.conf c.args.conf.now in
+    let step = tables_step ts c.walk.past r (T_of _ c.facts.ensures.sound.by_address) (sym c.in-Some.ensures) in
+    gathered_more c.walk.changes (router_changes c.args.self.now.conf c.args.conf.now r (finite.entries (table_at r ts))) (made (tables_past (Some r) ts)) (made (tables_past c.walk.past ts)) (made ts) c.add_router.new.changes
+    (sym (ap made step)) c.walk.invariant c.in_ok-add_router-in-Some.ensures
