@@ -7,15 +7,15 @@ ghost use Rattle.igp_cost.specs.Wired.{IsRising, row, rows_of};
 use crate::label::Label;
 use net_prefix::Addr;
 use path_attr::Asn;
-use seq::{Copied, Seq, push_some};
+use seq::{Copied, SharedSeq, push_some};
 use std::alloc::{AllocError, Global};
 use std::marker::Model;
 
-/// The least cost and the first hop from a router, its source, to each address that a walk from it reaches.
+/// The least cost and the first hop from a router, its source, to each address that a walk from it reaches. A copy takes no memory.
 #[derive(Debug, Drop)]
 pub struct Tree {
     source: Addr,
-    rows: Seq<(Addr, Label)>,
+    rows: SharedSeq<(Addr, Label)>,
 }
 
 impl Model for Tree {
@@ -44,7 +44,7 @@ impl Tree {
         let rows = labelled(alloc, nodes, labels)?;
         Ok(Tree {
             source,
-            rows: Seq::of(rows),
+            rows: SharedSeq::of(alloc, rows)?,
         })
     }
 
@@ -88,11 +88,8 @@ impl Tree {
 }
 
 impl Copied for Tree {
-    fn copy(&self, alloc: Global) -> Result<Self, AllocError> {
-        Ok(Tree {
-            source: self.source,
-            rows: Seq::copy_of(alloc, self.rows.as_slice())?,
-        })
+    fn copy(&self, _alloc: Global) -> Result<Self, AllocError> {
+        self.clone()
     }
 }
 
@@ -102,7 +99,7 @@ impl Clone for Tree {
     fn clone(&self) -> Result<Tree, AllocError> {
         Ok(Tree {
             source: self.source,
-            rows: self.rows.clone()?,
+            rows: self.rows.share()?,
         })
     }
 }

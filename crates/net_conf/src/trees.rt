@@ -1,9 +1,10 @@
 //! Interior costs of a configuration.
 
-ghost use Rattle.std.specs.Prelude.{◌≡◌, IfOk, map, IsTrue};
+ghost use Rattle.std.specs.Prelude.{◌≡◌, IfOk, OnOk, map, IsTrue};
 ghost use Rattle.std.specs.List.{filter_map};
 ghost use Rattle.std.specs.List.Sorted.{IsStrictlySortedBy};
 ghost use Rattle.std.specs.Map.{keys_of};
+ghost use Rattle.std.specs.BTreeMap.{insert_entry};
 ghost use Rattle.net_prefix.specs.Address.{addr_cmp};
 ghost use Rattle.igp_cost.specs.Trees.{tree_of};
 ghost use Rattle.net_conf.specs.Configuration.{has_node};
@@ -116,7 +117,15 @@ fn all_trees(
         at -= 1;
         let source = nodes[at].0;
         let tree = graph.tree(alloc, source)?;
-        trees.insert(source, tree)?;
+        add_tree(&mut trees, source, tree)?;
     }
     Ok(trees)
+}
+
+/// Adds the tree of a node.
+fn add_tree(trees: &mut BTreeMap<Addr, Tree>, source: Addr, tree: Tree) -> Result<(), AllocError>
+    ensures { OnOk result (trees.new.entries ≡ insert_entry addr_cmp trees.old.entries source tree) }
+{
+    trees.insert(source, tree)?;
+    Ok(())
 }

@@ -32,22 +32,7 @@ loop-at-preserved c =
     let next : c.loop-at.at ≡ suc i = omega (arith, c.loop-at-test.true) in
     let source = (get_or c.args.nodes.now i c.index-nodes-at.result).0 in
     record {
-      made = c.in_ok-insert.ensures.entries
-          ∙ ap (λ es. insert_entry addr_cmp es source c.in_ok-tree.tree) (c.loop-at.invariant.made ∙ ap (λ n. trees f (drop n c.args.nodes.now)) next)
-          ∙ ap (insert_entry addr_cmp (trees f (drop (suc i) c.args.nodes.now)) source) c.in_ok-tree.ensures.whole
-          ∙ one_more f c.args.nodes.now i c.index-nodes-at.result lt c.requires.ascending;
-      within = omega (arith, lt);
-    }
-
-pub loop-at-preserved-in_ok-insert : goal.loop-at-preserved-in_ok-insert
-loop-at-preserved-in_ok-insert c =
-    let f = tree_of c.args.graph.now.nodes c.args.graph.now.edges in
-    let i = c.loop-at.at - 1 in
-    let lt : i < length c.args.nodes.now = omega (arith, c.loop-at.invariant.within, c.loop-at-test.true) in
-    let next : c.loop-at.at ≡ suc i = omega (arith, c.loop-at-test.true) in
-    let source = (get_or c.args.nodes.now i c.index-nodes-at.result).0 in
-    record {
-      made = c.in_ok-insert.ensures.entries
+      made = c.in_ok-add_tree.ensures
           ∙ ap (λ es. insert_entry addr_cmp es source c.in_ok-tree.tree) (c.loop-at.invariant.made ∙ ap (λ n. trees f (drop n c.args.nodes.now)) next)
           ∙ ap (insert_entry addr_cmp (trees f (drop (suc i) c.args.nodes.now)) source) c.in_ok-tree.ensures.whole
           ∙ one_more f c.args.nodes.now i c.index-nodes-at.result lt c.requires.ascending;
