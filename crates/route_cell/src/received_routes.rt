@@ -170,7 +170,7 @@ fn with_route(
     requires { AreInOrder routes.now }
     ensures { IfOk result (λ more. more.items ≡ insert_entry addr_cmp routes.now sender attr.now) }
 {
-    let mut more = Vec::new(alloc);
+    let mut more = Vec::with_capacity(alloc, routes.len() + 1)?;
     add_before(alloc, &mut more, routes, sender)?;
     more.push((sender, attr.copy(alloc)?))?;
     add_after(alloc, &mut more, routes, sender)?;
@@ -231,7 +231,7 @@ fn routes_over(
 fn copy_routes(alloc: Global, routes: &[(Addr, Attr)]) -> Result<Vec<(Addr, Attr)>, AllocError>
     ensures { IfOk result (λ copies. copies.items ≡ routes.now) }
 {
-    let mut copies = Vec::new(alloc);
+    let mut copies = Vec::with_capacity(alloc, routes.len())?;
     for route in routes {
         copies.push((route.0, route.1.copy(alloc)?))?;
     }

@@ -71,6 +71,7 @@ fn make_way(entries: &mut Vec<(Source, Standing)>, source: Source) -> Result<(),
             entries.remove(at);
             Ok(())
         }
+        None if entries.is_empty() => entries.reserve_exact(1),
         None => entries.reserve(1),
     }
 }

@@ -10,7 +10,7 @@ returns c =
     let k = c.args.sender in
     let first = filter (λ e. is_gt (addr_cmp k e.0)) c.args.routes.now in
     let last = filter (λ e. is_lt (addr_cmp k e.0)) c.args.routes.now in
-    let front = c.in_ok-add_before.ensures ∙ ap (λ l. l ++ first) c.new-more.ensures.items in
+    let front = c.in_ok-add_before.ensures ∙ ap (λ l. l ++ first) c.in_ok-more.ensures.items in
     c.in_ok-add_after.ensures
     ∙ ap (λ l. l ++ last) (c.in_ok-push.ensures.items ∙ (λ i. front i ++ (k, c.in_ok-copy.ensures i) ∷ []))
     ∙ append_assoc first ((k, c.args.attr.now) ∷ []) last

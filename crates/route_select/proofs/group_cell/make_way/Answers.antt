@@ -14,4 +14,9 @@ returns-in-Some-clause-ok c =
 pub returns-in-None-clause-ok : goal.returns-in-None-clause-ok
 returns-in-None-clause-ok c =
     let absent = rw c.deref.ensures.value at c.in-None.ensures.absent in
+    anyway c.reserve_exact.result _ (c.reserve_exact.ensures.items ∙ sym (without_absent c.args.source _ absent))
+
+pub returns-in-None-2-clause-ok : goal.returns-in-None-2-clause-ok
+returns-in-None-2-clause-ok c =
+    let absent = rw c.deref.ensures.value at c.in-None.ensures.absent in
     anyway c.reserve.result _ (c.reserve.ensures.items ∙ sym (without_absent c.args.source _ absent))
