@@ -88,5 +88,8 @@ fn serve_streams(
     let mut output = watched::Output::new(writer);
     let mut errors = watched::Output::new(errors);
     let mut machine: Engine = Sim::new(alloc);
-    ExitCode::from(run_script(alloc, &mut machine, &mut input, &mut output, &mut errors))
+    let status = run_script(alloc, &mut machine, &mut input, &mut output, &mut errors);
+    // The system takes the memory back at once.
+    std::mem::forget(machine);
+    ExitCode::from(status)
 }

@@ -164,6 +164,23 @@ impl<S: Selector + Drop, T: PrefixTable<Cell<S>> + Drop> State<S, T> {
         add_table(self.alloc, changes, conf, old, new, router, table)
     }
 
+    /// Adds the cells of the router, decided anew when the configuration becomes this one, with these sites.
+    fn add_changes(
+        &self,
+        changes: &mut Seq<Change<S>>,
+        conf: &Conf,
+        directions: &[Direction],
+        sites: &BTreeMap<Addr, SiteConf>,
+        router: Addr,
+    ) -> Result<(), AllocError>
+        requires { sites.now.entries ≡ sites_kept directions.now conf.now }
+        ensures { OnOk result (changes.new ≡ changes.old ++ router_changes self.now.conf conf.now router (finite.entries (table_at router self.now.tables))) }
+    {
+        let made = made_site(self.alloc, conf, directions, router)?;
+        let new = site_in(conf, directions, sites, &made, router);
+        self.add_router(changes, conf, new, router)
+    }
+
     /// All cells, decided anew when the configuration becomes this one, by router and prefix.
     pub(crate) fn network_changes(
         &self,
@@ -181,9 +198,7 @@ impl<S: Selector + Drop, T: PrefixTable<Cell<S>> + Drop> State<S, T> {
             match self.next_table(past) {
                 None => return Ok(changes),
                 Some(router) => {
-                    let made = made_site(self.alloc, conf, directions, router)?;
-                    let new = site_in(conf, directions, sites, &made, router);
-                    self.add_router(&mut changes, conf, new, router)?;
+                    self.add_changes(&mut changes, conf, directions, sites, router)?;
                     past = Some(router);
                 }
             }

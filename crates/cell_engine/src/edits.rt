@@ -152,6 +152,9 @@ fn clear_down(queues: &mut Queues, conf: &Conf, directions: &[Direction])
     ensures spare { (f t : Addr) → spare_at queues.new f t ≡ spare_at queues.old f t }
 {
     for direction in directions {
+        if queues.len(direction.from, direction.to) == 0 {
+            continue;
+        }
         if !conf.is_up(direction.from, direction.to) {
             queues.clear(direction.from, direction.to);
         }

@@ -30,19 +30,5 @@ walk-preserved g c =
     let r = c.in-Some.router in
     let made = changes_in Network c.args.self.now.conf c.args.conf.now in
     let step = tables_step ts c.walk.past r (T_of _ c.facts.ensures.sound.by_address) (sym c.in-Some.ensures) in
-    gathered_more c.walk.changes (router_changes c.args.self.now.conf c.args.conf.now r (finite.entries (table_at r ts))) (made (tables_past (Some r) ts)) (made (tables_past c.walk.past ts)) (made ts) c.add_router.new.changes
-    (sym (ap made step)) c.walk.invariant c.in_ok-add_router-in-Some.ensures
-
-pub walk-smaller-in_ok-add_router-in-Some : goal.walk-smaller-in_ok-add_router-in-Some
-walk-smaller-in_ok-add_router-in-Some g c =
-    let step = tables_step c.args.self.now.tables c.walk.past c.in-Some.router (T_of _ c.facts.ensures.sound.by_address) (sym c.in-Some.ensures) in
-    let n = ap length step in omega (arith, n)
-
-pub walk-preserved-in_ok-add_router-in-Some : goal.walk-preserved-in_ok-add_router-in-Some
-walk-preserved-in_ok-add_router-in-Some g c =
-    let ts = c.args.self.now.tables in
-    let r = c.in-Some.router in
-    let made = changes_in Network c.args.self.now.conf c.args.conf.now in
-    let step = tables_step ts c.walk.past r (T_of _ c.facts.ensures.sound.by_address) (sym c.in-Some.ensures) in
-    gathered_more c.walk.changes (router_changes c.args.self.now.conf c.args.conf.now r (finite.entries (table_at r ts))) (made (tables_past (Some r) ts)) (made (tables_past c.walk.past ts)) (made ts) c.add_router.new.changes
-    (sym (ap made step)) c.walk.invariant c.in_ok-add_router-in-Some.ensures
+    gathered_more c.walk.changes (router_changes c.args.self.now.conf c.args.conf.now r (finite.entries (table_at r ts))) (made (tables_past (Some r) ts)) (made (tables_past c.walk.past ts)) (made ts) c.add_changes.new.changes
+    (sym (ap made step)) c.walk.invariant c.in_ok-add_changes-in-Some.ensures
