@@ -16,10 +16,10 @@ use Rattle.igp_cost.specs.Metric.{IsMetric}
 use Rattle.igp_cost.specs.Walks.{Nodes, Edges, HasEdge, asn_of, is_one_number, share_as}
 use Rattle.igp_cost.specs.Trees.{Reached, label_in, cost_in, first_hop_in, IsTreeOf, reached, tree_of}
 use Rattle.igp_cost.specs.Costs.{cost, first_hop}
-use Rattle.igp_cost.specs.Topology.{Topology}
 use Rattle.igp_cost.specs.Labels.{Labels, nowhere, addr_at, asn_at, label_at, extended, extension, IsNotAfter, IsClosed, IsSound}
 use Rattle.igp_cost.specs.Wired.{IsWired, IsRising, IsFound, no_row, rows_of}
-use Rattle.igp_cost.proofs.Certificate.{via, HasSource, IsCertified, certified_cost, certified_hop}
+use Rattle.igp_cost.specs.Offers.{via}
+use Rattle.igp_cost.proofs.Certificate.{HasSource, IsCertified, certified_cost, certified_hop}
 use Rattle.igp_cost.proofs.Exact.{cost_exact, same_addr}
 use Rattle.igp_cost.proofs.Hops.{one_cost, one_first_hop, first_hop_exact}
 use Rattle.igp_cost.proofs.Kernel.{extension_from}
@@ -178,12 +178,8 @@ exact_tree nodes edges links wired s s_in labels sound closed source same t is =
     } in
     subst (IsExactTree nodes edges source) (sym is) (subst (λ (r : Addr). let u : Reached = record { source = r; labels = rows_of nodes labels } in IsExactTree nodes edges r u) same exact)
 
--- the same, as a function over a graph knows it
-pub exact_seen : (inside : Nodes) (edges : Edges) (wires : List Link) → IsWired inside edges wires → (nodes : Nodes) → nodes ≡ inside → (links : List Link) → links ≡ wires → (s : ℕ) (source : Addr) → IsFound nodes source s → (labels : Labels) → IsSound nodes s links labels → IsClosed nodes s links labels → (given : Labels) → given ≡ labels → (g : Topology) → record { nodes = inside; edges = edges } ≡ g → (t : Reached) → t ≡ record { source = source; labels = rows_of nodes given } → IsExactTree g.nodes g.edges source t
-exact_seen inside edges wires wired nodes same_nodes links same_links s source found labels sound closed given same_labels g view t is =
-    let here = subst (λ n. IsFound n source s) same_nodes found in
-    let sound' = subst (λ k. IsSound inside s k labels) same_links (subst (λ n. IsSound n s links labels) same_nodes sound) in
-    let closed' = subst (λ k. IsClosed inside s k labels) same_links (subst (λ n. IsClosed n s links labels) same_nodes closed) in
-    let tree : Nodes → Labels → Reached = λ n l. record { source = source; labels = rows_of n l } in
-    let is' : t ≡ tree inside labels = is ∙ ap (λ n. tree n given) same_nodes ∙ ap (tree inside) same_labels in
-    subst (λ (g : Topology). IsExactTree g.nodes g.edges source t) view (exact_tree inside edges wires wired s here.within labels sound' closed' source here.same t is')
+-- the same, of nodes and labels as a function over a graph knows them
+pub exact_seen : (nodes : Nodes) (edges : Edges) (links : List Link) → IsWired nodes edges links → (s : ℕ) (source : Addr) → IsFound nodes source s → (labels : Labels) → IsSound nodes s links labels → IsClosed nodes s links labels → (given : Labels) → given ≡ labels → (inside : Nodes) → nodes ≡ inside → (t : Reached) → t ≡ record { source = source; labels = rows_of nodes given } → IsExactTree inside edges source t
+exact_seen nodes edges links wired s source found labels sound closed given same_labels inside same_nodes t is =
+    let tree : Labels → Reached = λ l. record { source = source; labels = rows_of nodes l } in
+    subst (λ (n : Nodes). IsExactTree n edges source t) same_nodes (exact_tree nodes edges links wired s found.within labels sound closed source found.same t (is ∙ ap tree same_labels))

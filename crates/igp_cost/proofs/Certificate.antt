@@ -1,6 +1,6 @@
 -- Labels that no edge betters, and that edges back, are the costs and first hops of least walks.
-use Rattle.std.proofs.Common.{◌≡◌, ℕ, zero, suc, ◌+◌, ◌<◌, ◌≤◌, ◌≢◌, ◌⊎◌, IsTrue, [], ◌∷◌, ◌++◌, All, if◌then◌else◌, Some, None, Option, refl, sym, ap, ◌∙◌, subst, inl, inr, arith}
-use Rattle.std.specs.Prelude.{◌==◌, option_map}
+use Rattle.std.proofs.Common.{◌≡◌, ℕ, zero, suc, ◌+◌, ◌<◌, ◌≤◌, ◌≢◌, ◌⊎◌, IsTrue, [], ◌∷◌, ◌++◌, All, Some, None, Option, refl, sym, ap, ◌∙◌, subst, inl, inr, arith}
+use Rattle.std.specs.Prelude.{option_map}
 use Rattle.std.proofs.lemmas.Bool.{cases_eq}
 use Rattle.std.proofs.lemmas.Bool.Decides.{nat_tests}
 use Rattle.std.proofs.lemmas.List.Elements.{All-contains}
@@ -9,12 +9,9 @@ use Rattle.net_prefix.specs.declared.addr.Addr.{Addr}
 use Rattle.igp_cost.specs.declared.label.Label.{Label}
 use Rattle.igp_cost.specs.Metric.{IsMetric}
 use Rattle.igp_cost.specs.Walks.{Nodes, Edges, Steps, HasEdge, share_as, Leads, IsWalk, total, first_of, IsLeastWalk, IsCost, IsFirstHop}
+use Rattle.igp_cost.specs.Offers.{via}
 use Rattle.igp_cost.specs.Labels.{IsNotAfter}
 use Rattle.igp_cost.proofs.Exact.{same_addr, total_append}
-
--- the label that an edge from a to b offers, from the label of a
-abbrev pub via : Addr → Addr → Addr → ℕ → Label → Label
-via r a b m l = record { cost = l.cost + m; hop = if a.0 == r.0 then b else l.hop }
 
 pub record HasSource (nodes : Nodes) (edges : Edges) (r : Addr) (L : Addr → Option Label) (x : Addr) (l : Label) : Type 0 where
   pub before : Addr
@@ -35,27 +32,27 @@ pub edge_metric : (edges : Edges) → All (λ e. IsMetric e.2) edges → (a b : 
 edge_metric edges metrics a b m (inl e) = All-contains (λ (e : Addr × Addr × ℕ). IsMetric e.2) edges (a, b, m) metrics e
 edge_metric edges metrics a b m (inr e) = All-contains (λ (e : Addr × Addr × ℕ). IsMetric e.2) edges (b, a, m) metrics e
 
-via_hop_start : (r a b : Addr) (m : ℕ) (l : Label) → a ≡ r → (via r a b m l).hop ≡ b
+pub via_hop_start : (r a b : Addr) (m : ℕ) (l : Label) → a ≡ r → (via r a b m l).hop ≡ b
 via_hop_start r a b m l same = let e = ap (λ (y : Addr). y.0) same in grind (arith, nat_tests)
 
-via_hop_other : (r a b : Addr) (m : ℕ) (l : Label) → a ≢ r → (via r a b m l).hop ≡ l.hop
+pub via_hop_other : (r a b : Addr) (m : ℕ) (l : Label) → a ≢ r → (via r a b m l).hop ≡ l.hop
 via_hop_other r a b m l differs = let e : a.0 ≢ r.0 = λ same. differs (same_addr a r same) in grind (arith, nat_tests)
 
-total_last : (steps : Steps) (x : Addr) (m : ℕ) → total (steps ++ (x, m) ∷ []) ≡ total steps + m
+pub total_last : (steps : Steps) (x : Addr) (m : ℕ) → total (steps ++ (x, m) ∷ []) ≡ total steps + m
 total_last steps x m = omega (arith, total_append steps ((x, m) ∷ []))
 
 module _ (nodes : Nodes) (edges : Edges) (r : Addr) where
-  walk_on : (a b x : Addr) (steps : Steps) (m : ℕ) → Leads nodes edges r a steps b → IsTrue (share_as nodes r b) → HasEdge edges b x m → Leads nodes edges r a (steps ++ (x, m) ∷ []) x
+  pub walk_on : (a b x : Addr) (steps : Steps) (m : ℕ) → Leads nodes edges r a steps b → IsTrue (share_as nodes r b) → HasEdge edges b x m → Leads nodes edges r a (steps ++ (x, m) ∷ []) x
   walk_on a b x [] m walk inside edge = let P : Addr → Type 0 = λ y. IsTrue (share_as nodes r y) × HasEdge edges y x m × (x ≡ x) in subst P (sym walk) (inside, edge, refl)
   walk_on a b x ((c, n) ∷ steps) m walk inside edge = (walk.0, walk.1, walk_on c b x steps m walk.2 inside edge)
 
   -- a walk of no cost has no steps
-  first_alone : (metrics : All (λ e. IsMetric e.2) edges) (a x : Addr) (steps : Steps) (m : ℕ) → Leads nodes edges r r steps a → total steps ≡ 0 → first_of r (steps ++ (x, m) ∷ []) ≡ x
+  pub first_alone : (metrics : All (λ e. IsMetric e.2) edges) (a x : Addr) (steps : Steps) (m : ℕ) → Leads nodes edges r r steps a → total steps ≡ 0 → first_of r (steps ++ (x, m) ∷ []) ≡ x
   first_alone metrics a x [] m walk none = refl
   first_alone metrics a x ((c, n) ∷ steps) m walk none = absurd (omega (arith, none, (edge_metric edges metrics r c n walk.1).0))
 
   -- a walk to elsewhere has some, and keeps its first hop
-  first_kept : (a x : Addr) (steps : Steps) (m : ℕ) → Leads nodes edges r r steps a → a ≢ r → first_of r (steps ++ (x, m) ∷ []) ≡ first_of r steps
+  pub first_kept : (a x : Addr) (steps : Steps) (m : ℕ) → Leads nodes edges r r steps a → a ≢ r → first_of r (steps ++ (x, m) ∷ []) ≡ first_of r steps
   first_kept a x [] m walk differs = absurd (differs (sym walk))
   first_kept a x ((c, n) ∷ steps) m walk differs = refl
 

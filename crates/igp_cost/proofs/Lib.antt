@@ -9,3 +9,9 @@ mod Whole
 mod Links
 mod Bridge
 mod OneTree
+mod Converse
+mod Unmoved
+mod OneEdge
+mod Local
+mod TreeOf
+mod LoneNode

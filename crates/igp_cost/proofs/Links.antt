@@ -1,7 +1,9 @@
 -- Links that are added for each edge.
-use Rattle.std.proofs.Common.{◌≡◌, ℕ, ◌+◌, ◌<◌, ◌≤◌, List, [], ◌∷◌, ◌++◌, length, get_or, Contains, IsPermutation, refl, sym, ap, ◌∙◌, subst, inl, inr, arith}
+use Rattle.std.proofs.Common.{◌≡◌, ℕ, ◌+◌, ◌<◌, ◌≤◌, true, false, ltb, List, [], ◌∷◌, ◌++◌, length, get_or, Contains, IsPermutation, refl, sym, ap, ◌∙◌, subst, inl, inr, arith}
 use Rattle.std.proofs.lemmas.Bool.{cases_lt}
-use Rattle.std.proofs.lemmas.List.{get_or_default}
+use Rattle.std.specs.List.Sorted.{IsPartitionPoint}
+use Rattle.std.proofs.lemmas.Bool.Decides.{nat_tests}
+use Rattle.std.proofs.lemmas.List.{get_or_default, get_or_append_left, get_or_push}
 use Rattle.std.proofs.lemmas.List.Elements.{All-push, Contains-push, Contains-push_cases, Contains-append_left}
 use Rattle.std.proofs.lemmas.List.Sorted.{All-permutation, Contains-permutation, IsPermutation-sym}
 use Rattle.net_prefix.specs.declared.addr.Addr.{Addr}
@@ -94,3 +96,30 @@ wired_moved nodes edges xs ys moved wired = record {
   are_edges = λ link among. wired.are_edges link (Contains-permutation ys xs link (IsPermutation-sym xs ys moved) among);
   has_links = λ a b m edge. let h = wired.has_links a b m edge in record { link = h.link; among = Contains-permutation xs ys h.link moved h.among; from = h.from; to = h.to; metric = h.metric };
 }
+
+-- a list with one more start
+pub parted_push : (P : ℕ → ℕ → Type 0) (starts : List ℕ) (n p : ℕ) → length starts ≡ n → ((v : ℕ) → v < n → P v (get_or starts v 0)) → P n p → (v : ℕ) → v < n + 1 → P v (get_or (starts ++ p ∷ []) v 0)
+parted_push P starts n p same old new v lt = elim (cases_lt v n) [
+  | inl before ↦ subst (P v) (sym (get_or_append_left starts (p ∷ []) 0 v (omega (arith, same)))) (old v before)
+  | inr after ↦
+      let at : n ≡ v = omega arith in
+      subst (λ k. P k (get_or (starts ++ p ∷ []) k 0)) at (subst (P n) (sym (get_or_push starts p 0 n same)) new)
+]
+
+-- the links before a place leave earlier nodes, and those from it on do not
+abbrev pub Parts : List Link → ℕ → ℕ → Type 0
+Parts links v p = IsPartitionPoint (λ (y : Link). ltb y.from v ≡ true) (λ (y : Link). ltb y.from v ≡ false) links p
+
+-- so a link from a node stands between the node's start and the next one's
+pub each_from : (links : List Link) (v p q k : ℕ) (link : Link) → Parts links v p → Parts links (v + 1) q → k < length links → get_or links k link ≡ link → link.from ≡ v → (p ≤ k) × (k < q)
+each_from links v p q k link here next lt is from =
+    let number = ap (λ (l : Link). l.from) is in
+    let low : p ≤ k = elim (cases_lt k p) as (λ _. p ≤ k) [
+      | inl before ↦ let test = here.0 k link (omega arith) before in let past : (get_or links k link).from < v = grind (arith, nat_tests, test) in absurd (omega (arith, past, number, from))
+      | inr after ↦ after
+    ] in
+    let high : k < q = elim (cases_lt k q) as (λ _. k < q) [
+      | inl before ↦ before
+      | inr after ↦ let test = next.1 k link after lt in let past : v + 1 ≤ (get_or links k link).from = grind (arith, nat_tests, test) in absurd (omega (arith, past, number, from))
+    ] in
+    (low, high)

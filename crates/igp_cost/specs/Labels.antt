@@ -95,10 +95,15 @@ weight_of labels = sum_by weight labels
 abbrev pub ClosesAt : Nodes → ℕ → List Link → Labels → ℕ → Type 0
 ClosesAt nodes s links labels at = (link : Link) → slice_index_or links at link ≡ link → IsClosedAt nodes s labels link
 
+-- a link stands from the start of the node that it leaves on, and before the next one
+abbrev pub StandsByStart : Nodes → List Link → List ℕ → Type 0
+StandsByStart nodes links starts = (v k : ℕ) (link : Link) → v < length nodes → k < length links → slice_index_or links k link ≡ link → link.from ≡ v → (slice_index_or starts v 0 ≤ k) × (k < slice_index_or starts (v + 1) 0)
+
 -- where the links of each node start, and where they all end
 pub record IsIndexed (nodes : Nodes) (links : List Link) (starts : List ℕ) : Type 0 where
   pub count : length starts ≡ length nodes + 1
   pub within : All (λ s. s ≤ length links) starts
+  pub each : StandsByStart nodes links starts
 
 -- each label is within a limit, from which sums still fit
 abbrev pub AreLimited : Labels → Type 0

@@ -1,10 +1,13 @@
 -- What holds of costs, first hops and trees in any graph.
-use Rattle.std.specs.Prelude.{◌≡◌, ℕ, Option, All}
+use Rattle.std.specs.Prelude.{◌≡◌, ℕ, IsTrue, ◌∷◌, ◌++◌, Option, None, All}
 use Rattle.net_prefix.specs.declared.addr.Addr.{Addr}
 use Rattle.igp_cost.specs.Metric.{IsMetric}
-use Rattle.igp_cost.specs.Walks.{Nodes, Edges, IsCost, IsFirstHop}
+use Rattle.igp_cost.specs.Walks.{Nodes, Edges, asn_of, IsCost, IsFirstHop}
 use Rattle.igp_cost.specs.Costs.{cost, first_hop}
-use Rattle.igp_cost.specs.Trees.{Reached, IsTreeOf}
+use Rattle.igp_cost.specs.declared.change.Change.TheVariants.{Added, Removed, Changed}
+use Rattle.igp_cost.specs.Changes.{IsChange}
+use Rattle.igp_cost.specs.Topology.{is_node, IsTopology}
+use Rattle.igp_cost.specs.Trees.{Reached, IsTreeOf, tree_of}
 
 -- the function `cost` is the cost of a least walk
 abbrev pub CostsAreLeast : Type 0
@@ -25,3 +28,21 @@ FirstHopsAreOne = (nodes : Nodes) (edges : Edges) (r x : Addr) (o p : Option Add
 -- two trees from r are one: what `retouch` gives is what `tree` gives
 abbrev pub TreesAreOne : Type 0
 TreesAreOne = (nodes : Nodes) (edges : Edges) (r : Addr) (t u : Reached) → IsTreeOf nodes edges r t → IsTreeOf nodes edges r u → t ≡ u
+
+-- an edge between a and b that is taken from a list, put into one, or given another metric
+pub record AreChanges (front back : Edges) (a b : Addr) (m n : ℕ) : Type 0 where
+  pub removed : IsChange (Removed a b) (front ++ (a, b, m) ∷ back) (front ++ back)
+  pub added : IsChange (Added a b m) (front ++ back) (front ++ (a, b, m) ∷ back)
+  pub changed : IsChange (Changed a b n) (front ++ (a, b, m) ∷ back) (front ++ (a, b, n) ∷ back)
+
+-- each of these is one change
+abbrev pub OneEdgeIsAChange : Type 0
+OneEdgeIsAChange = (front back : Edges) (a b : Addr) (m n : ℕ) → IsMetric m → AreChanges front back a b m n
+
+-- the function `tree_of` is a tree
+abbrev pub TreeOfIsATree : Type 0
+TreeOfIsATree = (nodes : Nodes) (edges : Edges) → IsTopology nodes edges → All (λ e. IsMetric e.2) edges → (r : Addr) → IsTrue (is_node nodes r) → IsTreeOf nodes edges r (tree_of nodes edges r)
+
+-- one more node, of an address that was none, and no edge to it: the trees of the other nodes are the same
+abbrev pub LoneNodeMovesNoTree : Type 0
+LoneNodeMovesNoTree = (front back : Nodes) (x : Addr) (n : ℕ) (edges : Edges) → IsTopology (front ++ back) edges → asn_of (front ++ back) x ≡ None → All (λ e. IsMetric e.2) edges → (r : Addr) → IsTrue (is_node (front ++ back) r) → tree_of (front ++ (x, n) ∷ back) edges r ≡ tree_of (front ++ back) edges r

@@ -8,3 +8,5 @@ pub mod Labels
 pub mod Wired
 pub mod Codes
 pub mod Changes
+pub mod Stays
+pub mod Offers

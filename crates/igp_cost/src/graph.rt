@@ -1,18 +1,21 @@
 //! A graph of routers and edges, and the trees of least costs in it.
 
-ghost use Rattle.std.specs.Prelude.{◌≡◌, IsTrue, IfOk};
+ghost use Rattle.std.specs.Prelude.{◌≡◌, IsTrue, IfOk, IfSome, is_some};
+ghost use Rattle.std.specs.Bool.{OnTrue};
 ghost use Rattle.net_prefix.specs.declared.addr.Addr.{Addr};
 ghost use Rattle.igp_cost.specs.Costs.{cost, first_hop};
+ghost use Rattle.igp_cost.specs.Stays.{IsTree, WasTree, Stays, Follows};
 ghost use Rattle.igp_cost.specs.Topology.{is_node, IsTopology};
 ghost use Rattle.igp_cost.specs.Trees.{source_of, cost_in, first_hop_in, IsTreeOf, tree_of};
+ghost use Rattle.igp_cost.specs.Wired.{IsFound, IsWired};
 
 use crate::change::Change;
-use crate::conditions::has_node;
+use crate::conditions::{has_node, place_of};
 use crate::link::Link;
 use crate::metric::Metric;
 use crate::rooted::RootedGraph;
 use crate::tree::Tree;
-use crate::wiring::{links_of, place, starts_of};
+use crate::wiring::{links_of, starts_of};
 use net_prefix::Addr;
 use path_attr::Asn;
 use seq::Seq;
@@ -67,6 +70,23 @@ impl Graph {
         has_node(self.nodes.as_slice(), addr)
     }
 
+    // The graph by the places of its nodes, from a source on. None where there is no such node.
+    fn rooted(&self, source: Addr) -> Option<RootedGraph<'_>>
+        ensures node { is_node self.now.nodes source ≡ is_some result }
+        ensures nodes { IfSome result (λ g. g.nodes.now ≡ self.now.nodes) }
+        ensures wired { IfSome result (λ g. IsWired g.nodes.now self.now.edges g.links.now) }
+        ensures found { IfSome result (λ g. IsFound g.nodes.now source g.source) }
+    {
+        let nodes = self.nodes.as_slice();
+        let source = place_of(nodes, source)?;
+        Some(RootedGraph {
+            nodes,
+            links: &self.links,
+            starts: &self.starts,
+            source,
+        })
+    }
+
     /// The least costs and first hops from a node.
     pub fn tree(&self, alloc: Global, source: Addr) -> Result<Tree, AllocError>
         requires { IsTrue (is_node self.now.nodes source) }
@@ -75,15 +95,11 @@ impl Graph {
         ensures first_hops { IfOk result (λ t. (x : Addr) → first_hop_in t x ≡ first_hop self.now.nodes self.now.edges source x) }
         ensures whole { IfOk result (λ t. t ≡ tree_of self.now.nodes self.now.edges source) }
     {
-        let nodes = self.nodes.as_slice();
-        let graph = RootedGraph {
-            nodes,
-            links: &self.links,
-            starts: &self.starts,
-            source: place(nodes, source),
+        let Some(graph) = self.rooted(source) else {
+            unreachable!();
         };
         let labels = graph.labels(alloc)?;
-        Tree::from_labels(alloc, source, nodes, &labels)
+        Tree::from_labels(alloc, source, graph.nodes, &labels)
     }
 
     /// The least costs and first hops from the source of an old tree, the same as `tree` gives, made from what the old tree says.
@@ -96,18 +112,59 @@ impl Graph {
         ensures first_hops { IfOk result (λ t. (x : Addr) → first_hop_in t x ≡ first_hop self.now.nodes self.now.edges (source_of old.now) x) }
         ensures whole { IfOk result (λ t. t ≡ tree_of self.now.nodes self.now.edges (source_of old.now)) }
     {
-        let nodes = self.nodes.as_slice();
         let source = old.source();
-        let graph = RootedGraph {
-            nodes,
-            links: &self.links,
-            starts: &self.starts,
-            source: place(nodes, source),
+        let Some(graph) = self.rooted(source) else {
+            unreachable!();
         };
         let mended = graph.mended_labels(alloc, old.rows(), change)?;
         match mended {
-            Some(labels) => Tree::from_labels(alloc, source, nodes, &labels),
+            Some(labels) => Tree::from_labels(alloc, source, graph.nodes, &labels),
             None => self.tree(alloc, source),
+        }
+    }
+
+    /// Whether a tree that was made before one change, this one, is seen to be the tree after it. It looks at the labels of the edge's
+    /// ends, and where an edge is gone at the links of its ends, and at no other edge. It takes no memory.
+    pub fn keeps(&self, tree: &Tree, change: &Change) -> bool
+        ensures { OnTrue result (Stays change.now self.now.nodes self.now.edges tree.now) }
+    {
+        match self.rooted(tree.source()) {
+            Some(graph) => graph.is_unmoved(tree, change),
+            None => false,
+        }
+    }
+
+    /// The tree after one change, this one, where it is mended from the tree before it and seen to be right. None where mending it did not
+    /// do. It looks once at each node's label, and at the links around the nodes whose labels differ and at the ends of the edge.
+    pub fn mended(
+        &self,
+        alloc: Global,
+        old: &Tree,
+        change: &Change,
+    ) -> Result<Option<Tree>, AllocError>
+        ensures source { IfOk result (λ o. IfSome o (λ t. source_of t ≡ source_of old.now)) }
+        ensures follows { IfOk result (λ o. IfSome o (λ t. Follows change.now self.now.nodes self.now.edges old.now t)) }
+    {
+        match self.rooted(old.source()) {
+            Some(graph) => graph.mended_tree(alloc, old, change),
+            None => Ok(None),
+        }
+    }
+
+    /// The tree after one change, of a tree that was made before it: the same one where `keeps` says so, else one that `mended` gives,
+    /// and else one made afresh. It is what `tree` gives.
+    pub fn touched(&self, alloc: Global, tree: Tree, change: Change) -> Result<Tree, AllocError>
+        requires node { IsTrue (is_node self.now.nodes (source_of tree)) }
+        requires was { WasTree change self.now.nodes self.now.edges tree }
+        ensures source { IfOk result (λ t. source_of t ≡ source_of tree) }
+        ensures made { IfOk result (IsTree self.now.nodes self.now.edges) }
+    {
+        if self.keeps(&tree, &change) {
+            return Ok(tree);
+        }
+        match self.mended(alloc, &tree, &change)? {
+            Some(made) => Ok(made),
+            None => self.tree(alloc, tree.source()),
         }
     }
 }

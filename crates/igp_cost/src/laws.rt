@@ -1,6 +1,6 @@
 //! What holds of costs, first hops and trees in any graph. These functions do nothing: a call gives the caller's proof what they ensure.
 
-ghost use Rattle.igp_cost.specs.Laws.{CostsAreLeast, FirstHopsAreLeast, CostsAreOne, FirstHopsAreOne, TreesAreOne};
+ghost use Rattle.igp_cost.specs.Laws.{CostsAreLeast, FirstHopsAreLeast, CostsAreOne, FirstHopsAreOne, TreesAreOne, OneEdgeIsAChange, TreeOfIsATree, LoneNodeMovesNoTree};
 
 /// The specification's function `cost` is the cost of a least walk.
 pub fn costs_are_least()
@@ -25,4 +25,19 @@ pub fn first_hops_are_one()
 /// A router has one tree: `retouch` gives what `tree` gives.
 pub fn trees_are_one()
     ensures { TreesAreOne }
+{}
+
+/// An edge that is taken from a list, put into one, or given another metric, is one change.
+pub fn one_edge_is_a_change()
+    ensures { OneEdgeIsAChange }
+{}
+
+/// The specification's function `tree_of` is a tree, so two graphs whose `tree_of` is one have one tree.
+pub fn tree_of_is_a_tree()
+    ensures { TreeOfIsATree }
+{}
+
+/// A node that no edge leads to changes no tree of the other nodes.
+pub fn lone_node_moves_no_tree()
+    ensures { LoneNodeMovesNoTree }
 {}

@@ -14,6 +14,8 @@ mod metric;
 mod repair;
 mod rooted;
 mod search;
+mod settled;
+mod stays;
 mod tree;
 mod wiring;
 
@@ -22,7 +24,8 @@ pub use conditions::is_topology;
 pub use graph::Graph;
 pub use label::Label;
 pub use laws::{
-    costs_are_least, costs_are_one, first_hops_are_least, first_hops_are_one, trees_are_one,
+    costs_are_least, costs_are_one, first_hops_are_least, first_hops_are_one,
+    lone_node_moves_no_tree, one_edge_is_a_change, tree_of_is_a_tree, trees_are_one,
 };
 pub use limits::MAX_NODES;
 pub use metric::Metric;

@@ -1,12 +1,17 @@
-//! The labels of an old tree in the graph as it is now: brought to the places of their nodes, mended and certified.
+//! The labels of an old tree in the graph as it is now: brought to the places of their nodes, mended and certified, all of them or those
+//! that differ.
 
 ghost use Rattle.std.specs.Prelude.{◌≡◌, ◌<◌, ◌≤◌, length, IfOk, IfSome};
 ghost use Rattle.igp_cost.specs.Labels.{IsSound, IsClosed, AreLimited, Starts};
+ghost use Rattle.igp_cost.specs.Trees.{source_of};
+ghost use Rattle.igp_cost.specs.Offers.{IsMended, IsMendedOver};
+ghost use Rattle.igp_cost.specs.Wired.{IsFound};
 
 use crate::change::Change;
 use crate::conditions::place_of;
 use crate::label::Label;
 use crate::rooted::RootedGraph;
+use crate::tree::Tree;
 use net_prefix::Addr;
 use std::alloc::{AllocError, Global};
 
@@ -27,6 +32,46 @@ impl<'a> RootedGraph<'a> {
         self.mend(alloc, &mut labels, &ends)?;
         if self.are_least(alloc, &labels)? {
             Ok(Some(labels))
+        } else {
+            Ok(None)
+        }
+    }
+
+    // A tree mended from the one before a change and certified where they differ. None where mending it did not do.
+    pub fn mended_tree(
+        &self,
+        alloc: Global,
+        old: &Tree,
+        change: &Change,
+    ) -> Result<Option<Tree>, AllocError>
+        requires { IsFound self.now.nodes.now (source_of old.now) self.now.source }
+        ensures { IfOk result (λ o. IfSome o (IsMendedOver self.now.nodes.now self.now.links.now change.now old.now)) }
+    {
+        let (one, other) = change.ends();
+        match (place_of(self.nodes, one), place_of(self.nodes, other)) {
+            (Some(one), Some(other)) => self.mended_between(alloc, old, one, other),
+            _ => Ok(None),
+        }
+    }
+
+    // A tree mended from an old one between two places, and certified where they differ. None where mending it did not do.
+    fn mended_between(
+        &self,
+        alloc: Global,
+        old: &Tree,
+        one: usize,
+        other: usize,
+    ) -> Result<Option<Tree>, AllocError>
+        requires source { IsFound self.now.nodes.now (source_of old.now) self.now.source }
+        requires one { one < length self.now.nodes.now }
+        requires other { other < length self.now.nodes.now }
+        ensures { IfOk result (λ o. IfSome o (IsMended self.now.nodes.now self.now.links.now old.now one other)) }
+    {
+        let mut labels = self.old_labels(alloc, old.rows())?;
+        self.mend(alloc, &mut labels, &[one, other])?;
+        let made = Tree::from_labels(alloc, old.source(), self.nodes, &labels)?;
+        if self.is_local(alloc, old, &made, one, other)? {
+            Ok(Some(made))
         } else {
             Ok(None)
         }

@@ -2,7 +2,7 @@
 
 ghost use Rattle.std.specs.Prelude.{◌≡◌, ◌<◌, ◌≤◌, ◌+◌, All, length};
 ghost use Rattle.igp_cost.specs.declared.limits.TheConstants.{MAX_NODES};
-ghost use Rattle.igp_cost.specs.Labels.{IsWithin};
+ghost use Rattle.igp_cost.specs.Labels.{IsWithin, StandsByStart};
 ghost use Rattle.igp_cost.specs.Wired.{IsRising};
 
 use crate::link::Link;
@@ -22,5 +22,6 @@ pub struct RootedGraph<'a> {
     ghost within: { IsWithin nodes.now links.now },
     ghost count: { length starts.now ≡ length nodes.now + 1 },
     ghost bounds: { All (λ s. s ≤ length links.now) starts.now },
+    ghost each: { StandsByStart nodes.now links.now starts.now },
     ghost inside: { source < length nodes.now },
 }

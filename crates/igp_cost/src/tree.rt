@@ -69,7 +69,8 @@ impl Tree {
         Some(self.label(to)?.hop)
     }
 
-    fn label(&self, to: Addr) -> Option<Label>
+    /// The label of an address, if a walk from the source reaches it.
+    pub(crate) fn label(&self, to: Addr) -> Option<Label>
         ensures { result ≡ label_in self.now to }
     {
         let rows = self.rows.as_slice();
@@ -77,6 +78,17 @@ impl Tree {
             Ok(at) => Some(rows[at].1),
             Err(_) => None,
         }
+    }
+
+    /// The label of an address, with a guess of the row where it may stand.
+    pub(crate) fn label_near(&self, row: usize, to: Addr) -> Option<Label>
+        ensures { result ≡ label_in self.now to }
+    {
+        let rows = self.rows.as_slice();
+        if row < rows.len() && rows[row].0.0 == to.0 {
+            return Some(rows[row].1);
+        }
+        self.label(to)
     }
 
     /// The addresses that are reached, in ascending order, each with its label.

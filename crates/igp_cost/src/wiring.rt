@@ -1,6 +1,7 @@
 //! Links between the places of nodes, from edges between their addresses.
 
 ghost use Rattle.std.specs.Prelude.{◌≡◌, ◌≤◌, [], ◌∷◌, ◌++◌, length, IsTrue, IfOk, OnOk};
+ghost use Rattle.std.specs.List.Sorted.{IsNonDecreasingBy};
 ghost use Rattle.igp_cost.specs.declared.limits.TheConstants.{MAX_NODES};
 ghost use Rattle.igp_cost.specs.Labels.{IsIndexed};
 ghost use Rattle.igp_cost.specs.Topology.{is_node, IsTopology};
@@ -20,7 +21,8 @@ pub fn links_of(
     edges: &[(Addr, Addr, Metric)],
 ) -> Result<Vec<Link>, AllocError>
     requires { IsTopology nodes.now edges.now }
-    ensures { IfOk result (λ v. IsWired nodes.now edges.now v.items) }
+    ensures wired { IfOk result (λ v. IsWired nodes.now edges.now v.items) }
+    ensures sorted { IfOk result (λ v. IsNonDecreasingBy (λ l. l.from) v.items) }
 {
     let mut links = both_ways(alloc, nodes, edges)?;
     links.sort_by_key(|link| link.from)?;
@@ -60,7 +62,7 @@ fn add_both(links: &mut Vec<Link>, from: u16, to: u16, metric: u16) -> Result<()
 }
 
 // The place of a node.
-pub fn place(nodes: &[(Addr, Asn)], addr: Addr) -> usize
+fn place(nodes: &[(Addr, Asn)], addr: Addr) -> usize
     requires rising { IsRising nodes.now }
     requires there { IsTrue (is_node nodes.now addr) }
     ensures { IsFound nodes.now addr result }
@@ -78,6 +80,7 @@ pub fn starts_of(
     links: &[Link],
 ) -> Result<Vec<usize>, AllocError>
     requires size { length nodes.now ≤ MAX_NODES }
+    requires sorted { IsNonDecreasingBy (λ l. l.from) links.now }
     ensures { IfOk result (λ v. IsIndexed nodes.now links.now v.items) }
 {
     let mut starts = Vec::with_capacity(alloc, nodes.len() + 1)?;

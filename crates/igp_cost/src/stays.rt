@@ -1,0 +1,159 @@
+//! Whether a tree stays as it was over a change: a look at the two ends of the edge, and at their links where an edge is gone.
+
+ghost use Rattle.std.specs.Prelude.{◌≡◌, ◌+◌, ◌==◌, ◌<◌, ◌≤◌, length, if◌then◌else◌};
+ghost use Rattle.std.specs.Bool.{OnTrue};
+ghost use Rattle.igp_cost.specs.Metric.{IsMetric};
+ghost use Rattle.igp_cost.specs.Walks.{share_as};
+ghost use Rattle.igp_cost.specs.Labels.{IsNotAfter, addr_at};
+ghost use Rattle.igp_cost.specs.Trees.{source_of, label_in};
+ghost use Rattle.igp_cost.specs.Changes.{ends_of};
+ghost use Rattle.igp_cost.specs.Offers.{via, Offers, OffersNoBetter, IsHeld, LosesNothing, GainsNothing};
+ghost use Rattle.igp_cost.specs.Wired.{IsFound};
+
+use crate::change::Change;
+use crate::conditions::place_of;
+use crate::label::Label;
+use crate::rooted::RootedGraph;
+use crate::tree::Tree;
+use net_prefix::Addr;
+
+impl<'a> RootedGraph<'a> {
+    // Whether a node of this address is in the AS of the source.
+    fn shares_as(&self, addr: Addr) -> bool
+        ensures { result ≡ share_as self.now.nodes.now (addr_at self.now.nodes.now self.now.source) addr }
+    {
+        match place_of(self.nodes, addr) {
+            Some(at) => self.nodes[self.source].1 == self.nodes[at].1,
+            None => false,
+        }
+    }
+
+    // Whether an edge with this metric offers its end nothing better than what is there.
+    pub fn offers_no_better(&self, tree: &Tree, from: Addr, to: Addr, metric: u32) -> bool
+        requires source { IsFound self.now.nodes.now (source_of tree.now) self.now.source }
+        requires metric { IsMetric metric }
+        ensures { OnTrue result (OffersNoBetter self.now.nodes.now tree.now from to metric) }
+    {
+        let Some(start) = tree.label(from) else {
+            return true;
+        };
+        if !self.shares_as(from) {
+            return true;
+        }
+        match tree.label(to) {
+            Some(label) => is_not_after_offer(tree.source(), from, to, metric, start, label),
+            None => false,
+        }
+    }
+
+    // Whether an edge with this metric offers a label or better.
+    fn offers_as_good(&self, tree: &Tree, from: Addr, to: Addr, metric: u32, label: Label) -> bool
+        requires source { IsFound self.now.nodes.now (source_of tree.now) self.now.source }
+        requires metric { IsMetric metric }
+        ensures { OnTrue result (Offers self.now.nodes.now tree.now from to metric label) }
+    {
+        let Some(start) = tree.label(from) else {
+            return false;
+        };
+        is_offer_not_after(tree.source(), from, to, metric, start, label) && self.shares_as(from)
+    }
+
+    // Whether the node at a place has no label, is the source, or is offered its label over one of its links.
+    pub fn is_held(&self, tree: &Tree, at: usize) -> bool
+        requires source { IsFound self.now.nodes.now (source_of tree.now) self.now.source }
+        requires at { at < length self.now.nodes.now }
+        ensures { OnTrue result (IsHeld self.now.nodes.now self.now.links.now tree.now (addr_at self.now.nodes.now at)) }
+    {
+        let addr = self.nodes[at].0;
+        let Some(label) = tree.label(addr) else {
+            return true;
+        };
+        if at == self.source {
+            return true;
+        }
+        for i in self.starts[at]..self.starts[at + 1] {
+            let link = self.links[i];
+            let other = self.nodes[link.to as usize].0;
+            if link.from as usize == at
+                && self.offers_as_good(tree, other, addr, link.metric as u32, label)
+            {
+                return true;
+            }
+        }
+        false
+    }
+
+    // Whether both ends of the edge keep their labels without it.
+    fn loses_nothing(&self, tree: &Tree, change: &Change) -> bool
+        requires source { IsFound self.now.nodes.now (source_of tree.now) self.now.source }
+        ensures { OnTrue result (LosesNothing change.now self.now.nodes.now self.now.links.now tree.now) }
+    {
+        if !change.loses() {
+            return true;
+        }
+        let (one, other) = change.ends();
+        match (place_of(self.nodes, one), place_of(self.nodes, other)) {
+            (Some(one), Some(other)) => self.is_held(tree, one) && self.is_held(tree, other),
+            _ => false,
+        }
+    }
+
+    // Whether the edge offers neither end anything better.
+    fn gains_nothing(&self, tree: &Tree, change: &Change) -> bool
+        requires source { IsFound self.now.nodes.now (source_of tree.now) self.now.source }
+        ensures { OnTrue result (GainsNothing change.now self.now.nodes.now tree.now) }
+    {
+        let (one, other) = change.ends();
+        match change.metric() {
+            Some(metric) => {
+                let metric = metric.cost();
+                self.offers_no_better(tree, one, other, metric)
+                    && self.offers_no_better(tree, other, one, metric)
+            }
+            None => true,
+        }
+    }
+
+    // Whether a tree from before a change is seen to stay.
+    pub fn is_unmoved(&self, tree: &Tree, change: &Change) -> bool
+        requires source { IsFound self.now.nodes.now (source_of tree.now) self.now.source }
+        ensures loses { OnTrue result (LosesNothing change.now self.now.nodes.now self.now.links.now tree.now) }
+        ensures gains { OnTrue result (GainsNothing change.now self.now.nodes.now tree.now) }
+    {
+        self.gains_nothing(tree, change) && self.loses_nothing(tree, change)
+    }
+}
+
+// Whether a label is at least as good as what an edge offers, from the label at its start.
+fn is_not_after_offer(
+    source: Addr,
+    from: Addr,
+    to: Addr,
+    metric: u32,
+    start: Label,
+    label: Label,
+) -> bool
+    requires { IsMetric metric }
+    ensures { OnTrue result (IsNotAfter label (via source from to metric start)) }
+{
+    let cost = start.cost as u64 + metric as u64;
+    let hop = if from.0 == source.0 { to } else { start.hop };
+    (label.cost as u64) < cost || (label.cost as u64 == cost && label.hop.0 <= hop.0)
+}
+
+// Whether what an edge offers, from the label at its start, is at least as good as a label.
+fn is_offer_not_after(
+    source: Addr,
+    from: Addr,
+    to: Addr,
+    metric: u32,
+    start: Label,
+    label: Label,
+) -> bool
+    requires { IsMetric metric }
+    ensures { OnTrue result (IsNotAfter (via source from to metric start) label) }
+{
+    let cost = start.cost as u64 + metric as u64;
+    let hop = if from.0 == source.0 { to } else { start.hop };
+    cost < label.cost as u64 || (label.cost as u64 == cost && hop.0 <= label.hop.0)
+}
