@@ -4,6 +4,7 @@
 mod faults;
 mod memory;
 mod prompt;
+mod runs;
 
 use reference_machine::Machine;
 use sim_text::serve;
