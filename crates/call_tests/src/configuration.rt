@@ -49,16 +49,18 @@ fn sites_routers_and_sessions(rt: HostRuntime) -> Result<(), Fail> {
 }
 
 #[test]
-fn sites_of_all_routers(rt: HostRuntime) -> Result<(), Fail> {
+fn sites_of_those_who_have_sessions(rt: HostRuntime) -> Result<(), Fail> {
     let alloc = rt.alloc();
     let conf = peered(alloc)?;
     conf.facts();
-    let sites = conf.sites(alloc).map_err(|_| "no sites")?;
-    assert_eq!(rt; sites.len(), 1);
-    let site = sites.get(&ROUTER).ok_or("no site")?;
+    assert!(rt; conf.ends_session(ROUTER) && conf.ends_session(PEER) && !conf.ends_session(NOBODY));
+    let site = conf.kept_site(ROUTER).ok_or("no site")?;
     let copy = site.copy(alloc).map_err(|_| "no copy")?;
     assert_eq!(rt; copy.me, ROUTER);
     assert!(rt; copy.session(PEER).is_some());
+    assert!(rt; copy.has_same_facts(site));
+    assert!(rt; conf.kept_site(PEER).is_none());
+    assert!(rt; matches!(conf.made_site(alloc, ROUTER), Ok(None)));
     assert!(rt; matches!(conf.router_site(alloc, PEER), Ok(None)));
     Ok(())
 }
@@ -69,7 +71,9 @@ fn edits_beside_what_stays(rt: HostRuntime) -> Result<(), Fail> {
     let conf = peered(alloc)?;
     let stop = Edit::Stop(ROUTER, PEER);
     let stopped = conf.edited(alloc, &stop).map_err(|_| "an edit is refused")?;
-    assert_eq!(rt; stopped.session_up(ROUTER, PEER), Some(false));
+    assert_eq!(rt; stopped.conf.session_up(ROUTER, PEER), Some(false));
+    assert!(rt; stopped.concerned.contains(&ROUTER) && stopped.concerned.contains(&PEER));
+    assert_eq!(rt; stopped.concerned.len(), 2);
     assert_eq!(rt; conf.session_up(ROUTER, PEER), Some(true));
     let join = Edit::Join(ROUTER, PEER);
     assert!(rt; matches!(conf.edited(alloc, &join), Err(Refusal::SessionExists)));

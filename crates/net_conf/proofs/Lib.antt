@@ -1,10 +1,18 @@
 mod Nodes
-mod TreeList
-mod SiteList
 mod Soundness
 pub mod KeptTrees
+pub mod Unseen
+pub mod Inserted
+pub mod EdgeChange
+pub mod TreesAfter
+pub mod Carry
 pub mod Picked
 pub mod Peers
 pub mod RouterLaws
 pub mod OthersStay
-pub mod SitesPlaced
+pub mod Concerns
+pub mod NodeConcerns
+pub mod SessionConcerns
+pub mod LinkConcerns
+pub mod NamedConcerns
+pub mod KeepsSites

@@ -1,12 +1,10 @@
 -- What a site says of its router, and where the sites of all routers are found.
-use Rattle.std.proofs.Common.{◌≡◌, Bool, true, false, cond, ◌==◌, ◌&&◌, List, [], ◌∷◌, map, find, Option, Some, None, option_map, is_some, if◌then◌else◌, refl, sym, ap, ◌∙◌, subst}
-use Rattle.std.specs.declared.cmp.Ordering.TheVariants.{Less}
+use Rattle.std.proofs.Common.{◌≡◌, Bool, true, false, ◌==◌, ◌&&◌, List, [], ◌∷◌, map, find, Option, Some, None, option_map, is_some, if◌then◌else◌, refl, sym, ap, ◌∙◌, subst}
 use Rattle.std.specs.Cmp.{both_tied, unsigned_ties}
 use Rattle.std.specs.Option.{option_map_or}
 use Rattle.std.specs.BTreeMap.{is_at}
-use Rattle.std.specs.List.{AllByRecursion, list_any, filter_map, cons_option}
+use Rattle.std.specs.List.{list_any}
 use Rattle.std.specs.List.Sorted.{IsStrictlySortedBy}
-use Rattle.std.specs.Map.{keys_of, lookup}
 use Rattle.std.proofs.lemmas.Cmp.{nat_eq_equiv}
 use Rattle.std.proofs.lemmas.Option.{none-some, same_Some}
 use Rattle.net_prefix.specs.declared.addr.Addr.{Addr}
@@ -20,7 +18,7 @@ use Rattle.net_conf.specs.declared.site.SiteSession.{SiteSession}
 use Rattle.net_conf.specs.Configuration.{Configuration, node_at, is_virtual, cluster_id, is_reflector, session_between, originates, origins_of, origination_cmp}
 use Rattle.net_conf.specs.Costs.{costs_of, session_up, is_up}
 use Rattle.net_conf.specs.Sites.{session_of, sessions_of, peers_of, site_of, session_with}
-use Rattle.net_conf.specs.RouterSites.{router_site, sites_of}
+use Rattle.net_conf.specs.RouterSites.{router_site}
 use Rattle.net_conf.specs.Configured.{IsConfigured}
 use Rattle.net_conf.specs.Laws.{session_if_any}
 use Rattle.net_conf.proofs.KeptTrees.{equal_when}
@@ -108,61 +106,3 @@ module _ (c : Configuration) (r t : Addr) where
 
   pub up_by_site : (site : SiteConf) → IsConfigured c → site_of c r ≡ Some site → option_map_or (λ x. x.up) (session_with site t) false ≡ is_up c r t
   up_by_site site holds is = ap (λ x. option_map_or (λ (y : SiteSession). y.up) x false) (session_of_site site holds is) ∙ up_if_any
-
--- ALL SITES
-
-module _ {X V : Type 0} (f : Addr → Option V) where
-  abbrev entry : Addr × X → Option (Addr × V)
-  entry e = option_map (λ v. (e.0, v)) (f e.0)
-
-  -- what stands at an address is made of it, where the address is a key
-  pub made_found : (r : Addr) (es : List (Addr × X)) → lookup (is_at (addr_cmp r)) (filter_map entry es) ≡ cond (is_some (lookup (is_at (addr_cmp r)) es)) (f r) None
-  made_found r [] = refl
-  made_found r (e ∷ es) = by (is_at (addr_cmp r) e.0) (f e.0) refl refl (made_found r es)
-    where
-      at : Addr → Bool
-      at = is_at (addr_cmp r)
-
-      Found : List (Addr × X) → Type 0
-      Found xs = lookup at (filter_map entry xs) ≡ cond (is_some (lookup at xs)) (f r) None
-
-      none_either_way : (b : Bool) → f r ≡ None → cond b (f r) None ≡ f r
-      none_either_way true is = refl
-      none_either_way false is = sym is
-
-      same_value : at e.0 ≡ true → f r ≡ f e.0
-      same_value is = ap f (addr_exact r e.0 (equal_when (addr_cmp r e.0) is))
-
-      by : (b : Bool) (o : Option V) → at e.0 ≡ b → f e.0 ≡ o → Found es → Found (e ∷ es)
-      by true None is made rest = rw made (rw is (rest ∙ none_either_way (is_some (lookup at es)) (same_value is ∙ made)))
-      by true (Some v) is made rest = rw made (rw is (sym (same_value is ∙ made)))
-      by false None is made rest = rw made (rw is rest)
-      by false (Some v) is made rest = rw made (rw is rest)
-
-  past_made : (k : Addr) (es : List (Addr × X)) → AllByRecursion (λ y. addr_cmp k y ≡ Less) (keys_of es) → AllByRecursion (λ y. addr_cmp k y ≡ Less) (keys_of (filter_map entry es))
-  past_made k [] past = tt
-  past_made k (e ∷ es) past = by (f e.0) (past_made k es past.1)
-    where
-      by : (o : Option V) → AllByRecursion (λ y. addr_cmp k y ≡ Less) (keys_of (filter_map entry es)) → AllByRecursion (λ y. addr_cmp k y ≡ Less) (keys_of (cons_option (option_map {U = Addr × V} (λ v. (e.0, v)) o) (filter_map entry es)))
-      by None rest = rest
-      by (Some v) rest = (past.0, rest)
-
-  pub made_in_order : (es : List (Addr × X)) → IsStrictlySortedBy addr_cmp (keys_of es) → IsStrictlySortedBy addr_cmp (keys_of (filter_map entry es))
-  unfolding IsStrictlySortedBy
-  made_in_order [] sorted = tt
-  made_in_order (e ∷ es) sorted = by (f e.0) (made_in_order es sorted.1)
-    where
-      by : (o : Option V) → IsStrictlySortedBy addr_cmp (keys_of (filter_map entry es)) → IsStrictlySortedBy addr_cmp (keys_of (cons_option (option_map {U = Addr × V} (λ v. (e.0, v)) o) (filter_map entry es)))
-      by None rest = rest
-      by (Some v) rest = (past_made e.0 es sorted.0, rest)
-
-pub sites_in_order : (c : Configuration) → IsConfigured c → IsStrictlySortedBy addr_cmp (keys_of (sites_of c))
-sites_in_order c holds = made_in_order (router_site c) c.nodes holds.ordered.nodes
-
-pub site_found : (c : Configuration) (r : Addr) → lookup (is_at (addr_cmp r)) (sites_of c) ≡ router_site c r
-unfolding site_of
-site_found c r = made_found (router_site c) r c.nodes ∙ by (node_at c r) refl
-  where
-    by : (n : Option Node) → node_at c r ≡ n → cond (is_some n) (router_site c r) None ≡ router_site c r
-    by None is = rw is refl
-    by (Some n) is = refl

@@ -1,18 +1,18 @@
 -- Edits that are not refused keep a configuration sound.
-use Rattle.std.proofs.Common.{◌≡◌, ℕ, ◌+◌, ◌≤◌, ◌<◌, Bool, true, false, not, ◌&&◌, ◌==◌, nat_le, cond, List, [], ◌∷◌, length, map, get_or, Option, Some, None, Result, Ok, Err, OnOk, OnErr, All, is_some, if◌then◌else◌, refl, sym, ap, subst, ◌∙◌, arith}
+use Rattle.std.proofs.Common.{◌≡◌, ℕ, ◌+◌, ◌≤◌, ◌<◌, Bool, true, false, not, ◌&&◌, ◌==◌, nat_le, cond, List, [], ◌∷◌, length, get_or, Option, Some, None, IfSome, All, is_some, if◌then◌else◌, refl, sym, ap, subst, arith}
 use Rattle.std.specs.declared.cmp.Ordering.{Ordering}
 use Rattle.std.specs.declared.cmp.Ordering.TheVariants.{Less, Equal, Greater}
 use Rattle.std.specs.Ordering.{match_ordering}
 use Rattle.std.specs.List.{AllByRecursion}
-use Rattle.std.specs.Map.{keys_of, lookup}
+use Rattle.std.specs.Map.{keys_of, values_of, lookup}
 use Rattle.std.specs.BTreeMap.{is_at, insert_entry}
-use Rattle.std.proofs.lemmas.Map.Views.{All-keys-insert_entry, Contains-keys_from_lookup}
+use Rattle.std.proofs.lemmas.Map.Views.{All-keys-insert_entry, All-values-insert_entry, IfSome-lookup_from_All, Contains-keys_from_lookup}
 use Rattle.std.proofs.lemmas.List.Elements.{All-contains}
 use Rattle.std.proofs.lemmas.Bool.{true≢false, not-false}
 use Rattle.std.proofs.lemmas.Bool.Decides.{nat_tests}
 use Rattle.net_prefix.specs.declared.addr.Addr.{Addr}
 use Rattle.net_prefix.specs.Address.{addr_cmp}
-use Rattle.igp_cost.specs.Trees.{Reached}
+use Rattle.igp_cost.specs.Metric.{IsMetric}
 use Rattle.igp_cost.specs.declared.limits.TheConstants.{MAX_NODES}
 use Rattle.net_conf.specs.declared.tables.Ends.{Ends}
 use Rattle.net_conf.specs.declared.tables.Link.{Link as TheLink}
@@ -23,9 +23,8 @@ use Rattle.net_conf.specs.declared.tables.PolicySide.TheVariants.{Import, Export
 use Rattle.net_conf.specs.declared.refusal.Refusal.{Refusal}
 use Rattle.net_conf.specs.Configuration.{Configuration, has_node, ends_of, ends_cmp, link_between, has_session}
 use Rattle.net_conf.specs.Edits.{first_of, tests_of, refusal_of, edited, lacks_node, lacks_either, has_one_end, lacks_session, is_past_limit, with_link, with_link_changed, with_session}
-use Rattle.net_conf.specs.Costs.{costs_of}
 use Rattle.net_conf.specs.Configured.{AreApart, HasEnds}
-use Rattle.net_conf.specs.Kept.{IsSound, has_none, trees_of, keeps_trees}
+use Rattle.net_conf.specs.Kept.{IsSound, HasMetric}
 use Rattle.net_conf.proofs.KeptTrees.{same_ends}
 
 -- what is found is found still, once an entry is put in
@@ -111,23 +110,29 @@ module _ (c : Configuration) (sound : IsSound c) where
     sessions = λ k d lt. still (get_or (keys_of c.sessions) k d) (sound.sessions k d lt);
     links_apart = sound.links_apart;
     sessions_apart = sound.sessions_apart;
+    metrics = sound.metrics;
   }
     where
       still : (e : Ends) → HasEnds c e → HasEnds (record c { nodes = insert_entry addr_cmp c.nodes a n }) e
       still e has = (found_still addr_cmp (is_at (addr_cmp e.low)) a n c.nodes has.0, found_still addr_cmp (is_at (addr_cmp e.high)) a n c.nodes has.1)
 
-  linked : (a b : Addr) (link : TheLink) → HasEnds c (ends_of a b) → AreApart (ends_of a b) → IsSound (with_link c a b link)
-  linked a b link has apart = record {
+  linked : (a b : Addr) (link : TheLink) → HasEnds c (ends_of a b) → AreApart (ends_of a b) → IsMetric link.metric → IsSound (with_link c a b link)
+  linked a b link has apart metric = record {
     size = sound.size;
     links = All-keys-insert_entry ends_cmp (ends_of a b) link (HasEnds c) c.links sound.links has;
     sessions = sound.sessions;
     links_apart = All-keys-insert_entry ends_cmp (ends_of a b) link AreApart c.links sound.links_apart apart;
     sessions_apart = sound.sessions_apart;
+    metrics = All-values-insert_entry ends_cmp (ends_of a b) link (λ l. IsMetric l.metric) c.links sound.metrics metric;
   }
 
-  changed : (a b : Addr) (change : TheLink → TheLink) (link : Option TheLink) → link_between c a b ≡ link → HasEnds c (ends_of a b) → IsSound (with_link_changed c a b change link)
-  changed a b change None is has = sound
-  changed a b change (Some link) is has = linked a b (change link) has (of_found a b c.links sound.links_apart (ap is_some is))
+  -- the metric of a link that is there
+  metric_there : (a b : Addr) (link : TheLink) → link_between c a b ≡ Some link → IsMetric link.metric
+  metric_there a b link is = subst (λ o. IfSome o (λ l. IsMetric l.metric)) is (IfSome-lookup_from_All (λ l. IsMetric l.metric) (is_at (ends_cmp (ends_of a b))) c.links sound.metrics)
+
+  changed : (a b : Addr) (change : TheLink → TheLink) (link : Option TheLink) → link_between c a b ≡ link → HasEnds c (ends_of a b) → ((l : TheLink) → IsMetric l.metric → IsMetric (change l).metric) → IsSound (with_link_changed c a b change link)
+  changed a b change None is has metric = sound
+  changed a b change (Some link) is has metric = linked a b (change link) has (of_found a b c.links sound.links_apart (ap is_some is)) (metric link (metric_there a b link is))
 
   joined : (a b : Addr) (enabled : Bool) → HasEnds c (ends_of a b) → AreApart (ends_of a b) → IsSound (with_session c a b enabled)
   joined a b enabled has apart = record {
@@ -136,6 +141,7 @@ module _ (c : Configuration) (sound : IsSound c) where
     sessions = All-keys-insert_entry ends_cmp (ends_of a b) enabled (HasEnds c) c.sessions sound.sessions has;
     links_apart = sound.links_apart;
     sessions_apart = All-keys-insert_entry ends_cmp (ends_of a b) enabled AreApart c.sessions sound.sessions_apart apart;
+    metrics = sound.metrics;
   }
 
   session_apart : (a b : Addr) → not (has_session c a b) ≡ false → AreApart (ends_of a b)
@@ -151,75 +157,32 @@ module _ (c : Configuration) (sound : IsSound c) where
     sessions = subst (λ n. All (λ e. (is_some (lookup (is_at (addr_cmp e.low)) n) ≡ true) × (is_some (lookup (is_at (addr_cmp e.high)) n) ≡ true)) (keys_of d.sessions)) (sym nodes) (subst (λ l. All (HasEnds c) (keys_of l)) (sym sessions) sound.sessions);
     links_apart = subst (λ l. All AreApart (keys_of l)) (sym links) sound.links_apart;
     sessions_apart = subst (λ l. All AreApart (keys_of l)) (sym sessions) sound.sessions_apart;
+    metrics = subst (λ l. All (λ l. IsMetric l.metric) (values_of l)) (sym links) sound.metrics;
   }
 
   -- an edit between two that are there and differ, of a session that is there, and that passes no limit
-  pub sound_edited : (e : Edit) → lacks_node c e ≡ false → has_one_end e ≡ false → lacks_session c e ≡ false → is_past_limit c e ≡ false → IsSound (edited c e)
-  sound_edited (Router a n) there two session room = with_node a _ (below_limit (length c.nodes) room)
-  sound_edited (Virtual a n) there two session room = with_node a _ (below_limit (length c.nodes) room)
-  sound_edited (Link a b m) there two session room = linked a b _ (ends a b there) (ends_apart a b two)
-  sound_edited (Metric a b m) there two session room = changed a b _ (link_between c a b) refl (ends a b there)
-  sound_edited (Fail a b) there two session room = changed a b _ (link_between c a b) refl (ends a b there)
-  sound_edited (Mend a b) there two session room = changed a b _ (link_between c a b) refl (ends a b there)
-  sound_edited (Join a b) there two session room = joined a b true (ends a b there) (ends_apart a b two)
-  sound_edited (Stop a b) there two session room = joined a b false (ends a b there) (session_apart a b session)
-  sound_edited (Start a b) there two session room = joined a b true (ends a b there) (session_apart a b session)
-  sound_edited (Client a b on) there two session room = same_tables _ refl refl refl
-  sound_edited (OwnNext a b on) there two session room = same_tables _ refl refl refl
-  sound_edited (Cluster a id) there two session room = same_tables _ refl refl refl
-  sound_edited (AddRule a b Import rule) there two session room = same_tables _ refl refl refl
-  sound_edited (AddRule a b Export rule) there two session room = same_tables _ refl refl refl
-  sound_edited (Clear a b Import) there two session room = same_tables _ refl refl refl
-  sound_edited (Clear a b Export) there two session room = same_tables _ refl refl refl
-  sound_edited (Origin a p) there two session room = same_tables _ refl refl refl
-  sound_edited (NoOrigin a p) there two session room = same_tables _ refl refl refl
+  pub sound_edited : (e : Edit) → HasMetric e → lacks_node c e ≡ false → has_one_end e ≡ false → lacks_session c e ≡ false → is_past_limit c e ≡ false → IsSound (edited c e)
+  sound_edited (Router a n) metric there two session room = with_node a _ (below_limit (length c.nodes) room)
+  sound_edited (Virtual a n) metric there two session room = with_node a _ (below_limit (length c.nodes) room)
+  sound_edited (Link a b m) metric there two session room = linked a b _ (ends a b there) (ends_apart a b two) metric
+  sound_edited (Metric a b m) metric there two session room = changed a b _ (link_between c a b) refl (ends a b there) (λ l was. metric)
+  sound_edited (Fail a b) metric there two session room = changed a b _ (link_between c a b) refl (ends a b there) (λ l was. was)
+  sound_edited (Mend a b) metric there two session room = changed a b _ (link_between c a b) refl (ends a b there) (λ l was. was)
+  sound_edited (Join a b) metric there two session room = joined a b true (ends a b there) (ends_apart a b two)
+  sound_edited (Stop a b) metric there two session room = joined a b false (ends a b there) (session_apart a b session)
+  sound_edited (Start a b) metric there two session room = joined a b true (ends a b there) (session_apart a b session)
+  sound_edited (Client a b on) metric there two session room = same_tables _ refl refl refl
+  sound_edited (OwnNext a b on) metric there two session room = same_tables _ refl refl refl
+  sound_edited (Cluster a id) metric there two session room = same_tables _ refl refl refl
+  sound_edited (AddRule a b Import rule) metric there two session room = same_tables _ refl refl refl
+  sound_edited (AddRule a b Export rule) metric there two session room = same_tables _ refl refl refl
+  sound_edited (Clear a b Import) metric there two session room = same_tables _ refl refl refl
+  sound_edited (Clear a b Export) metric there two session room = same_tables _ refl refl refl
+  sound_edited (Origin a p) metric there two session room = same_tables _ refl refl refl
+  sound_edited (NoOrigin a p) metric there two session room = same_tables _ refl refl refl
 
-pub sound_after : (c : Configuration) (e : Edit) → IsSound c → refusal_of c e ≡ None → IsSound (edited c e)
+pub sound_after : (c : Configuration) (e : Edit) → IsSound c → HasMetric e → refusal_of c e ≡ None → IsSound (edited c e)
 unfolding refusal_of
-sound_after c e sound none =
+sound_after c e sound metric none =
     let all = all_fail (tests_of c e) none in
-    sound_edited c sound e all.0 all.1.1.0 all.1.1.1.1.1.1.1.1.0 all.1.1.1.1.1.1.1.1.1.1.1.1.1.1.0
-
--- where an entry is put in, there is one
-one_put_in : {K X : Type 0} (cmp : K → K → Ordering) (es : List (K × X)) (k : K) (v : X) → has_none (insert_entry cmp es k v) ≡ false
-one_put_in cmp [] k v = refl
-one_put_in cmp (e ∷ es) k v = by (cmp k e.0)
-  where
-    by : (o : Ordering) → has_none (match_ordering o ((k, v) ∷ e ∷ es) ((e.0, v) ∷ es) (e ∷ insert_entry cmp es k v)) ≡ false
-    by Less = refl
-    by Equal = refl
-    by Greater = refl
-
--- where there is a session, one more or a change of one moves no tree
-session_moves_none : (c : Configuration) (a b : Addr) (on : Bool) → not (has_none c.sessions) ≡ true → trees_of (with_session c a b on) ≡ trees_of c
-unfolding trees_of
-session_moves_none c a b on some = ap kept (one_put_in ends_cmp c.sessions (ends_of a b) on) ∙ sym (by (has_none c.sessions) some)
-  where
-    kept : Bool → List (Addr × Reached)
-    kept none = if none then [] else map {B = Addr × Reached} (λ e. (e.0, costs_of c e.0)) c.nodes
-
-    by : (none : Bool) → not none ≡ true → kept none ≡ kept false
-    by true is = absurd (true≢false (sym is))
-    by false is = refl
-
--- an edit that keeps the trees moves none
-pub same_trees : (c : Configuration) (e : Edit) → keeps_trees c e ≡ true → trees_of (edited c e) ≡ trees_of c
-unfolding trees_of
-same_trees c (Join a b) is = session_moves_none c a b true is
-same_trees c (Stop a b) is = session_moves_none c a b false is
-same_trees c (Start a b) is = session_moves_none c a b true is
-same_trees c (Client a b on) is = refl
-same_trees c (OwnNext a b on) is = refl
-same_trees c (Cluster a id) is = refl
-same_trees c (AddRule a b Import rule) is = refl
-same_trees c (AddRule a b Export rule) is = refl
-same_trees c (Clear a b Import) is = refl
-same_trees c (Clear a b Export) is = refl
-same_trees c (Origin a p) is = refl
-same_trees c (NoOrigin a p) is = refl
-same_trees c _ is = absurd (true≢false (sym is))
-
--- what holds of both outcomes holds of the one that came
-pub either_way : {E : Type 0} (P : Configuration → Type 0) (r : Result Unit E) (n d s : Configuration) → OnOk r (n ≡ d) → OnErr r (n ≡ s) → P d → P s → P n
-either_way P (Ok u) n d s ok err made kept = subst P (sym ok) made
-either_way P (Err e) n d s ok err made kept = subst P (sym err) kept
+    sound_edited c sound e metric all.0 all.1.1.0 all.1.1.1.1.1.1.1.1.0 all.1.1.1.1.1.1.1.1.1.1.1.1.1.1.0

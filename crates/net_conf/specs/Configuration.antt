@@ -106,6 +106,10 @@ has_session c a b = is_some (session_between c a b)
 abbrev pub is_end : Addr → Ends → Bool
 is_end a e = e.low.0 == a.0 || e.high.0 == a.0
 
+-- the address is an end of a session
+abbrev pub ends_session : Configuration → Addr → Bool
+ends_session c a = list_any (λ e. is_end a e.0) c.sessions
+
 -- how many sessions the address has
 abbrev pub session_count : Configuration → Addr → ℕ
 session_count c a = length (filter (λ e. is_end a e.0) c.sessions)

@@ -1,16 +1,28 @@
 -- What is kept beside the tables, and what holds of every configuration that edits lead to. No public contract cites this file.
-use Rattle.std.specs.Prelude.{◌≤◌, Bool, true, false, not, ◌&&◌, ◌||◌, List, [], ◌∷◌, map, length, Option, Some, None, All, if◌then◌else◌}
-use Rattle.std.specs.Map.{keys_of}
-use Rattle.std.specs.BTreeMap.{insert_entry}
+use Rattle.std.specs.Prelude.{◌≡◌, ◌≤◌, ℕ, Bool, true, false, ◌==◌, List, length, map, Option, Some, None, option_map, IsTrue, All, if◌then◌else◌}
+use Rattle.std.specs.Map.{keys_of, values_of, lookup}
+use Rattle.std.specs.BTreeMap.{is_at}
 use Rattle.net_prefix.specs.declared.addr.Addr.{Addr}
 use Rattle.net_prefix.specs.Address.{addr_cmp}
-use Rattle.igp_cost.specs.Trees.{Reached}
+use Rattle.igp_cost.specs.Metric.{IsMetric}
+use Rattle.igp_cost.specs.Walks.{Nodes, Edges}
+use Rattle.igp_cost.specs.Topology.{is_node}
+use Rattle.igp_cost.specs.Trees.{Reached, source_of}
+use Rattle.igp_cost.specs.Stays.{WasTree}
 use Rattle.igp_cost.specs.declared.limits.TheConstants.{MAX_NODES}
+use Rattle.igp_cost.specs.declared.change.Change.{Change}
+use Rattle.igp_cost.specs.declared.change.Change.TheVariants.{Added, Removed, Changed}
 use Rattle.net_conf.specs.declared.site.SiteConf.{SiteConf}
+use Rattle.net_conf.specs.declared.site.SiteSession.{SiteSession}
+use Rattle.net_conf.specs.declared.tables.Ends.{Ends}
+use Rattle.net_conf.specs.declared.tables.Link.{Link as TheLink}
 use Rattle.net_conf.specs.declared.edit.Edit.{Edit}
-use Rattle.net_conf.specs.declared.edit.Edit.TheVariants.{Join, Stop, Start, Client, OwnNext, Cluster, Rule, Clear, Origin, NoOrigin}
-use Rattle.net_conf.specs.Configuration.{Configuration}
-use Rattle.net_conf.specs.Costs.{costs_of}
+use Rattle.net_conf.specs.declared.edit.Edit.TheVariants.{Router, Virtual, Link, Metric, Fail, Mend, Join, Stop, Start}
+use Rattle.net_conf.specs.Configuration.{Configuration, ends_of, ends_session, link_between}
+use Rattle.net_conf.specs.Edits.{with_link, with_session}
+use Rattle.net_conf.specs.Costs.{costs_of, is_up}
+use Rattle.net_conf.specs.RouterSites.{site_kept}
+use Rattle.net_conf.specs.Concerned.{is_among}
 use Rattle.net_conf.specs.Configured.{AreApart, HasEnds}
 
 pub record IsSound (c : Configuration) : Type 0 where
@@ -19,38 +31,111 @@ pub record IsSound (c : Configuration) : Type 0 where
   pub sessions : All (HasEnds c) (keys_of c.sessions)
   pub links_apart : All AreApart (keys_of c.links)
   pub sessions_apart : All AreApart (keys_of c.sessions)
+  pub metrics : All (λ l. IsMetric l.metric) (values_of c.links)
 
-abbrev pub has_none : {X : Type 0} → List X → Bool
-has_none [] = true
-has_none (x ∷ xs) = false
+-- THE TREES OF THE ENDS OF SESSIONS
 
--- the tree of each router and peer, while there is a session
-unfoldable pub trees_of : Configuration → List (Addr × Reached)
-trees_of c = if has_none c.sessions then [] else map (λ e. (e.0, costs_of c e.0)) c.nodes
+-- the tree of the address, if it is an end of a session
+abbrev pub tree_kept : Configuration → Addr → Option Reached
+tree_kept c r = if ends_session c r then Some (costs_of c r) else None
 
--- the sites, with one more for the address, if there is one
-abbrev pub with_site : List (Addr × SiteConf) → Addr → Option SiteConf → List (Addr × SiteConf)
-with_site sites r None = sites
-with_site sites r (Some site) = insert_entry addr_cmp sites r site
+-- each end of a session has its tree here, and nobody else has one
+abbrev pub AreKept : Configuration → List (Addr × Reached) → Type 0
+AreKept c trees = (r : Addr) → lookup (is_at (addr_cmp r)) trees ≡ tree_kept c r
 
--- the edit leaves nodes, links and sessions as they are
-abbrev pub is_setting : Edit → Bool
-is_setting (Client a b on) = true
-is_setting (OwnNext a b on) = true
-is_setting (Cluster a id) = true
-is_setting (Rule a b side rule) = true
-is_setting (Clear a b side) = true
-is_setting (Origin a p) = true
-is_setting (NoOrigin a p) = true
-is_setting _ = false
+-- who is not among these has the same costs as before
+abbrev pub CostsStayBut : Configuration → Configuration → List Addr → Type 0
+CostsStayBut c d moved = (r : Addr) → is_among r moved ≡ false → ends_session c r ≡ true → costs_of d r ≡ costs_of c r
 
--- the edit leaves nodes and links as they are, and each session where it is
-abbrev pub is_of_session : Edit → Bool
-is_of_session (Join a b) = true
-is_of_session (Stop a b) = true
-is_of_session (Start a b) = true
-is_of_session _ = false
+-- the tree is that of the node from before the change
+pub record WasTreeOf (change : Change) (nodes : Nodes) (edges : Edges) (r : Addr) (t : Reached) : Type 0 where
+  pub source : source_of t ≡ r
+  pub node : IsTrue (is_node nodes r)
+  pub was : WasTree change nodes edges t
 
--- the edit leaves all trees as they are: nodes and links stay, and so does whether there is a session
-abbrev pub keeps_trees : Configuration → Edit → Bool
-keeps_trees c e = is_setting e || (is_of_session e && not (has_none c.sessions))
+-- each tree is that of the node at its key from before the change
+abbrev pub WereTrees : Change → Nodes → Edges → List (Addr × Reached) → Type 0
+WereTrees change nodes edges trees = (r : Addr) (t : Reached) → lookup (is_at (addr_cmp r)) trees ≡ Some t → WasTreeOf change nodes edges r t
+
+-- THE SITES OF THE ENDS OF SESSIONS
+
+-- each router that has a session has its site here, and nobody else has one
+abbrev pub AreSitesKept : Configuration → List (Addr × SiteConf) → Type 0
+AreSitesKept c sites = (r : Addr) → lookup (is_at (addr_cmp r)) sites ≡ site_kept c r
+
+-- who is not among these is an end of a session still, or still is none
+abbrev pub EndsStayBut : Configuration → Configuration → List Addr → Type 0
+EndsStayBut c d rs = (r : Addr) → is_among r rs ≡ false → ends_session d r ≡ ends_session c r
+
+-- the two differ in their links alone
+abbrev pub IsRelinked : Configuration → Configuration → Type 0
+IsRelinked c d = d ≡ record c { links = d.links }
+
+-- the session, up where it is by the configuration
+abbrev pub asked : Configuration → Addr → SiteSession → SiteSession
+asked d r x = record x { up = is_up d r x.peer }
+
+-- the site, with the costs and the state of the sessions by the configuration
+abbrev pub relinked : Configuration → Addr → SiteConf → SiteConf
+relinked d r s = record s { sessions = map (asked d r) s.sessions; costs = costs_of d r }
+
+-- WHAT AN EDIT TOUCHES
+
+-- the metric of a new link, or the new one of a link, is one
+abbrev pub HasMetric : Edit → Type 0
+HasMetric (Link a b m) = IsMetric m
+HasMetric (Metric a b m) = IsMetric m
+HasMetric _ = Unit {0}
+
+-- the address that it adds
+abbrev pub node_in : Edit → Option Addr
+node_in (Router a n) = Some a
+node_in (Virtual a n) = Some a
+node_in _ = None
+
+-- the ends of the link that it makes or changes
+abbrev pub link_in : Edit → Option (Addr × Addr)
+link_in (Link a b m) = Some (a, b)
+link_in (Metric a b m) = Some (a, b)
+link_in (Fail a b) = Some (a, b)
+link_in (Mend a b) = Some (a, b)
+link_in _ = None
+
+-- the ends of the session that it makes or changes
+abbrev pub session_in : Edit → Option (Addr × Addr)
+session_in (Join a b) = Some (a, b)
+session_in (Stop a b) = Some (a, b)
+session_in (Start a b) = Some (a, b)
+session_in _ = None
+
+-- the one makes the other with a link of the two
+pub record IsLinked (c d : Configuration) (a b : Addr) : Type 0 where
+  pub link : TheLink
+  pub is : d ≡ with_link c a b link
+
+-- the one makes the other with a link of these ends
+pub record AreLinked (c d : Configuration) (e : Ends) : Type 0 where
+  pub one : Addr
+  pub other : Addr
+  pub ends : e ≡ ends_of one other
+  pub linked : IsLinked c d one other
+
+-- the one makes the other with a session of the two
+pub record IsJoined (c d : Configuration) (a b : Addr) : Type 0 where
+  pub enabled : Bool
+  pub is : d ≡ with_session c a b enabled
+
+-- the metric of the link, if it is up
+abbrev pub metric_of : Option TheLink → Option ℕ
+metric_of None = None
+metric_of (Some l) = if l.up then Some l.metric else None
+
+-- the metric of the link of the two, if it is up
+abbrev pub metric_up : Configuration → Addr → Addr → Option ℕ
+metric_up c a b = metric_of (link_between c a b)
+
+-- what the metrics of a link before and after, if it is up, change of the edges
+abbrev pub edge_change : Ends → Option ℕ → Option ℕ → Option Change
+edge_change e None after = option_map (λ m. Added e.low e.high m) after
+edge_change e (Some old) None = Some (Removed e.low e.high)
+edge_change e (Some old) (Some m) = if old == m then None else Some (Changed e.low e.high m)

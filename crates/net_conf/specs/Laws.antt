@@ -3,8 +3,6 @@ use Rattle.std.specs.Prelude.{◌≡◌, false, map, Option, Some, None, if◌th
 use Rattle.std.specs.Option.{option_map_or}
 use Rattle.std.specs.List.{list_any}
 use Rattle.std.specs.List.Sorted.{IsStrictlySortedBy}
-use Rattle.std.specs.Map.{keys_of, lookup}
-use Rattle.std.specs.BTreeMap.{is_at}
 use Rattle.net_prefix.specs.declared.addr.Addr.{Addr}
 use Rattle.net_prefix.specs.Address.{same_addr, addr_cmp}
 use Rattle.net_prefix.specs.Block.{Block, same_block}
@@ -13,7 +11,6 @@ use Rattle.net_conf.specs.declared.site.SiteSession.{SiteSession}
 use Rattle.net_conf.specs.Configuration.{Configuration, has_session, originates, origins_of}
 use Rattle.net_conf.specs.Costs.{is_up}
 use Rattle.net_conf.specs.Sites.{session_of, peers_of, site_of, session_with}
-use Rattle.net_conf.specs.RouterSites.{router_site, sites_of}
 use Rattle.net_conf.specs.Configured.{IsConfigured}
 
 -- PEERS
@@ -51,17 +48,3 @@ SitesKnowSessionsUp = (c : Configuration) (r t : Addr) (site : SiteConf) → IsC
 -- the prefixes listed for a router are those that it originates
 abbrev pub OriginsAreListed : Type 0
 OriginsAreListed = (c : Configuration) (r : Addr) (p : Block) → list_any (same_block p) (origins_of c r) ≡ originates c r p
-
--- THE SITES OF ALL ROUTERS
-
--- a router's site is its own part of the configuration
-abbrev pub RouterSitesAreSites : Type 0
-RouterSitesAreSites = (c : Configuration) (r : Addr) (site : SiteConf) → router_site c r ≡ Some site → site_of c r ≡ Some site
-
--- by address, each once
-abbrev pub SitesAreInOrder : Type 0
-SitesAreInOrder = (c : Configuration) → IsConfigured c → IsStrictlySortedBy addr_cmp (keys_of (sites_of c))
-
--- each router's site is there, and no other
-abbrev pub SitesAreFound : Type 0
-SitesAreFound = (c : Configuration) (r : Addr) → lookup (is_at (addr_cmp r)) (sites_of c) ≡ router_site c r

@@ -7,4 +7,7 @@ pub mod RouterSites
 pub mod Configured
 pub mod Scopes
 pub mod Laws
+pub mod Concerned
 pub mod Kept
+pub mod Facts
+pub mod FactLaws

@@ -2,6 +2,7 @@
 
 ghost use Rattle.std.specs.Prelude.{◌≡◌};
 ghost use Rattle.net_conf.specs.Scopes.{scope, router_in};
+ghost use Rattle.net_conf.specs.Kept.{HasMetric, node_in, link_in, session_in};
 
 use crate::tables::PolicySide;
 use igp_cost::Metric;
@@ -81,6 +82,50 @@ impl Edit {
             Edit::Origin(router, prefix) => Scope::Route(*router, *prefix),
             Edit::NoOrigin(router, prefix) => Scope::Route(*router, *prefix),
             _ => Scope::Network,
+        }
+    }
+
+    /// The address that it adds.
+    pub(crate) fn node(&self) -> Option<Addr>
+        ensures { result ≡ node_in self.now }
+    {
+        match self {
+            Edit::Router(addr, _) | Edit::Virtual(addr, _) => Some(*addr),
+            _ => None,
+        }
+    }
+
+    /// The ends of the link that it makes or changes.
+    pub(crate) fn link(&self) -> Option<(Addr, Addr)>
+        ensures { result ≡ link_in self.now }
+    {
+        match self {
+            Edit::Link(one, other, _) | Edit::Metric(one, other, _) => Some((*one, *other)),
+            Edit::Fail(one, other) | Edit::Mend(one, other) => Some((*one, *other)),
+            _ => None,
+        }
+    }
+
+    /// The ends of the session that it makes or changes.
+    pub(crate) fn session(&self) -> Option<(Addr, Addr)>
+        ensures { result ≡ session_in self.now }
+    {
+        match self {
+            Edit::Join(one, other) | Edit::Stop(one, other) => Some((*one, *other)),
+            Edit::Start(one, other) => Some((*one, *other)),
+            _ => None,
+        }
+    }
+
+    /// A call gives the caller's proof that the metric which the edit names is one.
+    pub(crate) fn knows_metric(&self)
+        ensures { HasMetric self.now }
+    {
+        match self {
+            Edit::Link(_, _, metric) | Edit::Metric(_, _, metric) => {
+                let _ = metric.cost();
+            }
+            _ => {}
         }
     }
 }

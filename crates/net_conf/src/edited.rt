@@ -1,37 +1,45 @@
 //! The configuration after an edit, made beside the one before.
 
-ghost use Rattle.std.specs.Prelude.{◌≡◌, None, IfOk};
-ghost use Rattle.net_conf.specs.Edits.{refusal_of, edited, IsEdited};
-ghost use Rattle.net_conf.specs.Kept.{IsSound, trees_of};
+ghost use Rattle.std.specs.Prelude.{◌≡◌, None, true, IfOk, OnOk, cond, Some, is_some};
+ghost use Rattle.std.specs.Map.{lookup};
+ghost use Rattle.std.specs.BTreeMap.{is_at};
+ghost use Rattle.net_prefix.specs.declared.addr.Addr.{Addr};
+ghost use Rattle.net_prefix.specs.Address.{addr_cmp};
+ghost use Rattle.igp_cost.specs.Topology.{is_node};
+ghost use Rattle.igp_cost.specs.Trees.{Reached, tree_of};
+ghost use Rattle.net_conf.specs.Edits.{refusal_of, edited};
+ghost use Rattle.net_conf.specs.Kept.{IsSound, AreKept, CostsStayBut, IsLinked, IsJoined, link_in, session_in};
 
-use crate::conf::Conf;
+use crate::carried::{Carried, carry_trees};
 use crate::conf_tables::ConfTables;
+use crate::conf_trees::ConfTrees;
 use crate::edit::Edit;
-use crate::refusal::Refusal;
-use igp_cost::Tree;
+use igp_cost::{Graph, Tree, lone_node_moves_no_tree, one_edge_is_a_change, tree_of_is_a_tree};
 use net_prefix::Addr;
 use seq::Copied;
 use std::alloc::{AllocError, Global};
-use std::collections::BTreeMap;
+use std::collections::{BTreeMap, BTreeSet};
 
-impl Conf {
-    /// The configuration after the edit, made beside this one. It is refused as the edit is, and for want of memory.
-    pub fn edited(&self, alloc: Global, edit: &Edit) -> Result<Conf, Refusal>
-        ensures { IsEdited self.now edit.now result }
-    {
-        self.check(edit)?;
-        self.made(alloc, edit).map_err(|_| Refusal::Memory)
-    }
+/// What an edit makes, and whose trees have moved.
+#[derive(Drop)]
+pub(crate) struct Made {
+    pub(crate) conf: ConfTrees,
+    pub(crate) moved: BTreeSet<Addr>,
+}
 
-    /// The configuration after an edit that is not refused.
-    pub(crate) fn made(&self, alloc: Global, edit: &Edit) -> Result<Conf, AllocError>
+impl ConfTrees {
+    /// What is configured after an edit that is not refused.
+    pub(crate) fn made(&self, alloc: Global, edit: &Edit) -> Result<Made, AllocError>
         requires { refusal_of self.now edit.now ≡ None }
-        ensures { IfOk result (λ conf. conf ≡ edited self.now edit.now) }
+        ensures conf { IfOk result (λ made. made.conf ≡ edited self.now edit.now) }
+        ensures moved { IfOk result (λ made. CostsStayBut self.now made.conf made.moved.keys) }
     {
+        edit.knows_metric();
         let mut tables = self.tables.copy(alloc)?;
         tables.apply(alloc, edit)?;
-        let trees = self.trees_after(alloc, edit, &tables)?;
-        Ok(Conf { tables, trees })
+        let Carried { trees, moved } = self.trees_after(alloc, edit, &tables)?;
+        let conf = ConfTrees { tables, trees };
+        Ok(Made { conf, moved })
     }
 
     /// The trees of the tables that the edit makes of these.
@@ -40,16 +48,133 @@ impl Conf {
         alloc: Global,
         edit: &Edit,
         tables: &ConfTables,
-    ) -> Result<BTreeMap<Addr, Tree>, AllocError>
+    ) -> Result<Carried, AllocError>
+        requires passes { refusal_of self.now edit.now ≡ None }
         requires made { tables.now ≡ edited self.now edit.now }
         requires sound { IsSound tables.now }
-        ensures { IfOk result (λ trees. trees.entries ≡ trees_of tables.now) }
+        ensures trees { IfOk result (λ made. AreKept tables.now made.trees.entries) }
+        ensures moved { IfOk result (λ made. CostsStayBut self.now tables.now made.moved.keys) }
     {
-        if self.keeps_trees(edit) {
-            let trees = self.trees.clone()?;
-            Ok(trees)
-        } else {
-            tables.trees(alloc)
+        match edit.link() {
+            Some((one, other)) => self.trees_with_link(alloc, tables, one, other),
+            None => self.trees_without_link(alloc, edit, tables),
         }
     }
+
+    /// The trees, where the edit is of no link.
+    fn trees_without_link(
+        &self,
+        alloc: Global,
+        edit: &Edit,
+        tables: &ConfTables,
+    ) -> Result<Carried, AllocError>
+        requires passes { refusal_of self.now edit.now ≡ None }
+        requires made { tables.now ≡ edited self.now edit.now }
+        requires sound { IsSound tables.now }
+        requires link { link_in edit.now ≡ None }
+        ensures trees { IfOk result (λ made. AreKept tables.now made.trees.entries) }
+        ensures moved { IfOk result (λ made. CostsStayBut self.now tables.now made.moved.keys) }
+    {
+        lone_node_moves_no_tree();
+        self.tables.orders();
+        let trees = match edit.session() {
+            Some((one, other)) => self.trees_with_session(alloc, tables, one, other)?,
+            None => self.same_trees(edit, tables)?,
+        };
+        let moved = BTreeSet::new(alloc);
+        Ok(Carried { trees, moved })
+    }
+
+    /// The trees, where the edit makes or changes the link of the two.
+    fn trees_with_link(
+        &self,
+        alloc: Global,
+        tables: &ConfTables,
+        one: Addr,
+        other: Addr,
+    ) -> Result<Carried, AllocError>
+        requires linked { IsLinked self.now tables.now one other }
+        requires sound { IsSound tables.now }
+        ensures trees { IfOk result (λ made. AreKept tables.now made.trees.entries) }
+        ensures moved { IfOk result (λ made. CostsStayBut self.now tables.now made.moved.keys) }
+    {
+        if self.trees.is_empty() {
+            let trees = BTreeMap::new(alloc);
+            let moved = BTreeSet::new(alloc);
+            return Ok(Carried { trees, moved });
+        }
+        one_edge_is_a_change();
+        tree_of_is_a_tree();
+        self.tables.orders();
+        match self.tables.change_to(tables, one, other) {
+            Some(change) => {
+                let graph = tables.graph(alloc)?;
+                let carried = carry_trees(alloc, &graph, &change, &self.trees)?;
+                Ok(carried)
+            }
+            None => {
+                let trees = self.trees.clone()?;
+                let moved = BTreeSet::new(alloc);
+                Ok(Carried { trees, moved })
+            }
+        }
+    }
+
+    /// The trees, where the edit makes or changes the session of the two: theirs are made, where they are missing.
+    fn trees_with_session(
+        &self,
+        alloc: Global,
+        tables: &ConfTables,
+        one: Addr,
+        other: Addr,
+    ) -> Result<BTreeMap<Addr, Tree>, AllocError>
+        requires joined { IsJoined self.now tables.now one other }
+        requires sound { IsSound tables.now }
+        ensures { IfOk result (λ trees. AreKept tables.now trees.entries) }
+    {
+        let mut trees = self.trees.clone()?;
+        if self.ends_session(one) && self.ends_session(other) {
+            return Ok(trees);
+        }
+        let graph = tables.graph(alloc)?;
+        add_missing(alloc, &mut trees, &graph, one)?;
+        add_missing(alloc, &mut trees, &graph, other)?;
+        Ok(trees)
+    }
+
+    /// The trees, where the edit is of neither a link nor a session.
+    fn same_trees(
+        &self,
+        edit: &Edit,
+        tables: &ConfTables,
+    ) -> Result<BTreeMap<Addr, Tree>, AllocError>
+        requires passes { refusal_of self.now edit.now ≡ None }
+        requires made { tables.now ≡ edited self.now edit.now }
+        requires link { link_in edit.now ≡ None }
+        requires session { session_in edit.now ≡ None }
+        ensures { IfOk result (λ trees. AreKept tables.now trees.entries) }
+    {
+        lone_node_moves_no_tree();
+        self.tables.orders();
+        let trees = self.trees.clone()?;
+        Ok(trees)
+    }
+}
+
+/// Adds the tree of the node, where it is missing.
+fn add_missing(
+    alloc: Global,
+    trees: &mut BTreeMap<Addr, Tree>,
+    graph: &Graph,
+    addr: Addr,
+) -> Result<(), AllocError>
+    requires node { is_node graph.now.nodes addr ≡ true }
+    requires right { (t : Reached) → lookup (is_at (addr_cmp addr)) trees.old.entries ≡ Some t → t ≡ tree_of graph.now.nodes graph.now.edges addr }
+    ensures { OnOk result ((r : Addr) → lookup (is_at (addr_cmp r)) trees.new.entries ≡ cond (is_at (addr_cmp r) addr) (Some (tree_of graph.now.nodes graph.now.edges r)) (lookup (is_at (addr_cmp r)) trees.old.entries)) }
+{
+    if !trees.contains_key(&addr) {
+        let tree = graph.tree(alloc, addr)?;
+        trees.insert(addr, tree)?;
+    }
+    Ok(())
 }

@@ -1,6 +1,6 @@
 //! What holds of configurations. A function here does nothing: a call gives the caller's proof what it ensures.
 
-ghost use Rattle.net_conf.specs.Laws.{PeersAreInOrder, PeersHaveSessions, SitesAreOfTheirRouters, SiteSessionsAreInOrder, SitesHaveSessions, SitesKnowSessionsUp, OriginsAreListed, RouterSitesAreSites, SitesAreInOrder, SitesAreFound};
+ghost use Rattle.net_conf.specs.Laws.{PeersAreInOrder, PeersHaveSessions, SitesAreOfTheirRouters, SiteSessionsAreInOrder, SitesHaveSessions, SitesKnowSessionsUp, OriginsAreListed};
 ghost use Rattle.net_conf.specs.Scopes.{SitesOfOthersStay, SessionsStay, AreRoutersBefore, AreRoutersAfter, OriginsAloneChange, OtherOriginsStay};
 
 /// The peers of a router are in order of address, and are those with which it has a session.
@@ -20,13 +20,6 @@ pub fn sites_are_of_routers()
 /// The prefixes that are listed for a router are those that it originates.
 pub fn origins_are_listed()
     ensures law { OriginsAreListed }
-{}
-
-/// Among the sites of all routers, which are in order of address, is just that of each.
-pub fn sites_are_found()
-    ensures sites { RouterSitesAreSites }
-    ensures in_order { SitesAreInOrder }
-    ensures found { SitesAreFound }
 {}
 
 /// An edit of one router's settings, or of what it originates, leaves all other sites, and all sessions up or down. Where it is not

@@ -3,24 +3,29 @@
 #![tactic(auto)]
 
 mod apply;
+mod carried;
 mod checks;
+mod concerned;
 mod conf;
 mod conf_tables;
+mod conf_trees;
 mod edit;
 mod edited;
+mod kept_sites;
 mod laws;
 mod limits;
 mod refusal;
+mod same_facts;
+mod shared_site;
 mod site;
 mod tables;
 mod trees;
 
-pub use conf::Conf;
+pub use conf::{Conf, EditedConf};
 pub use edit::{Edit, Scope};
 pub use igp_cost::{MAX_NODES, Metric};
 pub use laws::{
-    edits_keep_their_scope, origins_are_listed, peers_are_those_of_sessions, sites_are_found,
-    sites_are_of_routers,
+    edits_keep_their_scope, origins_are_listed, peers_are_those_of_sessions, sites_are_of_routers,
 };
 pub use limits::{MAX_LINKS, MAX_SESSIONS};
 pub use refusal::Refusal;

@@ -5,6 +5,7 @@ ghost use Rattle.net_conf.specs.Sites.{peer_in};
 
 use crate::conf::Conf;
 use crate::conf_tables::ConfTables;
+use crate::conf_trees::ConfTrees;
 use crate::refusal::Refusal;
 use crate::tables::Ends;
 use igp_cost::Tree;
@@ -35,7 +36,7 @@ pub struct SiteConf {
 }
 
 /// A router's session with a peer.
-#[derive(Drop)]
+#[derive(Drop, PartialEq)]
 pub struct SiteSession {
     pub peer: Addr,
     /// The AS of the peer.
@@ -98,16 +99,13 @@ impl Copied for SiteSession {
 }
 
 impl Conf {
-    ghost use Rattle.std.specs.Prelude.{◌≡◌, true, map, IfOk, OnOk};
+    ghost use Rattle.std.specs.Prelude.{◌≡◌, IfOk, OnOk};
     ghost use Rattle.std.specs.List.{filter_map};
     ghost use Rattle.std.specs.List.Sorted.{IsStrictlySortedBy};
     ghost use Rattle.std.specs.Map.{keys_of};
     ghost use Rattle.net_prefix.specs.Address.{addr_cmp};
-    ghost use Rattle.net_conf.specs.Configuration.{has_node};
-    ghost use Rattle.net_conf.specs.Costs.{costs_of};
-    ghost use Rattle.net_conf.specs.Sites.{session_of, peers_of, sessions_of, site_of, IsSite};
-    ghost use Rattle.net_conf.specs.RouterSites.{router_site, site_entry, sites_of};
-    ghost use Rattle.net_conf.specs.Kept.{with_site};
+    ghost use Rattle.net_conf.specs.Sites.{site_of, IsSite};
+    ghost use Rattle.net_conf.specs.RouterSites.{router_site};
 
     /// The router's own part of the configuration. It is refused where there is no router, where a virtual peer stands,
     /// and for want of memory.
@@ -127,8 +125,32 @@ impl Conf {
     }
 
     /// What the router or peer at the address sees of the configuration, where there is one.
-    #[tactic(auto, unfolding(crate::specs::Sites::site_of))]
     pub fn site_at(&self, alloc: Global, router: Addr) -> Result<Option<SiteConf>, AllocError>
+        ensures { IfOk result (λ site. site ≡ site_of self.now router) }
+    {
+        self.trees.site_at(alloc, router)
+    }
+
+    /// The router's own part of the configuration, where there is a router: none where a virtual peer stands.
+    pub fn router_site(&self, alloc: Global, router: Addr) -> Result<Option<SiteConf>, AllocError>
+        ensures { IfOk result (λ site. site ≡ router_site self.now router) }
+    {
+        self.trees.router_site(alloc, router)
+    }
+}
+
+impl ConfTrees {
+    ghost use Rattle.std.specs.Prelude.{◌≡◌, map, IfOk};
+    ghost use Rattle.net_conf.specs.Sites.{session_of, sessions_of, site_of};
+    ghost use Rattle.net_conf.specs.RouterSites.{router_site};
+
+    /// What the router or peer at the address sees of the configuration, where there is one.
+    #[tactic(auto, unfolding(crate::specs::Sites::site_of))]
+    pub(crate) fn site_at(
+        &self,
+        alloc: Global,
+        router: Addr,
+    ) -> Result<Option<SiteConf>, AllocError>
         ensures { IfOk result (λ site. site ≡ site_of self.now router) }
     {
         let Some(node) = self.tables.node(router) else {
@@ -139,70 +161,24 @@ impl Conf {
             asn: node.asn,
             cluster: self.tables.cluster_id(router),
             reflector: self.tables.is_reflector(router),
-            origins: Seq::of(self.origins_of(alloc, router)?),
+            origins: Seq::of(self.tables.origins_of(alloc, router)?),
             sessions: Seq::of(self.sessions_of(alloc, router)?),
             costs: self.costs(alloc, router)?,
         }))
     }
 
     /// The router's own part of the configuration, where there is a router: none where a virtual peer stands.
-    pub fn router_site(&self, alloc: Global, router: Addr) -> Result<Option<SiteConf>, AllocError>
+    pub(crate) fn router_site(
+        &self,
+        alloc: Global,
+        router: Addr,
+    ) -> Result<Option<SiteConf>, AllocError>
         ensures { IfOk result (λ site. site ≡ router_site self.now router) }
     {
-        if self.is_virtual(router) {
+        if self.tables.is_virtual(router) {
             Ok(None)
         } else {
             self.site_at(alloc, router)
-        }
-    }
-
-    /// The sites of all routers, by address.
-    pub fn sites(&self, alloc: Global) -> Result<BTreeMap<Addr, SiteConf>, AllocError>
-        ensures { IfOk result (λ sites. sites.entries ≡ sites_of self.now) }
-    {
-        let nodes = self.tables.node_list(alloc)?;
-        self.sites_at(alloc, &nodes)
-    }
-
-    /// The sites of these routers; of a virtual peer none.
-    fn sites_at(
-        &self,
-        alloc: Global,
-        nodes: &[(Addr, Asn)],
-    ) -> Result<BTreeMap<Addr, SiteConf>, AllocError>
-        requires { IsStrictlySortedBy addr_cmp (keys_of nodes.now) }
-        ensures { IfOk result (λ sites. sites.entries ≡ filter_map (λ n. site_entry self.now n.0) nodes.now) }
-    {
-        let mut sites = BTreeMap::new(alloc);
-        for node in nodes {
-            self.add_site(alloc, &mut sites, node.0)?;
-        }
-        Ok(sites)
-    }
-
-    /// Adds the router's site, where there is a router.
-    fn add_site(
-        &self,
-        alloc: Global,
-        sites: &mut BTreeMap<Addr, SiteConf>,
-        router: Addr,
-    ) -> Result<(), AllocError>
-        ensures { OnOk result (sites.new.entries ≡ with_site sites.old.entries router (router_site self.now router)) }
-    {
-        if let Some(site) = self.router_site(alloc, router)? {
-            sites.insert(router, site)?;
-        }
-        Ok(())
-    }
-
-    /// All costs and first hops of a router or peer.
-    pub fn costs(&self, alloc: Global, router: Addr) -> Result<Tree, AllocError>
-        requires { has_node self.now router ≡ true }
-        ensures { IfOk result (λ tree. tree ≡ costs_of self.now router) }
-    {
-        match self.trees.get(&router) {
-            Some(tree) => tree.copy(alloc),
-            None => self.tables.costs(alloc, router),
         }
     }
 

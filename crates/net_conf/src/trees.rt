@@ -1,23 +1,19 @@
 //! Interior costs of a configuration.
 
-ghost use Rattle.std.specs.Prelude.{◌≡◌, IfOk, OnOk, map, IsTrue};
-ghost use Rattle.std.specs.List.{filter_map};
+ghost use Rattle.std.specs.Prelude.{◌≡◌, IfOk, IsTrue};
 ghost use Rattle.std.specs.List.Sorted.{IsStrictlySortedBy};
 ghost use Rattle.std.specs.Map.{keys_of};
-ghost use Rattle.std.specs.BTreeMap.{insert_entry};
 ghost use Rattle.net_prefix.specs.Address.{addr_cmp};
-ghost use Rattle.igp_cost.specs.Trees.{tree_of};
-ghost use Rattle.net_conf.specs.Configuration.{has_node};
+ghost use Rattle.net_conf.specs.Configuration.{ends_of, has_node};
 ghost use Rattle.net_conf.specs.Costs.{nodes_of, edge_of, edges_of, costs_of};
-ghost use Rattle.net_conf.specs.Kept.{IsSound, has_none, trees_of};
+ghost use Rattle.net_conf.specs.Kept.{IsSound, metric_up, edge_change};
 
 use crate::conf_tables::ConfTables;
 use crate::tables::{Ends, Link};
-use igp_cost::{Graph, Metric, Tree};
+use igp_cost::{Change, Graph, Metric, Tree};
 use net_prefix::Addr;
 use path_attr::Asn;
 use std::alloc::{AllocError, Global};
-use std::collections::BTreeMap;
 
 impl ConfTables {
     /// The routers and peers, each with its AS, in order of address.
@@ -42,7 +38,7 @@ impl ConfTables {
     }
 
     /// The graph of the links that are up.
-    fn graph(&self, alloc: Global) -> Result<Graph, AllocError>
+    pub(crate) fn graph(&self, alloc: Global) -> Result<Graph, AllocError>
         requires { IsSound self.now }
         ensures { IfOk result (λ g. g ≡ record { nodes = nodes_of self.now; edges = edges_of self.now }) }
     {
@@ -60,34 +56,40 @@ impl ConfTables {
         self.graph(alloc)?.tree(alloc, router)
     }
 
-    /// The tree of each router and peer, while there is a session.
-    #[tactic(auto, unfolding(crate::specs::Kept::trees_of))]
-    pub fn trees(&self, alloc: Global) -> Result<BTreeMap<Addr, Tree>, AllocError>
-        requires { IsSound self.now }
-        ensures { IfOk result (λ trees. trees.entries ≡ trees_of self.now) }
+    /// What makes the edges of the other tables of those of these, where they differ in the link of the two at most.
+    pub(crate) fn change_to(&self, after: &ConfTables, one: Addr, other: Addr) -> Option<Change>
+        ensures { result ≡ edge_change (ends_of one other) (metric_up self.now one other) (metric_up after.now one other) }
     {
-        if self.has_no_session() {
-            Ok(BTreeMap::new(alloc))
-        } else {
-            self.every_tree(alloc)
+        let old = self.metric_up(one, other);
+        let new = after.metric_up(one, other);
+        edge_change(Ends::of(one, other), old, new)
+    }
+
+    /// The metric of the link of the two, if it is up.
+    fn metric_up(&self, one: Addr, other: Addr) -> Option<Metric>
+        ensures { result ≡ metric_up self.now one other }
+    {
+        let link = self.link(one, other)?;
+        if link.up { Some(link.metric) } else { None }
+    }
+}
+
+/// What the metrics of a link before and after, if it is up, change of the edges.
+fn edge_change(ends: Ends, before: Option<Metric>, after: Option<Metric>) -> Option<Change>
+    ensures { result ≡ edge_change ends before after }
+{
+    let Some(old) = before else {
+        return Some(Change::Added(ends.low, ends.high, after?));
+    };
+    match after {
+        None => Some(Change::Removed(ends.low, ends.high)),
+        Some(metric) => {
+            if old == metric {
+                None
+            } else {
+                Some(Change::Changed(ends.low, ends.high, metric))
+            }
         }
-    }
-
-    /// Whether there is no session.
-    pub fn has_no_session(&self) -> bool
-        ensures { result ≡ has_none self.now.sessions }
-    {
-        self.sessions.is_empty()
-    }
-
-    /// The tree of each router and peer.
-    fn every_tree(&self, alloc: Global) -> Result<BTreeMap<Addr, Tree>, AllocError>
-        requires { IsSound self.now }
-        ensures { IfOk result (λ trees. trees.entries ≡ map (λ e. (e.0, costs_of self.now e.0)) self.now.nodes) }
-    {
-        let graph = self.graph(alloc)?;
-        let nodes = self.node_list(alloc)?;
-        all_trees(alloc, &graph, &nodes)
     }
 }
 
@@ -99,33 +101,4 @@ fn edge_of(ends: Ends, link: Link) -> Option<(Addr, Addr, Metric)>
     } else {
         None
     }
-}
-
-/// The trees of all nodes of the graph.
-fn all_trees(
-    alloc: Global,
-    graph: &Graph,
-    nodes: &[(Addr, Asn)],
-) -> Result<BTreeMap<Addr, Tree>, AllocError>
-    requires nodes { graph.now.nodes ≡ nodes.now }
-    requires ascending { IsStrictlySortedBy addr_cmp (keys_of nodes.now) }
-    ensures { IfOk result (λ trees. trees.entries ≡ map (λ n. (n.0, tree_of graph.now.nodes graph.now.edges n.0)) nodes.now) }
-{
-    let mut trees = BTreeMap::new(alloc);
-    let mut at = nodes.len();
-    while at > 0 {
-        at -= 1;
-        let source = nodes[at].0;
-        let tree = graph.tree(alloc, source)?;
-        add_tree(&mut trees, source, tree)?;
-    }
-    Ok(trees)
-}
-
-/// Adds the tree of a node.
-fn add_tree(trees: &mut BTreeMap<Addr, Tree>, source: Addr, tree: Tree) -> Result<(), AllocError>
-    ensures { OnOk result (trees.new.entries ≡ insert_entry addr_cmp trees.old.entries source tree) }
-{
-    trees.insert(source, tree)?;
-    Ok(())
 }

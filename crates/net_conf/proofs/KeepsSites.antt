@@ -1,0 +1,129 @@
+-- The sites that are kept, after an edit.
+use Rattle.std.proofs.Common.{◌≡◌, ℕ, ◌+◌, ◌<◌, Bool, true, false, cond, ◌||◌, List, [], ◌∷◌, map, take, length, get_or, Option, Some, None, option_map, is_some, if◌then◌else◌, refl, sym, ap, ◌∙◌}
+use Rattle.std.specs.Option.{unwrap_or}
+use Rattle.std.specs.Cmp.{unsigned_ties}
+use Rattle.std.specs.BTreeMap.{is_at}
+use Rattle.std.proofs.lemmas.Bool.{true≢false}
+use Rattle.std.proofs.lemmas.Cmp.{nat_eq_equiv}
+use Rattle.std.proofs.lemmas.List.Folds.{list_any_more}
+use Rattle.std.proofs.lemmas.Option.{none-some}
+use Rattle.net_prefix.specs.declared.addr.Addr.{Addr}
+use Rattle.net_prefix.specs.Address.{addr_cmp}
+use Rattle.net_conf.specs.declared.site.SiteConf.{SiteConf}
+use Rattle.net_conf.specs.declared.tables.Link.{Link}
+use Rattle.net_conf.specs.declared.tables.Ends.{Ends}
+use Rattle.net_conf.specs.declared.tables.Node.{Node}
+use Rattle.net_conf.specs.Configuration.{Configuration, node_at, is_kind_virtual, ends_session, cluster_id, is_reflector, origins_of}
+use Rattle.net_conf.specs.Concerned.{is_among, StaysAt}
+use Rattle.net_conf.specs.Costs.{costs_of}
+use Rattle.net_conf.specs.declared.edit.Edit.{Edit}
+use Rattle.net_conf.specs.Edits.{edited, refusal_of}
+use Rattle.net_conf.specs.Kept.{IsLinked, IsRelinked, link_in, asked, relinked}
+use Rattle.net_conf.specs.RouterSites.{router_site, site_kept, site_made}
+use Rattle.net_conf.specs.Sites.{session_of, sessions_of, peers_of, site_of}
+use Rattle.net_conf.proofs.Carry.{one_address}
+use Rattle.net_conf.proofs.Concerns.{own_costs}
+use Rattle.net_conf.proofs.TreesAfter.{linked_after}
+
+-- where the router's part and its ends stay, so does its site
+pub same_kept : (c d : Configuration) (r : Addr) → StaysAt c d r → ends_session d r ≡ ends_session c r → site_kept d r ≡ site_kept c r
+same_kept c d r stays ends = ap (λ t. if t then router_site d r else None) ends ∙ by (ends_session c r) refl
+  where
+    by : (t : Bool) → ends_session c r ≡ t → (if t then router_site d r else None) ≡ (if t then router_site c r else None)
+    by true is = stays.facts ∙ ap (λ x. option_map (λ (s : SiteConf). record s { costs = x }) (router_site c r)) (stays.costs is) ∙ own_costs c r
+    by false is = refl
+
+-- the site of an end of a session
+pub kept_there : (c : Configuration) (r : Addr) → ends_session c r ≡ true → site_kept c r ≡ router_site c r
+kept_there c r is = ap (λ t. if t then router_site c r else None) is
+
+-- where none is kept, the one that is made is the router's
+pub made_then : (c : Configuration) (r : Addr) → site_kept c r ≡ None → site_made c r ≡ router_site c r
+made_then c r none = by (ends_session c r) none
+  where
+    by : (t : Bool) → (if t then router_site c r else None) ≡ None → (if t then None else router_site c r) ≡ router_site c r
+    by true is = sym is
+    by false is = refl
+
+pub kept_then : (c : Configuration) (r : Addr) (site : SiteConf) → site_kept c r ≡ Some site → router_site c r ≡ Some site
+kept_then c r site is = by (ends_session c r) is
+  where
+    by : (t : Bool) → (if t then router_site c r else None) ≡ Some site → router_site c r ≡ Some site
+    by true it = it
+    by false it = absurd (none-some site it)
+
+-- LINKS
+
+pub relinked_by : (c d : Configuration) (a b : Addr) → IsLinked c d a b → IsRelinked c d
+relinked_by c d a b linked = linked.is ∙ ap (λ (x : Configuration). record c { links = x.links }) (sym linked.is)
+
+pub relinked_after : (c : Configuration) (e : Edit) → refusal_of c e ≡ None → is_some (link_in e) ≡ true → IsRelinked c (edited c e)
+relinked_after c e none some = by (link_in e) refl some
+  where
+    by : (o : Option (Addr × Addr)) → link_in e ≡ o → is_some o ≡ true → IsRelinked c (edited c e)
+    by None is it = absurd (true≢false (sym it))
+    by (Some p) is it = relinked_by c (edited c e) p.0 p.1 (linked_after c e p.0 p.1 none is)
+
+module _ (c : Configuration) (links : List (Ends × Link)) (r : Addr) where
+  abbrev with_links : Configuration
+  with_links = record c { links = links }
+
+  each_asked : (us : List Addr) → map (session_of with_links r) us ≡ map (asked with_links r) (map (session_of c r) us)
+  each_asked [] = refl
+  each_asked (u ∷ us) = ap (λ xs. session_of with_links r u ∷ xs) (each_asked us)
+
+  site_with_links : router_site with_links r ≡ option_map (relinked with_links r) (router_site c r)
+  unfolding site_of
+  site_with_links = by (node_at c r)
+    where
+      made : Node → SiteConf
+      made n = record { me = r; asn = n.asn; cluster = cluster_id c r; reflector = is_reflector c r; origins = origins_of c r; sessions = sessions_of c r; costs = costs_of c r }
+
+      after : Node → SiteConf
+      after n = record { me = r; asn = n.asn; cluster = cluster_id c r; reflector = is_reflector c r; origins = origins_of c r; sessions = sessions_of with_links r; costs = costs_of with_links r }
+
+      one : (n : Node) → after n ≡ relinked with_links r (made n)
+      one n = ap (λ xs. record (after n) { sessions = xs }) (each_asked (peers_of c r))
+
+      by : (o : Option Node) → (if unwrap_or (option_map (λ n. is_kind_virtual n.kind) o) false then None else option_map after o) ≡ option_map (relinked with_links r) (if unwrap_or (option_map (λ n. is_kind_virtual n.kind) o) false then None else option_map made o)
+      by None = refl
+      by (Some n) = at (is_kind_virtual n.kind)
+        where
+          at : (virtual : Bool) → (if virtual then None else Some (after n)) ≡ option_map (relinked with_links r) (if virtual then None else Some (made n))
+          at true = refl
+          at false = ap Some (one n)
+
+pub site_after_link : (c d : Configuration) (r : Addr) → IsRelinked c d → router_site d r ≡ option_map (relinked d r) (router_site c r)
+site_after_link c d r is =
+    ap (λ x. router_site x r) is
+    ∙ site_with_links c d.links r
+    ∙ ap (λ x. option_map (relinked x r) (router_site c r)) (sym is)
+
+pub ends_after_link : (c d : Configuration) (r : Addr) → IsRelinked c d → ends_session d r ≡ ends_session c r
+ends_after_link c d r is = ap (λ x. ends_session x r) is
+
+-- ONE SITE MORE
+
+turned : (a r : Addr) → is_at (addr_cmp a) r ≡ is_at (addr_cmp r) a
+turned a r = sym (unsigned_ties a.0 r.0) ∙ nat_eq_equiv.symm a.0 r.0 ∙ unsigned_ties r.0 a.0
+
+-- one more of the routers
+pub one_renewed : (f : Addr → Option SiteConf) (old : Option SiteConf) (r : Addr) (xs : List Addr) (i : ℕ) (d : Addr) → i < length xs → cond (is_at (addr_cmp (get_or xs i d)) r) (f (get_or xs i d)) (cond (is_among r (take i xs)) (f r) old) ≡ cond (is_among r (take (i + 1) xs)) (f r) old
+one_renewed f old r xs i d lt =
+    ap (λ t. cond t (f x) (cond (is_among r (take i xs)) (f r) old)) (turned x r)
+    ∙ by (is_at (addr_cmp r) x) (is_among r (take i xs)) refl
+    ∙ ap (λ t. cond t (f r) old) (sym (list_any_more (is_at (addr_cmp r)) xs i d lt))
+  where
+    x : Addr
+    x = get_or xs i d
+
+    by : (t u : Bool) → is_at (addr_cmp r) x ≡ t → cond t (f x) (cond u (f r) old) ≡ cond (u || t) (f r) old
+    by true true is = ap f (sym (one_address r x is))
+    by true false is = ap f (sym (one_address r x is))
+    by false true is = refl
+    by false false is = refl
+
+-- what is the same for those that are not among them is so for all
+pub either_kept : (new old : Option SiteConf) (t : Bool) → (t ≡ false → new ≡ old) → cond t new old ≡ new
+either_kept new old true same = refl
+either_kept new old false same = sym (same refl)

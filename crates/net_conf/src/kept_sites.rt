@@ -1,0 +1,244 @@
+//! The sites of the routers that have a session, kept beside the configuration and shared by those that edits make of it.
+
+ghost use Rattle.std.specs.Prelude.{◌≡◌, true, false, cond, map, None, IfOk, OnOk, option_copied};
+ghost use Rattle.std.specs.Map.{lookup};
+ghost use Rattle.std.specs.BTreeMap.{is_at};
+ghost use Rattle.net_prefix.specs.declared.addr.Addr.{Addr};
+ghost use Rattle.net_prefix.specs.Address.{addr_cmp};
+ghost use Rattle.net_conf.specs.Configuration.{ends_session};
+ghost use Rattle.net_conf.specs.Concerned.{is_among, ConcernsAlone};
+ghost use Rattle.net_conf.specs.Edits.{refusal_of, edited};
+ghost use Rattle.net_conf.specs.Kept.{AreSitesKept, EndsStayBut, IsRelinked, asked, relinked};
+ghost use Rattle.net_conf.specs.RouterSites.{router_site, site_kept, site_made};
+
+use crate::conf::Conf;
+use crate::conf_trees::ConfTrees;
+use crate::edit::Edit;
+use crate::shared_site::SharedSite;
+use crate::site::{SiteConf, SiteSession};
+use net_prefix::Addr;
+use seq::{Copied, Seq};
+use std::alloc::{AllocError, Global};
+use std::collections::{BTreeMap, BTreeSet};
+
+impl Conf {
+    /// The site of a router that has a session; it is kept. None where there is no session, or no router.
+    pub fn kept_site(&self, router: Addr) -> Option<&SiteConf>
+        ensures { option_copied result ≡ site_kept self.now router }
+    {
+        match self.sites.get(&router) {
+            Some(site) => Some(site.get()),
+            None => None,
+        }
+    }
+
+    /// The router's site, where none is kept.
+    pub fn made_site(&self, alloc: Global, router: Addr) -> Result<Option<SiteConf>, AllocError>
+        ensures { IfOk result (λ made. made ≡ site_made self.now router) }
+    {
+        if self.ends_session(router) {
+            Ok(None)
+        } else {
+            self.router_site(alloc, router)
+        }
+    }
+
+    /// The router's site, be it kept or made: none where a virtual peer stands, or nobody.
+    pub fn site_in<'a>(&'a self, made: &'a Option<SiteConf>, router: Addr) -> Option<&'a SiteConf>
+        requires { made.now ≡ site_made self.now router }
+        ensures { option_copied result ≡ router_site self.now router }
+    {
+        match self.kept_site(router) {
+            Some(site) => Some(site),
+            None => made.as_ref(),
+        }
+    }
+
+    /// The sites to keep after an edit that makes the other configuration of this one: of all that it does not concern they are shared.
+    pub(crate) fn sites_after(
+        &self,
+        alloc: Global,
+        edit: &Edit,
+        after: &ConfTrees,
+        concerned: &BTreeSet<Addr>,
+    ) -> Result<BTreeMap<Addr, SharedSite>, AllocError>
+        requires passes { refusal_of self.now edit.now ≡ None }
+        requires made { after.now ≡ edited self.now edit.now }
+        requires concerned { ConcernsAlone self.now after.now concerned.now.keys }
+        requires ends { EndsStayBut self.now after.now concerned.now.keys }
+        ensures { IfOk result (λ sites. AreSitesKept after.now sites.entries) }
+    {
+        let sites = self.sites.clone()?;
+        let routers = listed(alloc, concerned)?;
+        let renewed = self.renewed(alloc, edit, after, sites, &routers)?;
+        Ok(renewed)
+    }
+
+    /// The sites, with those of these routers as they are after the edit.
+    fn renewed(
+        &self,
+        alloc: Global,
+        edit: &Edit,
+        after: &ConfTrees,
+        sites: BTreeMap<Addr, SharedSite>,
+        routers: &[Addr],
+    ) -> Result<BTreeMap<Addr, SharedSite>, AllocError>
+        requires passes { refusal_of self.now edit.now ≡ None }
+        requires made { after.now ≡ edited self.now edit.now }
+        ensures { IfOk result (λ new. (r : Addr) → lookup (is_at (addr_cmp r)) new.entries ≡ cond (is_among r routers.now) (site_kept after.now r) (lookup (is_at (addr_cmp r)) sites.entries)) }
+    {
+        let mut renewed = sites;
+        for router in routers {
+            self.renew(alloc, edit, after, &mut renewed, *router)?;
+        }
+        Ok(renewed)
+    }
+
+    /// Puts in the router's site as it is after the edit.
+    fn renew(
+        &self,
+        alloc: Global,
+        edit: &Edit,
+        after: &ConfTrees,
+        sites: &mut BTreeMap<Addr, SharedSite>,
+        router: Addr,
+    ) -> Result<(), AllocError>
+        requires passes { refusal_of self.now edit.now ≡ None }
+        requires made { after.now ≡ edited self.now edit.now }
+        ensures { OnOk result ((r : Addr) → lookup (is_at (addr_cmp r)) sites.new.entries ≡ cond (is_at (addr_cmp router) r) (site_kept after.now router) (lookup (is_at (addr_cmp r)) sites.old.entries)) }
+    {
+        match self.site_after(alloc, edit, after, router)? {
+            Some(site) => {
+                let shared = SharedSite::of(alloc, site)?;
+                sites.insert(router, shared)?;
+                Ok(())
+            }
+            None => {
+                sites.remove(&router);
+                Ok(())
+            }
+        }
+    }
+
+    /// The router's site after the edit, where it has a session then.
+    fn site_after(
+        &self,
+        alloc: Global,
+        edit: &Edit,
+        after: &ConfTrees,
+        router: Addr,
+    ) -> Result<Option<SiteConf>, AllocError>
+        requires passes { refusal_of self.now edit.now ≡ None }
+        requires made { after.now ≡ edited self.now edit.now }
+        ensures { IfOk result (λ site. site ≡ site_kept after.now router) }
+    {
+        if after.ends_session(router) {
+            let site = self.site_of_end(alloc, edit, after, router)?;
+            Ok(site)
+        } else {
+            Ok(None)
+        }
+    }
+
+    /// The site after the edit of one that has a session then.
+    fn site_of_end(
+        &self,
+        alloc: Global,
+        edit: &Edit,
+        after: &ConfTrees,
+        router: Addr,
+    ) -> Result<Option<SiteConf>, AllocError>
+        requires passes { refusal_of self.now edit.now ≡ None }
+        requires made { after.now ≡ edited self.now edit.now }
+        requires ends { ends_session after.now router ≡ true }
+        ensures { IfOk result (λ site. site ≡ router_site after.now router) }
+    {
+        match edit.link() {
+            Some(_) => self.site_relinked(alloc, after, router),
+            None => after.router_site(alloc, router),
+        }
+    }
+
+    /// The site after an edit of a link, made of the one that is kept.
+    fn site_relinked(
+        &self,
+        alloc: Global,
+        after: &ConfTrees,
+        router: Addr,
+    ) -> Result<Option<SiteConf>, AllocError>
+        requires linked { IsRelinked self.now after.now }
+        requires ends { ends_session after.now router ≡ true }
+        ensures { IfOk result (λ site. site ≡ router_site after.now router) }
+    {
+        match self.kept_site(router) {
+            None => Ok(None),
+            Some(old) => {
+                let site = after.relinked(alloc, router, old)?;
+                Ok(Some(site))
+            }
+        }
+    }
+}
+
+impl ConfTrees {
+    /// The old site, with its costs and the state of its sessions by this configuration.
+    fn relinked(&self, alloc: Global, router: Addr, old: &SiteConf) -> Result<SiteConf, AllocError>
+        requires { ends_session self.now router ≡ true }
+        ensures { IfOk result (λ site. site ≡ relinked self.now router old.now) }
+    {
+        let _ = &self.tables;
+        Ok(SiteConf {
+            me: old.me,
+            asn: old.asn,
+            cluster: old.cluster,
+            reflector: old.reflector,
+            origins: Seq::copy_of(alloc, old.origins.as_slice())?,
+            sessions: Seq::of(self.asked_again(alloc, router, old.sessions.as_slice())?),
+            costs: self.costs(alloc, router)?,
+        })
+    }
+
+    /// The sessions of the router, each up or down as it is by this configuration.
+    fn asked_again(
+        &self,
+        alloc: Global,
+        router: Addr,
+        sessions: &[SiteSession],
+    ) -> Result<Vec<SiteSession>, AllocError>
+        ensures { IfOk result (λ v. v.items ≡ map (asked self.now router) sessions.now) }
+    {
+        let mut asked = Vec::new(alloc);
+        for session in sessions {
+            asked.push(self.asked(alloc, router, session)?)?;
+        }
+        Ok(asked)
+    }
+
+    /// The session of the router, up or down as it is by this configuration.
+    fn asked(
+        &self,
+        alloc: Global,
+        router: Addr,
+        session: &SiteSession,
+    ) -> Result<SiteSession, AllocError>
+        ensures { IfOk result (λ new. new ≡ asked self.now router session.now) }
+    {
+        Ok(SiteSession {
+            peer: session.peer,
+            peer_asn: session.peer_asn,
+            up: self.is_up(router, session.peer),
+            external: session.external,
+            client: session.client,
+            own_next: session.own_next,
+            policy_in: session.policy_in.copy(alloc)?,
+            policy_out: session.policy_out.copy(alloc)?,
+        })
+    }
+}
+
+/// The addresses, in order.
+fn listed(alloc: Global, addrs: &BTreeSet<Addr>) -> Result<Vec<Addr>, AllocError>
+    ensures { IfOk result (λ v. v.items ≡ addrs.now.keys) }
+{
+    addrs.iter().map(|addr| *addr).collect(alloc)
+}
