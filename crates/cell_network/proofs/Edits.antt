@@ -248,7 +248,7 @@ both_there true true h = (refl, refl)
 both_there true false h = absurd (true≢false h)
 both_there false q h = absurd (true≢false h)
 
-session_placed : (c : Configuration) → IsConfigured c → (f t : Addr) → has_session c f t ≡ true → has_node c f ≡ true
+pub session_placed : (c : Configuration) → IsConfigured c → (f t : Addr) → has_session c f t ≡ true → has_node c f ≡ true
 session_placed c configured f t is =
     low_there c f t (nat_le f.0 t.0) (All-contains (HasEnds c) (keys_of c.sessions) (ends_of f t) configured.session_ends (Contains-keys_from_lookup {eq = λ x. is_at (ends_cmp x)} same_ends (ends_of f t) c.sessions is))
 

@@ -1,5 +1,7 @@
+pub mod Ascending
 pub mod Chunks
 pub mod Decided
+pub mod Decisions
 pub mod Directions
 pub mod Edited
 pub mod Edits
@@ -7,6 +9,7 @@ pub mod Flat
 pub mod Kept
 pub mod Listed
 pub mod Matches
+pub mod Moves
 pub mod Offers
 pub mod OverSessions
 pub mod Picks
@@ -17,10 +20,13 @@ pub mod Reasons
 pub mod Received
 pub mod Refreshed
 pub mod Reports
+pub mod Routers
 pub mod Senders
 pub mod Settled
 pub mod Sites
 pub mod Taken
 pub mod Told
 pub mod ToldByChanges
+pub mod Touched
 pub mod Walks
+pub mod Unmoved

@@ -49,7 +49,7 @@ module _ (test : Addr → Bool) where
   all_left (e ∷ es) all = ap (λ b. cond b (e ∷ passing es) (passing es)) all.0 ∙ ap (λ l. e ∷ l) (all_left es all.1)
 
   -- and where all are left, all pass
-  all_pass : (es : List (Addr × Attr)) → passing es ≡ es → AllPass es
+  pub all_pass : (es : List (Addr × Attr)) → passing es ≡ es → AllPass es
   all_pass es left = subst AllPass left (passing_pass es)
 
   all_pass_with : (u : Addr) (attr : Attr) → test u ≡ true → (es : List (Addr × Attr)) → AllPass es → AllPass (insert_entry addr_cmp es u attr)

@@ -91,11 +91,11 @@ origins_in c r site at = origins_by c r site (node_at c r) (site_of_router c r s
 
 -- where the router's site becomes one that decides and sends alike, and no session over which a route came goes down
 module _ (c d : Configuration) (configured : IsConfigured c) (r : Addr) (p : Block) (h : Heard) (now : SiteConf → SiteConf) (becomes : router_site d r ≡ option_map now (router_site c r)) where
-  module _ (decides : (site : SiteConf) → router_site c r ≡ Some site → (routes : List (Addr × Attr)) → decided (Some (now site)) p routes ≡ decided (Some site) p routes) (sends : (site : SiteConf) (had has : Option Candidate) → sends_of site (now site) p had has ≡ sends_of site site p had has) where
+  module _ (decides : (site : SiteConf) → router_site c r ≡ Some site → decided (Some (now site)) p h.received ≡ decided (Some site) p h.received) (sends : (site : SiteConf) (had has : Option Candidate) → sends_of site (now site) p had has ≡ sends_of site site p had has) where
     module _ (kept : kept_from d r h.received ≡ h.received) (was : h ≡ decided (router_site c r) p h.received) where
       as_before : (x : Option SiteConf) → router_site c r ≡ x → decided (option_map now x) p h.received ≡ decided x p h.received
       as_before None is = refl
-      as_before (Some site) is = decides site is h.received
+      as_before (Some site) is = decides site is
 
       stays : kept_cell d r p h ≡ h
       stays =
@@ -113,7 +113,7 @@ module _ (c d : Configuration) (configured : IsConfigured c) (r : Addr) (p : Blo
           ∙ sends site chosen chosen
           ∙ nothing_sent site p chosen (site_sessions_in_order c r site configured (site_of_router c r site is))
 
-      settled : IsSettled c d r p h
+      pub settled : IsSettled c d r p h
       settled = record {
         cell = stays;
         silent = ap (λ x. sends_between (router_site c r) x p h) becomes ∙ silent_by (router_site c r) refl;
@@ -138,7 +138,7 @@ module _ (others : SitesOfOthersStay) (sessions : SessionsStay) (alone : Origins
   other_router : (a r : Addr) (p : Block) (h : Heard) → router_in (scope edit) ≡ Some a → same_addr r a ≡ false → value_at r p e.tables ≡ Some h → IsSettled e.conf new r p h
   other_router a r p h is off at =
       settled e.conf new configured r p h (λ site. site) (others e.conf edit a r is off ∙ itself (router_site e.conf r))
-      (λ site here routes. refl)
+      (λ site here. refl)
       (λ site had has. refl)
       (kept_at a r p h is at)
       (is_cell e sound r p h at).decided
@@ -148,7 +148,7 @@ module _ (others : SitesOfOthersStay) (sessions : SessionsStay) (alone : Origins
   other_prefix a q p h is off at =
       let os = origins_of new a in
       settled e.conf new configured a p h (originating os) (alone e.conf edit a q is)
-      (λ site here routes. decided_alike os p site routes (origins e.conf edit a q p is off ∙ ap (list_any (same_block p)) (sym (origins_in e.conf a site here))))
+      (λ site here. decided_alike os p site h.received (origins e.conf edit a q p is off ∙ ap (list_any (same_block p)) (sym (origins_in e.conf a site here))))
       (sent_alike os p)
       (kept_at a a p h (ap router_in is) at)
       (is_cell e sound a p h at).decided

@@ -1,5 +1,5 @@
--- What the routers send for the cells that an edit can change is all that they send for it.
-use Rattle.std.proofs.Common.{◌≡◌, Bool, true, false, cond, ◌&&◌, List, [], ◌∷◌, ◌++◌, Option, Some, None, option_map, IsTrue, if◌then◌else◌, refl, sym, ap, ◌∙◌}
+-- What the routers send for the cells that an edit changes is all that they send for it.
+use Rattle.std.proofs.Common.{◌≡◌, Bool, true, false, cond, ◌&&◌, List, [], ◌∷◌, ◌++◌, map, filter, Option, Some, None, option_map, unwrap_or, IsTrue, if◌then◌else◌, refl, sym, ap, ◌∙◌}
 use Rattle.std.proofs.lemmas.Bool.{and_parts, and_right}
 use Rattle.std.proofs.lemmas.List.{append-nil, append_assoc}
 use Rattle.std.specs.Ordering.{is_lt, is_eq, eq_by_cmp}
@@ -11,7 +11,7 @@ use Rattle.std.specs.FinMap.Entries as entries
 use Rattle.net_prefix.specs.declared.addr.Addr.{Addr}
 use Rattle.net_prefix.specs.Address.{same_addr, addr_cmp}
 use Rattle.net_prefix.specs.Block.{Block, same_block, block_cmp}
-use Rattle.net_prefix.specs.Orders.{block_total, block_exact}
+use Rattle.net_prefix.specs.Orders.{addr_total, block_total, block_exact}
 use Rattle.prefix_table.specs.Tables.{Table}
 use Rattle.session_queue.specs.declared.message.Message.{Message}
 use Rattle.net_conf.specs.Configuration.{Configuration}
@@ -21,8 +21,8 @@ use Rattle.net_conf.specs.declared.edit.Scope.{Scope}
 use Rattle.net_conf.specs.declared.edit.Scope.TheVariants.{Network, Site, Route}
 use Rattle.cell_network.specs.Sending.{told, told_from}
 use Rattle.cell_network.specs.Editing.{cell_sends, router_sends, all_sends, told_by_all}
-use Rattle.cell_network.specs.Changes.{Change, cell_change, router_changes, changes_in, sends_for}
-use Rattle.cell_network.specs.Settled.{is_in, AreSettledOutside}
+use Rattle.cell_network.specs.Changes.{Change, Choice, cell_change, router_changes, changes_where, sends_for}
+use Rattle.cell_network.specs.Settled.{is_in, AreSettledOutside, AreSettledBut}
 use Rattle.cell_network.proofs.Chunks.{flat, chunk, of_T}
 use Rattle.cell_network.proofs.Offers.{same_addr_true, block_tied, nothing_if}
 use Rattle.cell_network.proofs.Refreshed.{less_of, all_from, found_each, told_append, told_at}
@@ -76,24 +76,44 @@ module _ (c d : Configuration) (f t : Addr) where
   told_if_append true xs ys = told_append t xs ys
   told_if_append false xs ys = refl
 
-  -- for the changes of a router's cells one is told what it sends for them
-  told_for_router : (r : Addr) (cells : List (Block × Heard)) → told_for (router_changes c d r cells) ≡ told_from r (router_sends c d r cells) f t
-  told_for_router r [] = sym (nothing_if (same_addr f r))
-  told_for_router r (e ∷ es) =
-      ap (λ l. told_from r (cell_sends c d r e.0 e.1) f t ++ l) (told_for_router r es)
-      ∙ sym (told_if_append (same_addr f r) (cell_sends c d r e.0 e.1) (router_sends c d r es))
+  module _ (holds : Choice) where
+    -- nothing is sent for a cell that is not chosen
+    abbrev IsSilent : Addr → Block × Heard → Type 0
+    IsSilent r e = holds r e.0 e.1 ≡ false → cell_sends c d r e.0 e.1 ≡ []
 
-  -- and for those of all routers what all send
-  told_for_all : (ts : List (Addr × Table Heard)) → told_for (changes_in Network c d ts) ≡ told_by_all (all_sends c d ts) f t
-  told_for_all [] = refl
-  told_for_all (x ∷ xs) =
-      told_for_append (router_changes c d x.0 (finite.entries x.1)) (changes_in Network c d xs)
-      ∙ (λ i. told_for_router x.0 (finite.entries x.1) i ++ told_for_all xs i)
+    -- for those of a router, with this cell's, if it is chosen
+    abbrev told_if : Addr → Block × Heard → List (Block × Heard) → Bool → List Message
+    told_if r e es chosen = told_for (map (λ (x : Block × Heard). cell_change c d r x.0 x.1) (cond chosen (e ∷ filter (λ x. holds r x.0 x.1) es) (filter (λ x. holds r x.0 x.1) es)))
 
-  -- for the change of one cell, if there is one, what its router sends for that
-  told_for_cell : (r : Addr) (p : Block) (x : Option Heard) → told_for (option_to_list (option_map (cell_change c d r p) x)) ≡ told_from r (chunk (cell_sends c d r) p x) f t
-  told_for_cell r p None = sym (nothing_if (same_addr f r))
-  told_for_cell r p (Some h) = append-nil (told_from r (cell_sends c d r p h) f t)
+    -- for the changes of a router's cells one is told what it sends for all
+    told_for_router : (r : Addr) (cells : List (Block × Heard)) → AllByRecursion (IsSilent r) cells → told_for (router_changes holds c d r cells) ≡ told_from r (router_sends c d r cells) f t
+    told_for_router r [] all = sym (nothing_if (same_addr f r))
+    told_for_router r (e ∷ es) all = by (holds r e.0 e.1) refl (told_for_router r es all.1)
+      where
+        by : (chosen : Bool) → holds r e.0 e.1 ≡ chosen → told_for (router_changes holds c d r es) ≡ told_from r (router_sends c d r es) f t → (told_if r e es) (holds r e.0 e.1) ≡ told_from r (cell_sends c d r e.0 e.1 ++ router_sends c d r es) f t
+        by true is rest =
+            ap (told_if r e es) is
+            ∙ ap (λ l. told_from r (cell_sends c d r e.0 e.1) f t ++ l) rest
+            ∙ sym (told_if_append (same_addr f r) (cell_sends c d r e.0 e.1) (router_sends c d r es))
+        by false is rest =
+            ap (told_if r e es) is
+            ∙ rest
+            ∙ ap (λ l. told_from r (l ++ router_sends c d r es) f t) (sym (all.0 is))
+
+    -- and for those of all routers what all send
+    told_for_all : (ts : List (Addr × Table Heard)) → AllByRecursion (λ x. AllByRecursion (IsSilent x.0) (finite.entries x.1)) ts → told_for (changes_where holds Network c d ts) ≡ told_by_all (all_sends c d ts) f t
+    told_for_all [] all = refl
+    told_for_all (x ∷ xs) all =
+        told_for_append (router_changes holds c d x.0 (finite.entries x.1)) (changes_where holds Network c d xs)
+        ∙ (λ i. told_for_router x.0 (finite.entries x.1) all.0 i ++ told_for_all xs all.1 i)
+
+    abbrev changes_of_cell : Addr → Block → Option Heard → List Change
+    changes_of_cell r p x = router_changes holds c d r (option_to_list (option_map (λ h. (p, h)) x))
+
+    -- for the change of one cell, if there is one, what its router sends for that
+    told_for_cell : (r : Addr) (p : Block) (x : Option Heard) → ((h : Heard) → x ≡ Some h → IsSilent r (p, h)) → told_for (changes_of_cell r p x) ≡ told_from r (chunk (cell_sends c d r) p x) f t
+    told_for_cell r p None silent = sym (nothing_if (same_addr f r))
+    told_for_cell r p (Some h) silent = told_for_router r ((p, h) ∷ []) (silent h refl, tt) ∙ ap (λ l. told_from r l f t) (append-nil (cell_sends c d r p h))
 
 module _ (s : Scope) (c d : Configuration) (ts : List (Addr × Table Heard)) (sorted : IsTrue (entries.is_sorted addr_cmp ts)) (settled : AreSettledOutside s c d ts) where
   abbrev cells_of : Addr → List (Block × Heard)
@@ -129,15 +149,28 @@ module _ (s : Scope) (c d : Configuration) (ts : List (Addr × Table Heard)) (so
         alone (cell_sends c d a) p (cells_of a) (cells_sorted a) silent
         ∙ ap (chunk (cell_sends c d a) p) (sym (finite.get-entries (table_at a ts) p))
 
+module _ (holds : Choice) (s : Scope) (c d : Configuration) (ts : List (Addr × Table Heard)) (sorted : IsTrue (entries.is_sorted addr_cmp ts)) (outside : AreSettledOutside s c d ts) (settled : AreSettledBut holds c d ts) (f t : Addr) where
+  silent_cells : (r : Addr) (table : Table Heard) → table_at r ts ≡ table → AllByRecursion (IsSilent c d f t holds r) (finite.entries table)
+  silent_cells r table at =
+      all_from (λ x. entries.find block_cmp x.0 (finite.entries table) ≡ Some x.1) (IsSilent c d f t holds r)
+      (λ x found off. (settled r x.0 x.1 (ap (λ y. finite.get y x.0) at ∙ finite.get-entries table x.0 ∙ found) off).silent)
+      (finite.entries table) (found_each block_total (finite.entries table) (of_T _ (finite.entries_sorted table)))
+
+  silent_tables : AllByRecursion (λ x. AllByRecursion (IsSilent c d f t holds x.0) (finite.entries x.1)) ts
+  silent_tables =
+      all_from (λ x. entries.find addr_cmp x.0 ts ≡ Some x.1) (λ x. AllByRecursion (IsSilent c d f t holds x.0) (finite.entries x.1))
+      (λ x found. silent_cells x.0 x.1 (ap (λ o. unwrap_or o finite.empty) found))
+      ts (found_each addr_total ts sorted)
+
 -- for the changes each peer is told what it is told by all
-pub told_by_changes : (s : Scope) (c d : Configuration) (ts : List (Addr × Table Heard)) → IsTrue (entries.is_sorted addr_cmp ts) → AreSettledOutside s c d ts → (f t : Addr) → told_by_all (sends_for (changes_in s c d ts)) f t ≡ told_by_all (all_sends c d ts) f t
-told_by_changes Network c d ts sorted settled f t = told_for_all c d f t ts
-told_by_changes (Site a) c d ts sorted settled f t =
-    told_for_router c d f t a (finite.entries (table_at a ts))
-    ∙ told_by_one (Site a) c d ts sorted settled a (λ r p other. other) f t
-told_by_changes (Route a p) c d ts sorted settled f t =
+pub told_by_changes : (holds : Choice) (s : Scope) (c d : Configuration) (ts : List (Addr × Table Heard)) → IsTrue (entries.is_sorted addr_cmp ts) → AreSettledOutside s c d ts → AreSettledBut holds c d ts → (f t : Addr) → told_by_all (sends_for (changes_where holds s c d ts)) f t ≡ told_by_all (all_sends c d ts) f t
+told_by_changes holds Network c d ts sorted outside settled f t = told_for_all c d f t holds ts (silent_tables holds Network c d ts sorted outside settled f t)
+told_by_changes holds (Site a) c d ts sorted outside settled f t =
+    told_for_router c d f t holds a (finite.entries (table_at a ts)) (silent_cells holds (Site a) c d ts sorted outside settled f t a (table_at a ts) refl)
+    ∙ told_by_one (Site a) c d ts sorted outside a (λ r p other. other) f t
+told_by_changes holds (Route a p) c d ts sorted outside settled f t =
     let out_of_router : (r : Addr) (q : Block) → same_addr r a ≡ false → is_in (Route a p) r q ≡ false = λ r q other. ap (λ b. b && same_block q p) other in
     let out_of_cell : (q : Block) → same_block q p ≡ false → is_in (Route a p) a q ≡ false = λ q other. and_right (same_addr a a) (same_block q p) other in
-    told_for_cell c d f t a p (value_at a p ts)
-    ∙ ap (λ sends. told_from a sends f t) (sym (sent_for_one (Route a p) c d ts sorted settled a p out_of_cell))
-    ∙ told_by_one (Route a p) c d ts sorted settled a out_of_router f t
+    told_for_cell c d f t holds a p (value_at a p ts) (λ h at off. (settled a p h at off).silent)
+    ∙ ap (λ sends. told_from a sends f t) (sym (sent_for_one (Route a p) c d ts sorted outside a p out_of_cell))
+    ∙ told_by_one (Route a p) c d ts sorted outside a out_of_router f t

@@ -1,5 +1,5 @@
 -- What an edit changes of an engine's tables, cell by cell, and what is sent for that.
-use Rattle.std.specs.Prelude.{◌≡◌, List, [], ◌∷◌, map, option_map}
+use Rattle.std.specs.Prelude.{◌≡◌, Bool, List, [], ◌∷◌, map, filter, option_map}
 use Rattle.std.specs.Option.{option_to_list}
 use Rattle.std.specs.List.{flat_map}
 use Rattle.std.specs.FinMap as finite
@@ -15,6 +15,7 @@ use Rattle.route_cell.specs.Cells.{Heard, Outcome}
 use Rattle.cell_network.specs.Engine.{heard_at}
 use Rattle.cell_network.specs.Keeping.{kept_from, kept_cell}
 use Rattle.cell_network.specs.Editing.{cell_sends}
+use Rattle.cell_network.specs.Moves.{moves}
 
 -- a cell that is decided anew: its router and prefix, and what comes of it
 pub record Change : Type 0 where
@@ -26,15 +27,23 @@ pub record Change : Type 0 where
 abbrev pub cell_change : Configuration → Configuration → Addr → Block → Heard → Change
 cell_change c d r p h = record { router = r; prefix = p; outcome = record { heard = kept_cell d r p h; sends = cell_sends c d r p h } }
 
--- the router's cells, in order of prefix
-abbrev pub router_changes : Configuration → Configuration → Addr → List (Block × Heard) → List Change
-router_changes c d r cells = map (λ e. cell_change c d r e.0 e.1) cells
+-- a cell is decided anew, or not
+abbrev pub Choice : Type 0
+Choice = Addr → Block → Heard → Bool
+
+-- the router's cells that are, in order of prefix
+abbrev pub router_changes : Choice → Configuration → Configuration → Addr → List (Block × Heard) → List Change
+router_changes holds c d r cells = map (λ e. cell_change c d r e.0 e.1) (filter (λ e. holds r e.0 e.1) cells)
 
 -- those that an edit of this scope can change, in order of router, then prefix
+abbrev pub changes_where : Choice → Scope → Configuration → Configuration → List (Addr × Table Heard) → List Change
+changes_where holds Network c d ts = flat_map (λ t. router_changes holds c d t.0 (finite.entries t.1)) ts
+changes_where holds (Site a) c d ts = router_changes holds c d a (finite.entries (table_at a ts))
+changes_where holds (Route a p) c d ts = router_changes holds c d a (option_to_list (option_map (λ h. (p, h)) (value_at a p ts)))
+
+-- of these the ones that it changes
 abbrev pub changes_in : Scope → Configuration → Configuration → List (Addr × Table Heard) → List Change
-changes_in Network c d ts = flat_map (λ t. router_changes c d t.0 (finite.entries t.1)) ts
-changes_in (Site a) c d ts = router_changes c d a (finite.entries (table_at a ts))
-changes_in (Route a p) c d ts = option_to_list (option_map (cell_change c d a p) (value_at a p ts))
+changes_in s c d ts = changes_where (moves c d) s c d ts
 
 -- the tables, with each changed cell in its place
 abbrev pub with_changes : List Change → List (Addr × Table Heard) → List (Addr × Table Heard)

@@ -5,3 +5,5 @@ pub mod Keeping
 pub mod Reporting
 pub mod Sending
 pub mod Settled
+pub mod Moves
+pub mod Decisions

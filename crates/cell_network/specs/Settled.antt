@@ -12,7 +12,7 @@ use Rattle.router_tables.specs.RouterTables.{value_at}
 use Rattle.route_cell.specs.Cells.{Heard}
 use Rattle.cell_network.specs.Keeping.{kept_cell}
 use Rattle.cell_network.specs.Editing.{cell_sends}
-use Rattle.cell_network.specs.Changes.{Change}
+use Rattle.cell_network.specs.Changes.{Change, Choice}
 
 -- it is the same when the configuration c becomes d, and nothing is sent
 pub record IsSettled (c d : Configuration) (r : Addr) (p : Block) (h : Heard) : Type 0 where
@@ -28,6 +28,10 @@ is_in (Route a q) r p = same_addr r a && same_block p q
 -- all cells that it cannot change are settled
 abbrev pub AreSettledOutside : Scope → Configuration → Configuration → List (Addr × Table Heard) → Type 0
 AreSettledOutside s c d ts = (r : Addr) (p : Block) (h : Heard) → value_at r p ts ≡ Some h → is_in s r p ≡ false → IsSettled c d r p h
+
+-- and so are all that are not chosen
+abbrev pub AreSettledBut : Choice → Configuration → Configuration → List (Addr × Table Heard) → Type 0
+AreSettledBut holds c d ts = (r : Addr) (p : Block) (h : Heard) → value_at r p ts ≡ Some h → holds r p h ≡ false → IsSettled c d r p h
 
 -- there is a cell for each of the changes
 abbrev pub AreThere : List Change → List (Addr × Table Heard) → Type 0

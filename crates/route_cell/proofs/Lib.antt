@@ -2,5 +2,6 @@ pub mod Entries
 mod Lists
 pub mod Outcomes
 pub mod Senders
-mod Taken
-mod Unchanged
+pub mod Taken
+pub mod Unchanged
+mod MoveTests

@@ -75,7 +75,7 @@ added_first m (Some e) es = refl
 
 module _ (site : SiteConf) (p : Block) where
   -- the standing of a route over the session
-  abbrev stood : SiteSession → Option Attr → Option Standing
+  abbrev pub stood : SiteSession → Option Attr → Option Standing
   stood x a = option_map (λ (e : Source × Standing). e.1) (standing_over site p x a)
 
   put_by_up : (up : Bool) (u : Addr) (v : Standing) (m : Standings) (q : Source) → finite.get (added m (option_to_list (cond up (Some (FromPeer u, v)) None))) q ≡ cond (eq_by_cmp source_cmp q (FromPeer u)) (option_or (option_map (λ (e : Source × Standing). e.1) (cond up (Some (FromPeer u, v)) None)) (finite.get m q)) (finite.get m q)
@@ -97,7 +97,7 @@ module _ (site : SiteConf) (p : Block) where
   restood x attr (Some before) = restood_by_up x.up x.peer (peer_standing site p x attr) (peer_standing site p x before)
 
   -- the standing of this route over a session that may be there, or else what was there
-  abbrev stood_or : Option SiteSession → (Addr → Option Attr) → Option Standing → Option Standing
+  abbrev pub stood_or : Option SiteSession → (Addr → Option Attr) → Option Standing → Option Standing
   stood_or None route was = was
   stood_or (Some x) route was = option_or (stood x (route x.peer)) was
 

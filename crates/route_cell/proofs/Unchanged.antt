@@ -42,7 +42,7 @@ found_later : (x : SiteSession) (whole ys : List SiteSession) → AllByRecursion
 found_later x whole [] later all = tt
 found_later x whole (y ∷ ys) later all = (ap (λ b. cond b (Some x) (session_in whole y.peer)) (apart x.peer y.peer later.0) ∙ all.0, found_later x whole ys later.1 all.1)
 
-each_found : (xs : List SiteSession) → ArePeersInOrder xs → AllByRecursion (λ x. session_in xs x.peer ≡ Some x) xs
+pub each_found : (xs : List SiteSession) → ArePeersInOrder xs → AllByRecursion (λ x. session_in xs x.peer ≡ Some x) xs
 unfolding IsStrictlySortedBy
 each_found [] h = tt
 each_found (x ∷ xs) h =

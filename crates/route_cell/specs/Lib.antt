@@ -2,3 +2,5 @@ pub mod Cells
 pub mod Coding
 pub mod Senders
 pub mod Updates
+pub mod Moves
+pub mod MoveTests

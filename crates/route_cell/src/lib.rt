@@ -4,6 +4,7 @@
 mod cell;
 mod changes;
 mod keeping;
+mod moves;
 mod outcome;
 mod received_routes;
 mod sends;
@@ -12,4 +13,5 @@ mod standings;
 pub use cell::Cell;
 pub use changes::{deliver, refresh, store};
 pub use keeping::keep;
+pub use moves::SiteChange;
 pub use outcome::Outcome;

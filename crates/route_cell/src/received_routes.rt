@@ -102,6 +102,13 @@ impl ReceivedRoutes {
         })
     }
 
+    /// The senders with their routes, by sender.
+    pub(crate) fn routes(&self) -> &[(Addr, Attr)]
+        ensures { result.now ≡ self.now }
+    {
+        &self.routes
+    }
+
     /// The route of this sender.
     pub(crate) fn route_of(&self, sender: Addr) -> Option<&Attr>
         ensures { option_copied result ≡ route_of self.now sender }
