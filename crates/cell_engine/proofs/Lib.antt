@@ -1,9 +1,8 @@
 pub mod Counts
 pub mod Delivered
 pub mod Growth
-pub mod Joined
 pub mod Placing
 pub mod Reconfigured
+pub mod Redecided
 pub mod Remade
-pub mod Renewed
 pub mod Walks

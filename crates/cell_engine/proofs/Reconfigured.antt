@@ -1,6 +1,6 @@
 -- An edit's plan carried out: queues over sessions that are not up cleared, the plan's parts put in and its messages sent are the
 -- machine's own next state, and the engine stays sound.
-use Rattle.std.proofs.Common.{◌≡◌, Bool, true, false, [], ◌++◌, None, if◌then◌else◌, refl, sym, ap, subst, ◌∙◌}
+use Rattle.std.proofs.Common.{◌≡◌, Bool, true, false, [], ◌++◌, None, unwrap_or, if◌then◌else◌, refl, sym, ap, subst, ◌∙◌}
 use Rattle.std.specs.List.{list_any}
 use Rattle.net_prefix.specs.declared.addr.Addr.{Addr}
 use Rattle.session_queue.specs.declared.direction.Direction.{Direction}
@@ -14,16 +14,20 @@ use Rattle.net_conf.specs.Scopes.{scope}
 use Rattle.net_conf.proofs.OthersStay.{sites_of_others, sessions_stay, origins_alone, other_origins}
 use Rattle.reference_machine.specs.Advertising.{sent}
 use Rattle.reference_machine.specs.Machine.{after_edit, with_sent, reconfigured}
+use Rattle.route_cell.specs.Cells.{nothing_heard}
 use Rattle.cell_network.specs.Engine.{Engine, IsSound, network, is_direction}
-use Rattle.cell_network.specs.Keeping.{kept_tables}
+use Rattle.cell_network.specs.Keeping.{kept_from, kept_tables}
 use Rattle.cell_network.specs.Editing.{with_origin, left_at, edited_tables, edited_engine, all_sends, told_by_all}
 use Rattle.cell_network.specs.Changes.{with_changes, sends_for, AreOverSessionsUp}
-use Rattle.cell_network.specs.Settled.{AreSettledOutside, AreThere}
+use Rattle.cell_network.specs.Moves.{moves}
+use Rattle.cell_network.specs.Settled.{AreSettledOutside, AreSettledBut, AreThere}
 use Rattle.cell_network.specs.Reporting.{AreOfPrefixes}
 use Rattle.cell_network.proofs.Edited.{sound_edited}
 use Rattle.cell_network.proofs.Matches.{prefixes_kept}
 use Rattle.cell_network.proofs.Placed.{changes_there, changes_placed}
 use Rattle.cell_network.proofs.ToldByChanges.{told_by_changes}
+use Rattle.cell_network.proofs.Decided.{is_cell}
+use Rattle.cell_network.proofs.Moves.{settled_but_moved}
 use Rattle.cell_network.proofs.Settled.{settled_outside}
 use Rattle.cell_network.proofs.OverSessions.{up_after}
 use Rattle.cell_network.proofs.Refreshed.{told_edited, network_edited}
@@ -60,16 +64,23 @@ module _ (e : Engine) (sound : IsSound e) (configured : IsConfigured e.conf) (up
   abbrev new : Configuration
   new = edited e.conf edit
 
-  settled : AreSettledOutside (scope edit) e.conf new e.tables
+  pub settled : AreSettledOutside (scope edit) e.conf new e.tables
   settled = settled_outside sites_of_others sessions_stay origins_alone other_origins e sound configured edit up
 
+  -- and so is each cell that the edit cannot change
+  pub unmoved : AreSettledBut (moves e.conf new) e.conf new e.tables
+  unmoved r p h at off =
+      settled_but_moved e.conf new configured r p h
+      (subst (λ x. kept_from e.conf r (unwrap_or x nothing_heard).received ≡ (unwrap_or x nothing_heard).received) at (up r p))
+      (is_cell e sound r p h at).decided off
+
   -- with the changes in their places, each cell is decided anew
-  tables_are : with_changes (planned e edit).changes e.tables ≡ kept_tables new e.tables
-  tables_are = changes_placed (scope edit) e.conf new e.tables sound.by_address settled
+  pub tables_are : with_changes (planned e edit).changes e.tables ≡ kept_tables new e.tables
+  tables_are = changes_placed (moves e.conf new) (scope edit) e.conf new e.tables sound.by_address settled unmoved
 
   -- each has a cell already
   pub plan_there : (x : Planned) → IsPlanned e edit x → AreThere x.changes e.tables
-  plan_there x is = subst (λ (y : Planned). AreThere y.changes e.tables) (sym is.plan) (changes_there (scope edit) e.conf new e.tables sound.by_address)
+  plan_there x is = subst (λ (y : Planned). AreThere y.changes e.tables) (sym is.plan) (changes_there (moves e.conf new) (scope edit) e.conf new e.tables sound.by_address)
 
   -- all routes in the tables come over sessions that are up then
   pub plan_over_sessions_up : (x : Planned) → IsPlanned e edit x → AreOverSessionsUp x.conf (with_changes x.changes e.tables)
@@ -92,7 +103,7 @@ module _ (e : Engine) (sound : IsSound e) (configured : IsConfigured e.conf) (up
 
     all_told : (f t : Addr) → told_by_all (sends_for (planned e edit).changes) f t ≡ told_by_all (all_sends e.conf new (with_origin edit e.tables)) f t
     all_told f t =
-        told_by_changes (scope edit) e.conf new e.tables sound.by_address settled f t
+        told_by_changes (moves e.conf new) (scope edit) e.conf new e.tables sound.by_address settled unmoved f t
         ∙ ap (λ ts. told_by_all (all_sends e.conf new ts) f t) (sym origin)
 
     follows : Follows (planned e edit)

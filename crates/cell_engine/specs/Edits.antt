@@ -1,9 +1,12 @@
 -- What the engine does with an edit, beside the network: what it plans before it changes anything, and the places that it needs
 -- before it can change without memory.
-use Rattle.std.specs.Prelude.{◌≡◌, ◌≤◌, List, length, None}
+use Rattle.std.specs.Prelude.{◌≡◌, ◌≤◌, ℕ, Bool, true, false, List, map, filter, length, Option, Some, None, is_some}
+use Rattle.net_conf.specs.declared.tables.Kind.{Kind}
+use Rattle.net_conf.specs.declared.tables.Kind.TheVariants.{Router, Virtual}
 use Rattle.net_prefix.specs.declared.addr.Addr.{Addr}
+use Rattle.net_prefix.specs.Block.{Block}
+use Rattle.net_conf.specs.RouterSites.{router_site}
 use Rattle.net_conf.specs.declared.edit.Edit.{Edit}
-use Rattle.net_conf.specs.declared.edit.Scope.{Scope}
 use Rattle.net_conf.specs.Configuration.{Configuration}
 use Rattle.net_conf.specs.Edits.{edited, refusal_of}
 use Rattle.net_conf.specs.Scopes.{scope}
@@ -13,10 +16,9 @@ use Rattle.cell_network.specs.Engine.{Engine}
 use Rattle.cell_network.specs.Editing.{with_directions, with_origin, told_by_all}
 use Rattle.cell_network.specs.Changes.{Change, changes_in, sends_for}
 
--- how much can change; what will be configured; the directions for that; and the cells that are decided anew, with what each router
+-- what will be configured; the directions for that; and the cells that are decided anew, with what each router
 -- sends for that
 pub record Planned : Type 0 where
-  pub scope : Scope
   pub conf : Configuration
   pub directions : List Direction
   pub changes : List Change
@@ -24,7 +26,6 @@ pub record Planned : Type 0 where
 -- what the edit makes of an engine
 abbrev pub planned : Engine → Edit → Planned
 planned e edit = record {
-  scope = scope edit;
   conf = edited e.conf edit;
   directions = with_directions edit e.directions;
   changes = changes_in (scope edit) e.conf (edited e.conf edit) e.tables;
@@ -44,3 +45,13 @@ pub record IsOfEdit (e : Engine) (x : Planned) : Type 0 where
 -- each message that will be sent has a place in its queue
 abbrev pub HasPlaces : Engine → Planned → Type 0
 HasPlaces e x = (f t : Addr) → length (told_by_all (sends_for x.changes) f t) ≤ spare_at e.queues f t
+
+-- the cells of routers among those that are decided anew: a virtual peer decides nothing
+abbrev pub refreshed_by : Planned → List (Addr × Block)
+refreshed_by x = map (λ y. (y.router, y.prefix)) (filter (λ y. is_some (router_site x.conf y.router)) x.changes)
+
+-- what stands somewhere is a router
+abbrev pub has_router_kind : Option (ℕ × Kind) → Bool
+has_router_kind None = false
+has_router_kind (Some (asn, Router)) = true
+has_router_kind (Some (asn, Virtual)) = false

@@ -3,4 +3,3 @@ pub mod Coding
 pub mod Counts
 pub mod Deliveries
 pub mod Edits
-pub mod Sites

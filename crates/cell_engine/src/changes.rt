@@ -1,32 +1,29 @@
 //! The cells that an edit decides anew.
 
 ghost use Rattle.std.specs.Prelude.{◌≡◌, ◌≤◌, ◌++◌, ◌∷◌, [], length, IfOk, OnOk};
-ghost use Rattle.std.specs.Option.{option_copied};
 ghost use Rattle.std.specs.FinMap as finite;
-ghost use Rattle.net_conf.specs.RouterSites.{router_site};
+ghost use Rattle.net_conf.specs.Concerned.{ConcernsAlone};
 ghost use Rattle.net_conf.specs.declared.edit.Scope.TheVariants.{Network, Site, Route};
 ghost use Rattle.session_queue.specs.Waiting.{queue_at, spare_at};
 ghost use Rattle.router_tables.specs.RouterTables.{table_at};
-ghost use Rattle.cell_network.specs.Keeping.{kept_cell};
-ghost use Rattle.cell_network.specs.Editing.{sends_between, told_by_all};
+ghost use Rattle.cell_network.specs.Editing.{told_by_all};
 ghost use Rattle.cell_network.specs.Changes.{router_changes, changes_in, with_changes, sends_for};
 ghost use Rattle.cell_network.specs.Settled.{AreThere};
-ghost use Rattle.cell_engine.specs.Changes.{change_between, table_changes};
-ghost use Rattle.cell_engine.specs.Sites.{sites_kept};
+ghost use Rattle.cell_network.specs.Moves.{moves};
 
+use crate::becoming::Becoming;
 use crate::deliveries::push_all;
-use crate::sites::{made_site, site_in};
 use crate::state::State;
-use net_conf::{Conf, SiteConf};
+use net_conf::Conf;
 use net_prefix::{Addr, Prefix};
 use prefix_table::PrefixTable;
-use route_cell::{Cell, Outcome, keep, refresh};
+use route_cell::{Cell, Outcome};
 use route_select::Selector;
 use router_tables::RouterTables;
 use seq::Seq;
-use session_queue::{Direction, Queues};
+use session_queue::Queues;
 use std::alloc::{AllocError, Global};
-use std::collections::BTreeMap;
+use std::collections::BTreeSet;
 use std::marker::Model;
 
 /// A cell that is decided anew, and what its router sends for that.
@@ -46,76 +43,6 @@ impl<S: Selector> Model for Change<S> {
     ghost coded = { coded_change };
 
     ghost view = { λ x. record { router = x.router; prefix = x.prefix; outcome = x.outcome } };
-}
-
-/// The cell when the configuration becomes this one, and what is sent for that. A router decides by its new site, and sends what
-/// changed against its old one; a virtual peer keeps what came over sessions that are up.
-fn remade_cell<S: Selector + Drop>(
-    alloc: Global,
-    conf: &Conf,
-    old: Option<&SiteConf>,
-    new: Option<&SiteConf>,
-    router: Addr,
-    prefix: Prefix,
-    cell: &Cell<S>,
-) -> Result<Outcome<S>, AllocError>
-    requires { option_copied new ≡ router_site conf.now router }
-    ensures { IfOk result (λ made. made ≡ record { heard = kept_cell conf.now router prefix cell.now; sends = sends_between (option_copied old.entry) (option_copied new.entry) prefix cell.now }) }
-{
-    match new {
-        Some(site) => refresh(alloc, old.unwrap_or(site), site, prefix, cell),
-        None => Ok(Outcome {
-            cell: keep(alloc, conf, router, cell)?,
-            sends: Vec::new(alloc),
-        }),
-    }
-}
-
-/// Adds the router's cell of the prefix, decided anew.
-fn add_change<S: Selector + Drop>(
-    alloc: Global,
-    changes: &mut Seq<Change<S>>,
-    conf: &Conf,
-    old: Option<&SiteConf>,
-    new: Option<&SiteConf>,
-    router: Addr,
-    prefix: Prefix,
-    cell: &Cell<S>,
-) -> Result<(), AllocError>
-    requires { option_copied new ≡ router_site conf.now router }
-    ensures { OnOk result (changes.new ≡ changes.old ++ change_between (option_copied old.entry) (option_copied new.entry) conf.now router prefix cell.now ∷ []) }
-{
-    let outcome = remade_cell(alloc, conf, old, new, router, prefix, cell)?;
-    changes.push(Change {
-        router,
-        prefix,
-        outcome,
-    })
-}
-
-/// Adds all cells of the router's table, decided anew, by prefix.
-fn add_table<S: Selector + Drop, T: PrefixTable<Cell<S>>>(
-    alloc: Global,
-    changes: &mut Seq<Change<S>>,
-    conf: &Conf,
-    old: Option<&SiteConf>,
-    new: Option<&SiteConf>,
-    router: Addr,
-    table: &T,
-) -> Result<(), AllocError>
-    requires { option_copied new ≡ router_site conf.now router }
-    ensures { OnOk result (changes.new ≡ changes.old ++ table_changes (option_copied old.entry) (option_copied new.entry) conf.now router (finite.entries (T.table table.now))) }
-{
-    let mut after = None;
-    'walk: loop {
-        match table.next_after(after) {
-            None => return Ok(()),
-            Some(entry) => {
-                add_change(alloc, changes, conf, old, new, router, entry.0, entry.1)?;
-                after = Some(entry.0);
-            }
-        }
-    }
 }
 
 /// Puts each changed cell in its place, and sends what its router sends for that. It takes no memory.
@@ -145,50 +72,51 @@ pub(crate) fn place_changes<S: Selector + Drop, T: PrefixTable<Cell<S>> + Drop>(
 }
 
 impl<S: Selector + Drop, T: PrefixTable<Cell<S>> + Drop> State<S, T> {
-    /// Adds all cells of the router, decided anew when the configuration becomes this one, by prefix.
+    /// Adds the cells of the router that can change, decided anew when the configuration becomes this one, by prefix.
     fn add_router(
         &self,
         changes: &mut Seq<Change<S>>,
         conf: &Conf,
-        new: Option<&SiteConf>,
         router: Addr,
     ) -> Result<(), AllocError>
-        requires { option_copied new ≡ router_site conf.now router }
-        ensures { OnOk result (changes.new ≡ changes.old ++ router_changes self.now.conf conf.now router (finite.entries (table_at router self.now.tables))) }
+        ensures { OnOk result (changes.new ≡ changes.old ++ router_changes (moves self.now.conf conf.now) self.now.conf conf.now router (finite.entries (table_at router self.now.tables))) }
     {
         let Some(table) = self.table(router) else {
             return Ok(());
         };
         let before = self.made_site(router)?;
+        let after = conf.made_site(self.alloc, router)?;
         let old = self.site(router, &before);
-        add_table(self.alloc, changes, conf, old, new, router, table)
+        let new = conf.site_in(&after, router);
+        Becoming::of(conf, router, old, new).add_table(self.alloc, changes, table)
     }
 
-    /// Adds the cells of the router, decided anew when the configuration becomes this one, with these sites.
-    fn add_changes(
+    /// Adds the cells of the router that can change, if the edit concerns it.
+    fn add_if_concerned(
         &self,
         changes: &mut Seq<Change<S>>,
         conf: &Conf,
-        directions: &[Direction],
-        sites: &BTreeMap<Addr, SiteConf>,
+        concerned: &BTreeSet<Addr>,
         router: Addr,
     ) -> Result<(), AllocError>
-        requires { sites.now.entries ≡ sites_kept directions.now conf.now }
-        ensures { OnOk result (changes.new ≡ changes.old ++ router_changes self.now.conf conf.now router (finite.entries (table_at router self.now.tables))) }
+        requires { ConcernsAlone self.now.conf conf.now concerned.now.keys }
+        ensures { OnOk result (changes.new ≡ changes.old ++ router_changes (moves self.now.conf conf.now) self.now.conf conf.now router (finite.entries (table_at router self.now.tables))) }
     {
-        let made = made_site(self.alloc, conf, directions, router)?;
-        let new = site_in(conf, directions, sites, &made, router);
-        self.add_router(changes, conf, new, router)
+        self.facts();
+        if !concerned.contains(&router) {
+            return Ok(());
+        }
+        self.add_router(changes, conf, router)
     }
 
-    /// All cells, decided anew when the configuration becomes this one, by router and prefix.
+    /// The cells that can change, decided anew when the configuration becomes this one, by router and prefix. The edit concerns
+    /// these alone.
     pub(crate) fn network_changes(
         &self,
         conf: &Conf,
-        directions: &[Direction],
-        sites: &BTreeMap<Addr, SiteConf>,
+        concerned: &BTreeSet<Addr>,
     ) -> Result<Seq<Change<S>>, AllocError>
-        requires { sites.now.entries ≡ sites_kept directions.now conf.now }
+        requires { ConcernsAlone self.now.conf conf.now concerned.now.keys }
         ensures { IfOk result (λ changes. changes ≡ changes_in Network self.now.conf conf.now self.now.tables) }
     {
         self.facts();
@@ -198,37 +126,33 @@ impl<S: Selector + Drop, T: PrefixTable<Cell<S>> + Drop> State<S, T> {
             match self.next_table(past) {
                 None => return Ok(changes),
                 Some(router) => {
-                    self.add_changes(&mut changes, conf, directions, sites, router)?;
+                    self.add_if_concerned(&mut changes, conf, concerned, router)?;
                     past = Some(router);
                 }
             }
         }
     }
 
-    /// The cells of the router, decided anew when the configuration becomes this one, and its site this.
+    /// The cells of the router that can change, decided anew when the configuration becomes this one.
     pub(crate) fn site_changes(
         &self,
         conf: &Conf,
-        new: Option<&SiteConf>,
         router: Addr,
     ) -> Result<Seq<Change<S>>, AllocError>
-        requires { option_copied new ≡ router_site conf.now router }
         ensures { IfOk result (λ changes. changes ≡ changes_in (Site router) self.now.conf conf.now self.now.tables) }
     {
         let mut changes = Seq::new(self.alloc);
-        self.add_router(&mut changes, conf, new, router)?;
+        self.add_router(&mut changes, conf, router)?;
         Ok(changes)
     }
 
-    /// The cell of the router and prefix, decided anew when the configuration becomes this one, and the router's site this.
+    /// The cell of the router and prefix, where it can change, decided anew when the configuration becomes this one.
     pub(crate) fn route_changes(
         &self,
         conf: &Conf,
-        new: Option<&SiteConf>,
         router: Addr,
         prefix: Prefix,
     ) -> Result<Seq<Change<S>>, AllocError>
-        requires { option_copied new ≡ router_site conf.now router }
         ensures { IfOk result (λ changes. changes ≡ changes_in (Route router prefix) self.now.conf conf.now self.now.tables) }
     {
         let mut changes = Seq::new(self.alloc);
@@ -236,17 +160,10 @@ impl<S: Selector + Drop, T: PrefixTable<Cell<S>> + Drop> State<S, T> {
             return Ok(changes);
         };
         let before = self.made_site(router)?;
+        let after = conf.made_site(self.alloc, router)?;
         let old = self.site(router, &before);
-        add_change(
-            self.alloc,
-            &mut changes,
-            conf,
-            old,
-            new,
-            router,
-            prefix,
-            cell,
-        )?;
+        let new = conf.site_in(&after, router);
+        Becoming::of(conf, router, old, new).add_cell(self.alloc, &mut changes, prefix, cell)?;
         Ok(changes)
     }
 }

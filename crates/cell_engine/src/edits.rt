@@ -1,12 +1,11 @@
 //! What the engine does with an edit: first all that takes memory, beside the state; then the change, which takes none.
 
-ghost use Rattle.std.specs.Prelude.{◌≡◌, ◌++◌, None, [], true, false, filter, IfOk, OnOk};
+ghost use Rattle.std.specs.Prelude.{◌≡◌, ◌++◌, None, [], true, false, map, filter, is_some, IfOk, OnOk};
 ghost use Rattle.std.specs.List.{list_any};
 ghost use Rattle.std.specs.List.Sorted.{IsStrictlySortedBy};
 ghost use Rattle.std.specs.Ordering.{is_lt, is_gt};
 ghost use Rattle.net_conf.specs.Costs.{is_up};
 ghost use Rattle.net_conf.specs.Edits.{refusal_of};
-ghost use Rattle.net_conf.specs.Scopes.{router_in};
 ghost use Rattle.net_conf.specs.declared.edit.Scope.TheVariants.{Network, Site, Route};
 ghost use Rattle.std.specs.BTreeSet.{insert_key};
 ghost use Rattle.session_queue.specs.Waiting.{direction_cmp, queue_at, spare_at};
@@ -15,22 +14,21 @@ ghost use Rattle.cell_network.specs.Engine.{network, is_direction};
 ghost use Rattle.cell_network.specs.Changes.{changes_in};
 ghost use Rattle.cell_network.specs.Editing.{with_directions, with_origin};
 ghost use Rattle.cell_engine.specs.Deliveries.{KeepsSame};
-ghost use Rattle.cell_engine.specs.Edits.{planned, IsPlanned, IsOfEdit, HasPlaces};
-ghost use Rattle.cell_engine.specs.Sites.{AreMade};
+ghost use Rattle.net_conf.specs.RouterSites.{router_site};
+ghost use Rattle.cell_engine.specs.Edits.{planned, IsPlanned, IsOfEdit, HasPlaces, refreshed_by, has_router_kind};
 
 use crate::changes::{Change, place_changes};
 use crate::places::reserve_each;
-use crate::sites::{kept_sites, renew_sites, site_to_keep};
 use crate::state::State;
-use net_conf::{Conf, Edit, Scope, SiteConf};
+use net_conf::{Conf, Edit, EditedConf, Kind, Scope};
 use net_prefix::{Addr, Prefix};
+use path_attr::Asn;
 use prefix_table::PrefixTable;
 use route_cell::Cell;
 use route_select::Selector;
 use seq::Seq;
 use session_queue::{Direction, Queues};
 use std::alloc::{AllocError, Global};
-use std::collections::BTreeMap;
 use std::marker::Model;
 
 /// What an edit will do: the configuration that it makes, the directions for that, and the cells that are decided anew, with what
@@ -43,30 +41,62 @@ pub struct Edited<S: Selector> {
 /// The parts of what an edit will do.
 #[derive(Drop)]
 struct Parts<S: Selector> {
-    scope: Scope,
     conf: Conf,
     directions: Seq<Direction>,
-    /// Those that will be kept beside the configuration, where those of more than one router may change.
-    sites: BTreeMap<Addr, SiteConf>,
-    /// The one that changes, where it is one and is kept.
-    site: Option<SiteConf>,
     changes: Seq<Change<S>>,
 }
 
 impl<S: Selector> Model for Edited<S> {
     ghost use Rattle.std.specs.Coded.{codes};
-    ghost use Rattle.net_conf.specs.Scopes.{router_in};
     ghost use Rattle.cell_engine.specs.Coding.{coded_change};
     ghost use Rattle.cell_engine.specs.Edits.{Planned};
-    ghost use Rattle.cell_engine.specs.Sites.{AreMade};
 
     ghost Value = { Planned };
 
     ghost coded = { Prim.hlevel (codes, coded_change) };
 
-    ghost view = { λ x. record { scope = x.parts.value.scope; conf = x.parts.value.conf; directions = x.parts.value.directions; changes = x.parts.value.changes } };
+    ghost view = { λ x. record { conf = x.parts.value.conf; directions = x.parts.value.directions; changes = x.parts.value.changes } };
+}
 
-    ghost invariant = { λ x. AreMade (router_in x.parts.value.scope) x.parts.value.directions x.parts.value.conf x.parts.value.sites.entries x.parts.value.site };
+impl<S: Selector> Edited<S> {
+    /// The cells that are decided anew, by router, then prefix. A virtual peer's is none of them: it decides nothing.
+    pub fn refreshed(&self, alloc: Global) -> Result<Vec<(Addr, Prefix)>, AllocError>
+        ensures { IfOk result (λ cells. cells.items ≡ refreshed_by self.now) }
+    {
+        refreshed_cells(alloc, &self.parts.conf, self.parts.changes.as_slice())
+    }
+}
+
+/// The routers and prefixes of the changes, but for those of virtual peers.
+fn refreshed_cells<S: Selector>(
+    alloc: Global,
+    conf: &Conf,
+    changes: &[Change<S>],
+) -> Result<Vec<(Addr, Prefix)>, AllocError>
+    ensures { IfOk result (λ cells. cells.items ≡ map (λ x. (x.router, x.prefix)) (filter (λ x. is_some (router_site conf.now x.router)) changes.now)) }
+{
+    changes
+        .iter()
+        .filter(|change| is_router(conf, change.router))
+        .map(|change| (change.router, change.prefix))
+        .collect(alloc)
+}
+
+/// Whether a router stands at the address.
+pub(crate) fn is_router(conf: &Conf, address: Addr) -> bool
+    ensures { result ≡ is_some (router_site conf.now address) }
+{
+    has_router_kind(conf.router(address))
+}
+
+/// Whether what stands somewhere is a router.
+fn has_router_kind(node: Option<(Asn, Kind)>) -> bool
+    ensures { result ≡ has_router_kind node }
+{
+    match node {
+        None => false,
+        Some((_, kind)) => kind == Kind::Router,
+    }
 }
 
 /// Adds the directions before this one.
@@ -163,8 +193,7 @@ fn clear_down(queues: &mut Queues, conf: &Conf, directions: &[Direction])
 
 /// Sees to it that what an edit will do stands behind one pointer.
 fn boxed<S: Selector + Drop>(alloc: Global, parts: Parts<S>) -> Result<Edited<S>, AllocError>
-    requires { AreMade (router_in parts.scope) parts.directions parts.conf parts.sites.entries parts.site }
-    ensures { IfOk result (λ edited. edited ≡ record { scope = parts.scope; conf = parts.conf; directions = parts.directions; changes = parts.changes }) }
+    ensures { IfOk result (λ edited. edited ≡ record { conf = parts.conf; directions = parts.directions; changes = parts.changes }) }
 {
     Ok(Edited {
         parts: Box::new(alloc, parts)?,
@@ -200,77 +229,19 @@ impl<S: Selector + Drop, T: PrefixTable<Cell<S>> + Drop> State<S, T> {
         ensures { IfOk result (λ edited. edited ≡ planned self.now edit.now) }
     {
         self.facts();
-        let conf = match self.conf.edited(self.alloc, edit) {
-            Ok(conf) => conf,
-            Err(_) => return Err(AllocError),
+        let Ok(made) = self.conf.edited(self.alloc, edit) else {
+            return Err(AllocError);
         };
+        let EditedConf { conf, concerned } = made;
         let directions = directions_after(self.alloc, self.directions.as_slice(), edit)?;
-        match edit.scope() {
-            Scope::Network => self.plan_network(conf, directions),
-            Scope::Site(router) => self.plan_site(conf, directions, router),
-            Scope::Route(router, prefix) => self.plan_route(conf, directions, router, prefix),
-        }
-    }
-
-    /// What an edit that makes this configuration will do, where any route may change.
-    fn plan_network(&self, conf: Conf, directions: Seq<Direction>) -> Result<Edited<S>, AllocError>
-        ensures { IfOk result (λ edited. edited ≡ record { scope = Network; conf = conf; directions = directions; changes = changes_in Network self.now.conf conf self.now.tables }) }
-    {
-        let sites = kept_sites(self.alloc, &conf, directions.as_slice())?;
-        let changes = self.network_changes(&conf, directions.as_slice(), &sites)?;
-        let parts = Parts {
-            scope: Scope::Network,
-            conf,
-            directions,
-            sites,
-            site: None,
-            changes,
+        let changes = match edit.scope() {
+            Scope::Network => self.network_changes(&conf, &concerned)?,
+            Scope::Site(router) => self.site_changes(&conf, router)?,
+            Scope::Route(router, prefix) => self.route_changes(&conf, router, prefix)?,
         };
-        boxed(self.alloc, parts)
-    }
-
-    /// What an edit that makes this configuration will do, where the routes of this router alone may change.
-    fn plan_site(
-        &self,
-        conf: Conf,
-        directions: Seq<Direction>,
-        router: Addr,
-    ) -> Result<Edited<S>, AllocError>
-        ensures { IfOk result (λ edited. edited ≡ record { scope = Site router; conf = conf; directions = directions; changes = changes_in (Site router) self.now.conf conf self.now.tables }) }
-    {
-        let site = conf.router_site(self.alloc, router)?;
-        let changes = self.site_changes(&conf, site.as_ref(), router)?;
-        let site = site_to_keep(directions.as_slice(), site);
         let parts = Parts {
-            scope: Scope::Site(router),
             conf,
             directions,
-            sites: BTreeMap::new(self.alloc),
-            site,
-            changes,
-        };
-        boxed(self.alloc, parts)
-    }
-
-    /// What an edit that makes this configuration will do, where this router's route to the prefix alone may change.
-    fn plan_route(
-        &self,
-        conf: Conf,
-        directions: Seq<Direction>,
-        router: Addr,
-        prefix: Prefix,
-    ) -> Result<Edited<S>, AllocError>
-        ensures { IfOk result (λ edited. edited ≡ record { scope = Route router prefix; conf = conf; directions = directions; changes = changes_in (Route router prefix) self.now.conf conf self.now.tables }) }
-    {
-        let site = conf.router_site(self.alloc, router)?;
-        let changes = self.route_changes(&conf, site.as_ref(), router, prefix)?;
-        let site = site_to_keep(directions.as_slice(), site);
-        let parts = Parts {
-            scope: Scope::Route(router, prefix),
-            conf,
-            directions,
-            sites: BTreeMap::new(self.alloc),
-            site,
             changes,
         };
         boxed(self.alloc, parts)
@@ -300,16 +271,12 @@ impl<S: Selector + Drop, T: PrefixTable<Cell<S>> + Drop> State<S, T> {
     {
         self.conf.facts();
         let Parts {
-            scope,
             conf,
             directions,
-            sites,
-            site,
             changes,
         } = Box::into_inner(edited.parts);
         conf.facts();
         clear_down(&mut self.queues, &conf, self.directions.as_slice());
-        renew_sites(&mut self.sites, scope.router(), sites, site);
         self.conf = conf;
         self.directions = directions;
         place_changes(&mut self.tables, &mut self.queues, changes.into_vec());

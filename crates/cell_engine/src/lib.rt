@@ -1,12 +1,12 @@
-//! The engine: tables of cells, the sites of all routers beside the configuration, and the queues; and what it does with a message and with an edit.
+//! The engine: tables of cells beside the configuration, and the queues; and what it does with a message and with an edit.
 #![tactic(auto)]
 
+mod becoming;
 mod changes;
 mod deliveries;
 mod edits;
 mod feeds;
 mod places;
-mod sites;
 mod state;
 
 pub use edits::Edited;

@@ -1,9 +1,9 @@
 //! The state, as the engine keeps it.
 
-ghost use Rattle.std.specs.Prelude.{◌≡◌, IfOk};
+ghost use Rattle.std.specs.Prelude.{◌≡◌, is_some, IfOk};
 ghost use Rattle.std.specs.Option.{option_copied, option_map};
 ghost use Rattle.net_conf.specs.Configured.{IsConfigured};
-ghost use Rattle.net_conf.specs.RouterSites.{router_site};
+ghost use Rattle.net_conf.specs.RouterSites.{router_site, site_made};
 ghost use Rattle.reference_machine.specs.Machine.{nothing};
 ghost use Rattle.router_tables.specs.RouterTables.{value_at, next_of};
 ghost use Rattle.std.specs.FinMap.Entries.{find};
@@ -11,9 +11,8 @@ ghost use Rattle.net_prefix.specs.Address.{addr_cmp};
 ghost use Rattle.cell_network.specs.Engine.{network, IsSound};
 ghost use Rattle.cell_network.specs.Reporting.{AreOfPrefixes};
 ghost use Rattle.cell_network.specs.Changes.{AreOverSessionsUp};
-ghost use Rattle.cell_engine.specs.Sites.{site_made};
 
-use crate::sites::{made_site, site_in};
+use crate::edits::is_router;
 use net_conf::{Conf, SiteConf};
 use net_prefix::{Addr, Prefix};
 use prefix_table::PrefixTable;
@@ -23,7 +22,6 @@ use router_tables::RouterTables;
 use seq::Seq;
 use session_queue::{Direction, Queues};
 use std::alloc::{AllocError, Global};
-use std::collections::BTreeMap;
 use std::marker::Model;
 
 /// What is configured, what was received, by router and prefix with the choice among it, and what is on its way.
@@ -31,8 +29,6 @@ use std::marker::Model;
 pub struct State<S: Selector, T: PrefixTable<Cell<S>>> {
     pub(crate) alloc: Global,
     pub(crate) conf: Conf,
-    /// The site of each router, made once an edit, while there is a session.
-    pub(crate) sites: BTreeMap<Addr, SiteConf>,
     pub(crate) tables: RouterTables<Cell<S>, T>,
     /// Those of all sessions.
     pub(crate) directions: Seq<Direction>,
@@ -46,7 +42,6 @@ impl<S: Selector, T: PrefixTable<Cell<S>>> Model for State<S, T> {
     ghost use Rattle.cell_network.specs.Reporting.{AreOfPrefixes};
     ghost use Rattle.cell_network.specs.Changes.{AreOverSessionsUp};
     ghost use Rattle.cell_engine.specs.Coding.{coded_table};
-    ghost use Rattle.cell_engine.specs.Sites.{sites_kept};
 
     ghost Value = { Engine };
 
@@ -54,7 +49,7 @@ impl<S: Selector, T: PrefixTable<Cell<S>>> Model for State<S, T> {
 
     ghost view = { λ s. record { conf = s.conf; tables = s.tables; directions = s.directions; queues = s.queues } };
 
-    ghost invariant = { λ s. IsSound (record { conf = s.conf; tables = s.tables; directions = s.directions; queues = s.queues }) × (s.sites.entries ≡ sites_kept s.directions s.conf) × AreOfPrefixes s.tables × AreOverSessionsUp s.conf s.tables };
+    ghost invariant = { λ s. IsSound (record { conf = s.conf; tables = s.tables; directions = s.directions; queues = s.queues }) × AreOfPrefixes s.tables × AreOverSessionsUp s.conf s.tables };
 }
 
 impl<S: Selector, T: PrefixTable<Cell<S>>> State<S, T> {
@@ -65,7 +60,6 @@ impl<S: Selector, T: PrefixTable<Cell<S>>> State<S, T> {
         State {
             alloc,
             conf: Conf::new(alloc),
-            sites: BTreeMap::new(alloc),
             tables: RouterTables::new(alloc),
             directions: Seq::new(alloc),
             queues: Queues::new(alloc),
@@ -96,25 +90,26 @@ impl<S: Selector, T: PrefixTable<Cell<S>>> State<S, T> {
         &self.queues
     }
 
-    /// The router's site, where none is kept: while there is a session they are, and this makes none.
+    /// The router's site, where the configuration keeps none: of a router that ends a session it does, and this makes none.
     pub fn made_site(&self, router: Addr) -> Result<Option<SiteConf>, AllocError>
-        ensures { IfOk result (λ made. made ≡ site_made self.now.directions self.now.conf router) }
+        ensures { IfOk result (λ made. made ≡ site_made self.now.conf router) }
     {
-        made_site(self.alloc, &self.conf, self.directions.as_slice(), router)
+        self.conf.made_site(self.alloc, router)
     }
 
     /// The router's site: what `made_site` made, or the one that is kept. None where a virtual peer stands, or nobody.
     pub fn site<'a>(&'a self, router: Addr, made: &'a Option<SiteConf>) -> Option<&'a SiteConf>
-        requires { made.now ≡ site_made self.now.directions self.now.conf router }
+        requires { made.now ≡ site_made self.now.conf router }
         ensures { option_copied result ≡ router_site self.now.conf router }
     {
-        site_in(
-            &self.conf,
-            self.directions.as_slice(),
-            &self.sites,
-            made,
-            router,
-        )
+        self.conf.site_in(made, router)
+    }
+
+    /// Whether a router stands at the address.
+    pub fn has_router(&self, address: Addr) -> bool
+        ensures { result ≡ is_some (router_site self.now.conf address) }
+    {
+        is_router(&self.conf, address)
     }
 
     /// The cells of the router, by prefix. None where it has none.

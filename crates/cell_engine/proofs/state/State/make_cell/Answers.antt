@@ -10,9 +10,8 @@ invariant_of-self g c =
     let absent = not_found c.args.router c.args.prefix e.tables c.args.self.now.tables c.cell.result c.is_some.result (ap (λ n. n.tables) c.self.view_is) c.cell.ensures c.is_some.ensures c.if-is_some.false in
     let same = grown_same e c.args.router c.args.prefix c.add_cell.new.tables c.add_cell.result c.add_cell.ensures.ok c.add_cell.ensures.err c.self.invariant.0 absent in (
       grown_sound e c.args.router c.args.prefix c.add_cell.new.tables c.add_cell.result c.add_cell.ensures.ok c.add_cell.ensures.err c.self.invariant.0 absent,
-      c.self.invariant.1,
-      grown_prefixes e c.args.router c.args.prefix c.add_cell.new.tables c.add_cell.result c.add_cell.ensures.ok c.add_cell.ensures.err c.len.ensures.block c.self.invariant.2,
-      ups_kept e (record e { tables = c.add_cell.new.tables }) same c.self.invariant.3,
+      grown_prefixes e c.args.router c.args.prefix c.add_cell.new.tables c.add_cell.result c.add_cell.ensures.ok c.add_cell.ensures.err c.len.ensures.block c.self.invariant.1,
+      ups_kept e (record e { tables = c.add_cell.new.tables }) same c.self.invariant.2,
     )
 
 pub returns-clause-same : goal.returns-clause-same

@@ -3,6 +3,7 @@ use Rattle.std.specs.FinMap as finite
 use Rattle.net_conf.specs.declared.edit.Scope.TheVariants.{Network}
 use Rattle.router_tables.specs.RouterTables.{table_at}
 use Rattle.cell_network.specs.Changes.{router_changes, changes_in}
+use Rattle.cell_network.specs.Moves.{moves}
 use Rattle.cell_network.proofs.Chunks.{T_of}
 use Rattle.cell_engine.proofs.Walks.{tables_past, tables_start, tables_step, tables_end}
 use Rattle.cell_engine.proofs.Remade.{gathered_more, gathered_all}
@@ -30,5 +31,5 @@ walk-preserved g c =
     let r = c.in-Some.router in
     let made = changes_in Network c.args.self.now.conf c.args.conf.now in
     let step = tables_step ts c.walk.past r (T_of _ c.facts.ensures.sound.by_address) (sym c.in-Some.ensures) in
-    gathered_more c.walk.changes (router_changes c.args.self.now.conf c.args.conf.now r (finite.entries (table_at r ts))) (made (tables_past (Some r) ts)) (made (tables_past c.walk.past ts)) (made ts) c.add_changes.new.changes
-    (sym (ap made step)) c.walk.invariant c.in_ok-add_changes-in-Some.ensures
+    gathered_more c.walk.changes (router_changes (moves c.args.self.now.conf c.args.conf.now) c.args.self.now.conf c.args.conf.now r (finite.entries (table_at r ts))) (made (tables_past (Some r) ts)) (made (tables_past c.walk.past ts)) (made ts) c.add_if_concerned.new.changes
+    (sym (ap made step)) c.walk.invariant c.in_ok-add_if_concerned-in-Some.ensures

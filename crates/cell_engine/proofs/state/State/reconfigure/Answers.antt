@@ -1,81 +1,61 @@
 use Rattle.std.proofs.Common.{◌≡◌, ◌≤◌, length, ap, sym, subst, ◌∙◌}
 use Rattle.reference_machine.specs.Machine.{after_edit, with_sent}
 use Rattle.session_queue.specs.Waiting.{spare_at}
-use Rattle.net_conf.specs.Scopes.{router_in}
 use Rattle.cell_network.specs.Engine.{Engine, IsSound, network}
 use Rattle.cell_network.specs.Editing.{told_by_all}
 use Rattle.cell_network.specs.Changes.{with_changes, sends_for, AreOverSessionsUp}
 use Rattle.cell_network.specs.Reporting.{AreOfPrefixes}
 use Rattle.cell_network.specs.Settled.{AreThere}
-use Rattle.cell_engine.specs.Sites.{AreMade, renewed}
 use Rattle.cell_engine.specs.Edits.{Planned, IsPlanned, HasPlaces}
 use Rattle.cell_engine.proofs.Reconfigured.{IsCleared, IsPushed, plan_there, plan_over_sessions_up, plan_of_prefixes, plan_followed}
-use Rattle.cell_engine.proofs.Renewed.{plan_has_place, plan_renews}
 use Rattle.cell_engine.proofs.state.State.reconfigure.Goals as goal
-
-pub renew_sites-requires : goal.renew_sites-requires
-renew_sites-requires g c =
-    let e : Engine = record { conf = c.self.inside.conf; tables = c.self.inside.tables; directions = c.self.inside.directions; queues = c.self.inside.queues } in
-    let x : Planned = record { scope = c.into_inner-scope.result.scope; conf = c.into_inner-scope.result.conf; directions = c.into_inner-scope.result.directions; changes = c.into_inner-scope.result.changes } in
-    let shown : x ≡ c.args.edited = ap (λ v. record { scope = v.scope; conf = v.conf; directions = v.directions; changes = v.changes }) c.into_inner-scope.ensures ∙ c.edited.view_is in
-    let edit = c.requires.of.edit in
-    let is : IsPlanned e edit x = subst (λ n. IsPlanned n edit x) (sym c.self.view_is) (subst (IsPlanned c.args.self.now edit) (sym shown) c.requires.of.is) in
-    let made : AreMade (router_in x.scope) x.directions x.conf c.into_inner-scope.result.sites.entries c.into_inner-scope.result.site =
-    subst (λ v. AreMade (router_in v.scope) v.directions v.conf v.sites.entries v.site) (sym c.into_inner-scope.ensures) c.edited.invariant in
-    λ a one some.
-    plan_has_place e c.facts.ensures.configured edit c.into_inner-scope.result.sites.entries c.into_inner-scope.result.site c.self.inside.sites.entries c.self.invariant.1 x is made a (sym c.router.ensures ∙ one) some
 
 pub place_changes-requires-clause-there : goal.place_changes-requires-clause-there
 place_changes-requires-clause-there g c =
     let e : Engine = record { conf = c.self.inside.conf; tables = c.self.inside.tables; directions = c.self.inside.directions; queues = c.self.inside.queues } in
-    let x : Planned = record { scope = c.into_inner-scope.result.scope; conf = c.into_inner-scope.result.conf; directions = c.into_inner-scope.result.directions; changes = c.into_inner-scope.result.changes } in
-    let shown : x ≡ c.args.edited = ap (λ v. record { scope = v.scope; conf = v.conf; directions = v.directions; changes = v.changes }) c.into_inner-scope.ensures ∙ c.edited.view_is in
+    let x : Planned = record { conf = c.into_inner-conf.result.conf; directions = c.into_inner-conf.result.directions; changes = c.into_inner-conf.result.changes } in
+    let shown : x ≡ c.args.edited = ap (λ v. record { conf = v.conf; directions = v.directions; changes = v.changes }) c.into_inner-conf.ensures ∙ c.edited.view_is in
     let edit = c.requires.of.edit in
     let is : IsPlanned e edit x = subst (λ n. IsPlanned n edit x) (sym c.self.view_is) (subst (IsPlanned c.args.self.now edit) (sym shown) c.requires.of.is) in
-    subst (λ l. AreThere l e.tables) (sym c.into_vec.ensures) (plan_there e c.self.invariant.0 c.facts.ensures.configured c.self.invariant.3 edit x is)
+    subst (λ l. AreThere l e.tables) (sym c.into_vec.ensures) (plan_there e c.self.invariant.0 c.facts.ensures.configured c.self.invariant.2 edit x is)
 
 pub place_changes-requires-clause-room : goal.place_changes-requires-clause-room
 place_changes-requires-clause-room g c =
     let e : Engine = record { conf = c.self.inside.conf; tables = c.self.inside.tables; directions = c.self.inside.directions; queues = c.self.inside.queues } in
-    let x : Planned = record { scope = c.into_inner-scope.result.scope; conf = c.into_inner-scope.result.conf; directions = c.into_inner-scope.result.directions; changes = c.into_inner-scope.result.changes } in
-    let shown : x ≡ c.args.edited = ap (λ v. record { scope = v.scope; conf = v.conf; directions = v.directions; changes = v.changes }) c.into_inner-scope.ensures ∙ c.edited.view_is in
+    let x : Planned = record { conf = c.into_inner-conf.result.conf; directions = c.into_inner-conf.result.directions; changes = c.into_inner-conf.result.changes } in
+    let shown : x ≡ c.args.edited = ap (λ v. record { conf = v.conf; directions = v.directions; changes = v.changes }) c.into_inner-conf.ensures ∙ c.edited.view_is in
     let room : HasPlaces e x = subst (λ n. HasPlaces n x) (sym c.self.view_is) (subst (HasPlaces c.args.self.now) (sym shown) c.requires.room) in
     λ f t. subst (λ n. length (told_by_all (sends_for c.into_vec.result.items) f t) ≤ n) (sym (c.clear_down.ensures.spare f t)) (subst (λ l. length (told_by_all (sends_for l) f t) ≤ spare_at e.queues f t) (sym c.into_vec.ensures) (room f t))
 
 pub invariant_of-self : goal.invariant_of-self
 invariant_of-self g c =
     let e : Engine = record { conf = c.self.inside.conf; tables = c.self.inside.tables; directions = c.self.inside.directions; queues = c.self.inside.queues } in
-    let x : Planned = record { scope = c.into_inner-scope.result.scope; conf = c.into_inner-scope.result.conf; directions = c.into_inner-scope.result.directions; changes = c.into_inner-scope.result.changes } in
-    let shown : x ≡ c.args.edited = ap (λ v. record { scope = v.scope; conf = v.conf; directions = v.directions; changes = v.changes }) c.into_inner-scope.ensures ∙ c.edited.view_is in
+    let x : Planned = record { conf = c.into_inner-conf.result.conf; directions = c.into_inner-conf.result.directions; changes = c.into_inner-conf.result.changes } in
+    let shown : x ≡ c.args.edited = ap (λ v. record { conf = v.conf; directions = v.directions; changes = v.changes }) c.into_inner-conf.ensures ∙ c.edited.view_is in
     let edit = c.requires.of.edit in
     let is : IsPlanned e edit x = subst (λ n. IsPlanned n edit x) (sym c.self.view_is) (subst (IsPlanned c.args.self.now edit) (sym shown) c.requires.of.is) in
-    let made : AreMade (router_in x.scope) x.directions x.conf c.into_inner-scope.result.sites.entries c.into_inner-scope.result.site =
-    subst (λ v. AreMade (router_in v.scope) v.directions v.conf v.sites.entries v.site) (sym c.into_inner-scope.ensures) c.edited.invariant in
     let cleared : IsCleared e x.conf c.clear_down.new.queues = record { up = c.clear_down.ensures.up; down = rw c.as_slice.ensures at c.clear_down.ensures.down; empty = c.clear_down.ensures.empty } in
     let pushed : IsPushed x c.clear_down.new.queues c.place_changes.new.queues = rw c.into_vec.ensures at c.place_changes.ensures.queue in
     let placed : c.place_changes.new.tables ≡ with_changes x.changes e.tables = c.place_changes.ensures.tables ∙ ap (λ l. with_changes l e.tables) c.into_vec.ensures in
     let configured = c.facts.ensures.configured in
     let sound = c.self.invariant.0 in
-    let ups = c.self.invariant.3 in (
+    let ups = c.self.invariant.2 in (
       subst (λ ts. IsSound (record { conf = x.conf; tables = ts; directions = x.directions; queues = c.place_changes.new.queues })) (sym placed)
           (plan_followed e sound configured ups edit x is c.facts-2.ensures.configured c.clear_down.new.queues c.place_changes.new.queues cleared pushed).0,
-      c.renew_sites.ensures
-          ∙ ap (λ o. renewed o c.self.inside.sites.entries c.into_inner-scope.result.sites.entries c.into_inner-scope.result.site) c.router.ensures
-          ∙ plan_renews e configured edit c.into_inner-scope.result.sites.entries c.into_inner-scope.result.site c.self.inside.sites.entries c.self.invariant.1 x is made,
-      subst AreOfPrefixes (sym placed) (plan_of_prefixes e sound configured ups edit x is c.self.invariant.2),
+      subst AreOfPrefixes (sym placed) (plan_of_prefixes e sound configured ups edit x is c.self.invariant.1),
       subst (AreOverSessionsUp x.conf) (sym placed) (plan_over_sessions_up e sound configured ups edit x is),
     )
 
 pub returns : goal.returns
 returns g c =
     let e : Engine = record { conf = c.self.inside.conf; tables = c.self.inside.tables; directions = c.self.inside.directions; queues = c.self.inside.queues } in
-    let x : Planned = record { scope = c.into_inner-scope.result.scope; conf = c.into_inner-scope.result.conf; directions = c.into_inner-scope.result.directions; changes = c.into_inner-scope.result.changes } in
-    let shown : x ≡ c.args.edited = ap (λ v. record { scope = v.scope; conf = v.conf; directions = v.directions; changes = v.changes }) c.into_inner-scope.ensures ∙ c.edited.view_is in
+    let x : Planned = record { conf = c.into_inner-conf.result.conf; directions = c.into_inner-conf.result.directions; changes = c.into_inner-conf.result.changes } in
+    let shown : x ≡ c.args.edited = ap (λ v. record { conf = v.conf; directions = v.directions; changes = v.changes }) c.into_inner-conf.ensures ∙ c.edited.view_is in
     let cleared : IsCleared e x.conf c.clear_down.new.queues = record { up = c.clear_down.ensures.up; down = rw c.as_slice.ensures at c.clear_down.ensures.down; empty = c.clear_down.ensures.empty } in
     let pushed : IsPushed x c.clear_down.new.queues c.place_changes.new.queues = rw c.into_vec.ensures at c.place_changes.ensures.queue in
     let placed : c.place_changes.new.tables ≡ with_changes x.changes e.tables = c.place_changes.ensures.tables ∙ ap (λ l. with_changes l e.tables) c.into_vec.ensures in
     λ edit given.
     let is : IsPlanned e edit x = subst (λ n. IsPlanned n edit x) (sym c.self.view_is) (subst (IsPlanned c.args.self.now edit) (sym shown) given) in
     ap (λ ts. network (record { conf = x.conf; tables = ts; directions = x.directions; queues = c.place_changes.new.queues })) placed
-    ∙ (plan_followed e c.self.invariant.0 c.facts.ensures.configured c.self.invariant.3 edit x is c.facts-2.ensures.configured c.clear_down.new.queues c.place_changes.new.queues cleared pushed).1
+    ∙ (plan_followed e c.self.invariant.0 c.facts.ensures.configured c.self.invariant.2 edit x is c.facts-2.ensures.configured c.clear_down.new.queues c.place_changes.new.queues cleared pushed).1
     ∙ ap (λ n. with_sent (network n) (after_edit (network n) edit)) c.self.view_is

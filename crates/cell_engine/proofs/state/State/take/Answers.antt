@@ -25,10 +25,9 @@ invariant_of-self g c =
     let there : is_some (value_at d.to p e.tables) ≡ true = ap (λ n. is_some (value_at d.to p n.tables)) c.self.view_is ∙ c.requires.room.cell in (
       subst (λ ts. IsSound (record e { tables = ts; queues = c.push_all.new.queues })) (sym c.in-Ok.ensures.replaced)
           (sound_after_head e c.self.invariant.0 c.facts.ensures.configured d p o head c.pop.new.self c.push_all.new.queues c.pop.ensures.queue c.pop.ensures.others c.push_all.ensures.queue),
-      c.self.invariant.1,
-      subst AreOfPrefixes (sym c.in-Ok.ensures.replaced) (prefixes_with_cell d.to p o.heard e.tables (c.self.invariant.2 d.to p there) c.self.invariant.2),
+      subst AreOfPrefixes (sym c.in-Ok.ensures.replaced) (prefixes_with_cell d.to p o.heard e.tables (c.self.invariant.1 d.to p there) c.self.invariant.1),
       subst (AreOverSessionsUp e.conf) (sym c.in-Ok.ensures.replaced)
-          (ups_after_head e c.self.invariant.0 c.facts.ensures.configured d p o head c.pop.new.self c.push_all.new.queues c.pop.ensures.queue c.pop.ensures.others c.push_all.ensures.queue up c.self.invariant.3),
+          (ups_after_head e c.self.invariant.0 c.facts.ensures.configured d p o head c.pop.new.self c.push_all.new.queues c.pop.ensures.queue c.pop.ensures.others c.push_all.ensures.queue up c.self.invariant.2),
     )
 
 pub returns : goal.returns

@@ -1,0 +1,11 @@
+use Rattle.std.proofs.Common.{◌++◌, sym, ap, ◌∙◌}
+use Rattle.std.proofs.lemmas.List.{append-nil}
+use Rattle.cell_network.proofs.Unmoved.{none_of_router}
+use Rattle.cell_engine.proofs.state.State.add_if_concerned.Goals as goal
+
+pub returns-then-not-contains : goal.returns-then-not-contains
+returns-then-not-contains g c =
+    sym (
+    ap (λ l. c.args.changes.now ++ l) (none_of_router c.args.self.now.conf c.args.conf.now c.args.router (c.requires c.args.router (sym c.contains.ensures ∙ c.if-not-contains.true)) c.args.self.now.tables c.facts.ensures.sessions)
+    ∙ append-nil c.args.changes.now
+    )

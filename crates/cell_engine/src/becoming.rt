@@ -1,0 +1,148 @@
+//! What becomes of a router and its cells at an edit.
+
+ghost use Rattle.std.specs.Prelude.{◌≡◌, ◌++◌, IfOk, OnOk};
+ghost use Rattle.std.specs.Option.{option_copied};
+ghost use Rattle.std.specs.FinMap as finite;
+ghost use Rattle.net_conf.specs.RouterSites.{router_site};
+ghost use Rattle.cell_network.specs.Keeping.{kept_cell};
+ghost use Rattle.cell_network.specs.Editing.{sends_between};
+ghost use Rattle.cell_network.specs.Moves.{is_moved_by};
+ghost use Rattle.cell_engine.specs.Changes.{pair_of, table_changes, cell_changes};
+
+use crate::changes::Change;
+use net_conf::{Conf, SiteConf};
+use net_prefix::{Addr, Prefix};
+use prefix_table::PrefixTable;
+use route_cell::{Cell, Outcome, SiteChange, keep, refresh};
+use route_select::Selector;
+use seq::Seq;
+use std::alloc::{AllocError, Global};
+use std::marker::Model;
+
+/// What becomes of who stands at an address when the configuration becomes this one: a router, which decides by its part of the
+/// configuration, before and after; else a virtual peer, which keeps what it receives, or nobody.
+#[derive(Drop)]
+pub(crate) struct Becoming<'a> {
+    conf: &'a Conf,
+    address: Addr,
+    old: Option<&'a SiteConf>,
+    new: Option<&'a SiteConf>,
+    change: Option<SiteChange<'a>>,
+}
+
+impl<'a> Model for Becoming<'a> {
+    ghost use Rattle.std.specs.Prelude.{◌≡◌};
+    ghost use Rattle.std.specs.Option.{option_copied};
+    ghost use Rattle.net_conf.specs.RouterSites.{router_site};
+    ghost use Rattle.cell_engine.specs.Changes as changes;
+
+    ghost Value = { changes.Becoming };
+
+    ghost view = { λ x. record { conf = x.conf.now; address = x.address; old = option_copied x.old; new = option_copied x.new } };
+
+    ghost invariant = { λ x. (option_copied x.new ≡ router_site x.conf.now x.address) × (x.change ≡ changes.pair_of (option_copied x.old) (option_copied x.new)) };
+}
+
+/// The two parts of the configuration, compared, where a router stands before and after.
+fn compared<'a>(old: Option<&'a SiteConf>, new: Option<&'a SiteConf>) -> Option<SiteChange<'a>>
+    ensures { result ≡ pair_of (option_copied old.entry) (option_copied new.entry) }
+{
+    match (old, new) {
+        (Some(old), Some(new)) => Some(SiteChange::of(old, new)),
+        _ => None,
+    }
+}
+
+impl<'a> Becoming<'a> {
+    /// What becomes of the router with these parts of the configuration.
+    pub fn of(
+        conf: &'a Conf,
+        address: Addr,
+        old: Option<&'a SiteConf>,
+        new: Option<&'a SiteConf>,
+    ) -> Self
+        requires { option_copied new ≡ router_site conf.now address }
+        ensures { result ≡ record { conf = conf.now; address = address; old = option_copied old.entry; new = option_copied new.entry } }
+    {
+        Becoming {
+            conf,
+            address,
+            old,
+            new,
+            change: compared(old, new),
+        }
+    }
+
+    /// Whether the cell of the prefix can change.
+    fn moves<S: Selector>(&self, prefix: Prefix, cell: &Cell<S>) -> bool
+        ensures { result ≡ is_moved_by self.now.old self.now.new self.now.conf self.now.address prefix cell.now }
+    {
+        match (&self.change, self.old, self.new) {
+            (Some(change), _, _) => cell.is_moved(change, prefix),
+            (None, None, Some(site)) => cell.has_route(site, prefix),
+            (None, None, None) => cell.loses_route(self.conf, self.address),
+            _ => true,
+        }
+    }
+
+    /// The cell decided anew, and what is sent for that. A router decides by its new part of the configuration, and sends what
+    /// changed against its old one; a virtual peer keeps what came over sessions that are up.
+    fn remade_cell<S: Selector + Drop>(
+        &self,
+        alloc: Global,
+        prefix: Prefix,
+        cell: &Cell<S>,
+    ) -> Result<Outcome<S>, AllocError>
+        ensures { IfOk result (λ made. made ≡ record { heard = kept_cell self.now.conf self.now.address prefix cell.now; sends = sends_between self.now.old self.now.new prefix cell.now }) }
+    {
+        match self.new {
+            Some(site) => refresh(alloc, self.old.unwrap_or(site), site, prefix, cell),
+            None => Ok(Outcome {
+                cell: keep(alloc, self.conf, self.address, cell)?,
+                sends: Vec::new(alloc),
+            }),
+        }
+    }
+
+    /// Adds the cell of the prefix, decided anew, if it can change.
+    pub fn add_cell<S: Selector + Drop>(
+        &self,
+        alloc: Global,
+        changes: &mut Seq<Change<S>>,
+        prefix: Prefix,
+        cell: &Cell<S>,
+    ) -> Result<(), AllocError>
+        ensures { OnOk result (changes.new ≡ changes.old ++ cell_changes self.now prefix cell.now) }
+    {
+        if !self.moves(prefix, cell) {
+            return Ok(());
+        }
+        let outcome = self.remade_cell(alloc, prefix, cell)?;
+        changes.push(Change {
+            router: self.address,
+            prefix,
+            outcome,
+        })
+    }
+
+    /// Adds the cells of the table that can change, decided anew, by prefix.
+    pub fn add_table<S: Selector + Drop, T: PrefixTable<Cell<S>>>(
+        &self,
+        alloc: Global,
+        changes: &mut Seq<Change<S>>,
+        table: &T,
+    ) -> Result<(), AllocError>
+        ensures { OnOk result (changes.new ≡ changes.old ++ table_changes self.now (finite.entries (T.table table.now))) }
+    {
+        let mut after = None;
+        'walk: loop {
+            match table.next_after(after) {
+                None => return Ok(()),
+                Some(entry) => {
+                    self.add_cell(alloc, changes, entry.0, entry.1)?;
+                    after = Some(entry.0);
+                }
+            }
+        }
+    }
+}
