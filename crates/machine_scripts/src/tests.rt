@@ -1,6 +1,7 @@
 //! What only a call can show, on each machine: readers and writers that fail, memory that is refused, a reader that waits for its replies.
 //! Whole scripts are data, in cases/ at the top of the repository.
 
+mod counts;
 mod faults;
 mod memory;
 mod prompt;

@@ -1,5 +1,6 @@
 -- What an event will do: what is planned before anything changes, and what has to be there before it can be done without memory.
-use Rattle.std.specs.Prelude.{◌≡◌, ◌<◌, ◌⊎◌, false, Option, Some, None, Result, Ok, Err}
+use Rattle.std.specs.Prelude.{◌≡◌, ◌<◌, ◌⊎◌, false, List, Option, Some, None, Result, Ok, Err}
+use Rattle.net_prefix.specs.declared.addr.Addr.{Addr}
 use Rattle.net_prefix.specs.Block.{Block}
 use Rattle.session_queue.specs.declared.message.Message.{Message}
 use Rattle.session_queue.specs.declared.direction.Direction.{Direction}
@@ -16,6 +17,7 @@ use Rattle.route_cell.specs.Cells.{Outcome}
 use Rattle.cell_network.specs.Engine.{Engine, network}
 use Rattle.cell_engine.specs.Deliveries.{HasRoom, IsOfHead}
 use Rattle.cell_engine.specs.Edits.{Planned, IsPlanned, HasPlaces}
+use Rattle.sim_core.specs.Counting.{Refreshes}
 
 -- the message at the head of a direction's queue is taken: its prefix, and what the receiver makes of it
 pub record Taken : Type 0 where
@@ -23,10 +25,11 @@ pub record Taken : Type 0 where
   pub prefix : Block
   pub outcome : Outcome
 
--- what will be answered; and what will be done: a message is put on its way, or one is taken, or the configuration is edited, or
--- nothing
+-- what will be answered; the cells to be decided; and what will be done: a message is put on its way, or one is taken, or the
+-- configuration is edited, or nothing
 pub record Plan : Type 0 where
   pub reply : Reply
+  pub refreshed : List (Addr × Block)
   pub pushed : Option (Direction × Message)
   pub taken : Option Taken
   pub edited : Option Planned
@@ -72,10 +75,12 @@ Does e (AnAsk q) x = DoesNothing x
 
 -- PREPARED
 
--- the machine does not refuse the event; the plan is what it does, with the machine's reply; and all that takes memory is there
+-- the machine does not refuse the event; the plan is what it does, with the machine's reply and the cells that it decides anew; and all
+-- that takes memory is there
 pub record IsPrepared (e : Engine) (event : Event) (x : Plan) : Type 0 where
   pub reply : x.reply ≡ (step (network e) event).reply
   pub accepted : is_refusal x.reply ≡ false
+  pub refreshes : Refreshes (network e) event x.refreshed
   pub does : Does e event x
 
 -- the plan is that of an event

@@ -8,20 +8,22 @@ ghost use Rattle.reference_machine.specs.Network.{messages_in};
 ghost use Rattle.reference_machine.specs.Machine.{delivery_refusal, head_step};
 ghost use Rattle.cell_network.specs.Engine.{network};
 ghost use Rattle.cell_engine.specs.Deliveries.{IsOfHead, HasRoom};
+ghost use Rattle.sim_core.specs.Counting.{decided_at};
 ghost use Rattle.sim_core.specs.Plans.{IsPrepared, Prepares};
 
+use crate::event_machine::EventMachine;
 use crate::plan::{Plan, Taken};
-use crate::sim::Sim;
 use cell_engine::Cell;
 use machine_rules::delivery_refusal;
 use net_conf::Refusal;
+use net_prefix::{Addr, Prefix};
 use prefix_table::PrefixTable;
 use route_select::Selector;
 use session_queue::{Direction, Message};
 use sim_event::Reply;
 use std::alloc::AllocError;
 
-impl<S: Selector + Drop, T: PrefixTable<Cell<S>> + Drop> Sim<S, T> {
+impl<S: Selector + Drop, T: PrefixTable<Cell<S>> + Drop> EventMachine<S, T> {
     /// Makes a delivery ready.
     pub(crate) fn prepare_delivery(&mut self, direction: Direction) -> Result<Plan<S>, Refusal>
         ensures network { network self.new ≡ network self.old }
@@ -54,6 +56,7 @@ impl<S: Selector + Drop, T: PrefixTable<Cell<S>> + Drop> Sim<S, T> {
         let prefix = message.prefix();
         let outcome = self.state.outcome(direction, message)?;
         self.state.make_room(direction.to, prefix, &outcome)?;
+        let refreshed = self.decided_at(direction.to, prefix)?;
         let taken = Taken {
             direction,
             prefix,
@@ -61,10 +64,22 @@ impl<S: Selector + Drop, T: PrefixTable<Cell<S>> + Drop> Sim<S, T> {
         };
         Ok(Plan {
             reply: Reply::Took(prefix, message.kind()),
+            refreshed,
             pushed: None,
             taken: Some(Box::new(self.alloc, taken)?),
             edited: None,
         })
+    }
+
+    /// The router's route to the prefix, as the one that is decided: none at a virtual peer.
+    fn decided_at(&self, router: Addr, prefix: Prefix) -> Result<Vec<(Addr, Prefix)>, AllocError>
+        ensures { IfOk result (λ cells. cells.items ≡ decided_at self.now.conf router prefix) }
+    {
+        let mut cells = Vec::new(self.alloc);
+        if self.state.has_router(router) {
+            cells.push((router, prefix))?;
+        }
+        Ok(cells)
     }
 
     /// Takes the message at the head of the queue. It takes no memory.

@@ -6,8 +6,8 @@ ghost use Rattle.net_conf.specs.Edits.{refusal_of};
 ghost use Rattle.cell_network.specs.Engine.{network};
 ghost use Rattle.sim_core.specs.Plans.{IsPrepared, Prepares};
 
+use crate::event_machine::EventMachine;
 use crate::plan::Plan;
-use crate::sim::Sim;
 use cell_engine::Cell;
 use net_conf::{Edit, Refusal};
 use prefix_table::PrefixTable;
@@ -15,7 +15,7 @@ use route_select::Selector;
 use sim_event::Reply;
 use std::alloc::AllocError;
 
-impl<S: Selector + Drop, T: PrefixTable<Cell<S>> + Drop> Sim<S, T> {
+impl<S: Selector + Drop, T: PrefixTable<Cell<S>> + Drop> EventMachine<S, T> {
     /// Makes an edit ready.
     pub(crate) fn prepare_edit(&mut self, edit: &Edit) -> Result<Plan<S>, Refusal>
         ensures network { network self.new ≡ network self.old }
@@ -38,8 +38,11 @@ impl<S: Selector + Drop, T: PrefixTable<Cell<S>> + Drop> Sim<S, T> {
     {
         let edited = self.state.edited(edit)?;
         self.state.make_room_for(&edited)?;
+        self.state.facts();
+        let refreshed = edited.refreshed(self.alloc)?;
         Ok(Plan {
             reply: Reply::Done,
+            refreshed,
             pushed: None,
             taken: None,
             edited: Some(edited),

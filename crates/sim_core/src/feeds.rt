@@ -6,8 +6,8 @@ ghost use Rattle.reference_machine.specs.Machine.{feed_refusal};
 ghost use Rattle.cell_network.specs.Engine.{network};
 ghost use Rattle.sim_core.specs.Plans.{IsPrepared, Prepares};
 
+use crate::event_machine::EventMachine;
 use crate::plan::Plan;
-use crate::sim::Sim;
 use cell_engine::Cell;
 use machine_rules::{fed_message, feed_refusal};
 use net_conf::Refusal;
@@ -17,7 +17,7 @@ use session_queue::Direction;
 use sim_event::{Feed, Reply};
 use std::alloc::AllocError;
 
-impl<S: Selector + Drop, T: PrefixTable<Cell<S>> + Drop> Sim<S, T> {
+impl<S: Selector + Drop, T: PrefixTable<Cell<S>> + Drop> EventMachine<S, T> {
     /// Makes a feed ready.
     pub(crate) fn prepare_feed(&mut self, feed: &Feed) -> Result<Plan<S>, Refusal>
         ensures network { network self.new ≡ network self.old }
@@ -46,6 +46,7 @@ impl<S: Selector + Drop, T: PrefixTable<Cell<S>> + Drop> Sim<S, T> {
         self.state.reserve_one(direction)?;
         Ok(Plan {
             reply: Reply::Done,
+            refreshed: Vec::new(self.alloc),
             pushed: Some((direction, message)),
             taken: None,
             edited: None,

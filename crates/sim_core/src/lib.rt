@@ -3,6 +3,7 @@
 
 mod deliveries;
 mod edits;
+mod event_machine;
 mod feeds;
 mod plan;
 mod questions;

@@ -3,7 +3,7 @@
 ghost use Rattle.std.specs.Prelude.{◌≡◌};
 
 use cell_engine::{Edited, Outcome};
-use net_prefix::Prefix;
+use net_prefix::{Addr, Prefix};
 use route_select::Selector;
 use session_queue::{Direction, Message};
 use sim_event::Reply;
@@ -35,6 +35,8 @@ impl<S: Selector> Model for Taken<S> {
 #[derive(Drop)]
 pub struct Plan<S: Selector> {
     pub(crate) reply: Reply,
+    /// The cells to be decided.
+    pub(crate) refreshed: Vec<(Addr, Prefix)>,
     pub(crate) pushed: Option<(Direction, Message)>,
     // In boxes: the borrow checker follows a plan by value only where its parts that depend on the selector stand behind one.
     pub(crate) taken: Option<Box<Taken<S>>>,
@@ -52,7 +54,7 @@ impl<S: Selector> Model for Plan<S> {
 
     ghost coded = { Prim.hlevel (codes, coded_change, coded_taken) };
 
-    ghost view = { λ x. record { reply = x.reply; pushed = x.pushed; taken = option_map (λ t. t.value) x.taken; edited = x.edited } };
+    ghost view = { λ x. record { reply = x.reply; refreshed = x.refreshed.items; pushed = x.pushed; taken = option_map (λ t. t.value) x.taken; edited = x.edited } };
 }
 
 impl<S: Selector> Plan<S> {
@@ -61,5 +63,13 @@ impl<S: Selector> Plan<S> {
         ensures { result.now ≡ self.now.reply }
     {
         &self.reply
+    }
+
+    /// The cells to be decided, by router, then prefix: of an edit those that it touches, of a delivery the receiver's one. A virtual peer's
+    /// is none of them.
+    pub fn refreshed(&self) -> &[(Addr, Prefix)]
+        ensures { result.now ≡ self.now.refreshed }
+    {
+        &self.refreshed
     }
 }

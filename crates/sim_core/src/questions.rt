@@ -3,8 +3,8 @@
 ghost use Rattle.sim_event.specs.declared.event.Event.TheVariants.{Ask as AnAsk};
 ghost use Rattle.sim_core.specs.Plans.{Prepares};
 
+use crate::event_machine::EventMachine;
 use crate::plan::Plan;
-use crate::sim::Sim;
 use cell_engine::Cell;
 use net_conf::Refusal;
 use prefix_table::PrefixTable;
@@ -12,7 +12,7 @@ use route_select::Selector;
 use sim_event::{Ask, Reply};
 use sim_report::ask;
 
-impl<S: Selector, T: PrefixTable<Cell<S>>> Sim<S, T> {
+impl<S: Selector, T: PrefixTable<Cell<S>>> EventMachine<S, T> {
     /// Makes an answer ready.
     pub(crate) fn prepare_answer(&self, question: &Ask) -> Result<Plan<S>, Refusal>
         ensures { Prepares self.now (AnAsk question.now) result }
@@ -20,6 +20,7 @@ impl<S: Selector, T: PrefixTable<Cell<S>>> Sim<S, T> {
         match ask(self.alloc, &self.state, question) {
             Ok(report) => Ok(Plan {
                 reply: Reply::Report(report),
+                refreshed: Vec::new(self.alloc),
                 pushed: None,
                 taken: None,
                 edited: None,

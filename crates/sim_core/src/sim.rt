@@ -1,57 +1,70 @@
-//! The machine over the engine's state.
+//! The simulator: a machine that takes events, and counts what it decides.
 
-ghost use Rattle.std.specs.Prelude.{◌≡◌, MatchResult};
+ghost use Rattle.std.specs.Prelude.{◌≡◌, length, MatchResult};
 ghost use Rattle.net_conf.specs.declared.refusal.Refusal.TheVariants.{Memory};
-ghost use Rattle.reference_machine.specs.Machine.{nothing, step, IsRun};
+ghost use Rattle.reference_machine.specs.Machine.{nothing, step, IsStep, IsRun};
 ghost use Rattle.cell_network.specs.Engine.{network};
+ghost use Rattle.sim_core.specs.Counting.{raised, Counts};
 ghost use Rattle.sim_core.specs.Plans.{IsPrepared, IsOfEvent, Prepares};
 
+use crate::event_machine::EventMachine;
 use crate::plan::Plan;
 use cell_engine::{Cell, State};
 use net_conf::Refusal;
 use prefix_table::PrefixTable;
 use reference_machine::Machine;
 use route_select::Selector;
-use session_queue::Direction;
 use sim_event::{Event, Reply};
 use std::alloc::Global;
 use std::marker::Model;
 
-/// A network that takes events, by cells: it decides by the selector S, and keeps each router's cells in a table T.
+/// A network that takes events, by cells: it decides by the selector S, and keeps each router's cells in a table T. It counts how many
+/// routes it decided anew.
 #[derive(Drop)]
 pub struct Sim<S: Selector, T: PrefixTable<Cell<S>>> {
-    pub(crate) alloc: Global,
-    pub(crate) state: State<S, T>,
+    alloc: Global,
+    machine: EventMachine<S, T>,
+    decided: u64,
 }
 
 impl<S: Selector, T: PrefixTable<Cell<S>>> Model for Sim<S, T> {
     ghost use Rattle.std.specs.Coded.{codes};
-    ghost use Rattle.cell_network.specs.Engine.{Engine};
     ghost use Rattle.cell_engine.specs.Coding.{coded_table};
+    ghost use Rattle.sim_core.specs.Counting.{Counted};
 
-    ghost Value = { Engine };
+    ghost Value = { Counted };
 
     ghost coded = { Prim.hlevel (codes, coded_table) };
 
-    ghost view = { λ s. s.state };
+    ghost view = { λ s. record { engine = s.machine; decided = s.decided } };
 }
 
 impl<S: Selector, T: PrefixTable<Cell<S>>> Sim<S, T> {
-    /// Nothing is configured, received or on its way. It takes no memory.
+    /// Nothing is configured, received or on its way, and nothing was decided. It takes no memory.
     pub fn new(alloc: Global) -> Self
-        ensures { network result ≡ nothing }
+        ensures network { network result.engine ≡ nothing }
+        ensures decided { result.decided ≡ 0 }
     {
         Sim {
             alloc,
-            state: State::new(alloc),
+            machine: EventMachine::new(alloc),
+            decided: 0,
         }
     }
 
     /// The state, for questions of one's own.
     pub fn state(&self) -> &State<S, T>
-        ensures { result.now ≡ self.now }
+        ensures { result.now ≡ self.now.engine }
     {
-        &self.state
+        self.machine.state()
+    }
+
+    /// How many routes were decided anew: one for each message that a router took, and for each edit those that it refreshed. It stops
+    /// at the greatest number.
+    pub fn decided(&self) -> u64
+        ensures { result ≡ self.now.decided }
+    {
+        self.decided
     }
 }
 
@@ -59,52 +72,41 @@ impl<S: Selector + Drop, T: PrefixTable<Cell<S>> + Drop> Sim<S, T> {
     /// Makes ready what the event will do, with all the memory that this takes. The network stays as it is. The refusal is the machine's
     /// own, or want of memory where the machine refuses nothing; the tests come before the first growth.
     pub fn prepare(&mut self, event: &Event) -> Result<Plan<S>, Refusal>
-        ensures network { network self.new ≡ network self.old }
-        ensures prepares { Prepares self.new event.now result }
+        ensures network { network self.new.engine ≡ network self.old.engine }
+        ensures decided { self.new.decided ≡ self.old.decided }
+        ensures prepares { Prepares self.new.engine event.now result }
     {
-        match event {
-            Event::Edit(edit) => self.prepare_edit(edit),
-            Event::Feed(feed) => self.prepare_feed(feed),
-            Event::Deliver(from, to) => self.prepare_delivery(Direction {
-                from: *from,
-                to: *to,
-            }),
-            Event::Ask(question) => self.prepare_answer(question),
-        }
+        self.machine.prepare(event)
     }
 
     /// Carries out a plan that was prepared from this state: this is the machine's own step. It takes no memory.
     pub fn apply(&mut self, plan: Plan<S>) -> Reply
-        requires { IsOfEvent self.old plan }
+        requires { IsOfEvent self.old.engine plan }
         ensures reply { result ≡ plan.reply }
-        ensures next { (event : Event) → IsPrepared self.old event plan → network self.new ≡ (step (network self.old) event).next }
+        ensures next { (event : Event) → IsPrepared self.old.engine event plan → network self.new.engine ≡ (step (network self.old.engine) event).next }
+        ensures decided { self.new.decided ≡ raised self.old.decided (length plan.refreshed) }
     {
-        let Plan {
-            reply,
-            pushed,
-            taken,
-            edited,
-        } = plan;
-        if let Some(edited) = edited {
-            self.state.reconfigure(edited);
-            return reply;
+        self.decided = raised(self.decided, plan.refreshed().len());
+        self.machine.apply(plan)
+    }
+
+    /// Takes the event, which is the machine's own step, or is refused for want of memory and does nothing.
+    pub fn step(&mut self, event: &Event) -> Reply
+        ensures step { IsStep (network self.old.engine) event.now result (network self.new.engine) }
+        ensures decided { Counts (network self.old.engine) event.now result self.old.decided self.new.decided }
+    {
+        match self.prepare(event) {
+            Ok(plan) => self.apply(plan),
+            Err(refusal) => Reply::Refused(refusal),
         }
-        if let Some(taken) = taken {
-            self.take(taken);
-            return reply;
-        }
-        if let Some((direction, message)) = pushed {
-            self.state.push(direction, message);
-        }
-        reply
     }
 
     /// Takes the events in order, one reply an event. Where there is no memory for the replies, nothing has changed and
     /// the refusal is `Memory`; a step's own want of memory is its reply.
     pub fn run(&mut self, events: &[Event]) -> Result<Vec<Reply>, Refusal>
         ensures { MatchResult result
-            (λ replies. IsRun (network self.old) events.now replies.items (network self.new))
-            (λ refusal. (refusal ≡ Memory) × (network self.new ≡ network self.old)) }
+            (λ replies. IsRun (network self.old.engine) events.now replies.items (network self.new.engine))
+            (λ refusal. (refusal ≡ Memory) × (network self.new.engine ≡ network self.old.engine)) }
     {
         let Ok(mut replies) = Vec::with_capacity(self.alloc, events.len()) else {
             return Err(Refusal::Memory);
@@ -120,12 +122,21 @@ impl<S: Selector + Drop, T: PrefixTable<Cell<S>> + Drop> Sim<S, T> {
 impl<S: Selector + Drop, T: PrefixTable<Cell<S>> + Drop> Machine for Sim<S, T> {
     ghost use Rattle.cell_network.specs.Engine as engine;
 
-    ghost network = { λ s. engine.network s };
+    ghost network = { λ s. engine.network s.engine };
 
     fn step(&mut self, event: &Event) -> Reply {
-        match self.prepare(event) {
-            Ok(plan) => self.apply(plan),
-            Err(refusal) => Reply::Refused(refusal),
-        }
+        Sim::step(self, event)
+    }
+}
+
+/// The count, raised by this many. It stops at the greatest number.
+fn raised(count: u64, more: usize) -> u64
+    ensures { result ≡ raised count more }
+{
+    let more = more as u64;
+    if more > u64::MAX - count {
+        u64::MAX
+    } else {
+        count + more
     }
 }

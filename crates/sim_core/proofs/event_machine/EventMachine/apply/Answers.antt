@@ -6,7 +6,7 @@ use Rattle.reference_machine.specs.Machine.{with_sent, after_edit}
 use Rattle.cell_network.specs.Engine.{network}
 use Rattle.cell_engine.specs.Edits.{IsPlanned, HasPlaces}
 use Rattle.sim_core.proofs.Carried.{editing, taking, pushing, nothing_done}
-use Rattle.sim_core.proofs.sim.Sim.apply.Goals as goal
+use Rattle.sim_core.proofs.event_machine.EventMachine.apply.Goals as goal
 
 pub reconfigure-requires-clause-of : goal.reconfigure-requires-clause-of
 reconfigure-requires-clause-of g c =

@@ -4,7 +4,7 @@ use Rattle.session_queue.specs.Waiting.{queue_at}
 use Rattle.reference_machine.specs.Machine.{delivery_refusal}
 use Rattle.cell_network.specs.Engine.{IsSound}
 use Rattle.sim_core.proofs.Refusals.{delivery_denied, delivery_denied_empty, delivery_wants}
-use Rattle.sim_core.proofs.sim.Sim.prepare_delivery.Goals as goal
+use Rattle.sim_core.proofs.event_machine.EventMachine.prepare_delivery.Goals as goal
 
 pub returns-in-Some-clause-prepares : goal.returns-in-Some-clause-prepares
 returns-in-Some-clause-prepares g c =

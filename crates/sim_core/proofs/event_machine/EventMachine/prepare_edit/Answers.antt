@@ -1,7 +1,7 @@
 use Rattle.std.proofs.Common.{sym, ap, ◌∙◌}
 use Rattle.net_conf.specs.Edits.{refusal_of}
 use Rattle.sim_core.proofs.Refusals.{edit_denied, edit_wants}
-use Rattle.sim_core.proofs.sim.Sim.prepare_edit.Goals as goal
+use Rattle.sim_core.proofs.event_machine.EventMachine.prepare_edit.Goals as goal
 
 pub returns-in-Err-clause-prepares : goal.returns-in-Err-clause-prepares
 returns-in-Err-clause-prepares g c =

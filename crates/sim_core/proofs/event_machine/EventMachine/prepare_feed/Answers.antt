@@ -1,7 +1,7 @@
 use Rattle.std.proofs.Common.{sym, ap, ◌∙◌}
 use Rattle.reference_machine.specs.Machine.{feed_refusal}
 use Rattle.sim_core.proofs.Refusals.{feed_denied, feed_wants}
-use Rattle.sim_core.proofs.sim.Sim.prepare_feed.Goals as goal
+use Rattle.sim_core.proofs.event_machine.EventMachine.prepare_feed.Goals as goal
 
 pub returns-in-Some-clause-prepares : goal.returns-in-Some-clause-prepares
 returns-in-Some-clause-prepares g c =
