@@ -131,14 +131,9 @@ fn counts_of_edits<S: Selector + Drop, T: PrefixTable<Cell<S>> + Drop>(
     machine: &mut Sim<S, T>,
 ) -> Result<(), Fail> {
     let before = count_after_all(alloc, machine, &REFLECTED)?;
-    assert_eq!(rt;
-        count_after(alloc, machine, "cluster 5.0.0.3 5.0.0.2")?,
-        before + 1
-    );
-    assert_eq!(rt;
-        count_after(alloc, machine, "router 5.0.0.4 5")?,
-        before + 1
-    );
+    let after = count_after(alloc, machine, "cluster 5.0.0.3 5.0.0.2")?;
+    assert!(rt; after > before && after - before == 1);
+    assert_eq!(rt; count_after(alloc, machine, "router 5.0.0.4 5")?, after);
     Ok(())
 }
 
