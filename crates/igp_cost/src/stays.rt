@@ -125,7 +125,7 @@ impl<'a> RootedGraph<'a> {
 }
 
 // Whether a label is at least as good as what an edge offers, from the label at its start.
-fn is_not_after_offer(
+pub fn is_not_after_offer(
     source: Addr,
     from: Addr,
     to: Addr,
@@ -142,7 +142,7 @@ fn is_not_after_offer(
 }
 
 // Whether what an edge offers, from the label at its start, is at least as good as a label.
-fn is_offer_not_after(
+pub fn is_offer_not_after(
     source: Addr,
     from: Addr,
     to: Addr,

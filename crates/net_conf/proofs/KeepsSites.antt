@@ -2,13 +2,19 @@
 use Rattle.std.proofs.Common.{◌≡◌, ℕ, ◌+◌, ◌<◌, Bool, true, false, cond, ◌||◌, List, [], ◌∷◌, map, take, length, get_or, Option, Some, None, option_map, is_some, if◌then◌else◌, refl, sym, ap, ◌∙◌}
 use Rattle.std.specs.Option.{unwrap_or}
 use Rattle.std.specs.Cmp.{unsigned_ties}
-use Rattle.std.specs.BTreeMap.{is_at}
+use Rattle.std.specs.Ordering.{is_eq}
+use Rattle.std.specs.List.Sorted.{IsStrictlySortedBy}
+use Rattle.std.specs.Map.{keys_of, lookup, remove_entry}
+use Rattle.std.specs.BTreeMap.{insert_entry, is_at}
 use Rattle.std.proofs.lemmas.Bool.{true≢false}
-use Rattle.std.proofs.lemmas.Cmp.{nat_eq_equiv}
+use Rattle.std.proofs.lemmas.Cmp.{nat_eq_equiv, eq_by_cmp_equiv}
+use Rattle.std.proofs.lemmas.Map.{lookup-remove_entry}
+use Rattle.std.proofs.lemmas.Map.Keys.{IsDistinct-from_sorted}
 use Rattle.std.proofs.lemmas.List.Folds.{list_any_more}
 use Rattle.std.proofs.lemmas.Option.{none-some}
 use Rattle.net_prefix.specs.declared.addr.Addr.{Addr}
 use Rattle.net_prefix.specs.Address.{addr_cmp}
+use Rattle.net_prefix.specs.Orders.{addr_exact, addr_total}
 use Rattle.net_conf.specs.declared.site.SiteConf.{SiteConf}
 use Rattle.net_conf.specs.declared.tables.Link.{Link}
 use Rattle.net_conf.specs.declared.tables.Ends.{Ends}
@@ -22,6 +28,8 @@ use Rattle.net_conf.specs.Kept.{IsLinked, IsRelinked, link_in, asked, relinked}
 use Rattle.net_conf.specs.RouterSites.{router_site, site_kept, site_made}
 use Rattle.net_conf.specs.Sites.{session_of, sessions_of, peers_of, site_of}
 use Rattle.net_conf.proofs.Carry.{one_address}
+use Rattle.net_conf.proofs.Inserted.{found_in}
+use Rattle.net_conf.proofs.KeptTrees.{equal_when}
 use Rattle.net_conf.proofs.Concerns.{own_costs}
 use Rattle.net_conf.proofs.TreesAfter.{linked_after}
 
@@ -127,3 +135,13 @@ one_renewed f old r xs i d lt =
 pub either_kept : (new old : Option SiteConf) (t : Bool) → (t ≡ false → new ≡ old) → cond t new old ≡ new
 either_kept new old true same = refl
 either_kept new old false same = sym (same refl)
+
+-- ONE SITE PUT IN, OR TAKEN OUT
+
+-- what is found after the router's own is put in
+pub site_put : (a r : Addr) (site : SiteConf) (es : List (Addr × SiteConf)) → lookup (is_at (addr_cmp r)) (insert_entry addr_cmp es a site) ≡ cond (is_at (addr_cmp a) r) (Some site) (lookup (is_at (addr_cmp r)) es)
+site_put a r site es = found_in addr_cmp addr_exact a site addr_total r es ∙ ap (λ t. cond t (Some site) (lookup (is_at (addr_cmp r)) es)) (sym (turned a r))
+
+-- and after it is taken out
+pub site_taken : (a r : Addr) (es : List (Addr × SiteConf)) → IsStrictlySortedBy addr_cmp (keys_of es) → lookup (is_at (addr_cmp r)) (remove_entry (is_at (addr_cmp a)) es) ≡ cond (is_at (addr_cmp a) r) None (lookup (is_at (addr_cmp r)) es)
+site_taken a r es sorted = lookup-remove_entry (eq_by_cmp_equiv addr_total) (is_at (addr_cmp a)) (λ x y is. ap is_eq (addr_total.congr a x y (equal_when (addr_cmp a x) is))) r es (IsDistinct-from_sorted addr_cmp (keys_of es) sorted)

@@ -7,41 +7,35 @@ ghost use Rattle.net_prefix.specs.declared.addr.Addr.{Addr};
 ghost use Rattle.net_prefix.specs.Address.{addr_cmp};
 ghost use Rattle.igp_cost.specs.Trees.{tree_of};
 ghost use Rattle.net_conf.specs.Concerned.{is_among};
-ghost use Rattle.net_conf.specs.Kept.{WereTrees};
+ghost use Rattle.net_conf.specs.Kept.{WereTrees, IsOldOrNew};
 
 use igp_cost::{Change, Graph, Tree};
 use net_prefix::Addr;
+use shared_map::SharedMap;
 use std::alloc::{AllocError, Global};
-use std::collections::{BTreeMap, BTreeSet};
+use std::collections::BTreeSet;
 
 /// The trees after an edit, and whose have moved.
 #[derive(Drop)]
 pub(crate) struct Carried {
-    pub(crate) trees: BTreeMap<Addr, Tree>,
+    pub(crate) trees: SharedMap<Addr, Tree>,
     pub(crate) moved: BTreeSet<Addr>,
 }
 
-/// The trees of the graph at the same addresses, of those from before the change: each that stays is shared, each other mended or made.
+/// The trees of the graph at the same addresses, of those from before the change: the map is shared, and what moves is put in.
 pub(crate) fn carry_trees(
     alloc: Global,
     graph: &Graph,
     change: &Change,
-    old: &BTreeMap<Addr, Tree>,
+    old: &SharedMap<Addr, Tree>,
 ) -> Result<Carried, AllocError>
-    requires { WereTrees change.now graph.now.nodes graph.now.edges old.now.entries }
-    ensures trees { IfOk result (λ made. (r : Addr) → lookup (is_at (addr_cmp r)) made.trees.entries ≡ option_map (λ t. tree_of graph.now.nodes graph.now.edges r) (lookup (is_at (addr_cmp r)) old.now.entries)) }
-    ensures moved { IfOk result (λ made. (r : Addr) → is_among r made.moved.keys ≡ false → lookup (is_at (addr_cmp r)) made.trees.entries ≡ lookup (is_at (addr_cmp r)) old.now.entries) }
+    requires { WereTrees change.now graph.now.nodes graph.now.edges old.now }
+    ensures trees { IfOk result (λ made. (r : Addr) → lookup (is_at (addr_cmp r)) made.trees ≡ option_map (λ t. tree_of graph.now.nodes graph.now.edges r) (lookup (is_at (addr_cmp r)) old.now)) }
+    ensures moved { IfOk result (λ made. (r : Addr) → is_among r made.moved.keys ≡ false → lookup (is_at (addr_cmp r)) made.trees ≡ lookup (is_at (addr_cmp r)) old.now) }
 {
-    let ends = addresses(alloc, old)?;
+    let ends = old.keys(alloc)?;
     let carried = carry_each(alloc, graph, change, old, &ends)?;
     Ok(carried)
-}
-
-/// The addresses, in order.
-fn addresses(alloc: Global, trees: &BTreeMap<Addr, Tree>) -> Result<Vec<Addr>, AllocError>
-    ensures { IfOk result (λ addresses. addresses.items ≡ keys_of trees.now.entries) }
-{
-    trees.iter().map(|(addr, _)| *addr).collect(alloc)
 }
 
 /// The same, of these addresses.
@@ -49,16 +43,16 @@ fn carry_each(
     alloc: Global,
     graph: &Graph,
     change: &Change,
-    old: &BTreeMap<Addr, Tree>,
+    old: &SharedMap<Addr, Tree>,
     ends: &[Addr],
 ) -> Result<Carried, AllocError>
-    requires were { WereTrees change.now graph.now.nodes graph.now.edges old.now.entries }
-    requires ends { ends.now ≡ keys_of old.now.entries }
-    ensures trees { IfOk result (λ made. (r : Addr) → lookup (is_at (addr_cmp r)) made.trees.entries ≡ cond (is_among r ends.now) (Some (tree_of graph.now.nodes graph.now.edges r)) None) }
-    ensures moved { IfOk result (λ made. (r : Addr) → is_among r made.moved.keys ≡ false → is_among r ends.now ≡ true → lookup (is_at (addr_cmp r)) old.now.entries ≡ Some (tree_of graph.now.nodes graph.now.edges r)) }
+    requires were { WereTrees change.now graph.now.nodes graph.now.edges old.now }
+    requires ends { ends.now ≡ keys_of old.now }
+    ensures trees { IfOk result (λ made. (r : Addr) → lookup (is_at (addr_cmp r)) made.trees ≡ cond (is_among r ends.now) (Some (tree_of graph.now.nodes graph.now.edges r)) (lookup (is_at (addr_cmp r)) old.now)) }
+    ensures moved { IfOk result (λ made. (r : Addr) → is_among r made.moved.keys ≡ false → is_among r ends.now ≡ true → lookup (is_at (addr_cmp r)) old.now ≡ Some (tree_of graph.now.nodes graph.now.edges r)) }
 {
     let mut carried = Carried {
-        trees: BTreeMap::new(alloc),
+        trees: old.share()?,
         moved: BTreeSet::new(alloc),
     };
     for end in ends {
@@ -72,25 +66,26 @@ fn carry(
     alloc: Global,
     graph: &Graph,
     change: &Change,
-    old: &BTreeMap<Addr, Tree>,
+    old: &SharedMap<Addr, Tree>,
     carried: &mut Carried,
     end: Addr,
 ) -> Result<(), AllocError>
-    requires were { WereTrees change.now graph.now.nodes graph.now.edges old.now.entries }
-    requires there { is_some (lookup (is_at (addr_cmp end)) old.now.entries) ≡ true }
-    ensures trees { OnOk result ((r : Addr) → lookup (is_at (addr_cmp r)) carried.new.trees.entries ≡ cond (is_at (addr_cmp r) end) (Some (tree_of graph.now.nodes graph.now.edges r)) (lookup (is_at (addr_cmp r)) carried.old.trees.entries)) }
+    requires were { WereTrees change.now graph.now.nodes graph.now.edges old.now }
+    requires there { is_some (lookup (is_at (addr_cmp end)) old.now) ≡ true }
+    requires so_far { IsOldOrNew (lookup (is_at (addr_cmp end)) old.now) (tree_of graph.now.nodes graph.now.edges end) (lookup (is_at (addr_cmp end)) carried.old.trees) }
+    ensures trees { OnOk result ((r : Addr) → lookup (is_at (addr_cmp r)) carried.new.trees ≡ cond (is_at (addr_cmp r) end) (Some (tree_of graph.now.nodes graph.now.edges r)) (lookup (is_at (addr_cmp r)) carried.old.trees)) }
     ensures known { OnOk result ((r : Addr) → is_among r carried.new.moved.keys ≡ false → is_among r carried.old.moved.keys ≡ false) }
-    ensures stays { OnOk result ((r : Addr) → is_among r carried.new.moved.keys ≡ false → is_at (addr_cmp r) end ≡ true → lookup (is_at (addr_cmp r)) old.now.entries ≡ Some (tree_of graph.now.nodes graph.now.edges r)) }
+    ensures stays { OnOk result ((r : Addr) → is_among r carried.new.moved.keys ≡ false → is_at (addr_cmp r) end ≡ true → lookup (is_at (addr_cmp r)) old.now ≡ Some (tree_of graph.now.nodes graph.now.edges r)) }
 {
     let Some(tree) = old.get(&end) else {
         unreachable!();
     };
-    if graph.keeps(tree, change) {
-        carried.trees.insert(end, tree.clone()?)?;
-        return Ok(());
+    match graph.moved(alloc, tree, change)? {
+        None => Ok(()),
+        Some(made) => {
+            carried.moved.insert(end)?;
+            carried.trees.put(alloc, end, made)?;
+            Ok(())
+        }
     }
-    let tree = graph.touched(alloc, tree.clone()?, *change)?;
-    carried.moved.insert(end)?;
-    carried.trees.insert(end, tree)?;
-    Ok(())
 }

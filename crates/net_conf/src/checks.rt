@@ -12,7 +12,7 @@ use crate::tables::{End, PolicySide};
 use igp_cost::MAX_NODES;
 use net_prefix::Addr;
 use route_policy::{Action, MAX_RULES, Policy};
-use std::collections::BTreeMap;
+use shared_map::SharedMap;
 
 impl ConfTables {
     /// Whether the edit may be made: the first test that holds refuses it. It takes no memory.
@@ -281,8 +281,8 @@ fn sets_too_much(external: bool, side: PolicySide, action: Action) -> bool
 }
 
 /// How many rules the policy of the end has.
-fn count_at(policies: &BTreeMap<End, Policy>, end: End) -> usize
-    ensures { result ≡ length (rules_at policies.now.entries end) }
+fn count_at(policies: &SharedMap<End, Policy>, end: End) -> usize
+    ensures { result ≡ length (rules_at policies.now end) }
 {
     match policies.get(&end) {
         None => 0,

@@ -122,7 +122,10 @@ impl ConfTables {
     fn session_list(&self, alloc: Global) -> Result<Vec<Ends>, AllocError>
         ensures { IfOk result (λ v. v.items ≡ keys_of self.now.sessions) }
     {
-        self.sessions.iter().map(|(ends, _)| *ends).collect(alloc)
+        self.sessions
+            .as_slice()
+            .iter()
+            .map(|(ends, _)| *ends).collect(alloc)
     }
 }
 

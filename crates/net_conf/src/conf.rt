@@ -17,15 +17,16 @@ use igp_cost::Tree;
 use net_prefix::{Addr, Prefix};
 use path_attr::Asn;
 use seq::Copied;
+use shared_map::SharedMap;
 use std::alloc::{AllocError, Global};
-use std::collections::{BTreeMap, BTreeSet};
+use std::collections::BTreeSet;
 use std::marker::Model;
 
 /// What is configured, with the interior costs and the sites of those who have a session.
 #[derive(Drop)]
 pub struct Conf {
     pub(crate) trees: ConfTrees,
-    pub(crate) sites: BTreeMap<Addr, SharedSite>,
+    pub(crate) sites: SharedMap<Addr, SharedSite>,
 }
 
 /// What an edit makes.
@@ -45,17 +46,17 @@ impl Model for Conf {
 
     ghost view = { λ c. c.trees };
 
-    ghost invariant = { λ c. AreSitesKept c.trees c.sites.entries };
+    ghost invariant = { λ c. AreSitesKept c.trees c.sites };
 }
 
 impl Conf {
     /// Nothing configured. It takes no memory.
-    pub fn new(alloc: Global) -> Self
+    pub fn new(_alloc: Global) -> Self
         ensures { result ≡ unconfigured }
     {
         Conf {
-            trees: ConfTrees::new(alloc),
-            sites: BTreeMap::new(alloc),
+            trees: ConfTrees::new(),
+            sites: SharedMap::new(),
         }
     }
 
@@ -189,7 +190,7 @@ impl Conf {
 impl Copied for Conf {
     fn copy(&self, alloc: Global) -> Result<Conf, AllocError> {
         let trees = self.trees.copy(alloc)?;
-        let sites = self.sites.clone()?;
+        let sites = self.sites.share()?;
         Ok(Conf { trees, sites })
     }
 }

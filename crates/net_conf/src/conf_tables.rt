@@ -12,22 +12,23 @@ use net_prefix::{Addr, Prefix};
 use path_attr::Asn;
 use route_policy::{Policy, Rule};
 use seq::Copied;
+use shared_map::{SharedMap, SharedSet};
 use std::alloc::{AllocError, Global};
-use std::collections::{BTreeMap, BTreeSet};
 use std::marker::Model;
 
-/// Routers and virtual peers, links, sessions with the settings of their ends, CLUSTER_IDs, and who originates what.
+/// Routers and virtual peers, links, sessions with the settings of their ends, CLUSTER_IDs, and who originates what. A copy shares each
+/// table, and an edit copies the one that it changes.
 #[derive(Drop)]
 pub struct ConfTables {
-    pub(crate) nodes: BTreeMap<Addr, Node>,
-    pub(crate) links: BTreeMap<Ends, Link>,
-    pub(crate) sessions: BTreeMap<Ends, bool>,
-    pub(crate) clients: BTreeSet<End>,
-    pub(crate) own_next: BTreeSet<End>,
-    pub(crate) imports: BTreeMap<End, Policy>,
-    pub(crate) exports: BTreeMap<End, Policy>,
-    pub(crate) clusters: BTreeMap<Addr, Addr>,
-    pub(crate) origins: BTreeSet<Origination>,
+    pub(crate) nodes: SharedMap<Addr, Node>,
+    pub(crate) links: SharedMap<Ends, Link>,
+    pub(crate) sessions: SharedMap<Ends, bool>,
+    pub(crate) clients: SharedSet<End>,
+    pub(crate) own_next: SharedSet<End>,
+    pub(crate) imports: SharedMap<End, Policy>,
+    pub(crate) exports: SharedMap<End, Policy>,
+    pub(crate) clusters: SharedMap<Addr, Addr>,
+    pub(crate) origins: SharedSet<Origination>,
 }
 
 impl Model for ConfTables {
@@ -36,33 +37,33 @@ impl Model for ConfTables {
     ghost Value = { Configuration };
 
     ghost view = { λ c. record {
-      nodes = c.nodes.entries;
-      links = c.links.entries;
-      sessions = c.sessions.entries;
-      clients = c.clients.keys;
-      own_next = c.own_next.keys;
-      imports = c.imports.entries;
-      exports = c.exports.entries;
-      clusters = c.clusters.entries;
-      origins = c.origins.keys;
+      nodes = c.nodes;
+      links = c.links;
+      sessions = c.sessions;
+      clients = c.clients;
+      own_next = c.own_next;
+      imports = c.imports;
+      exports = c.exports;
+      clusters = c.clusters;
+      origins = c.origins;
     } };
 }
 
 impl ConfTables {
     /// Nothing. It takes no memory.
-    pub fn new(alloc: Global) -> Self
+    pub fn new() -> Self
         ensures { result ≡ unconfigured }
     {
         ConfTables {
-            nodes: BTreeMap::new(alloc),
-            links: BTreeMap::new(alloc),
-            sessions: BTreeMap::new(alloc),
-            clients: BTreeSet::new(alloc),
-            own_next: BTreeSet::new(alloc),
-            imports: BTreeMap::new(alloc),
-            exports: BTreeMap::new(alloc),
-            clusters: BTreeMap::new(alloc),
-            origins: BTreeSet::new(alloc),
+            nodes: SharedMap::new(),
+            links: SharedMap::new(),
+            sessions: SharedMap::new(),
+            clients: SharedSet::new(),
+            own_next: SharedSet::new(),
+            imports: SharedMap::new(),
+            exports: SharedMap::new(),
+            clusters: SharedMap::new(),
+            origins: SharedSet::new(),
         }
     }
 
@@ -70,15 +71,15 @@ impl ConfTables {
     pub fn orders(&self)
         ensures { IsInOrder self.now }
     {
-        let _ = self.nodes.len();
-        let _ = self.links.len();
-        let _ = self.sessions.len();
-        let _ = self.clients.len();
-        let _ = self.own_next.len();
-        let _ = self.imports.len();
-        let _ = self.exports.len();
-        let _ = self.clusters.len();
-        let _ = self.origins.len();
+        let _ = self.nodes.as_slice();
+        let _ = self.links.as_slice();
+        let _ = self.sessions.as_slice();
+        let _ = self.clients.as_slice();
+        let _ = self.own_next.as_slice();
+        let _ = self.imports.as_slice();
+        let _ = self.exports.as_slice();
+        let _ = self.clusters.as_slice();
+        let _ = self.origins.as_slice();
     }
 
     /// The router or virtual peer at the address.
@@ -164,6 +165,7 @@ impl ConfTables {
         ensures { result ≡ session_count self.now addr }
     {
         self.sessions
+            .as_slice()
             .iter()
             .filter(|(ends, _)| ends.low == addr || ends.high == addr)
             .count()
@@ -180,7 +182,7 @@ impl ConfTables {
     pub fn is_reflector(&self, router: Addr) -> bool
         ensures { result ≡ is_reflector self.now router }
     {
-        self.clients.iter().any(|end| end.router == router)
+        self.clients.as_slice().iter().any(|end| end.router == router)
     }
 
     /// The router's CLUSTER_ID.
@@ -209,6 +211,7 @@ impl ConfTables {
         ensures { IfOk result (λ v. v.items ≡ origins_of self.now router) }
     {
         self.origins
+            .as_slice()
             .iter()
             .filter(|o| o.router == router)
             .map(|o| o.prefix)
@@ -243,10 +246,10 @@ impl ConfTables {
 /// The policy of the end; the one without rules where there is none.
 pub(crate) fn policy_at(
     alloc: Global,
-    policies: &BTreeMap<End, Policy>,
+    policies: &SharedMap<End, Policy>,
     end: End,
 ) -> Result<Policy, AllocError>
-    ensures { IfOk result (λ p. p ≡ rules_at policies.now.entries end) }
+    ensures { IfOk result (λ p. p ≡ rules_at policies.now end) }
 {
     match policies.get(&end) {
         None => Ok(Policy::new(alloc)),
@@ -257,15 +260,15 @@ pub(crate) fn policy_at(
 impl Copied for ConfTables {
     fn copy(&self, _alloc: Global) -> Result<ConfTables, AllocError> {
         Ok(ConfTables {
-            nodes: self.nodes.clone()?,
-            links: self.links.clone()?,
-            sessions: self.sessions.clone()?,
-            clients: self.clients.clone()?,
-            own_next: self.own_next.clone()?,
-            imports: self.imports.clone()?,
-            exports: self.exports.clone()?,
-            clusters: self.clusters.clone()?,
-            origins: self.origins.clone()?,
+            nodes: self.nodes.share()?,
+            links: self.links.share()?,
+            sessions: self.sessions.share()?,
+            clients: self.clients.share()?,
+            own_next: self.own_next.share()?,
+            imports: self.imports.share()?,
+            exports: self.exports.share()?,
+            clusters: self.clusters.share()?,
+            origins: self.origins.share()?,
         })
     }
 }

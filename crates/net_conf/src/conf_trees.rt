@@ -9,15 +9,15 @@ use crate::conf_tables::ConfTables;
 use igp_cost::Tree;
 use net_prefix::Addr;
 use seq::Copied;
+use shared_map::SharedMap;
 use std::alloc::{AllocError, Global};
-use std::collections::BTreeMap;
 use std::marker::Model;
 
 /// The tables, with the tree of each end of a session.
 #[derive(Drop)]
 pub(crate) struct ConfTrees {
     pub(crate) tables: ConfTables,
-    pub(crate) trees: BTreeMap<Addr, Tree>,
+    pub(crate) trees: SharedMap<Addr, Tree>,
 }
 
 impl Model for ConfTrees {
@@ -28,17 +28,17 @@ impl Model for ConfTrees {
 
     ghost view = { λ c. c.tables };
 
-    ghost invariant = { λ c. IsSound c.tables × AreKept c.tables c.trees.entries };
+    ghost invariant = { λ c. IsSound c.tables × AreKept c.tables c.trees };
 }
 
 impl ConfTrees {
     /// Nothing configured. It takes no memory.
-    pub(crate) fn new(alloc: Global) -> Self
+    pub(crate) fn new() -> Self
         ensures { result ≡ unconfigured }
     {
         ConfTrees {
-            tables: ConfTables::new(alloc),
-            trees: BTreeMap::new(alloc),
+            tables: ConfTables::new(),
+            trees: SharedMap::new(),
         }
     }
 
@@ -120,7 +120,7 @@ impl ConfTrees {
 impl Copied for ConfTrees {
     fn copy(&self, alloc: Global) -> Result<ConfTrees, AllocError> {
         let tables = self.tables.copy(alloc)?;
-        let trees = self.trees.clone()?;
+        let trees = self.trees.share()?;
         Ok(ConfTrees { tables, trees })
     }
 }

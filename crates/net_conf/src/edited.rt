@@ -17,8 +17,9 @@ use crate::edit::Edit;
 use igp_cost::{Graph, Tree, lone_node_moves_no_tree, one_edge_is_a_change, tree_of_is_a_tree};
 use net_prefix::Addr;
 use seq::Copied;
+use shared_map::SharedMap;
 use std::alloc::{AllocError, Global};
-use std::collections::{BTreeMap, BTreeSet};
+use std::collections::BTreeSet;
 
 /// What an edit makes, and whose trees have moved.
 #[derive(Drop)]
@@ -52,7 +53,7 @@ impl ConfTrees {
         requires passes { refusal_of self.now edit.now ≡ None }
         requires made { tables.now ≡ edited self.now edit.now }
         requires sound { IsSound tables.now }
-        ensures trees { IfOk result (λ made. AreKept tables.now made.trees.entries) }
+        ensures trees { IfOk result (λ made. AreKept tables.now made.trees) }
         ensures moved { IfOk result (λ made. CostsStayBut self.now tables.now made.moved.keys) }
     {
         match edit.link() {
@@ -72,7 +73,7 @@ impl ConfTrees {
         requires made { tables.now ≡ edited self.now edit.now }
         requires sound { IsSound tables.now }
         requires link { link_in edit.now ≡ None }
-        ensures trees { IfOk result (λ made. AreKept tables.now made.trees.entries) }
+        ensures trees { IfOk result (λ made. AreKept tables.now made.trees) }
         ensures moved { IfOk result (λ made. CostsStayBut self.now tables.now made.moved.keys) }
     {
         lone_node_moves_no_tree();
@@ -95,11 +96,11 @@ impl ConfTrees {
     ) -> Result<Carried, AllocError>
         requires linked { IsLinked self.now tables.now one other }
         requires sound { IsSound tables.now }
-        ensures trees { IfOk result (λ made. AreKept tables.now made.trees.entries) }
+        ensures trees { IfOk result (λ made. AreKept tables.now made.trees) }
         ensures moved { IfOk result (λ made. CostsStayBut self.now tables.now made.moved.keys) }
     {
         if self.trees.is_empty() {
-            let trees = BTreeMap::new(alloc);
+            let trees = SharedMap::new();
             let moved = BTreeSet::new(alloc);
             return Ok(Carried { trees, moved });
         }
@@ -113,7 +114,7 @@ impl ConfTrees {
                 Ok(carried)
             }
             None => {
-                let trees = self.trees.clone()?;
+                let trees = self.trees.share()?;
                 let moved = BTreeSet::new(alloc);
                 Ok(Carried { trees, moved })
             }
@@ -127,12 +128,12 @@ impl ConfTrees {
         tables: &ConfTables,
         one: Addr,
         other: Addr,
-    ) -> Result<BTreeMap<Addr, Tree>, AllocError>
+    ) -> Result<SharedMap<Addr, Tree>, AllocError>
         requires joined { IsJoined self.now tables.now one other }
         requires sound { IsSound tables.now }
-        ensures { IfOk result (λ trees. AreKept tables.now trees.entries) }
+        ensures { IfOk result (λ trees. AreKept tables.now trees) }
     {
-        let mut trees = self.trees.clone()?;
+        let mut trees = self.trees.share()?;
         if self.ends_session(one) && self.ends_session(other) {
             return Ok(trees);
         }
@@ -147,16 +148,16 @@ impl ConfTrees {
         &self,
         edit: &Edit,
         tables: &ConfTables,
-    ) -> Result<BTreeMap<Addr, Tree>, AllocError>
+    ) -> Result<SharedMap<Addr, Tree>, AllocError>
         requires passes { refusal_of self.now edit.now ≡ None }
         requires made { tables.now ≡ edited self.now edit.now }
         requires link { link_in edit.now ≡ None }
         requires session { session_in edit.now ≡ None }
-        ensures { IfOk result (λ trees. AreKept tables.now trees.entries) }
+        ensures { IfOk result (λ trees. AreKept tables.now trees) }
     {
         lone_node_moves_no_tree();
         self.tables.orders();
-        let trees = self.trees.clone()?;
+        let trees = self.trees.share()?;
         Ok(trees)
     }
 }
@@ -164,17 +165,17 @@ impl ConfTrees {
 /// Adds the tree of the node, where it is missing.
 fn add_missing(
     alloc: Global,
-    trees: &mut BTreeMap<Addr, Tree>,
+    trees: &mut SharedMap<Addr, Tree>,
     graph: &Graph,
     addr: Addr,
 ) -> Result<(), AllocError>
     requires node { is_node graph.now.nodes addr ≡ true }
-    requires right { (t : Reached) → lookup (is_at (addr_cmp addr)) trees.old.entries ≡ Some t → t ≡ tree_of graph.now.nodes graph.now.edges addr }
-    ensures { OnOk result ((r : Addr) → lookup (is_at (addr_cmp r)) trees.new.entries ≡ cond (is_at (addr_cmp r) addr) (Some (tree_of graph.now.nodes graph.now.edges r)) (lookup (is_at (addr_cmp r)) trees.old.entries)) }
+    requires right { (t : Reached) → lookup (is_at (addr_cmp addr)) trees.old ≡ Some t → t ≡ tree_of graph.now.nodes graph.now.edges addr }
+    ensures { OnOk result ((r : Addr) → lookup (is_at (addr_cmp r)) trees.new ≡ cond (is_at (addr_cmp r) addr) (Some (tree_of graph.now.nodes graph.now.edges r)) (lookup (is_at (addr_cmp r)) trees.old)) }
 {
     if !trees.contains_key(&addr) {
         let tree = graph.tree(alloc, addr)?;
-        trees.insert(addr, tree)?;
+        trees.put(alloc, addr, tree)?;
     }
     Ok(())
 }

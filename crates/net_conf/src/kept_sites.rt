@@ -18,8 +18,9 @@ use crate::shared_site::SharedSite;
 use crate::site::{SiteConf, SiteSession};
 use net_prefix::Addr;
 use seq::{Copied, Seq};
+use shared_map::SharedMap;
 use std::alloc::{AllocError, Global};
-use std::collections::{BTreeMap, BTreeSet};
+use std::collections::BTreeSet;
 
 impl Conf {
     /// The site of a router that has a session; it is kept. None where there is no session, or no router.
@@ -61,14 +62,14 @@ impl Conf {
         edit: &Edit,
         after: &ConfTrees,
         concerned: &BTreeSet<Addr>,
-    ) -> Result<BTreeMap<Addr, SharedSite>, AllocError>
+    ) -> Result<SharedMap<Addr, SharedSite>, AllocError>
         requires passes { refusal_of self.now edit.now ≡ None }
         requires made { after.now ≡ edited self.now edit.now }
         requires concerned { ConcernsAlone self.now after.now concerned.now.keys }
         requires ends { EndsStayBut self.now after.now concerned.now.keys }
-        ensures { IfOk result (λ sites. AreSitesKept after.now sites.entries) }
+        ensures { IfOk result (λ sites. AreSitesKept after.now sites) }
     {
-        let sites = self.sites.clone()?;
+        let sites = self.sites.share()?;
         let routers = listed(alloc, concerned)?;
         let renewed = self.renewed(alloc, edit, after, sites, &routers)?;
         Ok(renewed)
@@ -80,12 +81,12 @@ impl Conf {
         alloc: Global,
         edit: &Edit,
         after: &ConfTrees,
-        sites: BTreeMap<Addr, SharedSite>,
+        sites: SharedMap<Addr, SharedSite>,
         routers: &[Addr],
-    ) -> Result<BTreeMap<Addr, SharedSite>, AllocError>
+    ) -> Result<SharedMap<Addr, SharedSite>, AllocError>
         requires passes { refusal_of self.now edit.now ≡ None }
         requires made { after.now ≡ edited self.now edit.now }
-        ensures { IfOk result (λ new. (r : Addr) → lookup (is_at (addr_cmp r)) new.entries ≡ cond (is_among r routers.now) (site_kept after.now r) (lookup (is_at (addr_cmp r)) sites.entries)) }
+        ensures { IfOk result (λ new. (r : Addr) → lookup (is_at (addr_cmp r)) new ≡ cond (is_among r routers.now) (site_kept after.now r) (lookup (is_at (addr_cmp r)) sites)) }
     {
         let mut renewed = sites;
         for router in routers {
@@ -100,21 +101,22 @@ impl Conf {
         alloc: Global,
         edit: &Edit,
         after: &ConfTrees,
-        sites: &mut BTreeMap<Addr, SharedSite>,
+        sites: &mut SharedMap<Addr, SharedSite>,
         router: Addr,
     ) -> Result<(), AllocError>
         requires passes { refusal_of self.now edit.now ≡ None }
         requires made { after.now ≡ edited self.now edit.now }
-        ensures { OnOk result ((r : Addr) → lookup (is_at (addr_cmp r)) sites.new.entries ≡ cond (is_at (addr_cmp router) r) (site_kept after.now router) (lookup (is_at (addr_cmp r)) sites.old.entries)) }
+        ensures { OnOk result ((r : Addr) → lookup (is_at (addr_cmp r)) sites.new ≡ cond (is_at (addr_cmp router) r) (site_kept after.now router) (lookup (is_at (addr_cmp r)) sites.old)) }
     {
         match self.site_after(alloc, edit, after, router)? {
             Some(site) => {
                 let shared = SharedSite::of(alloc, site)?;
-                sites.insert(router, shared)?;
+                sites.put(alloc, router, shared)?;
                 Ok(())
             }
             None => {
-                sites.remove(&router);
+                let _ = sites.as_slice();
+                sites.take_out(alloc, &router)?;
                 Ok(())
             }
         }

@@ -3,6 +3,7 @@
 ghost use Rattle.std.specs.Prelude.{◌≡◌, IfOk};
 
 use crate::site::SiteConf;
+use seq::Copied;
 use std::alloc::{AllocError, Global};
 use std::marker::Model;
 use std::sync::Arc;
@@ -40,10 +41,8 @@ impl SharedSite {
     }
 }
 
-impl Clone for SharedSite {
-    ghost is_clone = { λ site again. again ≡ site };
-
-    fn clone(&self) -> Result<SharedSite, AllocError> {
+impl Copied for SharedSite {
+    fn copy(&self, _alloc: Global) -> Result<SharedSite, AllocError> {
         Ok(SharedSite {
             site: Arc::try_clone(&self.site)?,
         })

@@ -231,6 +231,7 @@ impl ConfTables {
         ensures { IfOk result (λ peers. peers.items ≡ peers_of self.now router) }
     {
         self.sessions
+            .as_slice()
             .iter()
             .filter(|(ends, _)| ends.low == router || ends.high == router)
             .map(|(ends, _)| peer_in(router, *ends))

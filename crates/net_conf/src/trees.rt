@@ -22,6 +22,7 @@ impl ConfTables {
         ensures ascending { IsStrictlySortedBy addr_cmp (keys_of self.now.nodes) }
     {
         self.nodes
+            .as_slice()
             .iter()
             .map(|(addr, node)| (*addr, node.asn))
             .collect(alloc)
@@ -32,6 +33,7 @@ impl ConfTables {
         ensures { IfOk result (λ v. v.items ≡ edges_of self.now) }
     {
         self.links
+            .as_slice()
             .iter()
             .filter_map(|(ends, link)| edge_of(*ends, *link))
             .collect(alloc)

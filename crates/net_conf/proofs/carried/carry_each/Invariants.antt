@@ -1,4 +1,4 @@
-use Rattle.std.proofs.Common.{◌≡◌, true, false, cond, Some, None, take}
+use Rattle.std.proofs.Common.{◌≡◌, true, false, cond, Some, take}
 use Rattle.std.specs.Map.{lookup}
 use Rattle.std.specs.BTreeMap.{is_at}
 use Rattle.net_prefix.specs.declared.addr.Addr.{Addr}
@@ -10,6 +10,6 @@ use Rattle.net_conf.proofs.carried.carry_each.Given as goal
 -- the ends so far have their trees, and those that have not moved had them
 abbrev pub invariant-loop-end : goal.invariant-loop-end
 invariant-loop-end l = record {
-  trees : (r : Addr) → lookup (is_at (addr_cmp r)) l.carried.trees.entries ≡ cond (is_among r (take l.end-index l.ends)) (Some (tree_of l.graph.nodes l.graph.edges r)) None;
-  moved : (r : Addr) → is_among r l.carried.moved.keys ≡ false → is_among r (take l.end-index l.ends) ≡ true → lookup (is_at (addr_cmp r)) l.old.entries ≡ Some (tree_of l.graph.nodes l.graph.edges r);
+  trees : (r : Addr) → lookup (is_at (addr_cmp r)) l.carried.trees ≡ cond (is_among r (take l.end-index l.ends)) (Some (tree_of l.graph.nodes l.graph.edges r)) (lookup (is_at (addr_cmp r)) l.old);
+  moved : (r : Addr) → is_among r l.carried.moved.keys ≡ false → is_among r (take l.end-index l.ends) ≡ true → lookup (is_at (addr_cmp r)) l.old ≡ Some (tree_of l.graph.nodes l.graph.edges r);
 }

@@ -6,7 +6,7 @@ use Rattle.igp_cost.specs.Trees.{tree_of}
 use Rattle.net_conf.proofs.Carry.{put}
 use Rattle.net_conf.proofs.edited.add_missing.Goals as goal
 
-pub returns-in_ok-insert : goal.returns-in_ok-insert
-returns-in_ok-insert c r =
-    ap (lookup (is_at (addr_cmp r))) c.in_ok-insert.ensures.entries
-    ∙ put (tree_of c.args.graph.now.nodes c.args.graph.now.edges) c.args.addr c.in_ok-tree.tree c.in_ok-tree.ensures.whole c.args.trees.now.entries r
+pub returns-in_ok-put : goal.returns-in_ok-put
+returns-in_ok-put c r =
+    ap (lookup (is_at (addr_cmp r))) c.in_ok-put.ensures.ok
+    ∙ put (tree_of c.args.graph.now.nodes c.args.graph.now.edges) c.args.addr c.in_ok-tree.tree c.in_ok-tree.ensures.whole c.args.trees.now r

@@ -1,14 +1,13 @@
 use Rattle.std.proofs.Common.{◌≡◌, ◌∙◌, sym, ap, subst}
 use Rattle.std.specs.Map.{lookup}
 use Rattle.std.specs.BTreeMap.{is_at}
-use Rattle.std.proofs.lemmas.Map.Entries.{entries_from_clone}
 use Rattle.net_prefix.specs.Address.{addr_cmp}
 use Rattle.net_conf.specs.Kept.{IsSound, tree_kept}
 use Rattle.net_conf.proofs.conf_trees.ConfTreesCopied.copy.Goals as goal
 
 pub invariant_of-result : goal.invariant_of-result
 invariant_of-result c =
-    let same : c.in_ok-trees.trees.entries ≡ c.self.inside.trees.entries = entries_from_clone _ _ (λ x y h. h) (λ v w h. h) _ _ c.in_ok-trees.ensures.cases in (
+    let same : c.in_ok-trees.trees ≡ c.self.inside.trees = c.in_ok-trees.ensures in (
       subst IsSound (sym c.in_ok-tables.ensures) c.self.invariant.0,
       λ r. ap (lookup (is_at (addr_cmp r))) same ∙ c.self.invariant.1 r ∙ ap (λ x. tree_kept x r) (sym c.in_ok-tables.ensures),
     )
