@@ -10,6 +10,10 @@ use Rattle.igp_cost.specs.Wired.{IsFound, rows_of}
 use Rattle.igp_cost.specs.Trees.{Reached, source_of, label_in}
 use Rattle.igp_cost.specs.Changes.{ends_of, metric_of, Loses}
 
+-- the tree that labels by places say, from the node at s
+abbrev pub tree_by : Nodes → ℕ → Labels → Reached
+tree_by nodes s labels = record { source = addr_at nodes s; labels = rows_of nodes labels }
+
 -- the label that an edge from a to b offers, from the label of a
 abbrev pub via : Addr → Addr → Addr → ℕ → Label → Label
 via r a b m l = record { cost = l.cost + m; hop = if a.0 == r.0 then b else l.hop }

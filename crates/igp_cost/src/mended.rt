@@ -69,12 +69,11 @@ impl<'a> RootedGraph<'a> {
     {
         let mut labels = self.old_labels(alloc, old.rows())?;
         self.mend(alloc, &mut labels, &[one, other])?;
-        let made = Tree::from_labels(alloc, old.source(), self.nodes, &labels)?;
-        if self.is_local(alloc, old, &made, one, other)? {
-            Ok(Some(made))
-        } else {
-            Ok(None)
+        if !self.is_local(alloc, old, &labels, one, other)? {
+            return Ok(None);
         }
+        let made = Tree::from_labels(alloc, old.source(), self.nodes, &labels)?;
+        Ok(Some(made))
     }
 
     // The place of a node, or the source's where there is no such node.
