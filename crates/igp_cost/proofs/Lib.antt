@@ -15,3 +15,5 @@ mod OneEdge
 mod Local
 mod TreeOf
 mod LoneNode
+mod OneMore
+mod Leaf

@@ -1,14 +1,14 @@
 -- What edges offer by a tree's labels, and what a look at the links of some nodes tells of it. No public contract cites this file.
-use Rattle.std.specs.Prelude.{◌≡◌, ℕ, ◌+◌, ◌<◌, ◌==◌, ◌⊎◌, List, All, length, Contains, IsTrue, Some, if◌then◌else◌}
+use Rattle.std.specs.Prelude.{◌≡◌, ℕ, ◌+◌, ◌<◌, ◌==◌, ◌≢◌, ◌⊎◌, List, All, length, Contains, IsTrue, Some, None, if◌then◌else◌}
 use Rattle.net_prefix.specs.declared.addr.Addr.{Addr}
 use Rattle.igp_cost.specs.declared.change.Change.{Change}
 use Rattle.igp_cost.specs.declared.label.Label.{Label}
 use Rattle.igp_cost.specs.declared.link.Link.{Link}
 use Rattle.igp_cost.specs.Walks.{Nodes, share_as}
 use Rattle.igp_cost.specs.Labels.{Labels, IsNotAfter, addr_at}
-use Rattle.igp_cost.specs.Wired.{IsFound, rows_of}
+use Rattle.igp_cost.specs.Wired.{IsFound, AreAscending, rows_of}
 use Rattle.igp_cost.specs.Trees.{Reached, source_of, label_in}
-use Rattle.igp_cost.specs.Changes.{ends_of, metric_of, Loses}
+use Rattle.igp_cost.specs.Changes.{ends_of, metric_of, Loses, AreEndsOf}
 
 -- the tree that labels by places say, from the node at s
 abbrev pub tree_by : Nodes → ℕ → Labels → Reached
@@ -90,3 +90,36 @@ pub record IsMendedOver (nodes : Nodes) (links : List Link) (change : Change) (t
   pub found_one : IsFound nodes (ends_of change).0 one
   pub found_other : IsFound nodes (ends_of change).1 other
   pub mended : IsMended nodes links t one other made
+
+-- one tree says what the other says, and something of x, of which the other says nothing
+pub record HasOneMore (t : Reached) (x : Addr) (made : Reached) : Type 0 where
+  pub rows : List (Addr × Label)
+  pub is : made ≡ record { source = source_of t; labels = rows }
+  pub ascending : AreAscending rows
+  pub unknown : label_in t x ≡ None
+  pub others : (y : Addr) → y ≢ x → label_in made y ≡ label_in t y
+
+-- a link from a offers neither end anything better
+pub record IsQuietOver (nodes : Nodes) (t : Reached) (a : Addr) (link : Link) : Type 0 where
+  pub out : OffersNoBetter nodes t a (addr_at nodes link.to) link.metric
+  pub back : OffersNoBetter nodes t (addr_at nodes link.to) a link.metric
+
+-- the node at a place is held, and its links offer neither end anything better
+pub record IsSettledAlone (nodes : Nodes) (links : List Link) (t : Reached) (v : ℕ) : Type 0 where
+  pub held : IsHeld nodes links t (addr_at nodes v)
+  pub each : (link : Link) → Contains links link → link.from ≡ v → IsQuietOver nodes t (addr_at nodes v) link
+
+-- a tree that says something more of the node x, which is settled
+pub record IsGrownTo (nodes : Nodes) (links : List Link) (t : Reached) (x : Addr) (made : Reached) : Type 0 where
+  pub place : ℕ
+  pub found : IsFound nodes x place
+  pub more : HasOneMore t x made
+  pub settled : IsSettledAlone nodes links made place
+
+-- so grown to an end of a new edge
+pub record IsGrownOver (nodes : Nodes) (links : List Link) (change : Change) (t made : Reached) : Type 0 where
+  pub adds : Loses change → ⊥
+  pub near : Addr
+  pub leaf : Addr
+  pub ends : AreEndsOf change near leaf
+  pub grown : IsGrownTo nodes links t leaf made

@@ -1,6 +1,6 @@
 //! A graph of routers and edges, and the trees of least costs in it.
 
-ghost use Rattle.std.specs.Prelude.{◌≡◌, IsTrue, IfOk, IfSome, is_some};
+ghost use Rattle.std.specs.Prelude.{◌≡◌, IsTrue, IfOk, IfSome, is_some, None};
 ghost use Rattle.std.specs.Bool.{OnTrue};
 ghost use Rattle.net_prefix.specs.declared.addr.Addr.{Addr};
 ghost use Rattle.igp_cost.specs.Costs.{cost, first_hop};
@@ -134,9 +134,24 @@ impl Graph {
         }
     }
 
-    /// The tree after one change, this one, where it is mended from the tree before it and seen to be right. None where mending it did not
-    /// do. It looks once at each node's label, and at the links around the nodes whose labels differ and at the ends of the edge.
-    pub fn mended(
+    // The tree after a new edge, where that leads to one node more and moves nothing else. None elsewhere.
+    fn grown(
+        &self,
+        alloc: Global,
+        old: &Tree,
+        change: &Change,
+    ) -> Result<Option<Tree>, AllocError>
+        ensures source { IfOk result (λ o. IfSome o (λ t. source_of t ≡ source_of old.now)) }
+        ensures follows { IfOk result (λ o. IfSome o (λ t. Follows change.now self.now.nodes self.now.edges old.now t)) }
+    {
+        match self.rooted(old.source()) {
+            Some(graph) => graph.grown_tree(alloc, old, change),
+            None => Ok(None),
+        }
+    }
+
+    // The tree after a change, mended around the labels that differ. None where mending it did not do.
+    fn repaired(
         &self,
         alloc: Global,
         old: &Tree,
@@ -151,20 +166,57 @@ impl Graph {
         }
     }
 
-    /// The tree after one change, of a tree that was made before it: the same one where `keeps` says so, else one that `mended` gives,
-    /// and else one made afresh. It is what `tree` gives.
+    /// The tree after one change, this one, where it is mended from the tree before it and seen to be right. None where mending it did not
+    /// do. Where a new edge leads to a node that no walk reached, and to no other from there, it copies the rows and adds one. Else it looks
+    /// once at each node's label, and at the links around the nodes whose labels differ and at the ends of the edge.
+    pub fn mended(
+        &self,
+        alloc: Global,
+        old: &Tree,
+        change: &Change,
+    ) -> Result<Option<Tree>, AllocError>
+        ensures source { IfOk result (λ o. IfSome o (λ t. source_of t ≡ source_of old.now)) }
+        ensures follows { IfOk result (λ o. IfSome o (λ t. Follows change.now self.now.nodes self.now.edges old.now t)) }
+    {
+        match self.grown(alloc, old, change)? {
+            Some(made) => Ok(Some(made)),
+            None => self.repaired(alloc, old, change),
+        }
+    }
+
+    /// The tree after one change, of a tree that was made before it: one that `mended` gives, and else one made afresh. None where `keeps`
+    /// says that the tree stays. It is what `tree` gives.
+    pub fn moved(
+        &self,
+        alloc: Global,
+        tree: &Tree,
+        change: &Change,
+    ) -> Result<Option<Tree>, AllocError>
+        requires node { IsTrue (is_node self.now.nodes (source_of tree.now)) }
+        requires was { WasTree change.now self.now.nodes self.now.edges tree.now }
+        ensures stays { IfOk result (λ o. o ≡ None → IsTree self.now.nodes self.now.edges tree.now) }
+        ensures source { IfOk result (λ o. IfSome o (λ t. source_of t ≡ source_of tree.now)) }
+        ensures made { IfOk result (λ o. IfSome o (IsTree self.now.nodes self.now.edges)) }
+    {
+        if self.keeps(tree, change) {
+            return Ok(None);
+        }
+        match self.mended(alloc, tree, change)? {
+            Some(made) => Ok(Some(made)),
+            None => Ok(Some(self.tree(alloc, tree.source())?)),
+        }
+    }
+
+    /// The tree after one change, of a tree that was made before it: the same one where `moved` says that it stays, else what `moved` gives.
     pub fn touched(&self, alloc: Global, tree: Tree, change: Change) -> Result<Tree, AllocError>
         requires node { IsTrue (is_node self.now.nodes (source_of tree)) }
         requires was { WasTree change self.now.nodes self.now.edges tree }
         ensures source { IfOk result (λ t. source_of t ≡ source_of tree) }
         ensures made { IfOk result (IsTree self.now.nodes self.now.edges) }
     {
-        if self.keeps(&tree, &change) {
-            return Ok(tree);
-        }
-        match self.mended(alloc, &tree, &change)? {
+        match self.moved(alloc, &tree, &change)? {
             Some(made) => Ok(made),
-            None => self.tree(alloc, tree.source()),
+            None => Ok(tree),
         }
     }
 }

@@ -5,6 +5,7 @@ mod certify;
 mod change;
 mod conditions;
 mod graph;
+mod grown;
 mod label;
 mod laws;
 mod limits;

@@ -29,7 +29,7 @@ impl<'a> RootedGraph<'a> {
     }
 
     // Whether an edge with this metric offers its end nothing better than what is there.
-    fn offers_no_better(&self, tree: &Tree, from: Addr, to: Addr, metric: u32) -> bool
+    pub fn offers_no_better(&self, tree: &Tree, from: Addr, to: Addr, metric: u32) -> bool
         requires source { IsFound self.now.nodes.now (source_of tree.now) self.now.source }
         requires metric { IsMetric metric }
         ensures { OnTrue result (OffersNoBetter self.now.nodes.now tree.now from to metric) }
@@ -59,7 +59,7 @@ impl<'a> RootedGraph<'a> {
     }
 
     // Whether the node at a place has no label, is the source, or is offered its label over one of its links.
-    fn is_held(&self, tree: &Tree, at: usize) -> bool
+    pub fn is_held(&self, tree: &Tree, at: usize) -> bool
         requires source { IsFound self.now.nodes.now (source_of tree.now) self.now.source }
         requires at { at < length self.now.nodes.now }
         ensures { OnTrue result (IsHeld self.now.nodes.now self.now.links.now tree.now (addr_at self.now.nodes.now at)) }

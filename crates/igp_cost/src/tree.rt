@@ -1,6 +1,8 @@
 //! The costs and first hops from one router.
 
-ghost use Rattle.std.specs.Prelude.{◌≡◌, length, IfOk};
+ghost use Rattle.std.specs.Prelude.{◌≡◌, ◌≤◌, length, IfOk, IfSome};
+ghost use Rattle.std.specs.List.{insert};
+ghost use Rattle.igp_cost.specs.Offers.{HasOneMore};
 ghost use Rattle.igp_cost.specs.Trees.{source_of, label_in, cost_in, first_hop_in};
 ghost use Rattle.igp_cost.specs.Wired.{IsRising, row, rows_of};
 
@@ -46,6 +48,25 @@ impl Tree {
             source,
             rows: SharedSeq::of(alloc, rows)?,
         })
+    }
+
+    /// The tree with a label of one address more. None where the address has a label.
+    pub(crate) fn with_label(
+        &self,
+        alloc: Global,
+        to: Addr,
+        label: Label,
+    ) -> Result<Option<Self>, AllocError>
+        ensures { IfOk result (λ o. IfSome o (HasOneMore self.now to)) }
+    {
+        let rows = self.rows.as_slice();
+        match rows.binary_search_by_key(&to.0, |row| row.0.0) {
+            Ok(_) => Ok(None),
+            Err(at) => Ok(Some(Tree {
+                source: self.source,
+                rows: SharedSeq::of(alloc, inserted(alloc, rows, at, (to, label))?)?,
+            })),
+        }
     }
 
     /// The router that the tree starts from.
@@ -114,6 +135,23 @@ impl Clone for Tree {
             rows: self.rows.share()?,
         })
     }
+}
+
+// The rows with one more at a place.
+fn inserted(
+    alloc: Global,
+    rows: &[(Addr, Label)],
+    at: usize,
+    row: (Addr, Label),
+) -> Result<Vec<(Addr, Label)>, AllocError>
+    requires { at ≤ length rows.now }
+    ensures { IfOk result (λ v. v.items ≡ insert rows.now at row) }
+{
+    let mut made = Vec::with_capacity(alloc, rows.len() + 1)?;
+    made.extend_from_slice(&rows[..at])?;
+    made.push(row)?;
+    made.extend_from_slice(&rows[at..])?;
+    Ok(made)
 }
 
 // The row of an address, if it has a label.

@@ -1,4 +1,4 @@
-use Rattle.std.proofs.Common.{Option, Some, None, IfSome, subst}
+use Rattle.std.proofs.Common.{IfSome, subst}
 use Rattle.std.proofs.lemmas.Result.{IfOk-weaker}
 use Rattle.net_prefix.specs.declared.addr.Addr.{Addr}
 use Rattle.igp_cost.specs.Walks.{Nodes}
@@ -7,11 +7,8 @@ use Rattle.igp_cost.specs.Wired.{IsFound}
 use Rattle.igp_cost.specs.Offers.{IsMendedOver}
 use Rattle.igp_cost.specs.Stays.{Follows}
 use Rattle.igp_cost.proofs.Local.{follows_whole}
-use Rattle.igp_cost.proofs.graph.Graph.mended.Goals as goal
-
-some_weaker : (o : Option Reached) (P Q : Reached → Type 0) → ((t : Reached) → P t → Q t) → IfSome o P → IfSome o Q
-some_weaker None P Q f p = tt
-some_weaker (Some t) P Q f p = f t p
+use Rattle.igp_cost.proofs.Leaf.{some_weaker}
+use Rattle.igp_cost.proofs.graph.Graph.repaired.Goals as goal
 
 pub returns-in-Some-clause-follows : goal.returns-in-Some-clause-follows
 returns-in-Some-clause-follows c =
