@@ -12,7 +12,7 @@ use Rattle.igp_cost.specs.Walks.{Nodes, Edges, HasEdge, share_as}
 use Rattle.igp_cost.specs.Labels.{IsNotAfter, addr_at, nowhere}
 use Rattle.igp_cost.specs.Trees.{Reached, source_of, label_in, IsTreeOf}
 use Rattle.igp_cost.specs.Wired.{IsWired, IsFound, AreAscending, no_row}
-use Rattle.igp_cost.specs.Changes.{ends_of, Loses, AreEndsOf, IsChange}
+use Rattle.igp_cost.specs.Changes.{Loses, AreEndsOf, IsChange}
 use Rattle.igp_cost.specs.Stays.{IsTree, Follows}
 use Rattle.igp_cost.specs.Offers.{via, OffersNoBetter, IsSettledAlone, IsGrownOver}
 use Rattle.igp_cost.proofs.Bridge.{metrics}

@@ -135,12 +135,7 @@ impl Graph {
     }
 
     // The tree after a new edge, where that leads to one node more and moves nothing else. None elsewhere.
-    fn grown(
-        &self,
-        alloc: Global,
-        old: &Tree,
-        change: &Change,
-    ) -> Result<Option<Tree>, AllocError>
+    fn grown(&self, alloc: Global, old: &Tree, change: &Change) -> Result<Option<Tree>, AllocError>
         ensures source { IfOk result (λ o. IfSome o (λ t. source_of t ≡ source_of old.now)) }
         ensures follows { IfOk result (λ o. IfSome o (λ t. Follows change.now self.now.nodes self.now.edges old.now t)) }
     {

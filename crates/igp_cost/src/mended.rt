@@ -27,9 +27,10 @@ impl<'a> RootedGraph<'a> {
         ensures closed { IfOk result (λ o. IfSome o (λ v. IsClosed self.now.nodes.now self.now.source self.now.links.now v.items)) }
     {
         let (one, other) = change.ends();
-        let ends = [self.place_or_source(one), self.place_or_source(other)];
+        let one = self.place_or_source(one);
+        let other = self.place_or_source(other);
         let mut labels = self.old_labels(alloc, old)?;
-        self.mend(alloc, &mut labels, &ends)?;
+        self.mend(alloc, &mut labels, one, other)?;
         if self.are_least(alloc, &labels)? {
             Ok(Some(labels))
         } else {
@@ -68,7 +69,7 @@ impl<'a> RootedGraph<'a> {
         ensures { IfOk result (λ o. IfSome o (IsMended self.now.nodes.now self.now.links.now old.now one other)) }
     {
         let mut labels = self.old_labels(alloc, old.rows())?;
-        self.mend(alloc, &mut labels, &[one, other])?;
+        self.mend(alloc, &mut labels, one, other)?;
         if !self.is_local(alloc, old, &labels, one, other)? {
             return Ok(None);
         }

@@ -126,7 +126,7 @@ impl<'a> RootedGraph<'a> {
         ensures within { IfOk result (λ v. All (λ p. p < length self.now.nodes.now) v.items) }
         ensures same { IfOk result (λ v. AreSameBut self.now.nodes.now old.now (tree_by self.now.nodes.now self.now.source labels.now) v.items) }
     {
-        let mut places = Vec::new(alloc);
+        let mut places = Vec::with_capacity(alloc, 64)?;
         let mut row: usize = 0;
         for at in 0..self.nodes.len() {
             let before = old.label_near(row, self.nodes[at].0);

@@ -1,6 +1,7 @@
 //! Links between the places of nodes, from edges between their addresses.
 
 ghost use Rattle.std.specs.Prelude.{◌≡◌, ◌≤◌, [], ◌∷◌, ◌++◌, length, IsTrue, IfOk, OnOk};
+ghost use Rattle.std.specs.Bool.{OnTrue};
 ghost use Rattle.std.specs.List.Sorted.{IsNonDecreasingBy};
 ghost use Rattle.igp_cost.specs.declared.limits.TheConstants.{MAX_NODES};
 ghost use Rattle.igp_cost.specs.Labels.{IsIndexed};
@@ -39,9 +40,12 @@ fn both_ways(
     ensures { IfOk result (λ v. IsWired nodes.now edges.now v.items) }
 {
     let mut links = Vec::new(alloc);
+    // Edges mostly come in the order of their first ends.
+    let mut near = 0;
     for (one, other, metric) in edges {
-        let from = place(nodes, *one);
-        let to = place(nodes, *other);
+        let from = place(nodes, *one, near);
+        let to = place(nodes, *other, from);
+        near = from;
         let metric = metric.cost();
         add_both(&mut links, from as u16, to as u16, metric as u16)?;
     }
@@ -61,12 +65,26 @@ fn add_both(links: &mut Vec<Link>, from: u16, to: u16, metric: u16) -> Result<()
     Ok(())
 }
 
-// The place of a node.
-fn place(nodes: &[(Addr, Asn)], addr: Addr) -> usize
+// Whether the node of an address stands at a place.
+fn stands_at(nodes: &[(Addr, Asn)], at: usize, addr: Addr) -> bool
+    ensures { OnTrue result (IsFound nodes.now addr at) }
+{
+    at < nodes.len() && nodes[at].0 == addr
+}
+
+// The place of a node, with a guess: it may stand there, or at the next place.
+fn place(nodes: &[(Addr, Asn)], addr: Addr, guess: usize) -> usize
     requires rising { IsRising nodes.now }
     requires there { IsTrue (is_node nodes.now addr) }
     ensures { IsFound nodes.now addr result }
 {
+    if stands_at(nodes, guess, addr) {
+        return guess;
+    }
+    let next = guess.wrapping_add(1);
+    if stands_at(nodes, next, addr) {
+        return next;
+    }
     match place_of(nodes, addr) {
         Some(at) => at,
         None => unreachable!(),

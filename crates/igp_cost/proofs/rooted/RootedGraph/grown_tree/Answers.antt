@@ -1,4 +1,4 @@
-use Rattle.std.proofs.Common.{IfOk, IfSome, Option, refl, sym, subst, inr}
+use Rattle.std.proofs.Common.{IfOk, IfSome, refl, sym, subst, inr}
 use Rattle.std.proofs.lemmas.Result.{IfOk-weaker}
 use Rattle.igp_cost.specs.declared.change.Change.{Change}
 use Rattle.igp_cost.specs.declared.change.Change.TheVariants.{Added}

@@ -1,6 +1,5 @@
 use Rattle.igp_cost.proofs.Rows.{row_at}
-use Rattle.std.proofs.Common.{sym, ◌∙◌}
-use Rattle.std.proofs.lemmas.List.{get_or_default}
+use Rattle.std.proofs.Common.{sym}
 use Rattle.igp_cost.proofs.rooted.RootedGraph.label_by.Goals as goal
 
 pub returns : goal.returns
