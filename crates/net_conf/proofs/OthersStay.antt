@@ -27,6 +27,7 @@ use Rattle.net_conf.specs.Costs.{costs_of, session_up, is_up}
 use Rattle.net_conf.specs.Sites.{session_of, sessions_of, peers_of, site_of}
 use Rattle.net_conf.specs.RouterSites.{router_site}
 use Rattle.net_conf.specs.Edits.{edited, refusal_of, tests_of, lacks_node, lacks_either, has_bad_end, switched, with_rule, without_rules}
+use Rattle.net_conf.specs.Kept.{IsReoriginated, origin_in}
 use Rattle.net_conf.specs.Scopes.{scope, router_in, SitesOfOthersStay, SessionsStay, AreRoutersBefore, AreRoutersAfter, OriginsAloneChange, OtherOriginsStay}
 use Rattle.net_conf.proofs.Nodes.{some_mapped}
 use Rattle.net_conf.proofs.Unseen.{any_with, any_without, filter_with, filter_without, lookup_with, lookup_without}
@@ -299,6 +300,12 @@ pub origins_alone : OriginsAloneChange
 origins_alone c (Origin a p) one q is = other_origins_alone c one _
 origins_alone c (NoOrigin a p) one q is = other_origins_alone c one _
 origins_alone c _ one q is = absurd (none-some q (ap prefix_in is))
+
+-- so of the router in whose originations the edit is
+pub reoriginated_after : (c : Configuration) (e : Edit) (a : Addr) → origin_in e ≡ Some a → IsReoriginated c (edited c e) a
+reoriginated_after c (Origin b p) a is = record { site = other_origins_alone c a _; ends = refl }
+reoriginated_after c (NoOrigin b p) a is = record { site = other_origins_alone c a _; ends = refl }
+reoriginated_after c _ a is = absurd (none-some a is)
 
 origination_apart : (one a : Addr) (q p : Block) → same_block q p ≡ false → is_at (origination_cmp (origination one q)) (origination a p) ≡ false
 origination_apart one a q p other =

@@ -17,11 +17,11 @@ use Rattle.net_conf.specs.declared.site.SiteSession.{SiteSession}
 use Rattle.net_conf.specs.declared.tables.Ends.{Ends}
 use Rattle.net_conf.specs.declared.tables.Link.{Link as TheLink}
 use Rattle.net_conf.specs.declared.edit.Edit.{Edit}
-use Rattle.net_conf.specs.declared.edit.Edit.TheVariants.{Router, Virtual, Link, Metric, Fail, Mend, Join, Stop, Start}
-use Rattle.net_conf.specs.Configuration.{Configuration, ends_of, ends_session, link_between}
+use Rattle.net_conf.specs.declared.edit.Edit.TheVariants.{Router, Virtual, Link, Metric, Fail, Mend, Join, Stop, Start, Origin, NoOrigin}
+use Rattle.net_conf.specs.Configuration.{Configuration, ends_of, ends_session, link_between, origins_of}
 use Rattle.net_conf.specs.Edits.{with_link, with_session}
 use Rattle.net_conf.specs.Costs.{costs_of, is_up}
-use Rattle.net_conf.specs.RouterSites.{site_kept}
+use Rattle.net_conf.specs.RouterSites.{router_site, site_kept}
 use Rattle.net_conf.specs.Concerned.{is_among}
 use Rattle.net_conf.specs.Configured.{AreApart, HasEnds}
 
@@ -83,6 +83,15 @@ asked d r x = record x { up = is_up d r x.peer }
 abbrev pub relinked : Configuration → Addr → SiteConf → SiteConf
 relinked d r s = record s { sessions = map (asked d r) s.sessions; costs = costs_of d r }
 
+-- the site, with the prefixes that the router originates by the configuration
+abbrev pub reoriginated : Configuration → Addr → SiteConf → SiteConf
+reoriginated d r s = record s { origins = origins_of d r }
+
+-- of the router's part what it originates differs alone
+pub record IsReoriginated (c d : Configuration) (r : Addr) : Type 0 where
+  pub site : router_site d r ≡ option_map (reoriginated d r) (router_site c r)
+  pub ends : ends_session d r ≡ ends_session c r
+
 -- WHAT AN EDIT TOUCHES
 
 -- the metric of a new link, or the new one of a link, is one
@@ -111,6 +120,12 @@ session_in (Join a b) = Some (a, b)
 session_in (Stop a b) = Some (a, b)
 session_in (Start a b) = Some (a, b)
 session_in _ = None
+
+-- the router that comes to originate a prefix, or ceases to
+abbrev pub origin_in : Edit → Option Addr
+origin_in (Origin a p) = Some a
+origin_in (NoOrigin a p) = Some a
+origin_in _ = None
 
 -- the one makes the other with a link of the two
 pub record IsLinked (c d : Configuration) (a b : Addr) : Type 0 where

@@ -32,10 +32,22 @@ impl ConfTables {
             Edit::Metric(one, other, metric) => self.set_metric(alloc, one, other, metric),
             Edit::Fail(one, other) => self.set_state(alloc, one, other, false),
             Edit::Mend(one, other) => self.set_state(alloc, one, other, true),
-            Edit::Join(one, other) | Edit::Start(one, other) => self.set_session(alloc, one, other, true),
+            Edit::Join(one, other) | Edit::Start(one, other) => self.set_session(
+                alloc, one, other, true,
+            ),
             Edit::Stop(one, other) => self.set_session(alloc, one, other, false),
-            Edit::Client(router, peer, on) => switch(alloc, &mut self.clients, End { router, peer }, on),
-            Edit::OwnNext(router, peer, on) => switch(alloc, &mut self.own_next, End { router, peer }, on),
+            Edit::Client(router, peer, on) => switch(
+                alloc,
+                &mut self.clients,
+                End { router, peer },
+                on,
+            ),
+            Edit::OwnNext(router, peer, on) => switch(
+                alloc,
+                &mut self.own_next,
+                End { router, peer },
+                on,
+            ),
             Edit::Cluster(router, id) => self.set_cluster(alloc, router, id),
             Edit::Rule(router, peer, side, rule) => {
                 self.add_rule(alloc, End { router, peer }, side, rule)
@@ -144,12 +156,7 @@ impl ConfTables {
         }
     }
 
-    fn clear_rules(
-        &mut self,
-        alloc: Global,
-        end: End,
-        side: PolicySide,
-    ) -> Result<(), AllocError>
+    fn clear_rules(&mut self, alloc: Global, end: End, side: PolicySide) -> Result<(), AllocError>
         ensures ok { OnOk result (self.new ≡ without_rules_of self.old end.router end.peer side) }
         ensures err { OnErr result (self.new ≡ self.old) }
     {
@@ -161,12 +168,7 @@ impl ConfTables {
 }
 
 /// Adds the end to the set, or takes it out. An error changes nothing.
-fn switch(
-    alloc: Global,
-    ends: &mut SharedSet<End>,
-    end: End,
-    on: bool,
-) -> Result<(), AllocError>
+fn switch(alloc: Global, ends: &mut SharedSet<End>, end: End, on: bool) -> Result<(), AllocError>
     ensures ok { OnOk result (ends.new ≡ switched on end ends.old) }
     ensures err { OnErr result (ends.new ≡ ends.old) }
 {

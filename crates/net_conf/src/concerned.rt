@@ -125,7 +125,8 @@ impl ConfTables {
         self.sessions
             .as_slice()
             .iter()
-            .map(|(ends, _)| *ends).collect(alloc)
+            .map(|(ends, _)| *ends)
+            .collect(alloc)
     }
 }
 

@@ -182,7 +182,10 @@ impl ConfTables {
     pub fn is_reflector(&self, router: Addr) -> bool
         ensures { result ≡ is_reflector self.now router }
     {
-        self.clients.as_slice().iter().any(|end| end.router == router)
+        self.clients
+            .as_slice()
+            .iter()
+            .any(|end| end.router == router)
     }
 
     /// The router's CLUSTER_ID.

@@ -2,7 +2,7 @@
 
 ghost use Rattle.std.specs.Prelude.{◌≡◌};
 ghost use Rattle.net_conf.specs.Scopes.{scope, router_in};
-ghost use Rattle.net_conf.specs.Kept.{HasMetric, node_in, link_in, session_in};
+ghost use Rattle.net_conf.specs.Kept.{HasMetric, node_in, link_in, session_in, origin_in};
 
 use crate::tables::PolicySide;
 use igp_cost::Metric;
@@ -113,6 +113,16 @@ impl Edit {
         match self {
             Edit::Join(one, other) | Edit::Stop(one, other) => Some((*one, *other)),
             Edit::Start(one, other) => Some((*one, *other)),
+            _ => None,
+        }
+    }
+
+    /// The router that comes to originate a prefix, or ceases to.
+    pub(crate) fn origin(&self) -> Option<Addr>
+        ensures { result ≡ origin_in self.now }
+    {
+        match self {
+            Edit::Origin(router, _) | Edit::NoOrigin(router, _) => Some(*router),
             _ => None,
         }
     }

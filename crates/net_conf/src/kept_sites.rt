@@ -8,7 +8,7 @@ ghost use Rattle.net_prefix.specs.Address.{addr_cmp};
 ghost use Rattle.net_conf.specs.Configuration.{ends_session};
 ghost use Rattle.net_conf.specs.Concerned.{is_among, ConcernsAlone};
 ghost use Rattle.net_conf.specs.Edits.{refusal_of, edited};
-ghost use Rattle.net_conf.specs.Kept.{AreSitesKept, EndsStayBut, IsRelinked, asked, relinked};
+ghost use Rattle.net_conf.specs.Kept.{AreSitesKept, EndsStayBut, IsRelinked, IsReoriginated, asked, relinked, reoriginated};
 ghost use Rattle.net_conf.specs.RouterSites.{router_site, site_kept, site_made};
 
 use crate::conf::Conf;
@@ -17,7 +17,7 @@ use crate::edit::Edit;
 use crate::shared_site::SharedSite;
 use crate::site::{SiteConf, SiteSession};
 use net_prefix::Addr;
-use seq::{Copied, Seq};
+use seq::{Copied, SharedSeq};
 use shared_map::SharedMap;
 use std::alloc::{AllocError, Global};
 use std::collections::BTreeSet;
@@ -157,7 +157,45 @@ impl Conf {
     {
         match edit.link() {
             Some(_) => self.site_relinked(alloc, after, router),
-            None => after.router_site(alloc, router),
+            None => self.site_unlinked(alloc, edit, after, router),
+        }
+    }
+
+    /// The site after an edit of no link.
+    fn site_unlinked(
+        &self,
+        alloc: Global,
+        edit: &Edit,
+        after: &ConfTrees,
+        router: Addr,
+    ) -> Result<Option<SiteConf>, AllocError>
+        requires made { after.now ≡ edited self.now edit.now }
+        requires ends { ends_session after.now router ≡ true }
+        ensures { IfOk result (λ site. site ≡ router_site after.now router) }
+    {
+        match edit.origin() {
+            Some(one) if one == router => self.site_reoriginated(alloc, after, router),
+            _ => after.router_site(alloc, router),
+        }
+    }
+
+    /// The site of a router that comes to originate a prefix, or ceases to, made of the one that is kept.
+    fn site_reoriginated(
+        &self,
+        alloc: Global,
+        after: &ConfTrees,
+        router: Addr,
+    ) -> Result<Option<SiteConf>, AllocError>
+        requires reoriginated { IsReoriginated self.now after.now router }
+        requires ends { ends_session after.now router ≡ true }
+        ensures { IfOk result (λ site. site ≡ router_site after.now router) }
+    {
+        match self.kept_site(router) {
+            None => Ok(None),
+            Some(old) => {
+                let site = after.reoriginated(alloc, router, old)?;
+                Ok(Some(site))
+            }
         }
     }
 
@@ -183,6 +221,26 @@ impl Conf {
 }
 
 impl ConfTrees {
+    /// The old site, with the prefixes that the router originates by this configuration.
+    fn reoriginated(
+        &self,
+        alloc: Global,
+        router: Addr,
+        old: &SiteConf,
+    ) -> Result<SiteConf, AllocError>
+        ensures { IfOk result (λ site. site ≡ reoriginated self.now router old.now) }
+    {
+        Ok(SiteConf {
+            me: old.me,
+            asn: old.asn,
+            cluster: old.cluster,
+            reflector: old.reflector,
+            origins: SharedSeq::of(alloc, self.tables.origins_of(alloc, router)?)?,
+            sessions: old.sessions.share()?,
+            costs: old.costs.copy(alloc)?,
+        })
+    }
+
     /// The old site, with its costs and the state of its sessions by this configuration.
     fn relinked(&self, alloc: Global, router: Addr, old: &SiteConf) -> Result<SiteConf, AllocError>
         requires { ends_session self.now router ≡ true }
@@ -194,8 +252,11 @@ impl ConfTrees {
             asn: old.asn,
             cluster: old.cluster,
             reflector: old.reflector,
-            origins: Seq::copy_of(alloc, old.origins.as_slice())?,
-            sessions: Seq::of(self.asked_again(alloc, router, old.sessions.as_slice())?),
+            origins: old.origins.share()?,
+            sessions: SharedSeq::of(
+                alloc,
+                self.asked_again(alloc, router, old.sessions.as_slice())?,
+            )?,
             costs: self.costs(alloc, router)?,
         })
     }

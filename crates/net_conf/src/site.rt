@@ -12,11 +12,11 @@ use igp_cost::Tree;
 use net_prefix::{Addr, Prefix};
 use path_attr::Asn;
 use route_policy::Policy;
-use seq::{Copied, Seq};
+use seq::{Copied, SharedSeq};
 use std::alloc::{AllocError, Global};
 use std::collections::BTreeMap;
 
-/// One router's part of the configuration: all that what it decides and advertises depends on.
+/// One router's part of the configuration: all that what it decides and advertises depends on. Its lists are shared.
 #[derive(Drop)]
 pub struct SiteConf {
     /// Its address, which is its BGP Identifier too.
@@ -28,9 +28,9 @@ pub struct SiteConf {
     /// Whether it has a client (RFC 4456, 6).
     pub reflector: bool,
     /// The prefixes that it originates, in order.
-    pub origins: Seq<Prefix>,
+    pub origins: SharedSeq<Prefix>,
     /// Its sessions, up or down, by the address of the peer.
-    pub sessions: Seq<SiteSession>,
+    pub sessions: SharedSeq<SiteSession>,
     /// Its costs and first hops.
     pub costs: Tree,
 }
@@ -76,8 +76,8 @@ impl Copied for SiteConf {
             asn: self.asn,
             cluster: self.cluster,
             reflector: self.reflector,
-            origins: Seq::copy_of(alloc, self.origins.as_slice())?,
-            sessions: self.sessions.copy(alloc)?,
+            origins: self.origins.share()?,
+            sessions: self.sessions.share()?,
             costs: self.costs.copy(alloc)?,
         })
     }
@@ -161,8 +161,8 @@ impl ConfTrees {
             asn: node.asn,
             cluster: self.tables.cluster_id(router),
             reflector: self.tables.is_reflector(router),
-            origins: Seq::of(self.tables.origins_of(alloc, router)?),
-            sessions: Seq::of(self.sessions_of(alloc, router)?),
+            origins: SharedSeq::of(alloc, self.tables.origins_of(alloc, router)?)?,
+            sessions: SharedSeq::of(alloc, self.sessions_of(alloc, router)?)?,
             costs: self.costs(alloc, router)?,
         }))
     }

@@ -1,6 +1,6 @@
 //! Policies.
 
-ghost use Rattle.std.specs.Prelude.{◌≡◌, ◌↔◌, ◌≤◌, ◌∷◌, ◌++◌, [], length, find, option_map, IsTrue, OnOk, OnErr, IsErrOf};
+ghost use Rattle.std.specs.Prelude.{◌≡◌, ◌↔◌, ◌≤◌, ◌∷◌, ◌++◌, [], length, find, option_map, IsTrue, IfOk, OnOk, OnErr, IsErrOf};
 ghost use Rattle.route_policy.specs.Judging.{matches, judged};
 ghost use Rattle.route_policy.specs.Limits.{is_full};
 ghost use Rattle.route_policy.specs.Sameness.{same_policy};
@@ -9,7 +9,7 @@ ghost use Rattle.route_policy.specs.declared.policy.AddFault.TheVariants.{Limit}
 use crate::rule::{Action, Rule};
 use net_prefix::Prefix;
 use path_attr::Attr;
-use seq::Copied;
+use seq::{Copied, SharedSeq};
 use std::alloc::{AllocError, Global};
 use std::error::Error;
 use std::fmt;
@@ -44,10 +44,12 @@ impl fmt::Display for AddFault {
 
 impl Error for AddFault {}
 
-/// An ordered list of rules, at most 256. The first that matches a route decides what becomes of it.
+/// An ordered list of rules, at most 256. The first that matches a route decides what becomes of it. A copy shares the rules; a change
+/// makes a list of its own.
 #[derive(Debug, Drop)]
 pub struct Policy {
-    rules: Vec<Rule>,
+    rules: SharedSeq<Rule>,
+    alloc: Global,
 }
 
 impl Model for Policy {
@@ -57,9 +59,9 @@ impl Model for Policy {
 
     ghost Value = { List Rule };
 
-    ghost view = { λ p. p.rules.items };
+    ghost view = { λ p. p.rules };
 
-    ghost invariant = { λ p. length p.rules.items ≤ MAX_RULES };
+    ghost invariant = { λ p. length p.rules ≤ MAX_RULES };
 }
 
 impl Policy {
@@ -68,7 +70,8 @@ impl Policy {
         ensures { result ≡ [] }
     {
         Policy {
-            rules: Vec::new(alloc),
+            rules: SharedSeq::empty(),
+            alloc,
         }
     }
 
@@ -77,7 +80,7 @@ impl Policy {
         ensures value { result.now ≡ self.now }
         ensures limit { length self.now ≤ MAX_RULES }
     {
-        &self.rules
+        self.rules.as_slice()
     }
 
     /// How many rules there are.
@@ -120,18 +123,32 @@ impl Policy {
         if self.is_full() {
             return Err(AddFault::Limit);
         }
-        // A slice of one, since the proof of a `push` of a rule is not generated.
-        self.rules
-            .extend_from_slice(&[rule])
-            .map_err(|_| AddFault::Memory)
+        match longer(self.alloc, self.rules.as_slice(), rule) {
+            Ok(rules) => {
+                self.rules = rules;
+                Ok(())
+            }
+            Err(_) => Err(AddFault::Memory),
+        }
     }
 
     /// Takes all rules away.
     pub fn clear(&mut self)
         ensures { self.new ≡ [] }
     {
-        self.rules.clear();
+        self.rules = SharedSeq::empty();
     }
+}
+
+/// The rules, with this one at the end.
+fn longer(alloc: Global, rules: &[Rule], rule: Rule) -> Result<SharedSeq<Rule>, AllocError>
+    ensures { IfOk result (λ longer. longer ≡ rules.now ++ rule ∷ []) }
+{
+    let mut longer = Vec::with_capacity(alloc, rules.len().saturating_add(1))?;
+    longer.extend_from_slice(rules)?;
+    // A slice of one, since the proof of a `push` of a rule is not generated.
+    longer.extend_from_slice(&[rule])?;
+    SharedSeq::of(alloc, longer)
 }
 
 /// What becomes of a route to the prefix with these attributes: the action of the first rule that matches it, and
@@ -154,9 +171,10 @@ fn first_action(rules: &[Rule], prefix: Prefix, attr: &Attr) -> Option<Action>
 }
 
 impl Copied for Policy {
-    fn copy(&self, alloc: Global) -> Result<Policy, AllocError> {
+    fn copy(&self, _alloc: Global) -> Result<Policy, AllocError> {
         Ok(Policy {
-            rules: Vec::from_slice(alloc, &self.rules)?,
+            rules: self.rules.share()?,
+            alloc: self.alloc,
         })
     }
 }
@@ -166,7 +184,8 @@ impl Clone for Policy {
 
     fn clone(&self) -> Result<Policy, AllocError> {
         Ok(Policy {
-            rules: self.rules.clone()?,
+            rules: self.rules.share()?,
+            alloc: self.alloc,
         })
     }
 }
@@ -187,6 +206,6 @@ impl PartialEq for Policy {
     ghost laws = { policy_per };
 
     fn eq(&self, other: &Policy) -> bool {
-        are_same(&self.rules, &other.rules)
+        are_same(self.rules.as_slice(), other.rules.as_slice())
     }
 }

@@ -3,7 +3,7 @@ use Rattle.std.specs.Map.{lookup}
 use Rattle.std.specs.BTreeMap.{is_at}
 use Rattle.net_prefix.specs.Address.{addr_cmp}
 use Rattle.igp_cost.specs.Topology.{is_node}
-use Rattle.igp_cost.specs.Trees.{source_of, tree_of}
+use Rattle.igp_cost.specs.Trees.{tree_of}
 use Rattle.net_conf.proofs.Carry.{put, held, not_among, stays_there, same_found, when_some}
 use Rattle.net_conf.proofs.carried.carry.Goals as goal
 

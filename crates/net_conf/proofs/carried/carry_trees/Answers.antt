@@ -1,4 +1,4 @@
-use Rattle.std.proofs.Common.{◌≡◌, ◌∙◌, cond, Some, None, is_some, sym, ap}
+use Rattle.std.proofs.Common.{◌≡◌, ◌∙◌, cond, Some, is_some, sym, ap}
 use Rattle.std.specs.Map.{lookup}
 use Rattle.std.specs.BTreeMap.{is_at}
 use Rattle.std.proofs.lemmas.Map.Made.{is_some-lookup}
