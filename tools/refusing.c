@@ -8,6 +8,7 @@
 static long which = -1, count = 0;
 __attribute__((constructor)) static void begin(void) { const char *n = getenv("REFUSED"); which = n ? atol(n) : 0; }
 __attribute__((destructor)) static void end(void) { if (which == 0) dprintf(2, "%ld\n", count); }
-static int refused(void) { return ++count == which ? (errno = ENOMEM) : 0; }
+// Threads count too.
+static int refused(void) { return __atomic_add_fetch(&count, 1, __ATOMIC_SEQ_CST) == which ? (errno = ENOMEM) : 0; }
 void *malloc(size_t n) { void *(*next)(size_t) = dlsym(RTLD_NEXT, "malloc"); return refused() ? 0 : next(n); }
 void *realloc(void *p, size_t n) { void *(*next)(void *, size_t) = dlsym(RTLD_NEXT, "realloc"); return refused() ? 0 : next(p, n); }

@@ -19,6 +19,7 @@ use sim_core::Sim;
 use std::env;
 use std::io::{self, BufWriter, Write};
 use std::process::ExitCode;
+use std::thread::Threads;
 
 /// The machine that runs scripts: cells that keep groups of one neighbouring AS, in tries.
 type Engine = Sim<GroupCell, TrieTable<Cell<GroupCell>>>;
@@ -75,7 +76,7 @@ fn without_memory(rt: &impl Eprint) -> ExitCode
 
 /// Serves standard input to standard output.
 fn serve_streams(
-    rt: &(impl Print + Eprint + Input + AllocGlobal),
+    rt: &(impl Print + Eprint + Input + AllocGlobal + Threads + Sync),
     errors: impl Write + Drop,
 ) -> ExitCode
     ensures { IsEnd result }
@@ -88,7 +89,14 @@ fn serve_streams(
     let mut output = watched::Output::new(writer);
     let mut errors = watched::Output::new(errors);
     let mut machine: Engine = Sim::new(alloc);
-    let status = run_script(alloc, &mut machine, &mut input, &mut output, &mut errors);
+    let status = run_script(
+        rt,
+        alloc,
+        &mut machine,
+        &mut input,
+        &mut output,
+        &mut errors,
+    );
     // The system takes the memory back at once.
     std::mem::forget(machine);
     ExitCode::from(status)

@@ -55,12 +55,12 @@ fn is_first_path(reply: &Reply) -> Result<bool, Fail> {
 fn a_run_gives_one_reply_an_event(rt: HostRuntime) -> Result<(), Fail> {
     let mut machine: Simulator<FilterCell> = Simulator::new(rt.alloc());
     let events = first_path()?;
-    let replies = match machine.run(&events) {
+    let replies = match machine.run(&rt, &events) {
         Ok(replies) => replies,
         Err(refusal) => {
             // Want of memory before the first step: the same run succeeds when it is asked again.
             assert_eq!(rt; refusal, Refusal::Memory);
-            machine.run(&events).map_err(|_| "memory twice")?
+            machine.run(&rt, &events).map_err(|_| "memory twice")?
         }
     };
     assert_eq!(rt; replies.len(), 7);
@@ -77,19 +77,19 @@ fn a_run_gives_one_reply_an_event(rt: HostRuntime) -> Result<(), Fail> {
 fn a_step_that_wants_memory_succeeds_when_repeated(rt: HostRuntime) -> Result<(), Fail> {
     let mut machine: Simulator<FilterCell> = Simulator::new(rt.alloc());
     for event in &first_path()? {
-        let mut reply = machine.step(event);
+        let mut reply = machine.step(&rt, event);
         if matches!(&reply, Reply::Refused(Refusal::Memory)) {
-            reply = machine.step(event);
+            reply = machine.step(&rt, event);
         }
         assert!(rt; !matches!(&reply, Reply::Refused(_)));
     }
-    let table = machine.step(&Event::Ask(Ask::Routes(TWO)));
+    let table = machine.step(&rt, &Event::Ask(Ask::Routes(TWO)));
     let table = match table {
-        Reply::Refused(Refusal::Memory) => machine.step(&Event::Ask(Ask::Routes(TWO))),
+        Reply::Refused(Refusal::Memory) => machine.step(&rt, &Event::Ask(Ask::Routes(TWO))),
         other => other,
     };
     assert!(rt; is_first_path(&table)?);
-    let again = machine.step(&Event::Deliver(ONE, TWO));
+    let again = machine.step(&rt, &Event::Deliver(ONE, TWO));
     assert!(rt; matches!(again, Reply::Refused(Refusal::QueueEmpty)));
     Ok(())
 }

@@ -1,4 +1,5 @@
 pub mod Counts
+pub mod Deciding
 pub mod Delivered
 pub mod Growth
 pub mod Placing

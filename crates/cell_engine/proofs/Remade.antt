@@ -1,4 +1,4 @@
--- Cells decided anew, one after another.
+-- Cells that can change, one after another.
 use Rattle.std.proofs.Common.{◌≡◌, Bool, true, false, cond, List, [], ◌∷◌, ◌++◌, map, filter, Option, Some, None, option_map, option_copied, unwrap_or, refl, sym, ap, ◌∙◌, append_assoc}
 use Rattle.std.proofs.lemmas.List.{append-nil}
 use Rattle.std.specs.Borrow.{Bor}
@@ -13,7 +13,7 @@ use Rattle.route_cell.specs.Cells.{Heard, Outcome, decided, refreshed}
 use Rattle.cell_network.specs.Keeping.{kept_from, kept_cell}
 use Rattle.cell_network.specs.Editing.{sends_between}
 use Rattle.cell_network.specs.Moves.{is_moved_by}
-use Rattle.cell_engine.specs.Changes.{Becoming, change_of, table_changes, cell_changes}
+use Rattle.cell_engine.specs.Changes.{Becoming, MovedCell, moved_cell, moved_cells}
 use Rattle.cell_network.proofs.Sites.{refreshed_is_kept}
 
 -- ONE CELL
@@ -37,14 +37,17 @@ table_or table (Some x) other = refl
 
 -- IN A WALK
 
--- the change of a cell, if it can change, and those of the cells after it
-pub one_more : (b : Becoming) (p : Block) (h : Heard) (later : List (Block × Heard)) → cell_changes b p h ++ table_changes b later ≡ table_changes b ((p, h) ∷ later)
+-- a cell, if it can change, and those of the cells after it that can
+pub one_more : (b : Becoming) (p : Block) (h : Heard) (later : List (Block × Heard)) → moved_cell b p h ++ moved_cells b later ≡ moved_cells b ((p, h) ∷ later)
 one_more b p h later = by (is_moved_by b.old b.new b.conf b.address p h)
   where
     those : List (Block × Heard)
     those = filter (λ e. is_moved_by b.old b.new b.conf b.address e.0 e.1) later
 
-    by : (moved : Bool) → map (λ (e : Block × Heard). change_of b e.0 e.1) (cond moved ((p, h) ∷ []) []) ++ map (λ (e : Block × Heard). change_of b e.0 e.1) those ≡ map (λ (e : Block × Heard). change_of b e.0 e.1) (cond moved ((p, h) ∷ those) those)
+    of_cell : Block × Heard → MovedCell
+    of_cell e = record { becoming = b; prefix = e.0; heard = e.1 }
+
+    by : (moved : Bool) → map of_cell (cond moved ((p, h) ∷ []) []) ++ map of_cell those ≡ map of_cell (cond moved ((p, h) ∷ those) those)
     by true = refl
     by false = refl
 

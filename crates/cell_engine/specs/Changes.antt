@@ -1,15 +1,20 @@
 -- What becomes of the cells of one address. No public contract cites this file.
 use Rattle.std.specs.Prelude.{◌∷◌, [], List, map, filter, Option, Some, None}
+use Rattle.std.specs.List.{flat_map}
+use Rattle.std.specs.FinMap as finite
 use Rattle.net_prefix.specs.declared.addr.Addr.{Addr}
 use Rattle.net_prefix.specs.Block.{Block}
 use Rattle.net_conf.specs.Configuration.{Configuration}
 use Rattle.net_conf.specs.declared.site.SiteConf.{SiteConf}
+use Rattle.net_conf.specs.RouterSites.{router_site}
+use Rattle.prefix_table.specs.Tables.{Table}
+use Rattle.router_tables.specs.RouterTables.{table_at}
 use Rattle.route_cell.specs.Cells.{Heard}
 use Rattle.route_cell.specs.Moves.{SitePair}
 use Rattle.cell_network.specs.Keeping.{kept_cell}
 use Rattle.cell_network.specs.Editing.{sends_between}
-use Rattle.cell_network.specs.Moves.{is_moved_by}
-use Rattle.cell_network.specs.Changes.{Change}
+use Rattle.cell_network.specs.Moves.{is_moved_by, moves}
+use Rattle.cell_network.specs.Changes.{Change, router_changes}
 
 -- the configuration that comes, an address, and the part of the configuration before and after of the router that stands there
 pub record Becoming : Type 0 where
@@ -23,14 +28,49 @@ abbrev pub pair_of : Option SiteConf → Option SiteConf → Option SitePair
 pair_of (Some old) (Some new) = Some (record { old = old; new = new })
 pair_of _ _ = None
 
+-- of a router, when the configuration c becomes d
+abbrev pub becoming_of : Configuration → Configuration → Addr → Becoming
+becoming_of c d r = record { conf = d; address = r; old = router_site c r; new = router_site d r }
+
 -- one cell
 abbrev pub change_of : Becoming → Block → Heard → Change
 change_of b p h = record { router = b.address; prefix = p; outcome = record { heard = kept_cell b.conf b.address p h; sends = sends_between b.old b.new p h } }
 
+-- a cell that can change, and what becomes of who keeps it
+pub record MovedCell : Type 0 where
+  pub becoming : Becoming
+  pub prefix : Block
+  pub heard : Heard
+
+-- what comes of it
+abbrev pub change_at : MovedCell → Change
+change_at x = change_of x.becoming x.prefix x.heard
+
 -- those of these that can change
-abbrev pub table_changes : Becoming → List (Block × Heard) → List Change
-table_changes b cells = map (λ e. change_of b e.0 e.1) (filter (λ e. is_moved_by b.old b.new b.conf b.address e.0 e.1) cells)
+abbrev pub moved_cells : Becoming → List (Block × Heard) → List MovedCell
+moved_cells b cells = map (λ e. record { becoming = b; prefix = e.0; heard = e.1 }) (filter (λ e. is_moved_by b.old b.new b.conf b.address e.0 e.1) cells)
 
 -- this one, if it can
-abbrev pub cell_changes : Becoming → Block → Heard → List Change
-cell_changes b p h = table_changes b ((p, h) ∷ [])
+abbrev pub moved_cell : Becoming → Block → Heard → List MovedCell
+moved_cell b p h = moved_cells b ((p, h) ∷ [])
+
+-- of all of these, in order, then by prefix
+abbrev pub all_moved : List Becoming → List (Addr × Table Heard) → List MovedCell
+all_moved bs ts = flat_map (λ b. moved_cells b (finite.entries (table_at b.address ts))) bs
+
+-- a router where the configuration becomes another
+pub record RouterEdit : Type 0 where
+  pub before : Configuration
+  pub after : Configuration
+  pub router : Addr
+
+abbrev pub edit_becoming : RouterEdit → Becoming
+edit_becoming x = becoming_of x.before x.after x.router
+
+-- what becomes of its cells
+abbrev pub edit_changes : List (Addr × Table Heard) → RouterEdit → List Change
+edit_changes ts x = router_changes (moves x.before x.after) x.before x.after x.router (finite.entries (table_at x.router ts))
+
+-- of those of all of these
+abbrev pub all_changes : List RouterEdit → List (Addr × Table Heard) → List Change
+all_changes xs ts = flat_map (edit_changes ts) xs

@@ -7,9 +7,10 @@ ghost use Rattle.net_conf.specs.RouterSites.{router_site};
 ghost use Rattle.cell_network.specs.Keeping.{kept_cell};
 ghost use Rattle.cell_network.specs.Editing.{sends_between};
 ghost use Rattle.cell_network.specs.Moves.{is_moved_by};
-ghost use Rattle.cell_engine.specs.Changes.{pair_of, table_changes, cell_changes};
+ghost use Rattle.cell_engine.specs.Changes.{pair_of, change_of, moved_cell, moved_cells};
 
 use crate::changes::Change;
+use crate::moved_cells::MovedCell;
 use net_conf::{Conf, SiteConf};
 use net_prefix::{Addr, Prefix};
 use prefix_table::PrefixTable;
@@ -73,6 +74,13 @@ impl<'a> Becoming<'a> {
         }
     }
 
+    /// Whose cells they are.
+    pub fn address(&self) -> Addr
+        ensures { result ≡ self.now.address }
+    {
+        self.address
+    }
+
     /// Whether the cell of the prefix can change.
     fn moves<S: Selector>(&self, prefix: Prefix, cell: &Cell<S>) -> bool
         ensures { result ≡ is_moved_by self.now.old self.now.new self.now.conf self.now.address prefix cell.now }
@@ -104,42 +112,54 @@ impl<'a> Becoming<'a> {
         }
     }
 
-    /// Adds the cell of the prefix, decided anew, if it can change.
-    pub fn add_cell<S: Selector + Drop>(
+    /// What becomes of the cell when it is decided anew.
+    pub fn change<S: Selector + Drop>(
         &self,
         alloc: Global,
-        changes: &mut Seq<Change<S>>,
         prefix: Prefix,
         cell: &Cell<S>,
-    ) -> Result<(), AllocError>
-        ensures { OnOk result (changes.new ≡ changes.old ++ cell_changes self.now prefix cell.now) }
+    ) -> Result<Change<S>, AllocError>
+        ensures { IfOk result (λ change. change ≡ change_of self.now prefix cell.now) }
     {
-        if !self.moves(prefix, cell) {
-            return Ok(());
-        }
         let outcome = self.remade_cell(alloc, prefix, cell)?;
-        changes.push(Change {
+        Ok(Change {
             router: self.address,
             prefix,
             outcome,
         })
     }
 
-    /// Adds the cells of the table that can change, decided anew, by prefix.
-    pub fn add_table<S: Selector + Drop, T: PrefixTable<Cell<S>>>(
-        &self,
-        alloc: Global,
-        changes: &mut Seq<Change<S>>,
-        table: &T,
+    /// Adds the cell of the prefix, if it can change.
+    pub fn add_cell<'b, S: Selector>(
+        &'b self,
+        moved: &mut Seq<MovedCell<'b, S>>,
+        prefix: Prefix,
+        cell: &'b Cell<S>,
     ) -> Result<(), AllocError>
-        ensures { OnOk result (changes.new ≡ changes.old ++ table_changes self.now (finite.entries (T.table table.now))) }
+        where 'a: 'b
+        ensures { OnOk result (moved.new ≡ moved.old ++ moved_cell self.now prefix cell.now) }
+    {
+        if !self.moves(prefix, cell) {
+            return Ok(());
+        }
+        moved.push(MovedCell::of(self, prefix, cell))
+    }
+
+    /// Adds the cells of the table that can change, by prefix.
+    pub fn add_table<'b, S: Selector, T: PrefixTable<Cell<S>>>(
+        &'b self,
+        moved: &mut Seq<MovedCell<'b, S>>,
+        table: &'b T,
+    ) -> Result<(), AllocError>
+        where 'a: 'b
+        ensures { OnOk result (moved.new ≡ moved.old ++ moved_cells self.now (finite.entries (T.table table.now))) }
     {
         let mut after = None;
         'walk: loop {
             match table.next_after(after) {
                 None => return Ok(()),
                 Some(entry) => {
-                    self.add_cell(alloc, changes, entry.0, entry.1)?;
+                    self.add_cell(moved, entry.0, entry.1)?;
                     after = Some(entry.0);
                 }
             }

@@ -10,9 +10,12 @@ ghost use Rattle.cell_network.specs.Editing.{told_by_all};
 ghost use Rattle.cell_network.specs.Changes.{router_changes, changes_in, with_changes, sends_for};
 ghost use Rattle.cell_network.specs.Settled.{AreThere};
 ghost use Rattle.cell_network.specs.Moves.{moves};
+ghost use Rattle.cell_engine.specs.Changes.{moved_cells, all_moved, all_changes};
 
 use crate::becoming::Becoming;
 use crate::deliveries::push_all;
+use crate::moved_cells::{MovedCell, decide, decide_in_turn};
+use crate::router_edits::{RouterEdit, becomings};
 use crate::state::State;
 use net_conf::Conf;
 use net_prefix::{Addr, Prefix};
@@ -25,6 +28,7 @@ use session_queue::Queues;
 use std::alloc::{AllocError, Global};
 use std::collections::BTreeSet;
 use std::marker::Model;
+use std::thread::Threads;
 
 /// A cell that is decided anew, and what its router sends for that.
 #[derive(Drop)]
@@ -71,99 +75,141 @@ pub(crate) fn place_changes<S: Selector + Drop, T: PrefixTable<Cell<S>> + Drop>(
     }
 }
 
-impl<S: Selector + Drop, T: PrefixTable<Cell<S>> + Drop> State<S, T> {
-    /// Adds the cells of the router that can change, decided anew when the configuration becomes this one, by prefix.
-    fn add_router(
-        &self,
-        changes: &mut Seq<Change<S>>,
-        conf: &Conf,
-        router: Addr,
-    ) -> Result<(), AllocError>
-        ensures { OnOk result (changes.new ≡ changes.old ++ router_changes (moves self.now.conf conf.now) self.now.conf conf.now router (finite.entries (table_at router self.now.tables))) }
-    {
-        let Some(table) = self.table(router) else {
-            return Ok(());
-        };
-        let before = self.made_site(router)?;
-        let after = conf.made_site(self.alloc, router)?;
-        let old = self.site(router, &before);
-        let new = conf.site_in(&after, router);
-        Becoming::of(conf, router, old, new).add_table(self.alloc, changes, table)
-    }
-
-    /// Adds the cells of the router that can change, if the edit concerns it.
-    fn add_if_concerned(
-        &self,
-        changes: &mut Seq<Change<S>>,
-        conf: &Conf,
+impl<S: Selector, T: PrefixTable<Cell<S>>> State<S, T> {
+    /// Adds the router, if the edit concerns it: else none of its cells can change.
+    fn add_concerned<'a>(
+        &'a self,
+        edits: &mut Seq<RouterEdit<'a>>,
+        conf: &'a Conf,
         concerned: &BTreeSet<Addr>,
         router: Addr,
     ) -> Result<(), AllocError>
         requires { ConcernsAlone self.now.conf conf.now concerned.now.keys }
-        ensures { OnOk result (changes.new ≡ changes.old ++ router_changes (moves self.now.conf conf.now) self.now.conf conf.now router (finite.entries (table_at router self.now.tables))) }
+        ensures { OnOk result (all_changes edits.new self.now.tables ≡ all_changes edits.old self.now.tables ++ router_changes (moves self.now.conf conf.now) self.now.conf conf.now router (finite.entries (table_at router self.now.tables))) }
     {
         self.facts();
         if !concerned.contains(&router) {
             return Ok(());
         }
-        self.add_router(changes, conf, router)
+        edits.push(RouterEdit::of(self.alloc, &self.conf, conf, router)?)
     }
 
-    /// The cells that can change, decided anew when the configuration becomes this one, by router and prefix. The edit concerns
-    /// these alone.
-    pub(crate) fn network_changes(
-        &self,
-        conf: &Conf,
+    /// The routers that the edit concerns, of those that have cells, by address.
+    fn concerned_routers<'a>(
+        &'a self,
+        conf: &'a Conf,
         concerned: &BTreeSet<Addr>,
-    ) -> Result<Seq<Change<S>>, AllocError>
+    ) -> Result<Seq<RouterEdit<'a>>, AllocError>
         requires { ConcernsAlone self.now.conf conf.now concerned.now.keys }
-        ensures { IfOk result (λ changes. changes ≡ changes_in Network self.now.conf conf.now self.now.tables) }
+        ensures { IfOk result (λ edits. all_changes edits self.now.tables ≡ changes_in Network self.now.conf conf.now self.now.tables) }
     {
         self.facts();
-        let mut changes = Seq::new(self.alloc);
+        let mut edits = Seq::new(self.alloc);
         let mut past = None;
         'walk: loop {
             match self.next_table(past) {
-                None => return Ok(changes),
+                None => return Ok(edits),
                 Some(router) => {
-                    self.add_if_concerned(&mut changes, conf, concerned, router)?;
+                    self.add_concerned(&mut edits, conf, concerned, router)?;
                     past = Some(router);
                 }
             }
         }
     }
 
-    /// The cells of the router that can change, decided anew when the configuration becomes this one.
-    pub(crate) fn site_changes(
-        &self,
-        conf: &Conf,
-        router: Addr,
-    ) -> Result<Seq<Change<S>>, AllocError>
-        ensures { IfOk result (λ changes. changes ≡ changes_in (Site router) self.now.conf conf.now self.now.tables) }
+    /// Adds the cells that can change of whom this becomes of, by prefix.
+    fn add_moved<'a>(
+        &'a self,
+        moved: &mut Seq<MovedCell<'a, S>>,
+        becoming: &'a Becoming<'a>,
+    ) -> Result<(), AllocError>
+        ensures { OnOk result (moved.new ≡ moved.old ++ moved_cells becoming.now (finite.entries (table_at becoming.now.address self.now.tables))) }
     {
-        let mut changes = Seq::new(self.alloc);
-        self.add_router(&mut changes, conf, router)?;
-        Ok(changes)
+        match self.table(becoming.address()) {
+            None => Ok(()),
+            Some(table) => becoming.add_table(moved, table),
+        }
     }
 
+    /// The cells that can change of whom these become of, in their order, then by prefix.
+    fn moved_cells<'a>(
+        &'a self,
+        becomings: &'a [Becoming<'a>],
+    ) -> Result<Seq<MovedCell<'a, S>>, AllocError>
+        ensures { IfOk result (λ moved. moved ≡ all_moved becomings.now self.now.tables) }
+    {
+        let mut moved = Seq::new(self.alloc);
+        for becoming in becomings {
+            self.add_moved(&mut moved, becoming)?;
+        }
+        Ok(moved)
+    }
+}
+
+impl<S: Selector + Drop, T: PrefixTable<Cell<S>> + Drop> State<S, T> {
     /// The cell of the router and prefix, where it can change, decided anew when the configuration becomes this one.
-    pub(crate) fn route_changes(
-        &self,
-        conf: &Conf,
+    pub(crate) fn route_changes<'a>(
+        &'a self,
+        conf: &'a Conf,
         router: Addr,
         prefix: Prefix,
     ) -> Result<Seq<Change<S>>, AllocError>
         ensures { IfOk result (λ changes. changes ≡ changes_in (Route router prefix) self.now.conf conf.now self.now.tables) }
     {
-        let mut changes = Seq::new(self.alloc);
         let Some(cell) = self.cell(router, prefix) else {
-            return Ok(changes);
+            return Ok(Seq::new(self.alloc));
         };
-        let before = self.made_site(router)?;
-        let after = conf.made_site(self.alloc, router)?;
-        let old = self.site(router, &before);
-        let new = conf.site_in(&after, router);
-        Becoming::of(conf, router, old, new).add_cell(self.alloc, &mut changes, prefix, cell)?;
-        Ok(changes)
+        let edit = RouterEdit::of(self.alloc, &self.conf, conf, router)?;
+        let becoming = edit.becoming();
+        let mut moved = Seq::new(self.alloc);
+        becoming.add_cell(&mut moved, prefix, cell)?;
+        decide_in_turn(self.alloc, moved.as_slice())
+    }
+}
+
+impl<S: Selector + Send + Sync + Drop, T: PrefixTable<Cell<S>> + Drop> State<S, T> {
+    /// The cells of these routers that can change, decided anew, in the order of the routers, then by prefix.
+    fn changes_of<'a, R: Threads + Sync>(
+        &'a self,
+        rt: &R,
+        edits: &'a [RouterEdit<'a>],
+    ) -> Result<Seq<Change<S>>, AllocError>
+        ensures { IfOk result (λ changes. changes ≡ all_changes edits.now self.now.tables) }
+    {
+        let becomings = becomings(self.alloc, edits)?;
+        let moved = self.moved_cells(&becomings)?;
+        decide(rt, self.alloc, moved.as_slice())
+    }
+
+    /// The cells that can change, decided anew when the configuration becomes this one, by router and prefix. The edit concerns
+    /// these alone.
+    pub(crate) fn network_changes<'a, R: Threads + Sync>(
+        &'a self,
+        rt: &R,
+        conf: &'a Conf,
+        concerned: &BTreeSet<Addr>,
+    ) -> Result<Seq<Change<S>>, AllocError>
+        requires { ConcernsAlone self.now.conf conf.now concerned.now.keys }
+        ensures { IfOk result (λ changes. changes ≡ changes_in Network self.now.conf conf.now self.now.tables) }
+    {
+        let edits = self.concerned_routers(conf, concerned)?;
+        self.changes_of(rt, edits.as_slice())
+    }
+
+    /// The cells of the router that can change, decided anew when the configuration becomes this one.
+    pub(crate) fn site_changes<'a, R: Threads + Sync>(
+        &'a self,
+        rt: &R,
+        conf: &'a Conf,
+        router: Addr,
+    ) -> Result<Seq<Change<S>>, AllocError>
+        ensures { IfOk result (λ changes. changes ≡ changes_in (Site router) self.now.conf conf.now self.now.tables) }
+    {
+        let Some(_) = self.table(router) else {
+            return Ok(Seq::new(self.alloc));
+        };
+        let mut edits = Seq::new(self.alloc);
+        edits.push(RouterEdit::of(self.alloc, &self.conf, conf, router)?)?;
+        self.changes_of(rt, edits.as_slice())
     }
 }

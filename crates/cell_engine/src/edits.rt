@@ -30,6 +30,7 @@ use seq::Seq;
 use session_queue::{Direction, Queues};
 use std::alloc::{AllocError, Global};
 use std::marker::Model;
+use std::thread::Threads;
 
 /// What an edit will do: the configuration that it makes, the directions for that, and the cells that are decided anew, with what
 /// each router sends for that.
@@ -200,32 +201,25 @@ fn boxed<S: Selector + Drop>(alloc: Global, parts: Parts<S>) -> Result<Edited<S>
     })
 }
 
-impl<S: Selector + Drop, T: PrefixTable<Cell<S>> + Drop> State<S, T> {
-    /// What the edit will do. The network stays as it is, also at an error, which is want of memory; of the state no more changes than
+impl<S: Selector + Send + Sync + Drop, T: PrefixTable<Cell<S>> + Drop> State<S, T> {
+    /// What the edit will do, worked out in threads where that is much. The network stays as it is, also at an error, which is want of memory; of the state no more changes than
     /// that a router gets an empty cell for a prefix that it is to originate.
-    pub fn edited(&mut self, edit: &Edit) -> Result<Edited<S>, AllocError>
+    pub fn edited<R: Threads + Sync>(
+        &mut self,
+        rt: &R,
+        edit: &Edit,
+    ) -> Result<Edited<S>, AllocError>
         requires { refusal_of self.old.conf edit.now ≡ None }
         ensures same { KeepsSame self.old self.new }
         ensures network { network self.new ≡ network self.old }
         ensures planned { IfOk result (λ edited. IsPlanned self.new edit.now edited) }
     {
         self.make_origin(edit)?;
-        self.plan(edit)
-    }
-
-    /// Sees to it that a router that the edit makes originate a prefix has a cell of it.
-    fn make_origin(&mut self, edit: &Edit) -> Result<(), AllocError>
-        ensures same { KeepsSame self.old self.new }
-        ensures there { OnOk result (with_origin edit.now self.new.tables ≡ self.new.tables) }
-    {
-        match edit {
-            Edit::Origin(router, prefix) => self.make_cell(*router, *prefix),
-            _ => Ok(()),
-        }
+        self.plan(rt, edit)
     }
 
     /// What the edit will do, where a router has a cell for what it is to originate.
-    fn plan(&self, edit: &Edit) -> Result<Edited<S>, AllocError>
+    fn plan<R: Threads + Sync>(&self, rt: &R, edit: &Edit) -> Result<Edited<S>, AllocError>
         ensures { IfOk result (λ edited. edited ≡ planned self.now edit.now) }
     {
         self.facts();
@@ -235,8 +229,8 @@ impl<S: Selector + Drop, T: PrefixTable<Cell<S>> + Drop> State<S, T> {
         let EditedConf { conf, concerned } = made;
         let directions = directions_after(self.alloc, self.directions.as_slice(), edit)?;
         let changes = match edit.scope() {
-            Scope::Network => self.network_changes(&conf, &concerned)?,
-            Scope::Site(router) => self.site_changes(&conf, router)?,
+            Scope::Network => self.network_changes(rt, &conf, &concerned)?,
+            Scope::Site(router) => self.site_changes(rt, &conf, router)?,
             Scope::Route(router, prefix) => self.route_changes(&conf, router, prefix)?,
         };
         let parts = Parts {
@@ -245,6 +239,19 @@ impl<S: Selector + Drop, T: PrefixTable<Cell<S>> + Drop> State<S, T> {
             changes,
         };
         boxed(self.alloc, parts)
+    }
+}
+
+impl<S: Selector + Drop, T: PrefixTable<Cell<S>> + Drop> State<S, T> {
+    /// Sees to it that a router that the edit makes originate a prefix has a cell of it.
+    fn make_origin(&mut self, edit: &Edit) -> Result<(), AllocError>
+        ensures same { KeepsSame self.old self.new }
+        ensures there { OnOk result (with_origin edit.now self.new.tables ≡ self.new.tables) }
+    {
+        match edit {
+            Edit::Origin(router, prefix) => self.make_cell(*router, *prefix),
+            _ => Ok(()),
+        }
     }
 
     /// Sees to it that there is a place for each message that will be sent. The network stays as it is, also at an error, which is

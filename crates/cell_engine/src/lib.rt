@@ -6,7 +6,9 @@ mod changes;
 mod deliveries;
 mod edits;
 mod feeds;
+mod moved_cells;
 mod places;
+mod router_edits;
 mod state;
 
 pub use edits::Edited;

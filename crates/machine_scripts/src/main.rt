@@ -16,6 +16,7 @@ use script_run::run_script;
 use std::env;
 use std::io::{self, BufWriter, Write};
 use std::process::ExitCode;
+use std::thread::Threads;
 
 /// The exit status of a mistaken command line.
 const MISTAKEN: u8 = 2;
@@ -58,7 +59,7 @@ fn without_memory(rt: &impl Eprint) -> ExitCode
 
 /// Serves standard input to standard output, by a machine that begins with the empty network.
 fn serve_streams<M: Machine + Drop>(
-    rt: &(impl Print + Eprint + Input + AllocGlobal),
+    rt: &(impl Print + Eprint + Input + AllocGlobal + Threads + Sync),
     errors: impl Write + Drop,
     mut machine: M,
 ) -> ExitCode
@@ -72,7 +73,14 @@ fn serve_streams<M: Machine + Drop>(
     let mut input = watched::Input::new(rt.reader());
     let mut output = watched::Output::new(writer);
     let mut errors = watched::Output::new(errors);
-    ExitCode::from(run_script(alloc, &mut machine, &mut input, &mut output, &mut errors))
+    ExitCode::from(run_script(
+        rt,
+        alloc,
+        &mut machine,
+        &mut input,
+        &mut output,
+        &mut errors,
+    ))
 }
 
 #[cfg(test)]

@@ -11,6 +11,7 @@ use reference_machine::Machine;
 use sim_text::serve;
 use std::alloc::Global;
 use std::test::Fail;
+use std::thread::Threads;
 use watched::{Input, Output};
 
 /// The reply where memory was refused.
@@ -34,21 +35,31 @@ const FIRST_PATH: Lines = &[
 ];
 
 /// What the machine answers to lines.
-fn asked<M: Machine>(alloc: Global, machine: &mut M, lines: &str) -> Result<Vec<u8>, Fail> {
+fn asked<M: Machine>(
+    rt: &(impl Threads + Sync),
+    alloc: Global,
+    machine: &mut M,
+    lines: &str,
+) -> Result<Vec<u8>, Fail> {
     let mut written = Vec::with_capacity(alloc, 500).or_else(|_| Vec::with_capacity(alloc, 500))?;
     let mut input = Input::new(lines.as_bytes());
     let mut output = Output::new(&mut written);
-    let served = serve(alloc, &mut input, &mut output, machine);
+    let served = serve(rt, alloc, &mut input, &mut output, machine);
     drop(output);
     served.map_err(|_| "a fault")?;
     Ok(written)
 }
 
 /// What it answers to a line, which is given once more where memory was refused.
-fn repeated<M: Machine>(alloc: Global, machine: &mut M, line: &str) -> Result<Vec<u8>, Fail> {
-    let answer = asked(alloc, machine, line)?;
+fn repeated<M: Machine>(
+    rt: &(impl Threads + Sync),
+    alloc: Global,
+    machine: &mut M,
+    line: &str,
+) -> Result<Vec<u8>, Fail> {
+    let answer = asked(rt, alloc, machine, line)?;
     if answer.as_slice() == WITHOUT_MEMORY {
-        return asked(alloc, machine, line);
+        return asked(rt, alloc, machine, line);
     }
     Ok(answer)
 }

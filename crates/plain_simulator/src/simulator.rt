@@ -11,6 +11,7 @@ use route_select::Selector;
 use sim_event::{Event, Reply};
 use std::alloc::Global;
 use std::marker::{Model, PhantomData};
+use std::thread::Threads;
 
 /// The plain simulator, which decides by a selector.
 #[derive(Drop)]
@@ -42,7 +43,11 @@ impl<S: Selector + Drop> Simulator<S> {
 
     /// Takes the events in order, one reply an event. Where there is no memory for the replies, nothing has changed and
     /// the refusal is `Memory`; a step's own want of memory is its reply.
-    pub fn run(&mut self, events: &[Event]) -> Result<Vec<Reply>, Refusal>
+    pub fn run<R: Threads + Sync>(
+        &mut self,
+        rt: &R,
+        events: &[Event],
+    ) -> Result<Vec<Reply>, Refusal>
         ensures { MatchResult result
             (λ replies. IsRun self.old events.now replies.items self.new)
             (λ refusal. (refusal ≡ Memory) × (self.new ≡ self.old)) }
@@ -51,7 +56,7 @@ impl<S: Selector + Drop> Simulator<S> {
             return Err(Refusal::Memory);
         };
         for event in events {
-            let reply = self.step(event);
+            let reply = self.step(rt, event);
             replies.push(reply).unwrap();
         }
         Ok(replies)
@@ -61,7 +66,8 @@ impl<S: Selector + Drop> Simulator<S> {
 impl<S: Selector + Drop> Machine for Simulator<S> {
     ghost network = { λ s. s };
 
-    fn step(&mut self, event: &Event) -> Reply {
+    // It starts no thread.
+    fn step<R: Threads + Sync>(&mut self, _rt: &R, event: &Event) -> Reply {
         match self.state.try_step::<S>(self.alloc, event) {
             Ok(reply) => reply,
             Err(_) => Reply::Refused(Refusal::Memory),

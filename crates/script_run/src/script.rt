@@ -9,11 +9,13 @@ use reference_machine::Machine;
 use sim_text::{ServeFault, serve, write_fault};
 use std::alloc::Global;
 use std::io::{Read, Write};
+use std::thread::Threads;
 use watched::{Input, Output};
 
 /// Serves the script on the reader to the writer, by a machine that begins with the empty network, and tells a fault on the third
 /// stream, whose own failure is passed over. The exit status: 0 done, 3 read fault, 4 write fault.
 pub fn run_script<M: Machine, R: Read, W: Write, E: Write>(
+    rt: &(impl Threads + Sync),
     alloc: Global,
     machine: &mut M,
     input: &mut Input<R>,
@@ -27,7 +29,7 @@ pub fn run_script<M: Machine, R: Read, W: Write, E: Write>(
     ensures sent { output.new.failed ≡ false → output.new.held ≡ false }
     ensures run { IsScriptRun input.old.remaining output.old errors.old result (M.network machine.new) input.new output.new errors.new }
 {
-    let served = serve(alloc, input, output, machine);
+    let served = serve(rt, alloc, input, output, machine);
     tell(&served, errors);
     status_of(&served)
 }

@@ -14,29 +14,38 @@ use prefix_table::PrefixTable;
 use route_select::Selector;
 use sim_event::Reply;
 use std::alloc::AllocError;
+use std::thread::Threads;
 
-impl<S: Selector + Drop, T: PrefixTable<Cell<S>> + Drop> EventMachine<S, T> {
+impl<S: Selector + Send + Sync + Drop, T: PrefixTable<Cell<S>> + Drop> EventMachine<S, T> {
     /// Makes an edit ready.
-    pub(crate) fn prepare_edit(&mut self, edit: &Edit) -> Result<Plan<S>, Refusal>
+    pub(crate) fn prepare_edit<R: Threads + Sync>(
+        &mut self,
+        rt: &R,
+        edit: &Edit,
+    ) -> Result<Plan<S>, Refusal>
         ensures network { network self.new ≡ network self.old }
         ensures prepares { Prepares self.new (AnEdit edit.now) result }
     {
         if let Err(refusal) = self.state.conf().check(edit) {
             return Err(refusal);
         }
-        match self.editing(edit) {
+        match self.editing(rt, edit) {
             Ok(plan) => Ok(plan),
             Err(_) => Err(Refusal::Memory),
         }
     }
 
     /// The plan of an edit that is not refused: all that it makes, and room for what is sent.
-    fn editing(&mut self, edit: &Edit) -> Result<Plan<S>, AllocError>
+    fn editing<R: Threads + Sync>(
+        &mut self,
+        rt: &R,
+        edit: &Edit,
+    ) -> Result<Plan<S>, AllocError>
         requires { refusal_of self.old.conf edit.now ≡ None }
         ensures network { network self.new ≡ network self.old }
         ensures plan { IfOk result (λ plan. IsPrepared self.new (AnEdit edit.now) plan) }
     {
-        let edited = self.state.edited(edit)?;
+        let edited = self.state.edited(rt, edit)?;
         self.state.make_room_for(&edited)?;
         self.state.facts();
         let refreshed = edited.refreshed(self.alloc)?;

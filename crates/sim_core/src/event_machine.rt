@@ -14,6 +14,7 @@ use session_queue::Direction;
 use sim_event::{Event, Reply};
 use std::alloc::Global;
 use std::marker::Model;
+use std::thread::Threads;
 
 /// A network that takes events, by cells: it decides by the selector S, and keeps each router's cells in a table T.
 #[derive(Drop)]
@@ -53,15 +54,19 @@ impl<S: Selector, T: PrefixTable<Cell<S>>> EventMachine<S, T> {
     }
 }
 
-impl<S: Selector + Drop, T: PrefixTable<Cell<S>> + Drop> EventMachine<S, T> {
+impl<S: Selector + Send + Sync + Drop, T: PrefixTable<Cell<S>> + Drop> EventMachine<S, T> {
     /// Makes ready what the event will do, with all the memory that this takes. The network stays as it is. The refusal is the machine's
     /// own, or want of memory where the machine refuses nothing; the tests come before the first growth.
-    pub fn prepare(&mut self, event: &Event) -> Result<Plan<S>, Refusal>
+    pub fn prepare<R: Threads + Sync>(
+        &mut self,
+        rt: &R,
+        event: &Event,
+    ) -> Result<Plan<S>, Refusal>
         ensures network { network self.new ≡ network self.old }
         ensures prepares { Prepares self.new event.now result }
     {
         match event {
-            Event::Edit(edit) => self.prepare_edit(edit),
+            Event::Edit(edit) => self.prepare_edit(rt, edit),
             Event::Feed(feed) => self.prepare_feed(feed),
             Event::Deliver(from, to) => self.prepare_delivery(Direction {
                 from: *from,
@@ -70,7 +75,9 @@ impl<S: Selector + Drop, T: PrefixTable<Cell<S>> + Drop> EventMachine<S, T> {
             Event::Ask(question) => self.prepare_answer(question),
         }
     }
+}
 
+impl<S: Selector + Drop, T: PrefixTable<Cell<S>> + Drop> EventMachine<S, T> {
     /// Carries out a plan that was prepared from this state: this is the machine's own step. It takes no memory.
     pub fn apply(&mut self, plan: Plan<S>) -> Reply
         requires { IsOfEvent self.old plan }

@@ -11,12 +11,13 @@ use crate::event_machine::EventMachine;
 use crate::plan::Plan;
 use cell_engine::{Cell, State};
 use net_conf::Refusal;
-use prefix_table::PrefixTable;
+use prefix_table::{PrefixTable, SortedTable, TrieTable};
 use reference_machine::Machine;
-use route_select::Selector;
+use route_select::{FilterCell, GroupCell, Selector};
 use sim_event::{Event, Reply};
 use std::alloc::Global;
 use std::marker::Model;
+use std::thread::Threads;
 
 /// A network that takes events, by cells: it decides by the selector S, and keeps each router's cells in a table T. It counts how many
 /// routes it decided anew.
@@ -68,17 +69,55 @@ impl<S: Selector, T: PrefixTable<Cell<S>>> Sim<S, T> {
     }
 }
 
-impl<S: Selector + Drop, T: PrefixTable<Cell<S>> + Drop> Sim<S, T> {
+impl<S: Selector + Send + Sync + Drop, T: PrefixTable<Cell<S>> + Drop> Sim<S, T> {
     /// Makes ready what the event will do, with all the memory that this takes. The network stays as it is. The refusal is the machine's
     /// own, or want of memory where the machine refuses nothing; the tests come before the first growth.
-    pub fn prepare(&mut self, event: &Event) -> Result<Plan<S>, Refusal>
+    pub fn prepare<R: Threads + Sync>(
+        &mut self,
+        rt: &R,
+        event: &Event,
+    ) -> Result<Plan<S>, Refusal>
         ensures network { network self.new.engine ≡ network self.old.engine }
         ensures decided { self.new.decided ≡ self.old.decided }
         ensures prepares { Prepares self.new.engine event.now result }
     {
-        self.machine.prepare(event)
+        self.machine.prepare(rt, event)
     }
 
+    /// Takes the event, which is the machine's own step, or is refused for want of memory and does nothing.
+    pub fn step<R: Threads + Sync>(&mut self, rt: &R, event: &Event) -> Reply
+        ensures step { IsStep (network self.old.engine) event.now result (network self.new.engine) }
+        ensures decided { Counts (network self.old.engine) event.now result self.old.decided self.new.decided }
+    {
+        match self.prepare(rt, event) {
+            Ok(plan) => self.apply(plan),
+            Err(refusal) => Reply::Refused(refusal),
+        }
+    }
+
+    /// Takes the events in order, one reply an event. Where there is no memory for the replies, nothing has changed and
+    /// the refusal is `Memory`; a step's own want of memory is its reply.
+    pub fn run<R: Threads + Sync>(
+        &mut self,
+        rt: &R,
+        events: &[Event],
+    ) -> Result<Vec<Reply>, Refusal>
+        ensures { MatchResult result
+            (λ replies. IsRun (network self.old.engine) events.now replies.items (network self.new.engine))
+            (λ refusal. (refusal ≡ Memory) × (network self.new.engine ≡ network self.old.engine)) }
+    {
+        let Ok(mut replies) = Vec::with_capacity(self.alloc, events.len()) else {
+            return Err(Refusal::Memory);
+        };
+        for event in events {
+            let reply = self.step(rt, event);
+            replies.push(reply).unwrap();
+        }
+        Ok(replies)
+    }
+}
+
+impl<S: Selector + Drop, T: PrefixTable<Cell<S>> + Drop> Sim<S, T> {
     /// Carries out a plan that was prepared from this state: this is the machine's own step. It takes no memory.
     pub fn apply(&mut self, plan: Plan<S>) -> Reply
         requires { IsOfEvent self.old.engine plan }
@@ -89,43 +128,26 @@ impl<S: Selector + Drop, T: PrefixTable<Cell<S>> + Drop> Sim<S, T> {
         self.decided = raised(self.decided, plan.refreshed().len());
         self.machine.apply(plan)
     }
-
-    /// Takes the event, which is the machine's own step, or is refused for want of memory and does nothing.
-    pub fn step(&mut self, event: &Event) -> Reply
-        ensures step { IsStep (network self.old.engine) event.now result (network self.new.engine) }
-        ensures decided { Counts (network self.old.engine) event.now result self.old.decided self.new.decided }
-    {
-        match self.prepare(event) {
-            Ok(plan) => self.apply(plan),
-            Err(refusal) => Reply::Refused(refusal),
-        }
-    }
-
-    /// Takes the events in order, one reply an event. Where there is no memory for the replies, nothing has changed and
-    /// the refusal is `Memory`; a step's own want of memory is its reply.
-    pub fn run(&mut self, events: &[Event]) -> Result<Vec<Reply>, Refusal>
-        ensures { MatchResult result
-            (λ replies. IsRun (network self.old.engine) events.now replies.items (network self.new.engine))
-            (λ refusal. (refusal ≡ Memory) × (network self.new.engine ≡ network self.old.engine)) }
-    {
-        let Ok(mut replies) = Vec::with_capacity(self.alloc, events.len()) else {
-            return Err(Refusal::Memory);
-        };
-        for event in events {
-            let reply = self.step(event);
-            replies.push(reply).unwrap();
-        }
-        Ok(replies)
-    }
 }
 
-impl<S: Selector + Drop, T: PrefixTable<Cell<S>> + Drop> Machine for Sim<S, T> {
+// At each pair of types: what a method of a trait sends to threads may not rest on a bound of its impl.
+impl Machine for Sim<GroupCell, TrieTable<Cell<GroupCell>>> {
     ghost use Rattle.cell_network.specs.Engine as engine;
 
     ghost network = { λ s. engine.network s.engine };
 
-    fn step(&mut self, event: &Event) -> Reply {
-        Sim::step(self, event)
+    fn step<R: Threads + Sync>(&mut self, rt: &R, event: &Event) -> Reply {
+        Sim::step(self, rt, event)
+    }
+}
+
+impl Machine for Sim<FilterCell, SortedTable<Cell<FilterCell>>> {
+    ghost use Rattle.cell_network.specs.Engine as engine;
+
+    ghost network = { λ s. engine.network s.engine };
+
+    fn step<R: Threads + Sync>(&mut self, rt: &R, event: &Event) -> Reply {
+        Sim::step(self, rt, event)
     }
 }
 

@@ -9,10 +9,12 @@ use reference_machine::Machine;
 use reply_text::{write_refusal, write_reply};
 use std::alloc::Global;
 use std::io::Write;
+use std::thread::Threads;
 use watched::{Output, WriterFailed};
 
 /// Takes a line and writes its answer. Where the writer fails, the line's event was taken all the same.
 pub(crate) fn answer_line<W: Write, M: Machine>(
+    rt: &(impl Threads + Sync),
     alloc: Global,
     line: &[u8],
     output: &mut Output<W>,
@@ -24,7 +26,7 @@ pub(crate) fn answer_line<W: Write, M: Machine>(
     match read_line(alloc, line) {
         Ok(None) => Ok(()),
         Ok(Some(event)) => {
-            let reply = machine.step(&event);
+            let reply = machine.step(rt, &event);
             write_reply(&reply, output)
         }
         Err(refusal) => write_refusal(refusal, output),

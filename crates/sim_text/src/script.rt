@@ -15,6 +15,7 @@ use crate::line::{MOST_BYTES, Next, next_line, without_carriage_return};
 use reference_machine::Machine;
 use std::alloc::Global;
 use std::io::{Read, Write};
+use std::thread::Threads;
 use watched::{Input, Output};
 
 #[derive(Drop)]
@@ -56,6 +57,7 @@ fn flush<W: Write>(answered: u64, output: &mut Output<W>) -> Result<(), ServeFau
 
 /// Answers the line that ends in the buffer. What follows it is not known yet, so all is said for every rest of the input.
 fn answer_first<W: Write, M: Machine>(
+    rt: &(impl Threads + Sync),
     alloc: Global,
     script: &mut Script,
     end: usize,
@@ -74,7 +76,7 @@ fn answer_first<W: Write, M: Machine>(
 {
     let next = script.answered + 1;
     let line = without_carriage_return(&script.pending.as_slice()[..end]);
-    match answer_line(alloc, line, output, machine) {
+    match answer_line(rt, alloc, line, output, machine) {
         Ok(()) => {}
         Err(_) => return Err(ServeFault::Write { line: next }),
     }
@@ -86,6 +88,7 @@ fn answer_first<W: Write, M: Machine>(
 /// Answers a last line with no line feed, if there is one: at the end of the input, where nothing follows, and its length is still to be
 /// tested. So it is no call of `answer_first`.
 fn answer_last<W: Write, M: Machine>(
+    rt: &(impl Threads + Sync),
     alloc: Global,
     script: &mut Script,
     output: &mut Output<W>,
@@ -111,7 +114,7 @@ fn answer_last<W: Write, M: Machine>(
     if length > MOST_BYTES {
         return Err(ServeFault::Read { line: next });
     }
-    match answer_line(alloc, line, output, machine) {
+    match answer_line(rt, alloc, line, output, machine) {
         Ok(()) => {}
         Err(_) => return Err(ServeFault::Write { line: next }),
     }
@@ -122,6 +125,7 @@ fn answer_last<W: Write, M: Machine>(
 
 /// Answers what is left at the end, and sends on all that was written.
 fn finish<W: Write, M: Machine>(
+    rt: &(impl Threads + Sync),
     alloc: Global,
     script: &mut Script,
     output: &mut Output<W>,
@@ -137,12 +141,13 @@ fn finish<W: Write, M: Machine>(
     ensures err { IfErr result (λ fault. (i : Reading) →
         Ends script.old.pending script.old.answered (M.network machine.old) output.old fault (M.network machine.new) output.new i) }
 {
-    answer_last(alloc, script, output, machine)?;
+    answer_last(rt, alloc, script, output, machine)?;
     flush(script.answered, output)
 }
 
 /// Reads more, once all that was written is sent on. False at the end, where the last line has been answered too.
 fn read_on<R: Read, W: Write, M: Machine>(
+    rt: &(impl Threads + Sync),
     alloc: Global,
     script: &mut Script,
     input: &mut Input<R>,
@@ -168,13 +173,14 @@ fn read_on<R: Read, W: Write, M: Machine>(
         Err(_) => return Err(ServeFault::Read { line: next }),
     };
     if !more {
-        finish(alloc, script, output, machine)?;
+        finish(rt, alloc, script, output, machine)?;
     }
     Ok(more)
 }
 
 /// Answers a line that was read, or reads more. False at the end.
 pub(crate) fn advance<R: Read, W: Write, M: Machine>(
+    rt: &(impl Threads + Sync),
     alloc: Global,
     script: &mut Script,
     input: &mut Input<R>,
@@ -195,10 +201,10 @@ pub(crate) fn advance<R: Read, W: Write, M: Machine>(
 {
     match next_line(&script.pending, script.answered) {
         Next::Line(end) => {
-            answer_first(alloc, script, end, output, machine)?;
+            answer_first(rt, alloc, script, end, output, machine)?;
             Ok(true)
         }
-        Next::Part => read_on(alloc, script, input, output, machine),
+        Next::Part => read_on(rt, alloc, script, input, output, machine),
         Next::Unfit => {
             flush(script.answered, output)?;
             let next = script.answered + 1;

@@ -8,6 +8,7 @@ use crate::script::{Script, advance};
 use reference_machine::Machine;
 use std::alloc::Global;
 use std::io::{Read, Write};
+use std::thread::Threads;
 use watched::{Input, Output};
 
 /// Answers each line of the input in turn, and says how many there were.
@@ -16,6 +17,7 @@ use watched::{Input, Output};
 /// script at most 1,000,000 lines. All that was written is sent on before more is read, and at the end: then nothing is held
 /// back, unless the writer failed. Takes no memory beside that of the events and the machine.
 pub fn serve<R: Read, W: Write, M: Machine>(
+    rt: &(impl Threads + Sync),
     alloc: Global,
     input: &mut Input<R>,
     output: &mut Output<W>,
@@ -31,6 +33,6 @@ pub fn serve<R: Read, W: Write, M: Machine>(
         IsServing bytes (M.network machine.old) output.old result (M.network machine.new) output.new input.new) }
 {
     let mut script = Script::new();
-    'lines: while advance(alloc, &mut script, input, output, machine)? {}
+    'lines: while advance(rt, alloc, &mut script, input, output, machine)? {}
     Ok(script.answered)
 }

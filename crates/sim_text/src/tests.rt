@@ -7,6 +7,7 @@ use std::io;
 use std::io::{Read, Write};
 use std::process::Abort;
 use std::test::Fail;
+use std::thread::Threads;
 use watched::{Input, Output};
 
 /// A machine that no event may reach.
@@ -18,7 +19,7 @@ impl<A: Abort> Machine for Idle<'_, A> {
 
     ghost network = { λ _. nothing };
 
-    fn step(&mut self, _event: &Event) -> Reply {
+    fn step<R: Threads + Sync>(&mut self, _rt: &R, _event: &Event) -> Reply {
         panic!(self.0; "an event was taken")
     }
 }
@@ -64,13 +65,14 @@ impl Write for Stuck {
     }
 }
 
-fn served<A: Abort, R: Read + Drop, W: Write + Drop>(
+fn served<A: Abort + Threads + Sync, R: Read + Drop, W: Write + Drop>(
     rt: &A,
     alloc: Global,
     reader: R,
     writer: W,
 ) -> Result<u64, ServeFault> {
     serve(
+        rt,
         alloc,
         &mut Input::new(reader),
         &mut Output::new(writer),

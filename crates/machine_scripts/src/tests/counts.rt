@@ -11,6 +11,7 @@ use sim_event::{Event, Reply};
 use std::alloc::Global;
 use std::process::Abort;
 use std::test::Fail;
+use std::thread::Threads;
 
 /// A router that hears of one prefix from three external peers, two of them in one AS.
 const THREE_PEERS: [&str; 13] = [
@@ -42,14 +43,15 @@ fn event_of(alloc: Global, line: &str) -> Result<Event, Fail> {
 }
 
 /// Takes the event of a line, again where there was no memory for it once. How many routes were decided anew till then.
-fn count_after<S: Selector + Drop, T: PrefixTable<Cell<S>> + Drop>(
+fn count_after<S: Selector + Send + Sync + Drop, T: PrefixTable<Cell<S>> + Drop>(
+    rt: &(impl Threads + Sync),
     alloc: Global,
     machine: &mut Sim<S, T>,
     line: &str,
 ) -> Result<u64, Fail> {
     let event = event_of(alloc, line)?;
-    if matches!(machine.step(&event), Reply::Refused(Refusal::Memory)) {
-        let _ = machine.step(&event);
+    if matches!(machine.step(rt, &event), Reply::Refused(Refusal::Memory)) {
+        let _ = machine.step(rt, &event);
     }
     Ok(machine.decided())
 }
@@ -86,65 +88,66 @@ const PASSED_ON: [&str; 9] = [
 ];
 
 /// Takes the events of these lines. How many routes were decided anew till then.
-fn count_after_all<S: Selector + Drop, T: PrefixTable<Cell<S>> + Drop>(
+fn count_after_all<S: Selector + Send + Sync + Drop, T: PrefixTable<Cell<S>> + Drop>(
+    rt: &(impl Threads + Sync),
     alloc: Global,
     machine: &mut Sim<S, T>,
     lines: &[&str],
 ) -> Result<u64, Fail> {
     for line in lines {
-        let _ = count_after(alloc, machine, line)?;
+        let _ = count_after(rt, alloc, machine, line)?;
     }
     Ok(machine.decided())
 }
 
 /// Fails unless deliveries to the router count, and an edit that moves nothing, a feed and a question do not.
-fn counts_of_deliveries<S: Selector + Drop, T: PrefixTable<Cell<S>> + Drop>(
-    rt: &impl Abort,
+fn counts_of_deliveries<S: Selector + Send + Sync + Drop, T: PrefixTable<Cell<S>> + Drop>(
+    rt: &(impl Abort + Threads + Sync),
     alloc: Global,
     machine: &mut Sim<S, T>,
 ) -> Result<(), Fail> {
-    assert_eq!(rt; count_after_all(alloc, machine, &THREE_PEERS)?, 0);
-    assert_eq!(rt; count_after(alloc, machine, "deliver 1.0.0.1 9.0.0.1")?, 1);
-    assert_eq!(rt; count_after(alloc, machine, "deliver 2.0.0.1 9.0.0.1")?, 2);
-    assert_eq!(rt; count_after(alloc, machine, "deliver 1.0.0.2 9.0.0.1")?, 3);
+    assert_eq!(rt; count_after_all(rt, alloc, machine, &THREE_PEERS)?, 0);
+    assert_eq!(rt; count_after(rt, alloc, machine, "deliver 1.0.0.1 9.0.0.1")?, 1);
+    assert_eq!(rt; count_after(rt, alloc, machine, "deliver 2.0.0.1 9.0.0.1")?, 2);
+    assert_eq!(rt; count_after(rt, alloc, machine, "deliver 1.0.0.2 9.0.0.1")?, 3);
     assert_eq!(rt;
-        count_after(alloc, machine, "metric 9.0.0.1 2.0.0.1 20")?,
+        count_after(rt, alloc, machine, "metric 9.0.0.1 2.0.0.1 20")?,
         3
     );
     assert_eq!(rt;
-        count_after(alloc, machine, "feed 1.0.0.2 9.0.0.1 withdraw 10.0.0.0/8")?,
+        count_after(rt, alloc, machine, "feed 1.0.0.2 9.0.0.1 withdraw 10.0.0.0/8")?,
         3
     );
-    assert_eq!(rt; count_after(alloc, machine, "deliver 1.0.0.2 9.0.0.1")?, 4);
-    assert_eq!(rt; count_after(alloc, machine, "why 9.0.0.1 10.0.0.0/8")?, 4);
+    assert_eq!(rt; count_after(rt, alloc, machine, "deliver 1.0.0.2 9.0.0.1")?, 4);
+    assert_eq!(rt; count_after(rt, alloc, machine, "why 9.0.0.1 10.0.0.0/8")?, 4);
     assert_eq!(rt;
-        count_after(alloc, machine, "metric 9.0.0.1 2.0.0.1 21")?,
+        count_after(rt, alloc, machine, "metric 9.0.0.1 2.0.0.1 21")?,
         5
     );
     Ok(())
 }
 
 /// Fails unless an edit counts the routes that it touches.
-fn counts_of_edits<S: Selector + Drop, T: PrefixTable<Cell<S>> + Drop>(
-    rt: &impl Abort,
+fn counts_of_edits<S: Selector + Send + Sync + Drop, T: PrefixTable<Cell<S>> + Drop>(
+    rt: &(impl Abort + Threads + Sync),
     alloc: Global,
     machine: &mut Sim<S, T>,
 ) -> Result<(), Fail> {
-    let before = count_after_all(alloc, machine, &REFLECTED)?;
-    let after = count_after(alloc, machine, "cluster 5.0.0.3 5.0.0.2")?;
+    let before = count_after_all(rt, alloc, machine, &REFLECTED)?;
+    let after = count_after(rt, alloc, machine, "cluster 5.0.0.3 5.0.0.2")?;
     assert!(rt; after > before && after - before == 1);
-    assert_eq!(rt; count_after(alloc, machine, "router 5.0.0.4 5")?, after);
+    assert_eq!(rt; count_after(rt, alloc, machine, "router 5.0.0.4 5")?, after);
     Ok(())
 }
 
 /// Fails unless a delivery to a virtual peer counts nothing.
-fn counts_of_virtual_peers<S: Selector + Drop, T: PrefixTable<Cell<S>> + Drop>(
-    rt: &impl Abort,
+fn counts_of_virtual_peers<S: Selector + Send + Sync + Drop, T: PrefixTable<Cell<S>> + Drop>(
+    rt: &(impl Abort + Threads + Sync),
     alloc: Global,
     machine: &mut Sim<S, T>,
 ) -> Result<(), Fail> {
-    assert_eq!(rt; count_after_all(alloc, machine, &PASSED_ON)?, 1);
-    assert_eq!(rt; count_after(alloc, machine, "deliver 9.0.0.1 8.0.0.1")?, 1);
+    assert_eq!(rt; count_after_all(rt, alloc, machine, &PASSED_ON)?, 1);
+    assert_eq!(rt; count_after(rt, alloc, machine, "deliver 9.0.0.1 8.0.0.1")?, 1);
     Ok(())
 }
 

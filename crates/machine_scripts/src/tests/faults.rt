@@ -8,6 +8,7 @@ use std::alloc::Global;
 use std::io::{self, Read, Write};
 use std::process::Abort;
 use std::test::Fail;
+use std::thread::Threads;
 use watched::{Input, Output};
 
 /// What the second router's table shows once this many lines were taken.
@@ -78,7 +79,7 @@ impl Write for Full {
 
 /// After so many reads: each line that was given whole is answered, and the fault names the next one.
 fn reader_fails<M: Machine + Drop>(
-    rt: &impl Abort,
+    rt: &(impl Abort + Threads + Sync),
     alloc: Global,
     mut machine: M,
     reads: usize,
@@ -96,7 +97,7 @@ fn reader_fails<M: Machine + Drop>(
         reads_left: reads,
     });
     let mut output = Output::new(&mut written);
-    let served = serve(alloc, &mut input, &mut output, &mut machine);
+    let served = serve(rt, alloc, &mut input, &mut output, &mut machine);
     drop(output);
     assert_eq!(rt;
         served,
@@ -105,7 +106,7 @@ fn reader_fails<M: Machine + Drop>(
         })
     );
     assert_eq!(rt; written.as_slice(), replies.as_bytes());
-    let table = asked(alloc, &mut machine, "routes 2.0.0.1\n")?;
+    let table = asked(rt, alloc, &mut machine, "routes 2.0.0.1\n")?;
     assert_eq!(rt; table.as_slice(), table_after(lines).as_bytes());
     Ok(())
 }
@@ -123,7 +124,7 @@ fn a_reader_that_fails_at_each_read(rt: HostRuntime) -> Result<(), Fail> {
 
 /// After so many writes: the replies before the fault's line were written, and a front of its own; its event was taken.
 fn writer_fails<M: Machine + Drop>(
-    rt: &impl Abort,
+    rt: &(impl Abort + Threads + Sync),
     alloc: Global,
     mut machine: M,
     writes: usize,
@@ -135,7 +136,7 @@ fn writer_fails<M: Machine + Drop>(
     };
     let mut input = Input::new(script.as_bytes());
     let mut output = Output::new(&mut full);
-    let served = serve(alloc, &mut input, &mut output, &mut machine);
+    let served = serve(rt, alloc, &mut input, &mut output, &mut machine);
     drop(output);
     let Err(ServeFault::Write { line }) = served else {
         return Err("no write fault".into());
@@ -147,7 +148,7 @@ fn writer_fails<M: Machine + Drop>(
     let (_, with_it) = joined(alloc, lines)?;
     assert!(rt; earlier.len() <= full.taken.len());
     assert!(rt; full.taken.len() < with_it.len());
-    let table = asked(alloc, &mut machine, "routes 2.0.0.1\n")?;
+    let table = asked(rt, alloc, &mut machine, "routes 2.0.0.1\n")?;
     assert_eq!(rt; table.as_slice(), table_after(lines).as_bytes());
     Ok(())
 }

@@ -6,6 +6,7 @@ use reference_machine::Machine;
 use std::alloc::Global;
 use std::process::Abort;
 use std::test::Fail;
+use std::thread::Threads;
 
 /// Questions of all that is there.
 type Questions = &'static [&'static str];
@@ -123,19 +124,19 @@ const OF_FAIL_AND_MEND: Questions = &[
 /// Two machines take the lines, each line the one before the other. Where the first wants memory for a line, it answers every question as
 /// the other, which has taken the earlier lines alone.
 fn take_side_by_side<M: Machine + Drop>(
-    rt: &impl Abort,
+    rt: &(impl Abort + Threads + Sync),
     alloc: Global,
     (mut one, mut other): (M, M),
     (lines, questions): (Lines, Questions),
 ) -> Result<(), Fail> {
     for (line, reply) in lines {
-        let mut answer = asked(alloc, &mut one, line)?;
+        let mut answer = asked(rt, alloc, &mut one, line)?;
         if answer.as_slice() == WITHOUT_MEMORY {
             are_alike(rt, alloc, &mut one, &mut other, questions)?;
-            answer = asked(alloc, &mut one, line)?;
+            answer = asked(rt, alloc, &mut one, line)?;
         }
         assert_eq!(rt; answer.as_slice(), reply.as_bytes(), "{line}");
-        let answer = repeated(alloc, &mut other, line)?;
+        let answer = repeated(rt, alloc, &mut other, line)?;
         assert_eq!(rt; answer.as_slice(), reply.as_bytes(), "{line}");
     }
     are_alike(rt, alloc, &mut one, &mut other, questions)
@@ -143,22 +144,26 @@ fn take_side_by_side<M: Machine + Drop>(
 
 /// The two machines answer the questions alike.
 fn are_alike<M: Machine>(
-    rt: &impl Abort,
+    rt: &(impl Abort + Threads + Sync),
     alloc: Global,
     one: &mut M,
     other: &mut M,
     questions: Questions,
 ) -> Result<(), Fail> {
     for question in questions {
-        let answer = repeated(alloc, one, question)?;
-        let wanted = repeated(alloc, other, question)?;
+        let answer = repeated(rt, alloc, one, question)?;
+        let wanted = repeated(rt, alloc, other, question)?;
         assert_eq!(rt; answer.as_slice(), wanted.as_slice(), "{question}");
     }
     Ok(())
 }
 
 /// The same on each of the three machines.
-fn take_on_each(rt: &impl Abort, alloc: Global, case: (Lines, Questions)) -> Result<(), Fail> {
+fn take_on_each(
+    rt: &(impl Abort + Threads + Sync),
+    alloc: Global,
+    case: (Lines, Questions),
+) -> Result<(), Fail> {
     let plain = (PlainMachine::new(alloc), PlainMachine::new(alloc));
     take_side_by_side(rt, alloc, plain, case)?;
     let sorted = (SortedMachine::new(alloc), SortedMachine::new(alloc));

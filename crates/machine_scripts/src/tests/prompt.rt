@@ -7,6 +7,7 @@ use std::alloc::Global;
 use std::cell::Cell;
 use std::io::{self, Read, Write};
 use std::process::Abort;
+use std::thread::Threads;
 use watched::{Input, Output};
 
 /// Lines with one line of reply each.
@@ -63,7 +64,11 @@ impl Write for Screen<'_> {
     }
 }
 
-fn is_answered_at_once<M: Machine + Drop>(rt: &impl Abort, alloc: Global, mut machine: M) {
+fn is_answered_at_once<M: Machine + Drop>(
+    rt: &(impl Abort + Threads + Sync),
+    alloc: Global,
+    mut machine: M,
+) {
     let shown = Cell::new(0);
     let mut input = Input::new(Typist {
         typed: 0,
@@ -73,7 +78,7 @@ fn is_answered_at_once<M: Machine + Drop>(rt: &impl Abort, alloc: Global, mut ma
         held: 0,
         shown: &shown,
     });
-    let served = serve(alloc, &mut input, &mut output, &mut machine);
+    let served = serve(rt, alloc, &mut input, &mut output, &mut machine);
     assert_eq!(rt; served, Ok(5));
     assert_eq!(rt; shown.get(), 5);
 }

@@ -36,9 +36,9 @@ fn are_replies(rt: &impl Abort, replies: &[Reply]) {
 fn tries_run_a_list(rt: HostRuntime) -> Result<(), Fail> {
     let mut machine: TrieMachine = Sim::new(rt.alloc());
     let events = events()?;
-    let replies = match machine.run(&events) {
+    let replies = match machine.run(&rt, &events) {
         Ok(replies) => replies,
-        Err(_) => machine.run(&events).map_err(|_| "memory twice")?,
+        Err(_) => machine.run(&rt, &events).map_err(|_| "memory twice")?,
     };
     are_replies(&rt, &replies);
     Ok(())
@@ -48,9 +48,9 @@ fn tries_run_a_list(rt: HostRuntime) -> Result<(), Fail> {
 fn sorted_tables_run_a_list(rt: HostRuntime) -> Result<(), Fail> {
     let mut machine: SortedMachine = Sim::new(rt.alloc());
     let events = events()?;
-    let replies = match machine.run(&events) {
+    let replies = match machine.run(&rt, &events) {
         Ok(replies) => replies,
-        Err(_) => machine.run(&events).map_err(|_| "memory twice")?,
+        Err(_) => machine.run(&rt, &events).map_err(|_| "memory twice")?,
     };
     are_replies(&rt, &replies);
     Ok(())

@@ -1,9 +1,11 @@
-use Rattle.std.proofs.Common.{◌≡◌, ◌++◌, Option, option_map, option_copied, ap, ◌∙◌}
+use Rattle.std.proofs.Common.{◌≡◌, ◌∷◌, [], ◌++◌, map, IfOk, Option, option_map, subst, ap, ◌∙◌}
 use Rattle.std.specs.Option.{option_to_list}
+use Rattle.net_conf.specs.Configuration.{Configuration}
+use Rattle.route_cell.specs.Cells.{Heard}
 use Rattle.cell_network.specs.Changes.{router_changes}
 use Rattle.cell_network.specs.Moves.{moves}
-use Rattle.cell_engine.specs.Changes.{Becoming, cell_changes}
-use Rattle.route_cell.specs.Cells.{Heard}
+use Rattle.cell_engine.specs.Changes.{Becoming, change_at, moved_cell, becoming_of, edit_becoming}
+use Rattle.cell_engine.proofs.Deciding.{decided_cells}
 use Rattle.cell_engine.proofs.state.State.route_changes.Goals as goal
 
 pub returns : goal.returns
@@ -13,8 +15,10 @@ returns g c =
     let r = c.args.router in
     let p = c.args.prefix in
     let h : Heard = c.in-Some.cell.now in
-    let is : c.of.result ≡ record { conf = after; address = r; old = option_copied c.site-old.result; new = option_copied c.site_in-new.result } = c.of.ensures in
-    c.in_ok-add_cell.ensures
-    ∙ ap (λ l. l ++ cell_changes c.of.result p h) c.new-changes.ensures
-    ∙ ap (λ (b : Becoming). cell_changes b p h) (is ∙ λ i. record { conf = after; address = r; old = c.site-old.ensures i; new = c.site_in-new.ensures i })
-    ∙ ap (λ (o : Option Heard). router_changes (moves before after) before after r (option_to_list (option_map (λ x. (p, x)) o))) c.in-Some.ensures
+    let own : c.self.inside.conf ≡ before = ap (λ e. e.conf) c.self.view_is in
+    let moved = c.as_slice.ensures ∙ c.in_ok-add_cell.ensures ∙ ap (λ l. l ++ moved_cell c.becoming-becoming.result p h) c.new-moved.ensures ∙ ap (λ (b : Becoming). moved_cell b p h) (c.becoming-becoming.ensures ∙ ap edit_becoming c.in_ok-edit.ensures ∙ ap (λ (k : Configuration). becoming_of k after r) own) in
+    subst (λ l. IfOk c.decide_in_turn.result (λ changes. changes ≡ l))
+    (ap (map change_at) moved
+    ∙ decided_cells (edit_becoming (record { before = before; after = after; router = r })) ((p, h) ∷ [])
+    ∙ ap (λ (o : Option Heard). router_changes (moves before after) before after r (option_to_list (option_map (λ x. (p, x)) o))) c.in-Some.ensures)
+    c.decide_in_turn.ensures

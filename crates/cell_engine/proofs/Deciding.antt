@@ -1,0 +1,58 @@
+-- Cells decided anew: by one thread or by many, the list is the same.
+use Rattle.std.proofs.Common.{◌≡◌, List, [], ◌∷◌, ◌++◌, map, filter, refl, sym, ap, ◌∙◌, append_assoc, Ok, Err, IfOk}
+use Rattle.std.proofs.lemmas.List.{map-append, append-nil}
+use Rattle.std.specs.Prelude.{Result, MatchResult}
+use Rattle.std.specs.Borrow.{Bor}
+use Rattle.std.specs.List.{AllZip, flat_map}
+use Rattle.std.specs.declared.vec.Vec.{Vec}
+use Rattle.std.specs.FinMap as finite
+use Rattle.net_prefix.specs.declared.addr.Addr.{Addr}
+use Rattle.net_prefix.specs.Block.{Block}
+use Rattle.prefix_table.specs.Tables.{Table}
+use Rattle.router_tables.specs.RouterTables.{table_at}
+use Rattle.route_cell.specs.Cells.{Heard}
+use Rattle.cell_network.specs.Changes.{Change}
+use Rattle.cell_network.specs.Moves.{is_moved_by}
+use Rattle.cell_engine.specs.Changes.{Becoming, MovedCell, RouterEdit, change_of, change_at, moved_cells, all_moved, edit_becoming, edit_changes, all_changes}
+
+-- IN THREADS
+
+module _ {X Y E : Type 0} (make : X → Y) (P : Bor X → Result Y E → Type 0) (made : (z : Bor X) (y : Y) → P z (Ok y) → y ≡ make z.now) where
+  -- results that are all `Ok`, each as the function says
+  made_each : (zs : List (Bor X)) (ys : List Y) → AllZip P zs (map Ok ys) → ys ≡ map make (map (λ (z : Bor X). z.now) zs)
+  made_each [] [] h = refl
+  made_each [] (y ∷ ys) h = absurd h
+  made_each (z ∷ zs) [] h = absurd h
+  made_each (z ∷ zs) (y ∷ ys) h = ap (λ (e : Y). e ∷ ys) (made z y h.0) ∙ ap (λ (l : List Y). make z.now ∷ l) (made_each zs ys h.1)
+
+  -- what `collect` into a `Result` says of a chain over a slice
+  pub made_all : {A : Type 0} (r : Result (Vec Y A) E) (items : List X) (zs : List (Bor X)) (xs : List (Result Y E)) (Q : E → Type 0)
+      → map (λ (z : Bor X). z.now) zs ≡ items → AllZip P zs xs
+      → MatchResult r (λ v. (ys : List Y) × (xs ≡ map Ok ys) × (v.items ≡ ys)) Q
+      → IfOk r (λ v. v.items ≡ map make items)
+  made_all (Ok v) items zs xs Q slice each h = h.2 ∙ made_each zs h.0 (rw h.1 at each) ∙ ap (map make) slice
+  made_all (Err e) items zs xs Q slice each h = tt
+
+-- THE CELLS OF AN EDIT
+
+mapped_twice : {A B C : Type 0} (f : B → C) (g : A → B) (xs : List A) → map f (map g xs) ≡ map (λ x. f (g x)) xs
+mapped_twice f g [] = refl
+mapped_twice f g (x ∷ xs) = ap (λ l. f (g x) ∷ l) (mapped_twice f g xs)
+
+-- what becomes of those that can change
+pub decided_cells : (b : Becoming) (cells : List (Block × Heard)) → map change_at (moved_cells b cells) ≡ map (λ e. change_of b e.0 e.1) (filter (λ e. is_moved_by b.old b.new b.conf b.address e.0 e.1) cells)
+decided_cells b cells = mapped_twice change_at (λ e. record { becoming = b; prefix = e.0; heard = e.1 }) (filter (λ e. is_moved_by b.old b.new b.conf b.address e.0 e.1) cells)
+
+-- at each router
+pub decided_all : (ts : List (Addr × Table Heard)) (xs : List RouterEdit) → map change_at (all_moved (map edit_becoming xs) ts) ≡ all_changes xs ts
+decided_all ts [] = refl
+decided_all ts (x ∷ xs) =
+    let cells : List (Block × Heard) = finite.entries (table_at x.router ts) in
+    map-append change_at (moved_cells (edit_becoming x) cells) (all_moved (map edit_becoming xs) ts)
+    ∙ ap (λ l. l ++ map change_at (all_moved (map edit_becoming xs) ts)) (decided_cells (edit_becoming x) cells)
+    ∙ ap (λ l. edit_changes ts x ++ l) (decided_all ts xs)
+
+-- with one router more
+pub one_router_more : (ts : List (Addr × Table Heard)) (xs : List RouterEdit) (x : RouterEdit) → all_changes (xs ++ x ∷ []) ts ≡ all_changes xs ts ++ edit_changes ts x
+one_router_more ts [] x = append-nil (edit_changes ts x)
+one_router_more ts (y ∷ ys) x = ap (λ l. edit_changes ts y ++ l) (one_router_more ts ys x) ∙ sym (append_assoc (edit_changes ts y) (all_changes ys ts) (edit_changes ts x))

@@ -1,0 +1,14 @@
+use Rattle.std.proofs.Common.{◌≡◌, ◌++◌, ◌∷◌, [], OnOk, sym, ap, subst, ◌∙◌}
+use Rattle.std.proofs.lemmas.List.{append-nil}
+use Rattle.cell_network.proofs.Unmoved.{none_of_router}
+use Rattle.cell_engine.specs.Changes.{RouterEdit, all_changes, edit_changes}
+use Rattle.cell_engine.proofs.Deciding.{one_router_more}
+use Rattle.cell_engine.proofs.state.State.add_concerned.Goals as goal
+
+pub returns-then-not-contains : goal.returns-then-not-contains
+returns-then-not-contains g c =
+    let ts = c.args.self.now.tables in
+    sym (
+    ap (λ l. all_changes c.args.edits.now ts ++ l) (none_of_router c.args.self.now.conf c.args.conf.now c.args.router (c.requires c.args.router (sym c.contains.ensures ∙ c.if-not-contains.true)) ts c.facts.ensures.sessions)
+    ∙ append-nil (all_changes c.args.edits.now ts)
+    )
