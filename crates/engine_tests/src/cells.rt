@@ -13,6 +13,7 @@ use sim_core::Sim;
 use std::alloc::Global;
 use std::process::Abort;
 use std::test::Fail;
+use std::thread::Threads;
 
 /// The site of the router, asked for again where there was no memory once.
 fn site_of(alloc: Global, conf: &Conf, router: &str) -> Result<SiteConf, Fail> {
@@ -25,12 +26,12 @@ fn site_of(alloc: Global, conf: &Conf, router: &str) -> Result<SiteConf, Fail> {
 
 /// Fails unless a cell that is decided by its own site again stays, and sends nothing, and one that is decided by the site of a router
 /// without that session loses its route.
-fn decides_again<S: Selector + Drop, T: PrefixTable<Cell<S>> + Drop>(
-    rt: &impl Abort,
+fn decides_again<S: Selector + Send + Sync + Drop, T: PrefixTable<Cell<S>> + Drop>(
+    rt: &(impl Abort + Threads + Sync),
     alloc: Global,
     machine: &mut Sim<S, T>,
 ) -> Result<(), Fail> {
-    take_all(alloc, machine, &REFLECTED)?;
+    take_all(rt, alloc, machine, &REFLECTED)?;
     let state = machine.state();
     let Some(cell) = state.cell(addr("5.0.0.3")?, ten()?) else {
         return Err("no cell".into());
@@ -87,7 +88,7 @@ fn stores_and_forgets<S: Selector + Drop>(
 fn virtual_peers_store_and_forget(rt: HostRuntime) -> Result<(), Fail> {
     let alloc = rt.alloc();
     let mut machine: TrieMachine = Sim::new(alloc);
-    take_all(alloc, &mut machine, &REFLECTED)?;
+    take_all(&rt, alloc, &mut machine, &REFLECTED)?;
     let Some(cell) = machine.state().cell(addr("5.0.0.3")?, ten()?) else {
         return Err("no cell".into());
     };

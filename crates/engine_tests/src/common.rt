@@ -10,6 +10,7 @@ use sim_core::Sim;
 use sim_event::{Event, Reply};
 use std::alloc::Global;
 use std::test::Fail;
+use std::thread::Threads;
 
 /// The engine with sorted tables, whose cells choose when they are asked.
 pub(crate) type SortedMachine = Sim<FilterCell, SortedTable<Cell<FilterCell>>>;
@@ -78,27 +79,29 @@ pub(crate) fn event_of(alloc: Global, line: &str) -> Result<Event, Fail> {
 }
 
 /// What the machine answers to a line, which it is given again where there was no memory once.
-pub(crate) fn answered<S: Selector + Drop, T: PrefixTable<Cell<S>> + Drop>(
+pub(crate) fn answered<S: Selector + Send + Sync + Drop, T: PrefixTable<Cell<S>> + Drop>(
+    rt: &(impl Threads + Sync),
     alloc: Global,
     machine: &mut Sim<S, T>,
     line: &str,
 ) -> Result<Reply, Fail> {
     let event = event_of(alloc, line)?;
-    let reply = machine.step(&event);
+    let reply = machine.step(rt, &event);
     if matches!(reply, Reply::Refused(Refusal::Memory)) {
-        return Ok(machine.step(&event));
+        return Ok(machine.step(rt, &event));
     }
     Ok(reply)
 }
 
 /// Gives the machine these lines. None may be refused.
-pub(crate) fn take_all<S: Selector + Drop, T: PrefixTable<Cell<S>> + Drop>(
+pub(crate) fn take_all<S: Selector + Send + Sync + Drop, T: PrefixTable<Cell<S>> + Drop>(
+    rt: &(impl Threads + Sync),
     alloc: Global,
     machine: &mut Sim<S, T>,
     lines: &[&str],
 ) -> Result<(), Fail> {
     for line in lines {
-        if let Reply::Refused(_) = answered(alloc, machine, line)? {
+        if let Reply::Refused(_) = answered(rt, alloc, machine, line)? {
             return Err("a line is refused".into());
         }
     }

@@ -12,6 +12,7 @@ use sim_event::{Event, Reply};
 use std::alloc::Global;
 use std::process::Abort;
 use std::test::Fail;
+use std::thread::Threads;
 
 fn is_update(reply: &Reply, prefix: Prefix) -> bool {
     match reply {
@@ -33,24 +34,25 @@ fn seen<S: Selector + Drop, T: PrefixTable<Cell<S>> + Drop>(
 }
 
 /// Prepares the event, and leaves the plan. Whether it was prepared.
-fn prepare_and_leave<S: Selector + Drop, T: PrefixTable<Cell<S>> + Drop>(
+fn prepare_and_leave<S: Selector + Send + Sync + Drop, T: PrefixTable<Cell<S>> + Drop>(
+    rt: &(impl Threads + Sync),
     machine: &mut Sim<S, T>,
     event: &Event,
 ) -> Result<bool, Refusal> {
-    let plan = machine.prepare(event)?;
+    let plan = machine.prepare(rt, event)?;
     drop(plan);
     Ok(true)
 }
 
 /// Prepares the delivery of 10.0.0.0/8 to 9.0.0.1, looks at the plan, and carries it out.
-fn prepare_and_apply<S: Selector + Drop, T: PrefixTable<Cell<S>> + Drop>(
-    rt: &impl Abort,
+fn prepare_and_apply<S: Selector + Send + Sync + Drop, T: PrefixTable<Cell<S>> + Drop>(
+    rt: &(impl Abort + Threads + Sync),
     machine: &mut Sim<S, T>,
     event: &Event,
 ) -> Result<Reply, Fail> {
-    let Ok(plan) = machine.prepare(event) else {
+    let Ok(plan) = machine.prepare(rt, event) else {
         // Want of memory, once.
-        return Ok(machine.step(event));
+        return Ok(machine.step(rt, event));
     };
     assert!(rt; is_update(plan.reply(), ten()?));
     assert_eq!(rt; plan.refreshed().len(), 1);
@@ -61,21 +63,21 @@ fn prepare_and_apply<S: Selector + Drop, T: PrefixTable<Cell<S>> + Drop>(
 }
 
 /// Fails unless a delivery that is prepared changes nothing until it is carried out.
-fn changes_nothing_before<S: Selector + Drop, T: PrefixTable<Cell<S>> + Drop>(
-    rt: &impl Abort,
+fn changes_nothing_before<S: Selector + Send + Sync + Drop, T: PrefixTable<Cell<S>> + Drop>(
+    rt: &(impl Abort + Threads + Sync),
     alloc: Global,
     machine: &mut Sim<S, T>,
 ) -> Result<(), Fail> {
-    take_all(alloc, machine, &THREE_PEERS)?;
+    take_all(rt, alloc, machine, &THREE_PEERS)?;
     let event = event_of(alloc, "deliver 1.0.0.1 9.0.0.1")?;
-    let _ = prepare_and_leave(machine, &event);
+    let _ = prepare_and_leave(rt, machine, &event);
     assert!(rt; seen(machine)? == (1, None));
     let reply = prepare_and_apply(rt, machine, &event)?;
     assert!(rt; is_update(&reply, ten()?));
     assert!(rt; seen(machine)? == (0, Some(Source::Peer(addr("1.0.0.1")?))));
     assert_eq!(rt; machine.decided(), 1);
     // The queue is empty now: that is told before anything is made.
-    assert!(rt; matches!(prepare_and_leave(machine, &event), Err(Refusal::QueueEmpty)));
+    assert!(rt; matches!(prepare_and_leave(rt, machine, &event), Err(Refusal::QueueEmpty)));
     Ok(())
 }
 

@@ -13,6 +13,7 @@ use sim_report::ask;
 use std::alloc::Global;
 use std::process::Abort;
 use std::test::Fail;
+use std::thread::Threads;
 
 /// What is reported, asked again where there was no memory once.
 fn reported<S: Selector + Drop, T: PrefixTable<Cell<S>> + Drop>(
@@ -62,13 +63,13 @@ fn tells_forwarding<S: Selector + Drop, T: PrefixTable<Cell<S>> + Drop>(
 }
 
 /// Fails unless the state answers.
-fn answers<S: Selector + Drop, T: PrefixTable<Cell<S>> + Drop>(
-    rt: &impl Abort,
+fn answers<S: Selector + Send + Sync + Drop, T: PrefixTable<Cell<S>> + Drop>(
+    rt: &(impl Abort + Threads + Sync),
     alloc: Global,
     machine: &mut Sim<S, T>,
 ) -> Result<(), Fail> {
-    take_all(alloc, machine, &THREE_PEERS)?;
-    take_all(alloc, machine, &THREE_DELIVERIES)?;
+    take_all(rt, alloc, machine, &THREE_PEERS)?;
+    take_all(rt, alloc, machine, &THREE_DELIVERIES)?;
     let state = machine.state();
     tells_reasons(rt, alloc, state)?;
     tells_forwarding(rt, alloc, state)?;

@@ -8,6 +8,7 @@ use sim_core::Sim;
 use std::alloc::Global;
 use std::process::Abort;
 use std::test::Fail;
+use std::thread::Threads;
 
 /// Fails unless the last router's cell holds the reflected route, as the reflector sent it.
 fn shows_reflected_route<S: Selector + Drop, T: PrefixTable<Cell<S>> + Drop>(
@@ -67,12 +68,12 @@ fn shows_tables<S: Selector + Drop, T: PrefixTable<Cell<S>> + Drop>(
 }
 
 /// Fails unless the state shows a network with a reflected route.
-fn shows_its_network<S: Selector + Drop, T: PrefixTable<Cell<S>> + Drop>(
-    rt: &impl Abort,
+fn shows_its_network<S: Selector + Send + Sync + Drop, T: PrefixTable<Cell<S>> + Drop>(
+    rt: &(impl Abort + Threads + Sync),
     alloc: Global,
     machine: &mut Sim<S, T>,
 ) -> Result<(), Fail> {
-    take_all(alloc, machine, &REFLECTED)?;
+    take_all(rt, alloc, machine, &REFLECTED)?;
     let state = machine.state();
     shows_reflected_route(rt, state)?;
     shows_tables(rt, state)?;
