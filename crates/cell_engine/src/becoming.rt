@@ -136,7 +136,8 @@ impl<'a> Becoming<'a> {
         prefix: Prefix,
         cell: &'b Cell<S>,
     ) -> Result<(), AllocError>
-        where 'a: 'b
+    where
+        'a: 'b,
         ensures { OnOk result (moved.new ≡ moved.old ++ moved_cell self.now prefix cell.now) }
     {
         if !self.moves(prefix, cell) {
@@ -151,7 +152,8 @@ impl<'a> Becoming<'a> {
         moved: &mut Seq<MovedCell<'b, S>>,
         table: &'b T,
     ) -> Result<(), AllocError>
-        where 'a: 'b
+    where
+        'a: 'b,
         ensures { OnOk result (moved.new ≡ moved.old ++ moved_cells self.now (finite.entries (T.table table.now))) }
     {
         let mut after = None;

@@ -73,14 +73,15 @@ fn serve_streams<M: Machine + Drop>(
     let mut input = watched::Input::new(rt.reader());
     let mut output = watched::Output::new(writer);
     let mut errors = watched::Output::new(errors);
-    ExitCode::from(run_script(
+    let status = run_script(
         rt,
         alloc,
         &mut machine,
         &mut input,
         &mut output,
         &mut errors,
-    ))
+    );
+    ExitCode::from(status)
 }
 
 #[cfg(test)]

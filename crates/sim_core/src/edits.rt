@@ -36,11 +36,7 @@ impl<S: Selector + Send + Sync + Drop, T: PrefixTable<Cell<S>> + Drop> EventMach
     }
 
     /// The plan of an edit that is not refused: all that it makes, and room for what is sent.
-    fn editing<R: Threads + Sync>(
-        &mut self,
-        rt: &R,
-        edit: &Edit,
-    ) -> Result<Plan<S>, AllocError>
+    fn editing<R: Threads + Sync>(&mut self, rt: &R, edit: &Edit) -> Result<Plan<S>, AllocError>
         requires { refusal_of self.old.conf edit.now ≡ None }
         ensures network { network self.new ≡ network self.old }
         ensures plan { IfOk result (λ plan. IsPrepared self.new (AnEdit edit.now) plan) }

@@ -57,11 +57,7 @@ impl<S: Selector, T: PrefixTable<Cell<S>>> EventMachine<S, T> {
 impl<S: Selector + Send + Sync + Drop, T: PrefixTable<Cell<S>> + Drop> EventMachine<S, T> {
     /// Makes ready what the event will do, with all the memory that this takes. The network stays as it is. The refusal is the machine's
     /// own, or want of memory where the machine refuses nothing; the tests come before the first growth.
-    pub fn prepare<R: Threads + Sync>(
-        &mut self,
-        rt: &R,
-        event: &Event,
-    ) -> Result<Plan<S>, Refusal>
+    pub fn prepare<R: Threads + Sync>(&mut self, rt: &R, event: &Event) -> Result<Plan<S>, Refusal>
         ensures network { network self.new ≡ network self.old }
         ensures prepares { Prepares self.new event.now result }
     {

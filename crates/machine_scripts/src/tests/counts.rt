@@ -107,19 +107,39 @@ fn counts_of_deliveries<S: Selector + Send + Sync + Drop, T: PrefixTable<Cell<S>
     machine: &mut Sim<S, T>,
 ) -> Result<(), Fail> {
     assert_eq!(rt; count_after_all(rt, alloc, machine, &THREE_PEERS)?, 0);
-    assert_eq!(rt; count_after(rt, alloc, machine, "deliver 1.0.0.1 9.0.0.1")?, 1);
-    assert_eq!(rt; count_after(rt, alloc, machine, "deliver 2.0.0.1 9.0.0.1")?, 2);
-    assert_eq!(rt; count_after(rt, alloc, machine, "deliver 1.0.0.2 9.0.0.1")?, 3);
+    assert_eq!(rt;
+        count_after(rt, alloc, machine, "deliver 1.0.0.1 9.0.0.1")?,
+        1
+    );
+    assert_eq!(rt;
+        count_after(rt, alloc, machine, "deliver 2.0.0.1 9.0.0.1")?,
+        2
+    );
+    assert_eq!(rt;
+        count_after(rt, alloc, machine, "deliver 1.0.0.2 9.0.0.1")?,
+        3
+    );
     assert_eq!(rt;
         count_after(rt, alloc, machine, "metric 9.0.0.1 2.0.0.1 20")?,
         3
     );
     assert_eq!(rt;
-        count_after(rt, alloc, machine, "feed 1.0.0.2 9.0.0.1 withdraw 10.0.0.0/8")?,
+        count_after(
+            rt,
+            alloc,
+            machine,
+            "feed 1.0.0.2 9.0.0.1 withdraw 10.0.0.0/8"
+        )?,
         3
     );
-    assert_eq!(rt; count_after(rt, alloc, machine, "deliver 1.0.0.2 9.0.0.1")?, 4);
-    assert_eq!(rt; count_after(rt, alloc, machine, "why 9.0.0.1 10.0.0.0/8")?, 4);
+    assert_eq!(rt;
+        count_after(rt, alloc, machine, "deliver 1.0.0.2 9.0.0.1")?,
+        4
+    );
+    assert_eq!(rt;
+        count_after(rt, alloc, machine, "why 9.0.0.1 10.0.0.0/8")?,
+        4
+    );
     assert_eq!(rt;
         count_after(rt, alloc, machine, "metric 9.0.0.1 2.0.0.1 21")?,
         5
@@ -147,7 +167,10 @@ fn counts_of_virtual_peers<S: Selector + Send + Sync + Drop, T: PrefixTable<Cell
     machine: &mut Sim<S, T>,
 ) -> Result<(), Fail> {
     assert_eq!(rt; count_after_all(rt, alloc, machine, &PASSED_ON)?, 1);
-    assert_eq!(rt; count_after(rt, alloc, machine, "deliver 9.0.0.1 8.0.0.1")?, 1);
+    assert_eq!(rt;
+        count_after(rt, alloc, machine, "deliver 9.0.0.1 8.0.0.1")?,
+        1
+    );
     Ok(())
 }
 
