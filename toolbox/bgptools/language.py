@@ -67,9 +67,9 @@ def is_silent(line: str) -> bool:
     return len(line) <= LONGEST and (not words or words[0].startswith("#"))
 
 
-def is_edit(words: List[str]) -> bool:
-    """Whether the command changes what is configured."""
-    return words[0] not in QUESTIONS and words[0] not in ("feed", "deliver")
+def ended(line: str) -> str:
+    """The line with its end. One carriage return before a line feed belongs to the end, so a line that ends with one gets another."""
+    return line + ("\r\n" if line.endswith("\r") else "\n")
 
 
 # The values

@@ -6,7 +6,7 @@ import pathlib
 import subprocess
 from typing import Iterable, List
 
-from .language import REPORTS, is_silent, words_of
+from .language import REPORTS, ended, is_silent, words_of
 from .mistakes import Mistake
 
 TOP = pathlib.Path(__file__).resolve().parent.parent.parent
@@ -61,7 +61,7 @@ class Program:
 
     def _exchange(self, lines: List[str]) -> List[List[str]]:
         try:
-            self.given.write("".join(line + "\n" for line in lines).encode("latin-1"))
+            self.given.write("".join(map(ended, lines)).encode("latin-1"))
             self.given.flush()
         except BrokenPipeError:
             raise self._gone() from None

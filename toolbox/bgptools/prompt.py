@@ -4,7 +4,7 @@ from __future__ import annotations
 from typing import Callable, Dict, List
 
 from . import output
-from .language import FORMS, NAMES, QUESTIONS, is_silent, words_of
+from .language import FORMS, NAMES, QUESTIONS, ended, is_silent, words_of
 from .mistakes import Mistake
 from .network import Network
 from .refusals import sentence
@@ -90,7 +90,7 @@ class Prompt:
             print(PAD + "-- `save FILE` is expected")
             return
         try:
-            output.write_bytes("".join(line + "\n" for line in self.lines).encode("latin-1"), words[1])
+            output.write_bytes("".join(map(ended, self.lines)).encode("latin-1"), words[1])
             print(PAD + "%d lines in %s" % (len(self.lines), words[1]))
         except Mistake as mistake:
             print(PAD + "-- %s" % mistake)

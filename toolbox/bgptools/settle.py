@@ -6,6 +6,7 @@ import sys
 from typing import List, Optional
 
 from . import output
+from .language import ended
 from .mistakes import CHANGED
 from .refusals import sentence
 from .replies import refusal
@@ -66,5 +67,5 @@ def main(words: Optional[List[str]] = None) -> int:
         return CHANGED
     if written.left_out:
         print("%s: %d deliveries of its own found nothing left, and were left out" % (chosen.script, written.left_out), file=sys.stderr)
-    output.write_bytes("".join(line + "\n" for line in written.lines).encode("latin-1"), chosen.out)
+    output.write_bytes("".join(map(ended, written.lines)).encode("latin-1"), chosen.out)
     return 0

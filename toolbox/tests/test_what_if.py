@@ -53,7 +53,7 @@ class Changes(Case):
     def test_sessions_and_black_holes(self):
         told = json.loads(tool("what-if", "examples/hijack.bgp", "-", "--json", "--trace", "2.0.0.1", "198.51.100.1", given=b"fail 1.0.0.1 2.0.0.1\n", status=1).stdout)
         self.assertEqual(told["sessions_down"], [["1.0.0.1", "2.0.0.1"]])
-        self.assertEqual([(way["router"], way["after"]["end"]) for way in told["black_holes"]], [("2.0.0.1", "noroute"), ("3.0.0.1", "noroute")])
+        self.assertEqual({(way["router"], way["after"]["end"]) for way in told["black_holes"]}, {("2.0.0.1", "noroute"), ("3.0.0.1", "noroute")})
         self.assertEqual(told["asked"][0]["after"], {"routers": ["2.0.0.1"], "end": "noroute"})
         self.assertEqual(told["routers"]["2.0.0.1"][0]["kind"], "lost")
 
@@ -86,7 +86,7 @@ feed 8.0.0.1 5.0.0.3 update 203.0.113.0/24 8 igp -""".split("\n")) + "\n")
 
     def test_mistakes(self):
         for words, given, text in ((["examples/hijack.bgp", "-"], b"quiet\nfail 1.0.0.1 3.0.0.1\n", "standard input:2: refused 7 no-link: there is no link between 1.0.0.1 and 3.0.0.1"),
-                                   (["examples/tour.bgp", "-"], b"", "examples/tour.bgp:180: refused 1 syntax: a word is missing"),
+                                   (["examples/tour.bgp", "-"], b"", "examples/tour.bgp:177: refused 16 session-down: the session of 4.0.0.2 and 8.0.0.4 is stopped"),
                                    (["none.bgp", "-"], b"", "none.bgp: it cannot be read"),
                                    (["examples/hijack.bgp", "-", "--trace", "9.9.9.9", "1.2.3.4"], b"", "there is no router 9.9.9.9"),
                                    (["examples/hijack.bgp", "-", "--trace", "1.0.0.1", "x"], b"", "an address is expected")):
