@@ -73,7 +73,7 @@ class Steps(Case):
         page = self.folder / "page.html"
         tool("draw", RING, "--steps", "--settle", "--prefix", "198.51.100.0/24", "-o", page, status=0)
         browser = [CHROMIUM, "--headless", "--no-sandbox", "--disable-gpu", "--user-data-dir=%s" % (self.folder / "profile")]
-        shown = subprocess.run(browser + ["--dump-dom", "file://%s#15" % page], capture_output=True, timeout=120).stdout.decode()
+        shown = subprocess.run(browser + ["--dump-dom", "file://%s#15" % page], capture_output=True, timeout=120).stdout.decode().split("<script>")[0]
         self.assertIn("Step 15 of 15", shown)
         self.assertRegex(shown, r'<p id="command">16  feed 7\.0\.0\.1')
-        self.assertRegex(shown, r'(?s)<div id="picture"><svg.*path 7.*</svg></div>')
+        self.assertRegex(shown, r'(?s)<div id="picture"><svg.*path 7.*</svg>\s*</div>')
