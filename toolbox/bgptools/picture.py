@@ -42,7 +42,7 @@ class Drawing:
             "  edge " + attributes(fontname="Helvetica", fontsize="10")]
         for number, asn in enumerate(sorted({node.asn for node in self.network.nodes.values()})):
             lines += self._cluster(asn, FILLS[number % len(FILLS)])
-        return lines + self._links() + self._sessions() + self._forwarding() + self._way() + ["}"]
+        return lines + self._links() + self._sessions() + ["}"]
 
     def _cluster(self, asn: int, fill: str) -> List[str]:
         inside = [a for a in sorted(self.network.nodes, key=by_address) if self.network.nodes[a].asn == asn]
@@ -79,12 +79,20 @@ class Drawing:
         return route is not None and (route.source == "self" or self.network.is_external(a, str(route.source)))
 
     def _links(self) -> List[str]:
-        lines = []
+        """The links; one that packets take has an arrow, the way of the trace before all others."""
+        lines, arrows = [], self._arrows()
         for key, link in sorted(self.network.links.items(), key=lambda each: [by_address(a) for a in ends(each[0])]):
+            one, other = ends(key)
             given = {"label": " %d " % link.metric, "color": "#4a5568", "penwidth": "1.6"}
             if not link.is_up:
                 given.update(style="dashed", color=DOWN, fontcolor="#909090", label=" %d, failed " % link.metric)
-            lines.append("  %s -- %s %s" % (*map(quoted, ends(key)), attributes(**given)))
+            taken = [way for way in ((one, other), (other, one)) if way in arrows]
+            colors = {arrows[way] for way in taken}
+            shown = [way for way in taken if len(colors) == 1 or arrows[way] == WAY]
+            if shown:
+                given.update(color=arrows[shown[0]], penwidth="2.6", dir="both" if len(shown) == 2 else "forward" if shown[0] == (one, other) else "back")
+            lines.append(_edge(one, other, given))
+            lines += [_edge(*way, {"dir": "forward", "color": arrows[way], "penwidth": "2", "constraint": "false"}) for way in taken if way not in shown]
         return lines
 
     def _sessions(self) -> List[str]:
@@ -97,24 +105,20 @@ class Drawing:
             arrows = [way for way in ((one, other), (other, one)) if way in self.network.clients]
             if arrows:
                 given["dir"] = "both" if len(arrows) == 2 else "forward" if arrows[0] == (one, other) else "back"
-            lines.append("  %s -- %s %s" % (quoted(one), quoted(other), attributes(**given)))
+            lines.append(_edge(one, other, given))
         return lines
 
-    def _forwarding(self) -> List[str]:
-        """An arrow from each router to the first hop towards its next hop."""
+    def _arrows(self) -> Dict[Direction, str]:
+        """The color of each way from a router to a first hop: towards the next hop of its route, and of the packet that is followed."""
         asked = [(a, route) for a, route in self.chosen.items() if route is not None and route.source != "self"]
         costs = self.run.ask("cost %s %s" % (a, route.attributes.next) for a, route in asked)
-        hops = [(a, reply[0].split(" ")[-1]) for (a, _), reply in zip(asked, costs) if reply != ["none"]]
-        followed = self.trace.routers if self.trace else []
-        return [self._arrow(a, hop, FORWARDS, "2") for a, hop in hops if (a, hop) not in zip(followed, followed[1:])]
-
-    def _way(self) -> List[str]:
+        found = {(a, reply[0].split(" ")[-1]): FORWARDS for (a, _), reply in zip(asked, costs) if reply != ["none"]}
         routers = self.trace.routers if self.trace else []
-        return [self._arrow(a, b, WAY, "3") for a, b in zip(routers, routers[1:])]
+        return {**found, **dict.fromkeys(zip(routers, routers[1:]), WAY)}
 
-    @staticmethod
-    def _arrow(a: str, b: str, color: str, width: str) -> str:
-        return "  %s -- %s %s" % (quoted(a), quoted(b), attributes(dir="forward", color=color, penwidth=width, constraint="false"))
+
+def _edge(one: str, other: str, given: Dict[str, str]) -> str:
+    return "  %s -- %s %s" % (quoted(one), quoted(other), attributes(**given))
 
 
 def _chosen(run: Run, prefix: Optional[str]) -> Dict[str, Optional[Route]]:

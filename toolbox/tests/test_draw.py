@@ -38,9 +38,10 @@ class Drawn(Case):
     def test_routes_and_a_trace(self):
         told = tool("draw", RING, "--settle", "--prefix", "198.51.100.0/24", "--trace", "5.0.0.1", "198.51.100.1", status=0).stdout
         self.assertIn('label="5.0.0.1\\nfrom 5.0.0.3\\npath 7"', told)
-        arrows = re.findall(r'"([0-9.]+)" -- "([0-9.]+)" \[dir="forward", color="(#[0-9a-f]+)"', told)
-        self.assertEqual([each[:2] for each in arrows if each[2] == "#d53f8c"], [("5.0.0.1", "5.0.0.2"), ("5.0.0.2", "5.0.0.3"), ("5.0.0.3", "7.0.0.1")])
-        self.assertEqual([each[:2] for each in arrows if each[2] == "#2f855a"], [("5.0.0.4", "5.0.0.3")])
+        arrows = re.findall(r'"([0-9.]+)" -- "([0-9.]+)" \[label="[^"]*", color="(#[0-9a-f]+)", penwidth="2.6", dir="(forward|back)"', told)
+        self.assertEqual([each for each in arrows if each[2] == "#d53f8c"], [
+            ("5.0.0.1", "5.0.0.2", "#d53f8c", "forward"), ("5.0.0.2", "5.0.0.3", "#d53f8c", "forward"), ("5.0.0.3", "7.0.0.1", "#d53f8c", "forward")])
+        self.assertEqual([each for each in arrows if each[2] == "#2f855a"], [("5.0.0.3", "5.0.0.4", "#2f855a", "back")])
 
     def test_mistakes(self):
         for words, text in ((["--prefix", "10.0.0.1/8"], "a prefix with no bit set"), (["--trace", "9.9.9.9", "1.2.3.4"], "there is no router 9.9.9.9"),
