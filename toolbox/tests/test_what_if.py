@@ -58,25 +58,30 @@ class Changes(Case):
         self.assertEqual(told["routers"]["2.0.0.1"][0]["kind"], "lost")
 
     def test_a_loop_is_told(self):
-        base = self.file("base.bgp", "\n".join("""router 5.0.0.1 5
+        base = self.file("base.bgp", """router 5.0.0.1 5
 router 5.0.0.2 5
 router 5.0.0.3 5
+router 5.0.0.4 5
 virtual 7.0.0.1 7
-virtual 8.0.0.1 8
+virtual 7.0.0.4 7
 link 5.0.0.1 5.0.0.2 1
 link 5.0.0.2 5.0.0.3 1
+link 5.0.0.3 5.0.0.4 1
 link 5.0.0.1 7.0.0.1 1
-link 5.0.0.3 8.0.0.1 1
+link 5.0.0.4 7.0.0.4 1
 join 5.0.0.1 7.0.0.1
-join 5.0.0.3 8.0.0.1
-join 5.0.0.1 5.0.0.2
+join 5.0.0.4 7.0.0.4
+join 5.0.0.3 5.0.0.1
+join 5.0.0.2 5.0.0.1
 feed 7.0.0.1 5.0.0.1 update 198.51.100.0/24 7 igp -
-feed 8.0.0.1 5.0.0.3 update 203.0.113.0/24 8 igp -""".split("\n")) + "\n")
-        change = self.file("change.bgp", "link 5.0.0.3 5.0.0.1 9\nfail 5.0.0.1 7.0.0.1\njoin 5.0.0.3 5.0.0.2\n")
+feed 7.0.0.4 5.0.0.4 update 198.51.100.0/24 7 igp -
+""")
+        change = self.file("change.bgp", "stop 5.0.0.2 5.0.0.1\njoin 5.0.0.2 5.0.0.4\n")
         told = tool("what-if", base, change, status=1).stdout
-        self.assertIn("New black holes\n  5.0.0.1 to 198.51.100.1\n", told)
-        self.assertIn("Router 5.0.0.2\n  lost    198.51.100.0/24\n", told)
-        self.assertIn("  gained  203.0.113.0/24\n            now from 5.0.0.3, next 8.0.0.1", told)
+        self.assertIn("New loops\n  5.0.0.2 to 198.51.100.1\n            was 5.0.0.2 > 5.0.0.1 > 7.0.0.1: reached\n"
+                      "            now 5.0.0.2 > 5.0.0.3 > 5.0.0.2: a loop\n", told)
+        self.assertIn("Router 5.0.0.2\n  moved   198.51.100.0/24\n", told)
+        self.assertIn("Sessions that went down\n  5.0.0.1 and 5.0.0.2\nSessions that came up\n  5.0.0.2 and 5.0.0.4\n", told)
 
     def test_each_settles_between_the_commands(self):
         change = b"clear 5.0.0.1 8.0.0.1 out\nrule 5.0.0.1 8.0.0.1 out any deny\n"
