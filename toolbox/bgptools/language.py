@@ -170,7 +170,7 @@ def fault(line: str) -> Optional[str]:
         return "the line has %d bytes, and at most %d are read" % (len(line), LONGEST)
     odd = next((each for each in line if not " " <= each <= "~"), None)
     if odd is not None:
-        return "a tab is no space: words are parted by spaces" if odd == "\t" else "the line holds %r, which no command has" % odd
+        return "a tab is no space: words are parted by spaces" if odd == "\t" else "the line holds a byte that no command has, %s" % ascii(odd)
     words = words_of(line)
     if not words:
         return None

@@ -99,7 +99,8 @@ class Drawing:
         lines = []
         for one, other in self.network.sessions():
             is_external = self.network.is_external(one, other)
-            given = {"color": EXTERNAL if is_external else INTERNAL, "style": "dotted", "penwidth": "1.4", "constraint": "false" if pair(one, other) in self.network.links else "true"}
+            given = {"color": EXTERNAL if is_external else INTERNAL, "style": "dotted", "penwidth": "1.4",
+                     "constraint": "false" if pair(one, other) in self.network.links else "true"}
             if not self.ups[one, other]:
                 given["color"] = DOWN
             arrows = [way for way in ((one, other), (other, one)) if way in self.network.clients]

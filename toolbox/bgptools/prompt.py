@@ -69,7 +69,7 @@ class Prompt:
         for way, took in zip(done.deliveries, done.taken):
             print(PAD + "deliver %s %s: %s" % (way + (took,)))
             self.lines.append("deliver %s %s" % way)
-        print(PAD + ("quiet after %d deliveries" % len(done.deliveries) if done.is_settled else "-- " + unsettled(done)))
+        print(PAD + ("quiet after %d deliver%s" % (len(done.deliveries), "y" if len(done.deliveries) == 1 else "ies") if done.is_settled else "-- " + unsettled(done)))
 
     def undo(self, _: List[str]) -> None:
         """Plays all again but the last edit or feed and what came after it."""

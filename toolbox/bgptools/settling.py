@@ -60,7 +60,7 @@ class Settler:
 
     def settle(self) -> Settling:
         """Delivers until all queues are empty, or until the limit."""
-        done, limit = Settling(), self.limit()
+        done, limit, self.progress = Settling(), self.limit(), Progress()
         changed: List[Tuple[int, Cell]] = []
         while self.is_waiting():
             room = limit - len(done.deliveries)

@@ -111,7 +111,7 @@ class Prompt(Case):
 
     def test_settle_undo_and_save(self):
         self.network()
-        self.assertIn("quiet after 1 deliveries", self.typed.type("settle\n"))
+        self.assertIn("quiet after 1 delivery", self.typed.type("settle\n"))
         self.typed.type("noorigin 1.0.0.1 10.0.0.0/8\n")
         self.assertIn("quiet after 1", self.typed.type("settle\n"))
         self.assertIn("none", self.typed.type("best 2.0.0.1 10.0.0.0/8\n"))
