@@ -5,7 +5,7 @@ from typing import Dict, List, Optional, Tuple
 
 from .language import by_address
 from .network import Direction, ends, pair
-from .replies import Route, Trace, best, trace
+from .replies import Route, Trace, best, routes, trace
 from .run import Run
 
 FILLS = ("#eef4fb", "#fdf3e7", "#eff8ee", "#f7eef8", "#fbf9e4", "#eef7f7", "#fbeeee", "#f3f3f3")
@@ -29,6 +29,7 @@ class Drawing:
         self.run, self.network = run, run.network
         self.prefix = prefix
         self.chosen = _chosen(run, prefix)
+        self.told = _told(run, prefix)
         self.trace = _trace(run, way)
         self.ups = run.sessions_up()
         self.title = "\\n".join(_titles(prefix, way, self.trace))
@@ -53,6 +54,7 @@ class Drawing:
         label, given = a, {}
         if self.network.nodes[a].is_virtual:
             given = {"shape": "box", "fillcolor": "#f5f5f5", "style": "filled,dashed"}
+            label += "".join("\\ntold path " + path for path in self.told.get(a, ())[:3])
         elif self.prefix is not None:
             label += "\\n" + self._route_text(a)
             if self._is_exit(a):
@@ -125,6 +127,17 @@ def _edge(one: str, other: str, given: Dict[str, str]) -> str:
 def _chosen(run: Run, prefix: Optional[str]) -> Dict[str, Optional[Route]]:
     routers = run.network.routers() if prefix is not None else []
     return dict(zip(routers, map(best, run.ask("best %s %s" % (router, prefix) for router in routers))))
+
+
+def _told(run: Run, prefix: Optional[str]) -> Dict[str, List[str]]:
+    """The paths that each virtual peer was told for the prefix."""
+    asked = [(v, r) for v in run.network.virtuals() for r in sorted(run.network.peers.get(v, ()), key=by_address)] if prefix is not None else []
+    found: Dict[str, List[str]] = {}
+    for (v, _), reply in zip(asked, run.ask("in %s %s" % way for way in asked)):
+        received = routes(reply)
+        if prefix in received:
+            found.setdefault(v, []).append(received[prefix].attributes.path)
+    return found
 
 
 def _trace(run: Run, way: Optional[Direction]) -> Optional[Trace]:

@@ -38,6 +38,8 @@ class Drawn(Case):
     def test_routes_and_a_trace(self):
         told = tool("draw", RING, "--settle", "--prefix", "198.51.100.0/24", "--trace", "5.0.0.1", "198.51.100.1", status=0).stdout
         self.assertIn('label="5.0.0.1\\nfrom 5.0.0.3\\npath 7"', told)
+        lost = tool("draw", "examples/lessons/leaking-policy.bgp", "--prefix", "203.0.113.0/24", status=0).stdout
+        self.assertIn('label="8.0.0.1\\ntold path 5,5"', lost)
         arrows = re.findall(r'"([0-9.]+)" -- "([0-9.]+)" \[label="[^"]*", color="(#[0-9a-f]+)", penwidth="2.6", dir="(forward|back)"', told)
         self.assertEqual([each for each in arrows if each[2] == "#d53f8c"], [
             ("5.0.0.1", "5.0.0.2", "#d53f8c", "forward"), ("5.0.0.2", "5.0.0.3", "#d53f8c", "forward"), ("5.0.0.3", "7.0.0.1", "#d53f8c", "forward")])

@@ -1,5 +1,7 @@
 """settle: scripts that end quiet, other orders, and networks that do not settle."""
 import re
+import subprocess
+import sys
 import time
 
 from common import DATA, SCRIPTS, TOP, Case, inside, program, tool
@@ -17,6 +19,18 @@ class Settle(Case):
                         self.assertIn("keeps changing", told.stderr)
                         continue
                     self.assertEqual(program(told.stdout + "quiet\n")[-1], "yes")
+
+    def test_random_scripts_end_quiet(self):
+        for seed in range(1, 9):
+            with self.subTest(seed=seed):
+                made = subprocess.run([sys.executable, "-B", str(TOP / "tools" / "random_scripts.py"), str(seed), "300"], capture_output=True, check=True, timeout=200)
+                path = self.folder / "random.bgp"
+                path.write_bytes(made.stdout)
+                told = inside("settle", path)
+                if told.returncode == 0:
+                    self.assertEqual(program(told.stdout + "quiet\n")[-1], "yes")
+                else:
+                    self.assertIn("keeps changing", told.stderr)
 
     def test_nothing_but_deliveries_is_added(self):
         for words in ((), ("--at-end",)):
