@@ -1,0 +1,1 @@
+"""What the tools of toolbox/ share, and the tools themselves: each writes lines for `bgpsim script` and reads its replies."""

@@ -1,0 +1,151 @@
+"""Two networks compared, router by router: what the program answers before a change and after it."""
+from __future__ import annotations
+
+from dataclasses import dataclass, field
+from typing import Dict, List, Optional, Tuple
+
+from .language import by_address, by_prefix, contains, prefix, show_address
+from .network import Direction, Network
+from .output import Progress
+from .replies import Route, Trace, reasons, routes, trace
+from .run import Run
+
+REASONS = {
+    "loop": "its path holds the AS of the router", "originator": "it came from this router", "cluster": "it has been in this cluster",
+    "denied": "the import policy denies it", "unresolved": "there is no way to its next hop", "pref": "another has a higher preference",
+    "length": "another has a shorter path", "origin": "another has a lower origin", "med": "another of the same neighbouring AS has a lower MED",
+    "external": "another came from another AS", "cost": "another has a nearer next hop", "ident": "another has a lower identifier",
+    "clusters": "another has passed fewer clusters", "peer": "another has a lower peer address"}
+
+
+@dataclass
+class Change:
+    """A route before and after; `reason` says by what the old one loses now, where another was chosen in its place."""
+    prefix: str
+    before: Optional[Route]
+    after: Optional[Route]
+    reason: str = ""
+
+    @property
+    def kind(self) -> str:
+        return "gained" if self.before is None else "lost" if self.after is None else "moved"
+
+
+@dataclass
+class Way:
+    """A packet's way before and after."""
+    router: str
+    address: str
+    before: Trace
+    after: Trace
+
+
+@dataclass
+class Difference:
+    """What differs."""
+    routers: Dict[str, List[Change]] = field(default_factory=dict)
+    came: List[str] = field(default_factory=list)
+    down: List[Direction] = field(default_factory=list)
+    up: List[Direction] = field(default_factory=list)
+    told: Dict[Direction, List[Change]] = field(default_factory=dict)
+    ways: List[Way] = field(default_factory=list)
+    asked: List[Way] = field(default_factory=list)
+
+    @property
+    def loops(self) -> List[Way]:
+        return [way for way in self.ways if way.after.end == "loop" != way.before.end]
+
+    @property
+    def black_holes(self) -> List[Way]:
+        return [way for way in self.ways if way.after.end == "noroute" and way.before.end == "reached"]
+
+    @property
+    def is_any(self) -> bool:
+        return bool(self.routers or self.came or self.down or self.up or self.told or self.ways or any(way.before != way.after for way in self.asked))
+
+
+def compare(before: Run, after: Run, asked: List[Tuple[str, str]]) -> Difference:
+    """What differs between two runs, and how the packets go that are asked for."""
+    found = Difference(came=[r for r in after.network.routers() if r not in before.network.nodes])
+    _compare_sessions(before, after, found)
+    _compare_routes(before, after, found)
+    _compare_told(before, after, found)
+    everywhere = [r for r in before.network.routers() if after.network.is_router(r)]
+    probes = [(r, show_address(d)) for d in probes_of(after.network) for r in everywhere]
+    found.ways = [way for way in _ways(before, after, probes) if way.before != way.after]
+    found.asked = _ways(before, after, asked)
+    return found
+
+
+def _changes(old: Dict[str, Route], new: Dict[str, Route]) -> List[Change]:
+    return [Change(p, old.get(p), new.get(p)) for p in sorted({*old, *new}, key=by_prefix) if old.get(p) != new.get(p)]
+
+
+def _tables(run: Run, routers: List[str]) -> Dict[str, Dict[str, Route]]:
+    return dict(zip(routers, map(routes, run.ask("routes " + router for router in routers))))
+
+
+def _compare_routes(before: Run, after: Run, found: Difference) -> None:
+    old, new = (_tables(run, run.network.routers()) for run in (before, after))
+    for router in after.network.routers():
+        changes = _changes(old.get(router, {}), new[router])
+        for change in changes:
+            change.reason = _why_now(after, router, change, found.down)
+        if changes:
+            found.routers[router] = changes
+
+
+def _why_now(after: Run, router: str, change: Change, down: List[Direction]) -> str:
+    """By what the route that was chosen before loses now."""
+    if change.before is None or change.before.source is None:
+        return ""
+    if change.after and change.after.source == change.before.source:
+        return "it comes from the same, with other attributes"
+    source = change.before.source
+    if source == "self":
+        return "it is no longer originated here"
+    reason = dict(reasons(after.ask(["why %s %s" % (router, change.prefix)])[0])).get(source)
+    if reason is None and ((router, source) in down or (source, router) in down):
+        return "the session with %s is down" % source
+    if reason is None:
+        return "%s does not tell it any more" % source
+    return "%s: %s" % (reason, REASONS[reason])
+
+
+def _compare_sessions(before: Run, after: Run, found: Difference) -> None:
+    old, new = before.sessions_up(), after.sessions_up()
+    found.down = [way for way in new if old.get(way, False) and not new[way]]
+    found.up = [way for way in new if new[way] and not old.get(way, False)]
+
+
+def _compare_told(before: Run, after: Run, found: Difference) -> None:
+    """What virtual peers are told: they are the external neighbours that no router's table shows."""
+    for router, peer in ((r, v) for v in after.network.virtuals() for r in sorted(after.network.peers.get(v, ()), key=by_address)):
+        old, new = (routes(run.ask(["out %s %s" % (router, peer)])[0]) if peer in run.network.peers.get(router, ()) else {} for run in (before, after))
+        if _changes(old, new):
+            found.told[router, peer] = _changes(old, new)
+
+
+def _ways(before: Run, after: Run, asked: List[Tuple[str, str]]) -> List[Way]:
+    progress, found = Progress(), []
+    for start in range(0, len(asked), 500):
+        part = asked[start:start + 500]
+        lines = ["trace %s %s" % each for each in part]
+        for (router, to), old, new in zip(part, before.ask(lines), after.ask(lines)):
+            found.append(Way(router, to, trace(old), trace(new)))
+        progress.tell("%d of %d packets followed .." % (start, len(asked)))
+    progress.done()
+    return found
+
+
+def probes_of(network: Network) -> List[int]:
+    """An address of each prefix that is in no longer one, where there is such an address among the first, the last and the middle one."""
+    known = sorted(network.prefixes, key=by_prefix)
+    found = []
+    for one in filter(None, map(prefix, known)):
+        size = 2 ** (32 - one[1])
+        inner = [other for other in map(prefix, known) if other and other != one and contains(one, other)]
+        tried = [one[0] + offset for offset in (min(1, size - 1), max(size - 2, 0), size // 2, size // 4, 3 * size // 4)]
+        found.append(next((each for each in tried if not any(contains(other, (each, 32)) for other in inner)), tried[0]))
+    return sorted(set(found))
+

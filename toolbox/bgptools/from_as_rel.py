@@ -1,0 +1,171 @@
+"""An AS relationship file in CAIDA's form, as a script with valley-free policies."""
+from __future__ import annotations
+
+import argparse
+import sys
+from typing import Dict, List, Optional, Set, Tuple
+
+from . import output
+from .language import number, show_address
+from .mistakes import Mistake
+from .sources import lines_in
+
+MOST_ROUTERS, MOST_SESSIONS = 4096, 256
+FORM = "PROVIDER|CUSTOMER|-1 or PEER|PEER|0 is expected, each an AS number"
+Tie = Tuple[int, int, int]
+
+
+class Relations:
+    """Who buys from whom, and who peers."""
+
+    def __init__(self) -> None:
+        self.customers: Dict[int, Set[int]] = {}
+        self.providers: Dict[int, Set[int]] = {}
+        self.peers: Dict[int, Set[int]] = {}
+        self.ties: List[Tie] = []
+
+    def add(self, tie: Tie) -> None:
+        one, other, kind = tie
+        self.ties.append(tie)
+        for asn in (one, other):
+            for table in (self.customers, self.providers, self.peers):
+                table.setdefault(asn, set())
+        if kind == -1:
+            self.customers[one].add(other)
+            self.providers[other].add(one)
+        else:
+            self.peers[one].add(other)
+            self.peers[other].add(one)
+
+    def asns(self) -> List[int]:
+        return sorted(self.customers)
+
+    def degree(self, asn: int) -> int:
+        return len(self.customers[asn]) + len(self.providers[asn]) + len(self.peers[asn])
+
+
+def relations(path: str) -> Relations:
+    """The file's relationships, with exact faults."""
+    found, known = Relations(), {}  # type: Relations, Dict[Tuple[int, int], int]
+    for at, text in lines_in(path):
+        if not text.strip() or text.startswith("#"):
+            continue
+        parts = text.split("|")
+        one, other = (number(part, 1) for part in (parts + ["", ""])[:2])
+        if one is None or other is None or len(parts) < 3 or parts[2] not in ("-1", "0"):
+            raise Mistake("%s, and not `%s`" % (FORM, text[:60]), path, at)
+        if one == other:
+            raise Mistake("AS %d is related to itself" % one, path, at)
+        key = (min(one, other), max(one, other))
+        if key in known:
+            raise Mistake("AS %d and AS %d are related by line %d already" % (one, other, known[key]), path, at)
+        known[key] = at
+        found.add((one, other, int(parts[2])))
+    if not found.ties:
+        raise Mistake("it has no relationship: " + FORM, path)
+    return found
+
+
+def core(whole: Relations, count: Optional[int]) -> Relations:
+    """The ASes with the most relationships, so many of them, with those between them."""
+    if count is None:
+        return whole
+    kept = set(sorted(whole.asns(), key=lambda asn: (-whole.degree(asn), asn))[:count])
+    found = Relations()
+    for tie in whole.ties:
+        if tie[0] in kept and tie[1] in kept:
+            found.add(tie)
+    return found
+
+
+def within_limits(whole: Relations, path: str) -> Relations:
+    """The relationships that 256 sessions an AS leave room for, those of the greater neighbours first; what is left out is told."""
+    if len(whole.asns()) > MOST_ROUTERS:
+        raise Mistake("it has %d ASes, and a network has at most %d: --core %d keeps those with the most relationships"
+                      % (len(whole.asns()), MOST_ROUTERS, MOST_ROUTERS), path)
+    found, count = Relations(), dict.fromkeys(whole.asns(), 0)
+    for tie in sorted(whole.ties, key=lambda tie: -min(whole.degree(tie[0]), whole.degree(tie[1]))):
+        if max(count[tie[0]], count[tie[1]]) < MOST_SESSIONS:
+            found.add(tie)
+            count[tie[0]] += 1
+            count[tie[1]] += 1
+    if len(found.ties) < len(whole.ties):
+        print("%s: %d of %d relationships left out: an AS has at most %d sessions"
+              % (path, len(whole.ties) - len(found.ties), len(whole.ties), MOST_SESSIONS), file=sys.stderr)
+    return found
+
+
+class Writer:
+    """The script."""
+
+    def __init__(self, known: Relations, origins: List[int]) -> None:
+        self.known, self.origins = known, origins
+        self.routers = _addresses(known.asns())
+        self.prefixes = {asn: "%s/24" % show_address((100 << 24) + (n << 8)) for n, asn in enumerate(known.asns())}
+
+    def lines(self) -> List[str]:
+        lines = ["# Valley-free policies: routes of customers have preference 100, as a router's own, those of peers 90, those of providers 80."]
+        lines += ["router %s %d" % (self.routers[asn], asn) for asn in self.known.asns()]
+        for one, other, _ in self.known.ties:
+            lines += ["link %s %s 1" % (self.routers[one], self.routers[other]), "join %s %s" % (self.routers[one], self.routers[other])]
+        for asn in self.known.asns():
+            lines += self._policies(asn)
+        return lines + ["origin %s %s" % (self.routers[asn], self.prefixes[asn]) for asn in self.origins]
+
+    def _policies(self, asn: int) -> List[str]:
+        known, here = self.known, self.routers[asn]
+        lines = ["rule %s %s in any permit pref=%d" % (here, self.routers[other], pref)
+                 for others, pref in ((known.peers[asn], 90), (known.providers[asn], 80)) for other in sorted(others)]
+        upward = sorted(known.peers[asn] | known.providers[asn])
+        for other in upward:
+            lines += ["rule %s %s out %s" % (here, self.routers[other], rest) for rest in self._exports(asn, other, upward)]
+        return lines
+
+    def _exports(self, asn: int, to: int, upward: List[int]) -> List[str]:
+        """Towards a peer or provider: its own routes and its customers', in whichever words are fewer."""
+        denied = ["first %d deny" % other for other in upward if other != to]
+        permitted = ["first %d permit" % other for other in sorted(self.known.customers[asn])]
+        permitted += ["is %s permit" % self.prefixes[asn]] if asn in self.origins else []
+        return denied if len(denied) <= len(permitted) else permitted + ["any deny"]
+
+
+def _addresses(asns: List[int]) -> Dict[int, str]:
+    """A router's address for each AS: its number in the second and third place, as 10.h.l.1; of larger numbers, one after another in 11."""
+    large = [asn for asn in asns if asn > 65535]
+    return {asn: show_address((10 << 24) + (asn << 8) + 1) if asn <= 65535 else show_address((11 << 24) + (large.index(asn) << 8) + 1) for asn in asns}
+
+
+def _origins(known: Relations, wanted: Optional[str], path: str) -> List[int]:
+    if wanted == "all":
+        return known.asns()
+    if wanted is None:
+        return sorted(known.asns(), key=lambda asn: (len(known.customers[asn]), asn))[:10]
+    found = []
+    for word in wanted.split(","):
+        asn = number(word, 1)
+        if asn is None or asn not in known.customers:
+            raise Mistake("--origins %s: AS %s is not among those of the network" % (wanted, word), path)
+        found.append(asn)
+    return list(dict.fromkeys(found))
+
+
+def parser() -> argparse.ArgumentParser:
+    """The words of the command line."""
+    made = argparse.ArgumentParser(prog="from-as-rel", description=(
+        "Writes an AS relationship file, lines PROVIDER|CUSTOMER|-1 and PEER|PEER|0 as CAIDA publishes them, as a script: a router an AS, "
+        "with valley-free policies."), epilog="AS 3356 has the router 10.13.28.1. Exit status: 0; 2 a mistake.")
+    made.add_argument("file", metavar="FILE", help="the relationships; - is standard input; a name that ends with .gz or .bz2 is unpacked")
+    made.add_argument("--core", type=int, metavar="N", help="keep the N ASes with the most relationships")
+    made.add_argument("--origins", metavar="AS,..", help="which ASes originate a prefix, or `all`; without it the ten with the fewest customers")
+    made.add_argument("-o", dest="out", metavar="FILE", help="write to this file, and not to standard output")
+    return made
+
+
+def main(words: Optional[List[str]] = None) -> int:
+    """The tool."""
+    chosen = parser().parse_args(words)
+    if chosen.core is not None and chosen.core < 2:
+        raise Mistake("--core %d: at least 2 are expected" % chosen.core)
+    known = within_limits(core(relations(chosen.file), chosen.core), chosen.file)
+    output.write("".join(line + "\n" for line in Writer(known, _origins(known, chosen.origins, chosen.file)).lines()), chosen.out)
+    return 0

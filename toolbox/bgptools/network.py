@@ -1,0 +1,147 @@
+"""What is configured, kept from the lines that the program accepted. It holds no route: those the program alone decides."""
+from __future__ import annotations
+
+from dataclasses import dataclass
+from typing import Callable, Dict, FrozenSet, List, Optional, Set, Tuple
+
+from .language import by_address
+
+Pair = FrozenSet[str]
+Direction = Tuple[str, str]
+
+
+def pair(one: str, other: str) -> Pair:
+    """Two ends, in no order."""
+    return frozenset((one, other))
+
+
+def ends(both: Pair) -> List[str]:
+    """The ends in order of address."""
+    return sorted(both, key=by_address)
+
+
+@dataclass
+class Node:
+    """A router or virtual peer."""
+    asn: int
+    is_virtual: bool
+
+
+@dataclass
+class Link:
+    """A link."""
+    metric: int
+    is_up: bool = True
+
+
+class Network:
+    """Routers, links, sessions and settings."""
+
+    def __init__(self) -> None:
+        self.nodes: Dict[str, Node] = {}
+        self.links: Dict[Pair, Link] = {}
+        self.enabled: Dict[Pair, bool] = {}
+        self.peers: Dict[str, Set[str]] = {}
+        self.clients: Set[Direction] = set()
+        self.selves: Set[Direction] = set()
+        self.clusters: Dict[str, str] = {}
+        self.rules: Dict[Tuple[str, str, str], List[str]] = {}
+        self.origins: Dict[str, Set[str]] = {}
+        self.prefixes: Set[str] = set()
+
+    def routers(self) -> List[str]:
+        """The routers in order of address."""
+        return sorted((a for a, node in self.nodes.items() if not node.is_virtual), key=by_address)
+
+    def virtuals(self) -> List[str]:
+        """The virtual peers in order of address."""
+        return sorted((a for a, node in self.nodes.items() if node.is_virtual), key=by_address)
+
+    def is_router(self, address: str) -> bool:
+        return address in self.nodes and not self.nodes[address].is_virtual
+
+    def is_external(self, one: str, other: str) -> bool:
+        """Whether two are in different ASes."""
+        return self.nodes[one].asn != self.nodes[other].asn
+
+    def sessions(self) -> List[Direction]:
+        """The sessions, each once, in order."""
+        return sorted(((a, b) for a, b in map(ends, self.enabled)), key=lambda both: (by_address(both[0]), by_address(both[1])))
+
+    def directions(self, senders: Optional[Set[str]] = None) -> List[Direction]:
+        """Each way of each session by which a router sends: of all routers, or of these."""
+        found = self.peers if senders is None else senders
+        return [(a, b) for a in found if self.is_router(a) for b in self.peers.get(a, ())]
+
+    def take(self, words: List[str]) -> None:
+        """Makes an edit or a feed that the program has accepted."""
+        _TAKES.get(words[0], lambda *_: None)(self, words)
+
+    def may_send(self, words: List[str]) -> Optional[Set[str]]:
+        """The routers of which an accepted edit may have sent something; nothing where that is any.
+
+        A setting and an origin concern their router alone, a session its two ends, and a link the two ASes at its ends, since costs are
+        counted inside an AS."""
+        name = words[0]
+        if name in ("router", "virtual"):
+            return set()
+        if name in ("link", "metric", "fail", "mend"):
+            asns = {self.nodes[words[1]].asn, self.nodes[words[2]].asn}
+            return {a for a, node in self.nodes.items() if node.asn in asns}
+        if name in ("join", "stop", "start"):
+            return {words[1], words[2]}
+        return {words[1]}
+
+
+def _node(network: Network, words: List[str]) -> None:
+    network.nodes[words[1]] = Node(int(words[2]), words[0] == "virtual")
+
+
+def _link(network: Network, words: List[str]) -> None:
+    key = pair(words[1], words[2])
+    if words[0] == "link":
+        network.links[key] = Link(int(words[3]))
+    elif words[0] == "metric":
+        network.links[key].metric = int(words[3])
+    else:
+        network.links[key].is_up = words[0] == "mend"
+
+
+def _session(network: Network, words: List[str]) -> None:
+    one, other = words[1:3]
+    network.enabled[pair(one, other)] = words[0] != "stop"
+    network.peers.setdefault(one, set()).add(other)
+    network.peers.setdefault(other, set()).add(one)
+
+
+def _switch(network: Network, words: List[str]) -> None:
+    marks = network.clients if words[0] == "client" else network.selves
+    (marks.add if words[3] == "on" else marks.discard)((words[1], words[2]))
+
+
+def _policy(network: Network, words: List[str]) -> None:
+    key = (words[1], words[2], words[3])
+    if words[0] == "clear":
+        network.rules.pop(key, None)
+    else:
+        network.rules.setdefault(key, []).append(" ".join(words[4:]))
+
+
+def _origin(network: Network, words: List[str]) -> None:
+    own = network.origins.setdefault(words[1], set())
+    (own.add if words[0] == "origin" else own.discard)(words[2])
+    network.prefixes.add(words[2])
+
+
+def _cluster(network: Network, words: List[str]) -> None:
+    network.clusters[words[1]] = words[2]
+
+
+def _feed(network: Network, words: List[str]) -> None:
+    network.prefixes.add(words[4])
+
+
+_TAKES: Dict[str, Callable[[Network, List[str]], None]] = {
+    "router": _node, "virtual": _node, "link": _link, "metric": _link, "fail": _link, "mend": _link, "join": _session, "stop": _session,
+    "start": _session, "client": _switch, "self": _switch, "rule": _policy, "clear": _policy, "origin": _origin, "noorigin": _origin,
+    "cluster": _cluster, "feed": _feed}

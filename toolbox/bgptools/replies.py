@@ -1,0 +1,91 @@
+"""The lines that the program replies, as values."""
+from __future__ import annotations
+
+from dataclasses import asdict, dataclass
+from typing import Dict, List, Optional, Tuple
+
+from .language import path_length
+
+
+@dataclass(frozen=True)
+class Attributes:
+    """The attributes of a route, as the program prints them; `-` for what is absent."""
+    path: str
+    origin: str
+    next: str
+    med: str
+    pref: str
+    oid: str
+    clusters: str
+
+    @property
+    def length(self) -> int:
+        return path_length(self.path)
+
+    def __str__(self) -> str:
+        return " ".join("%s=%s" % pair for pair in asdict(self).items())
+
+
+@dataclass(frozen=True)
+class Route:
+    """A route to a prefix. The source is `self`, a peer's address, or nothing where the reply names none."""
+    prefix: str
+    source: Optional[str]
+    attributes: Attributes
+
+
+def attributes(text: str) -> Attributes:
+    """What `path=.. origin=.. ..` says."""
+    return Attributes(**dict(word.split("=", 1) for word in text.split(" ")))
+
+
+def route(line: str) -> Route:
+    """A line of `routes`, `best`, `in` or `out`."""
+    prefix, rest = line.split(" ", 1)
+    source = None
+    if rest.startswith("from "):
+        _, source, rest = rest.split(" ", 2)
+    return Route(prefix, source, attributes(rest))
+
+
+def routes(reply: List[str]) -> Dict[str, Route]:
+    """The reply to `routes`, `in` or `out`, by prefix."""
+    return {found.prefix: found for found in map(route, reply[:-1])}
+
+
+def best(reply: List[str]) -> Optional[Route]:
+    """The reply to `best`."""
+    return None if reply[0] == "none" else route(reply[0])
+
+
+def reasons(reply: List[str]) -> List[Tuple[str, str]]:
+    """The reply to `why`: each source with its reason."""
+    return [(line.split(" ")[0], line.split(" ")[1]) for line in reply[:-1]]
+
+
+def refusal(reply: List[str]) -> int:
+    """The number by which a line was refused; 0 where it was not."""
+    return int(reply[0].split(" ")[1]) if reply and reply[0].startswith("refused ") else 0
+
+
+@dataclass(frozen=True)
+class Trace:
+    """Where a packet goes: each router that forwards it with the prefix that it goes by, how it ends and where."""
+    hops: Tuple[Tuple[str, str], ...]
+    end: str
+    place: str
+
+    @property
+    def routers(self) -> List[str]:
+        return [router for router, _ in self.hops] + [self.place]
+
+    def __str__(self) -> str:
+        words = {"reached": "reached", "noroute": "no route there", "loop": "a loop"}
+        return " > ".join(self.routers) + ": " + words[self.end]
+
+
+def trace(reply: List[str]) -> Trace:
+    """The reply to `trace`."""
+    hops = tuple((line.split(" ")[0], line.split(" ")[1]) for line in reply[:-2])
+    end, place = reply[-2].split(" ")
+    return Trace(hops, end, place)

@@ -1,0 +1,71 @@
+"""What the tests share: running a tool or the program, and the scripts that all tools are tried on."""
+import importlib
+import io
+import os
+import pathlib
+import subprocess
+import sys
+import tempfile
+import unittest
+
+from bgptools.mistakes import Mistake
+
+TOP = pathlib.Path(__file__).resolve().parent.parent.parent
+TOOLBOX = TOP / "toolbox"
+DATA = TOOLBOX / "tests" / "data"
+EXAMPLES = sorted((TOP / "examples").rglob("*.bgp"))
+SCRIPTS = EXAMPLES + sorted((TOP / "cases").rglob("*.bgp"))
+
+
+def tool(name, *words, given=b"", status=None):
+    """A tool's run: its standard output and standard error as text, and its exit status."""
+    ran = subprocess.run([sys.executable, "-B", str(TOOLBOX / name), *map(str, words)], input=given, capture_output=True, timeout=300, cwd=str(TOP))
+    if status is not None and ran.returncode != status:
+        raise AssertionError("%s ended with status %d, and not %d:\n%s%s" % (name, ran.returncode, status, ran.stdout.decode("latin-1"), ran.stderr.decode("latin-1")))
+    return subprocess.CompletedProcess(ran.args, ran.returncode, ran.stdout.decode("utf-8", "replace"), ran.stderr.decode("utf-8", "replace"))
+
+
+def inside(name, *words):
+    """The same without a process of its own, for many runs."""
+    main = importlib.import_module("bgptools." + name.replace("-", "_")).main
+    kept, told = (sys.stdout, sys.stderr), (io.TextIOWrapper(io.BytesIO(), "latin-1"), io.StringIO())
+    sys.stdout, sys.stderr = told
+    try:
+        status = main([str(word) for word in words])
+    except Mistake as mistake:
+        print(mistake, file=sys.stderr)
+        status = 2
+    finally:
+        told[0].flush()
+        sys.stdout, sys.stderr = kept
+    return subprocess.CompletedProcess(words, status, told[0].buffer.getvalue().decode("latin-1"), told[1].getvalue())
+
+
+def program(script):
+    """The lines that the program replies to a script."""
+    given = script.encode("latin-1") if isinstance(script, str) else script
+    ran = subprocess.run([os.environ["PROGRAM"], "script"], input=given, capture_output=True, timeout=300, check=True)
+    return ran.stdout.decode("latin-1").split("\n")[:-1]
+
+
+class Case(unittest.TestCase):
+    """A test with a folder of its own."""
+    maxDiff = None
+
+    def setUp(self):
+        folder = tempfile.TemporaryDirectory()
+        self.addCleanup(folder.cleanup)
+        self.folder = pathlib.Path(folder.name)
+
+    def file(self, name, text):
+        """A file of this text in the test's folder."""
+        path = self.folder / name
+        path.parent.mkdir(parents=True, exist_ok=True)
+        path.write_text(text)
+        return path
+
+    def assert_as_file(self, text, path):
+        """The text is the file's; UPDATE=1 writes the file instead."""
+        if os.environ.get("UPDATE"):
+            path.write_text(text)
+        self.assertEqual(path.read_text(), text)
