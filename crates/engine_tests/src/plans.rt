@@ -77,7 +77,12 @@ fn changes_nothing_before<S: Selector + Send + Sync + Drop, T: PrefixTable<Cell<
     assert!(rt; seen(machine)? == (0, Some(Source::Peer(addr("1.0.0.1")?))));
     assert_eq!(rt; machine.decided(), 1);
     // The queue is empty now: that is told before anything is made.
-    assert!(rt; matches!(prepare_and_leave(rt, machine, &event), Err(Refusal::QueueEmpty)));
+    assert!(rt;
+        matches!(
+            prepare_and_leave(rt, machine, &event),
+            Err(Refusal::QueueEmpty)
+        )
+    );
     Ok(())
 }
 
