@@ -4,7 +4,11 @@
 mod entry;
 mod event;
 mod reply;
+mod same;
+mod same_event;
+mod same_reply;
 
 pub use entry::{Call, Entry};
 pub use event::{Ask, Event, Feed, News};
 pub use reply::{Held, Reply, Report, TraceEnd};
+pub use same::{Same, are_same};
