@@ -6,6 +6,7 @@ mod changes;
 mod deliveries;
 mod edits;
 mod feeds;
+mod installs;
 mod places;
 mod state;
 
