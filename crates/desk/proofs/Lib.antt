@@ -1,0 +1,4 @@
+pub mod Calls
+pub mod Grown
+pub mod Seats
+pub mod Taken
