@@ -3,4 +3,6 @@
 
 mod room;
 
-pub use room::{Audit, CloseFault, Done, Fault, Job, Record, Room, Seat};
+pub use room::{
+    Audit, CloseFault, CommitFault, Committed, Done, Fault, Job, Newer, Record, Room, Seat,
+};

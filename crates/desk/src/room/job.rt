@@ -1,11 +1,13 @@
 //! A job: a delivery that is decided apart from the room.
 
 ghost use Rattle.std.specs.Prelude.{◌≡◌, IfOk, IfErr};
-ghost use Rattle.desk.specs.Jobs.{outcome_of};
+ghost use Rattle.route_cell.specs.Senders.{AreInOrder};
+ghost use Rattle.desk.specs.Jobs.{CanDecide, outcome_of};
 
 use cell_engine::{Cell, Outcome, deliver, store};
 use net_conf::SharedSite;
 use net_prefix::Addr;
+use path_attr::Attr;
 use route_select::{Chosen, Selector};
 use session_queue::{Direction, Message};
 use std::alloc::{AllocError, Global};
@@ -65,6 +67,29 @@ impl<S: Chosen> Job<S> {
         ensures { result ≡ (self.now.direction.from, self.now.direction.to) }
     {
         (self.direction.from, self.direction.to)
+    }
+}
+
+impl<S: Chosen> Job<S> {
+    pub(super) fn direction(&self) -> Direction
+        ensures { result ≡ self.now.direction }
+    {
+        self.direction
+    }
+
+    /// What the receiver had received of the prefix.
+    pub(super) fn received(&self) -> &[(Addr, Attr)]
+        ensures received { result.now ≡ self.now.heard.received }
+        ensures order { AreInOrder self.now.heard.received }
+        ensures decided { CanDecide self.now }
+    {
+        self.cell.received()
+    }
+
+    pub(super) fn head(&self) -> &Message
+        ensures { result.now ≡ self.now.head }
+    {
+        &self.head
     }
 }
 
