@@ -1,0 +1,4 @@
+mod Words
+mod Commands
+mod Calls
+mod Checking
