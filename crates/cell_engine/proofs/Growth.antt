@@ -77,6 +77,11 @@ head_kept e e' same d p o head = record {
   outcome = head.outcome ∙ sym (λ i. outcome_by (router_site (same.conf i) d.to) (same.heard d.to (prefix_of head.message) i) d.from head.message);
 }
 
+-- what follows at an error
+pub at_error : {A F : Type 0} {P Q : Type 0} (r : Result A F) → (P → Q) → OnErr r P → OnErr r Q
+at_error (Ok x) f p = tt
+at_error (Err x) f p = f p
+
 -- PLACES
 
 pub same_with_places : (e : Engine) (q : WaitingByDirection) → ((f t : Addr) → queue_at q f t ≡ queue_at e.queues f t) → KeepsSame e (record e { queues = q })

@@ -37,7 +37,7 @@ fn add_cell<S: Selector + Drop, T: PrefixTable<Cell<S>> + Drop>(
 }
 
 /// Sees to it that there is a place for each message, where each goes to a peer of its own.
-fn reserve_all(
+pub(crate) fn reserve_all(
     queues: &mut Queues,
     router: Addr,
     sends: &[(Addr, Message)],

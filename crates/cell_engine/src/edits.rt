@@ -5,6 +5,7 @@ ghost use Rattle.std.specs.List.{list_any};
 ghost use Rattle.std.specs.List.Sorted.{IsStrictlySortedBy};
 ghost use Rattle.std.specs.Ordering.{is_lt, is_gt};
 ghost use Rattle.net_conf.specs.Costs.{is_up};
+ghost use Rattle.net_conf.specs.Concerned.{ConcernsAlone};
 ghost use Rattle.net_conf.specs.Edits.{refusal_of};
 ghost use Rattle.net_conf.specs.declared.edit.Scope.TheVariants.{Network, Site, Route};
 ghost use Rattle.std.specs.BTreeSet.{insert_key};
@@ -193,9 +194,19 @@ fn clear_down(queues: &mut Queues, conf: &Conf, directions: &[Direction])
 }
 
 /// Sees to it that what an edit will do stands behind one pointer.
-fn boxed<S: Selector + Drop>(alloc: Global, parts: Parts<S>) -> Result<Edited<S>, AllocError>
-    ensures { IfOk result (λ edited. edited ≡ record { conf = parts.conf; directions = parts.directions; changes = parts.changes }) }
+fn boxed<S: Selector + Drop>(
+    alloc: Global,
+    made: EditedConf,
+    directions: Seq<Direction>,
+    changes: Seq<Change<S>>,
+) -> Result<Edited<S>, AllocError>
+    ensures { IfOk result (λ edited. edited ≡ record { conf = made.conf; directions = directions; changes = changes }) }
 {
+    let parts = Parts {
+        conf: made.conf,
+        directions,
+        changes,
+    };
     Ok(Edited {
         parts: Box::new(alloc, parts)?,
     })
@@ -226,19 +237,26 @@ impl<S: Selector + Send + Sync + Drop, T: PrefixTable<Cell<S>> + Drop> State<S, 
         let Ok(made) = self.conf.edited(self.alloc, edit) else {
             return Err(AllocError);
         };
-        let EditedConf { conf, concerned } = made;
+        let changes = self.changes_by(rt, edit.scope(), &made)?;
         let directions = directions_after(self.alloc, self.directions.as_slice(), edit)?;
-        let changes = match edit.scope() {
-            Scope::Network => self.network_changes(rt, &conf, &concerned)?,
-            Scope::Site(router) => self.site_changes(rt, &conf, router)?,
-            Scope::Route(router, prefix) => self.route_changes(&conf, router, prefix)?,
-        };
-        let parts = Parts {
-            conf,
-            directions,
-            changes,
-        };
-        boxed(self.alloc, parts)
+        boxed(self.alloc, made, directions, changes)
+    }
+
+    /// The cells that can change, decided anew when the configuration becomes the one that was made.
+    fn changes_by<R: Threads + Sync>(
+        &self,
+        rt: &R,
+        scope: Scope,
+        made: &EditedConf,
+    ) -> Result<Seq<Change<S>>, AllocError>
+        requires { ConcernsAlone self.now.conf made.now.conf made.now.concerned.keys }
+        ensures { IfOk result (λ changes. changes ≡ changes_in scope self.now.conf made.now.conf self.now.tables) }
+    {
+        match scope {
+            Scope::Network => self.network_changes(rt, &made.conf, &made.concerned),
+            Scope::Site(router) => self.site_changes(rt, &made.conf, router),
+            Scope::Route(router, prefix) => self.route_changes(&made.conf, router, prefix),
+        }
     }
 }
 

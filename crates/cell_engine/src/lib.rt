@@ -6,6 +6,7 @@ mod changes;
 mod deliveries;
 mod edits;
 mod feeds;
+mod installs;
 mod moved_cells;
 mod places;
 mod router_edits;

@@ -17,7 +17,7 @@ use net_conf::{Conf, SiteConf};
 use net_prefix::{Addr, Prefix};
 use prefix_table::PrefixTable;
 use route_cell::Cell;
-use route_select::Selector;
+use route_select::Chosen;
 use router_tables::RouterTables;
 use seq::Seq;
 use session_queue::{Direction, Queues};
@@ -26,7 +26,7 @@ use std::marker::Model;
 
 /// What is configured, what was received, by router and prefix with the choice among it, and what is on its way.
 #[derive(Drop)]
-pub struct State<S: Selector, T: PrefixTable<Cell<S>>> {
+pub struct State<S: Chosen, T: PrefixTable<Cell<S>>> {
     pub(crate) alloc: Global,
     pub(crate) conf: Conf,
     pub(crate) tables: RouterTables<Cell<S>, T>,
@@ -35,7 +35,7 @@ pub struct State<S: Selector, T: PrefixTable<Cell<S>>> {
     pub(crate) queues: Queues,
 }
 
-impl<S: Selector, T: PrefixTable<Cell<S>>> Model for State<S, T> {
+impl<S: Chosen, T: PrefixTable<Cell<S>>> Model for State<S, T> {
     ghost use Rattle.std.specs.Prelude.{◌≡◌};
     ghost use Rattle.std.specs.Coded.{codes};
     ghost use Rattle.cell_network.specs.Engine.{Engine, IsSound};
@@ -52,7 +52,7 @@ impl<S: Selector, T: PrefixTable<Cell<S>>> Model for State<S, T> {
     ghost invariant = { λ s. IsSound (record { conf = s.conf; tables = s.tables; directions = s.directions; queues = s.queues }) × AreOfPrefixes s.tables × AreOverSessionsUp s.conf s.tables };
 }
 
-impl<S: Selector, T: PrefixTable<Cell<S>>> State<S, T> {
+impl<S: Chosen, T: PrefixTable<Cell<S>>> State<S, T> {
     /// Nothing is configured, received or on its way. It takes no memory.
     pub fn new(alloc: Global) -> Self
         ensures { network result ≡ nothing }

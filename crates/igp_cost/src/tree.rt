@@ -1,6 +1,6 @@
 //! The costs and first hops from one router.
 
-ghost use Rattle.std.specs.Prelude.{◌≡◌, ◌≤◌, length, IfOk, IfSome};
+ghost use Rattle.std.specs.Prelude.{◌≡◌, ◌≤◌, ◌↔◌, length, IsTrue, IfOk, IfSome};
 ghost use Rattle.std.specs.List.{insert};
 ghost use Rattle.igp_cost.specs.Offers.{HasOneMore};
 ghost use Rattle.igp_cost.specs.Trees.{source_of, label_in, cost_in, first_hop_in};
@@ -112,6 +112,13 @@ impl Tree {
         self.label(to)
     }
 
+    /// Whether both say the same of every address.
+    pub fn is_same(&self, other: &Tree) -> bool
+        ensures { IsTrue result ↔ (self.now ≡ other.now) }
+    {
+        self.source == other.source && are_same_rows(self.rows(), other.rows())
+    }
+
     /// The addresses that are reached, in ascending order, each with its label.
     pub(crate) fn rows(&self) -> &[(Addr, Label)]
         ensures { result.now ≡ self.now.labels }
@@ -175,4 +182,26 @@ fn labelled(
         push_some(&mut rows, row(nodes[at].0, labels[at]))?;
     }
     Ok(rows)
+}
+
+// Whether both lists have the same rows.
+fn are_same_rows(some: &[(Addr, Label)], others: &[(Addr, Label)]) -> bool
+    ensures { IsTrue result ↔ (some.now ≡ others.now) }
+{
+    if some.len() != others.len() {
+        return false;
+    }
+    for (index, row) in some.iter().enumerate() {
+        if !is_same_row(row, &others[index]) {
+            return false;
+        }
+    }
+    true
+}
+
+// Whether both rows say the same of the same address.
+fn is_same_row(row: &(Addr, Label), other: &(Addr, Label)) -> bool
+    ensures { IsTrue result ↔ (row.now ≡ other.now) }
+{
+    row.0 == other.0 && row.1.cost == other.1.cost && row.1.hop == other.1.hop
 }

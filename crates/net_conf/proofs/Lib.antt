@@ -16,3 +16,4 @@ pub mod SessionConcerns
 pub mod LinkConcerns
 pub mod NamedConcerns
 pub mod KeepsSites
+pub mod SameSites

@@ -44,6 +44,20 @@ impl Conf {
         }
     }
 
+    /// The router's site, as one owner more of the one that is kept; where none is, it is made. None where a virtual peer stands, or
+    /// nobody.
+    pub fn shared_site(&self, alloc: Global, router: Addr) -> Result<Option<SharedSite>, AllocError>
+        ensures { IfOk result (λ site. site ≡ router_site self.now router) }
+    {
+        if let Some(site) = self.sites.get(&router) {
+            return Ok(Some(site.copy(alloc)?));
+        }
+        match self.made_site(alloc, router)? {
+            Some(site) => Ok(Some(SharedSite::of(alloc, site)?)),
+            None => Ok(None),
+        }
+    }
+
     /// The router's site, be it kept or made: none where a virtual peer stands, or nobody.
     pub fn site_in<'a>(&'a self, made: &'a Option<SiteConf>, router: Addr) -> Option<&'a SiteConf>
         requires { made.now ≡ site_made self.now router }

@@ -29,5 +29,6 @@ pub use laws::{
 };
 pub use limits::{MAX_LINKS, MAX_SESSIONS};
 pub use refusal::Refusal;
+pub use shared_site::SharedSite;
 pub use site::{SiteConf, SiteSession};
 pub use tables::{End, Ends, Kind, Link, Node, Origination, PolicySide};

@@ -1,11 +1,25 @@
-//! Whether two sites differ in their originated prefixes and costs alone.
+//! Whether two sites are the same, or differ in their originated prefixes and costs alone.
 
-ghost use Rattle.std.specs.Prelude.{◌≡◌};
+ghost use Rattle.std.specs.Prelude.{◌≡◌, ◌↔◌, IsTrue};
 ghost use Rattle.net_conf.specs.Facts.{same_facts};
 
 use crate::site::SiteConf;
 
 impl SiteConf {
+    /// Whether both are the same.
+    pub fn is_same(&self, other: &SiteConf) -> bool
+        ensures { IsTrue result ↔ (self.now ≡ other.now) }
+    {
+        if !self.has_same_facts(other) {
+            return false;
+        }
+        if self.origins == other.origins {
+            self.costs.is_same(&other.costs)
+        } else {
+            false
+        }
+    }
+
     /// Whether all but the originated prefixes and the costs is the same in both: the address, the AS, the CLUSTER_ID, whether there
     /// is a client, and the sessions with what is set for each.
     pub fn has_same_facts(&self, other: &SiteConf) -> bool

@@ -8,9 +8,10 @@ use std::alloc::{AllocError, Global};
 use std::marker::Model;
 use std::sync::Arc;
 
-/// A site that never changes, which any number of configurations share. A copy takes no memory.
+/// A site that never changes, which any number of owners share, configurations among them. A copy takes no memory: the only fault is
+/// that 2^63 owners share it.
 #[derive(Drop)]
-pub(crate) struct SharedSite {
+pub struct SharedSite {
     site: Arc<SiteConf>,
 }
 
@@ -25,7 +26,7 @@ impl Model for SharedSite {
 
 impl SharedSite {
     /// The site, from now on shared.
-    pub(crate) fn of(alloc: Global, site: SiteConf) -> Result<Self, AllocError>
+    pub fn of(alloc: Global, site: SiteConf) -> Result<Self, AllocError>
         ensures { IfOk result (λ shared. shared ≡ site) }
     {
         Ok(SharedSite {
@@ -34,7 +35,7 @@ impl SharedSite {
     }
 
     /// The site, borrowed.
-    pub(crate) fn get(&self) -> &SiteConf
+    pub fn get(&self) -> &SiteConf
         ensures { result.now ≡ self.now }
     {
         &self.site

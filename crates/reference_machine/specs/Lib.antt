@@ -4,3 +4,4 @@ pub mod Advertising
 pub mod Reports
 pub mod Tracing
 pub mod Machine
+pub mod Histories

@@ -1,2 +1,5 @@
 pub mod Parts
 pub mod Replies
+pub mod Lines
+pub mod Visible
+pub mod Pieces

@@ -1,4 +1,3 @@
--- No public contract cites this file.
 -- The parts of a line.
 use Rattle.std.specs.Prelude.{ℕ, List, [], ◌∷◌}
 use Rattle.std.specs.Fmt.{decimal}

@@ -1,7 +1,9 @@
 //! Replies as text: a reply is its lines, each ended by a line feed.
 #![tactic(auto)]
 
+mod laws;
 mod line;
+mod marked;
 mod number;
 mod part;
 mod path;
@@ -9,4 +11,8 @@ mod reply;
 mod report;
 mod text;
 
+pub use laws::replies_are_lines;
+pub use marked::write_marked_reply;
+pub use part::Part;
 pub use reply::{write_numbered, write_refusal, write_reply};
+pub use text::{Text, write_each, write_joined};

@@ -17,7 +17,7 @@ use watched::{Output, WriterFailed};
 
 /// A part of a line.
 #[derive(Clone, Copy)]
-pub(crate) enum Part<'a> {
+pub enum Part<'a> {
     /// The bytes themselves.
     Bytes(&'a [u8]),
     Number(u64),

@@ -40,7 +40,7 @@ fn write_lines<T: Text, W: Write>(lines: &[T], output: &mut Output<W>) -> Result
 }
 
 /// Writes the last line of a report: how many lines there were before it.
-fn write_end<W: Write>(count: u64, output: &mut Output<W>) -> Result<(), WriterFailed>
+pub(crate) fn write_end<W: Write>(count: u64, output: &mut Output<W>) -> Result<(), WriterFailed>
     ensures { Writes output.old (end_line count) result output.new }
 {
     let parts = [
@@ -101,7 +101,7 @@ fn write_trace<W: Write>(
 }
 
 /// How many lines a trace takes: one for each router that forwards, and its end.
-fn trace_line_count(hops: &[(Addr, Prefix)]) -> u64
+pub(crate) fn trace_line_count(hops: &[(Addr, Prefix)]) -> u64
     ensures { result ≡ length hops.now + 1 }
 {
     hops.len() as u64 + 1

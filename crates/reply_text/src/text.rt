@@ -8,7 +8,7 @@ use std::io::Write;
 use watched::{Output, WriterFailed};
 
 /// A value that has a text.
-pub(crate) trait Text {
+pub trait Text {
     ghost use Rattle.std.specs.Prelude.{ℕ, List};
 
     ghost text: { Self → List ℕ };
@@ -19,7 +19,7 @@ pub(crate) trait Text {
 }
 
 /// Writes the items, one after the other.
-pub(crate) fn write_each<T: Text, W: Write>(
+pub fn write_each<T: Text, W: Write>(
     items: &[T],
     output: &mut Output<W>,
 ) -> Result<(), WriterFailed>
@@ -58,7 +58,7 @@ fn write_each_after<T: Text, W: Write>(
 }
 
 /// Writes the items, the separator between each and the next.
-pub(crate) fn write_joined<T: Text, W: Write>(
+pub fn write_joined<T: Text, W: Write>(
     separator: u8,
     items: &[T],
     output: &mut Output<W>,

@@ -9,19 +9,19 @@ ghost use Rattle.route_cell.specs.Senders.{AreInOrder, first_past, seen};
 use crate::received_routes::ReceivedRoutes;
 use net_prefix::Addr;
 use path_attr::Attr;
-use route_select::{Candidate, Selector};
+use route_select::{Candidate, Chosen, Selector};
 use seq::Copied;
 use std::alloc::{AllocError, Global};
 use std::marker::Model;
 
 /// The routes to one prefix that one router has received, by sender, and the choice among them and its own.
 #[derive(Drop)]
-pub struct Cell<S: Selector> {
+pub struct Cell<S: Chosen> {
     pub(crate) received: ReceivedRoutes,
     pub(crate) chosen: S,
 }
 
-impl<S: Selector> Model for Cell<S> {
+impl<S: Chosen> Model for Cell<S> {
     ghost use Rattle.route_cell.specs.Cells.{Heard};
     ghost use Rattle.route_cell.specs.Coding.{coded_heard};
 
@@ -42,7 +42,9 @@ impl<S: Selector> Cell<S> {
             chosen: S::new(alloc),
         }
     }
+}
 
+impl<S: Chosen> Cell<S> {
     /// The choice, with the reason of each route.
     pub fn chosen(&self) -> &S
         ensures { S.standings result.now ≡ self.now.standings }
@@ -62,6 +64,14 @@ impl<S: Selector> Cell<S> {
         ensures { option_copied result ≡ route_of self.now.received peer }
     {
         self.received.route_of(peer)
+    }
+
+    /// The routes that were received, as they were, each with its sender, by address.
+    pub fn received(&self) -> &[(Addr, Attr)]
+        ensures routes { result.now ≡ self.now.received }
+        ensures order { AreInOrder self.now.received }
+    {
+        self.received.routes()
     }
 
     /// The first sender past this one, or with none the first of all, and its route. The senders come in order of address.

@@ -2,20 +2,20 @@
 
 use crate::cell::Cell;
 use net_prefix::Addr;
-use route_select::Selector;
+use route_select::Chosen;
 use session_queue::Message;
 use std::marker::Model;
 
 /// A cell that takes the place of another, and what is sent for that.
 #[derive(Drop)]
-pub struct Outcome<S: Selector> {
+pub struct Outcome<S: Chosen> {
     /// What is received and chosen now.
     pub cell: Cell<S>,
     /// A message to each peer to which another route is advertised than before, by address of the peer.
     pub sends: Vec<(Addr, Message)>,
 }
 
-impl<S: Selector> Model for Outcome<S> {
+impl<S: Chosen> Model for Outcome<S> {
     ghost use Rattle.route_cell.specs.Cells as cells;
     ghost use Rattle.route_cell.specs.Coding.{coded_outcome};
 

@@ -104,7 +104,8 @@ impl ReceivedRoutes {
 
     /// The senders with their routes, by sender.
     pub(crate) fn routes(&self) -> &[(Addr, Attr)]
-        ensures { result.now ≡ self.now }
+        ensures routes { result.now ≡ self.now }
+        ensures order { AreInOrder self.now }
     {
         &self.routes
     }

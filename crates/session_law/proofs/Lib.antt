@@ -1,10 +1,10 @@
 mod Changes
-mod Configs
+pub mod Configs
 mod Edits
 mod Keys
 mod Lists
 mod Queues
 mod Routes
-mod Runs
+pub mod Runs
 mod Steps
-mod Told
+pub mod Told

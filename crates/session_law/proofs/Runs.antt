@@ -83,7 +83,7 @@ unfolding question_step
 kept_question s q told = kept_unless (ask_refusal s.conf q) s _ told (λ passed. told)
 
 -- the machine's own step keeps it
-kept_step : (s : Network) (e : Event) → IsTold s → IsTold (step s e).next
+pub kept_step : (s : Network) (e : Event) → IsTold s → IsTold (step s e).next
 kept_step s (AnEdit e) told = kept_edit s e told
 kept_step s (AFeed f) told = kept_feed s f told
 kept_step s (Deliver a b) told = kept_delivery s (direction a b) told

@@ -1,11 +1,13 @@
 -- The first direction with a message, of those that pass a test.
-use Rattle.std.proofs.Common.{◌≡◌, ◌==◌, ◌&&◌, ◌<◌, ◌⊎◌, Bool, true, false, not, List, [], ◌∷◌, length, Option, Some, None, inl, inr, ⊎_elim, refl, sym, ap, ◌∙◌, arith}
+use Rattle.std.proofs.Common.{◌≡◌, ℕ, ◌==◌, ◌&&◌, ◌<◌, ◌⊎◌, Bool, true, false, not, List, [], ◌∷◌, length, Option, Some, None, inl, inr, ⊎_elim, refl, sym, ap, ◌∙◌, arith}
 use Rattle.std.specs.List.{find, filter}
 use Rattle.std.specs.List.Sorted.{IsStrictlySortedBy}
 use Rattle.std.specs.Map.{lookup, keys_of}
 use Rattle.std.specs.BTreeMap.{is_at}
 use Rattle.std.specs.BTreeMap.Range.{range_contains}
-use Rattle.std.specs.Option.{IfSome, option_map}
+use Rattle.std.specs.Option.{IfSome, IfNone, option_map}
+use Rattle.std.specs.Cmp.{unsigned_Decides}
+use Rattle.session_queue.specs.Shards.{shard_of, is_in_shard}
 use Rattle.std.specs.declared.ops.Bound.TheVariants.{Unbounded}
 use Rattle.std.proofs.lemmas.Bool.Decides.{nat_tests}
 use Rattle.std.specs.declared.cmp.Ordering.{Ordering}
@@ -161,3 +163,34 @@ module _ (q : WaitingByDirection) (start : Option (Addr × Addr)) where
 
     pub found_first : SkipsNone q start found
     found_first = rw is (none_at _ (finds (past_test start) q ordered))
+
+-- OF A SHARD
+
+module _ (q : WaitingByDirection) (shard shards : ℕ) where
+  in_shard : (d : Direction) → is_in_shard shard shards d ≡ true → shard_of d.to shards ≡ shard
+  in_shard d h = (unsigned_Decides (shard_of d.to shards) shard).0 h
+
+  to_shard : (d : Direction) → shard_of d.to shards ≡ shard → is_in_shard shard shards d ≡ true
+  to_shard d h = (unsigned_Decides (shard_of d.to shards) shard).1 h
+
+  shard_full_at : (x : Option (Direction × Waiting)) → Finds (is_in_shard shard shards) q x → IfSome (option_map (λ e. e.0) x) (λ d. 0 < length (queue_at q d.from d.to))
+  shard_full_at None finds = tt
+  shard_full_at (Some e) finds = rw (queue_held e.0.from e.0.to q q refl (Some e.1) (sym finds.holds)) (some_message e.1.messages finds.full)
+
+  shard_is_at : (x : Option (Direction × Waiting)) → Finds (is_in_shard shard shards) q x → IfSome (option_map (λ e. e.0) x) (λ d. shard_of d.to shards ≡ shard)
+  shard_is_at None finds = tt
+  shard_is_at (Some e) finds = in_shard e.0 finds.passes
+
+  shard_none_at : (x : Option (Direction × Waiting)) → Finds (is_in_shard shard shards) q x → IfNone (option_map (λ e. e.0) x) ((from to : Addr) → shard_of to shards ≡ shard → queue_at q from to ≡ [])
+  shard_none_at None finds = λ from to is. queue_held from to q q refl _ refl ∙ finds (key from to) (to_shard (key from to) is)
+  shard_none_at (Some e) finds = tt
+
+  module _ (ordered : IsStrictlySortedBy direction_cmp (keys_of q)) (found : Option Direction) (is : found ≡ option_map (λ e. e.0) (first_of (is_in_shard shard shards) q)) where
+    pub shard_full : IfSome found (λ d. 0 < length (queue_at q d.from d.to))
+    shard_full = rw is (shard_full_at _ (finds (is_in_shard shard shards) q ordered))
+
+    pub shard_is : IfSome found (λ d. shard_of d.to shards ≡ shard)
+    shard_is = rw is (shard_is_at _ (finds (is_in_shard shard shards) q ordered))
+
+    pub shard_none : IfNone found ((from to : Addr) → shard_of to shards ≡ shard → queue_at q from to ≡ [])
+    shard_none = rw is (shard_none_at _ (finds (is_in_shard shard shards) q ordered))

@@ -1,6 +1,6 @@
 //! The queues of all directions.
 
-ghost use Rattle.std.specs.Prelude.{◌≡◌, ℕ, ◌+◌, ◌<◌, ◌≤◌, ◌↔◌, [], ◌∷◌, ◌++◌, length, max, drop, slice_get, option_map, option_copied, find, IsTrue, IfSome, OnOk, OnErr};
+ghost use Rattle.std.specs.Prelude.{◌≡◌, ℕ, ◌+◌, ◌<◌, ◌≤◌, ◌↔◌, [], ◌∷◌, ◌++◌, length, max, drop, slice_get, option_map, option_copied, find, filter, IsTrue, IfSome, IfNone, OnOk, OnErr};
 
 use crate::direction::Direction;
 use crate::message::Message;
@@ -38,6 +38,7 @@ impl Queues {
     ghost use Rattle.std.specs.List.Sorted.{IsStrictlySortedBy};
     ghost use Rattle.std.specs.Map.{keys_of};
     ghost use Rattle.session_queue.specs.Tidy.{has_message, start_past};
+    ghost use Rattle.session_queue.specs.Shards.{shard_of, is_in_shard};
     ghost use Rattle.session_queue.specs.Telling.{message_of};
     ghost use Rattle.session_queue.specs.Waiting.{direction_cmp, queue_at, spare_at, waiting_at, KeepsOthers, IsQuiet, IsPast, SkipsNone};
 
@@ -175,6 +176,31 @@ impl Queues {
     {
         self.first_full(Self::start_past(past))
             .map(|direction| (direction.from, direction.to))
+    }
+
+    /// The first direction with a message to a receiver of the shard, by sender, then by receiver. The shard of an address is its number
+    /// modulo the shards.
+    pub fn next_in(&self, shard: u64, shards: u64) -> Option<Direction>
+        requires { shard < shards }
+        ensures full { IfSome result (λ found. 0 < length (queue_at self.now found.from found.to)) }
+        ensures shard { IfSome result (λ found. shard_of found.to shards ≡ shard) }
+        ensures none { IfNone result ((from to : Addr) → shard_of to shards ≡ shard → queue_at self.now from to ≡ []) }
+    {
+        self.first_in(shard, shards)
+    }
+
+    /// The first direction with a message of those of the shard. The order is said for `next_in`, which reads no field itself.
+    fn first_in(&self, shard: u64, shards: u64) -> Option<Direction>
+        requires { shard < shards }
+        ensures ordered { IsStrictlySortedBy direction_cmp (keys_of self.now) }
+        ensures first { result ≡ option_map (λ e. e.0) (find (λ e. has_message e.1) (filter (λ e. is_in_shard shard shards e.0) self.now)) }
+    {
+        for (direction, queue) in self.queues.iter() {
+            if u64::from(direction.to.0) % shards == shard && !queue.is_empty() {
+                return Some(*direction);
+            }
+        }
+        None
     }
 
     /// Where the directions past this one begin.

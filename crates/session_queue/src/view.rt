@@ -2,7 +2,7 @@
 
 ghost use Rattle.std.specs.Prelude.{◌≡◌, IfOk};
 
-use crate::message::Message;
+use crate::message::{Message, MessageKind};
 use net_prefix::Prefix;
 use path_attr::Attr;
 use std::alloc::AllocError;
@@ -17,7 +17,7 @@ pub enum View<'a> {
 }
 
 impl<'a> View<'a> {
-    ghost use Rattle.session_queue.specs.Telling.{message_of};
+    ghost use Rattle.session_queue.specs.Telling.{message_of, prefix_of, kind_of};
 
     /// The message, borrowed.
     pub fn of(message: &'a Message) -> Self
@@ -26,6 +26,25 @@ impl<'a> View<'a> {
         match message {
             Message::Update(prefix, attr) => View::Update(*prefix, attr),
             Message::Withdraw(prefix) => View::Withdraw(*prefix),
+        }
+    }
+
+    /// The prefix that it speaks of.
+    pub fn prefix(&self) -> Prefix
+        ensures { result ≡ prefix_of (message_of self.now) }
+    {
+        match self {
+            View::Update(prefix, _) | View::Withdraw(prefix) => *prefix,
+        }
+    }
+
+    /// Whether it advertises a route or withdraws one.
+    pub fn kind(&self) -> MessageKind
+        ensures { result ≡ kind_of (message_of self.now) }
+    {
+        match self {
+            View::Update(_, _) => MessageKind::Update,
+            View::Withdraw(_) => MessageKind::Withdraw,
         }
     }
 

@@ -3,3 +3,4 @@ pub mod Carried
 pub mod Prepared
 pub mod Refusals
 pub mod Runs
+pub mod Installed

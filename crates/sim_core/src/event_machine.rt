@@ -9,7 +9,7 @@ use crate::plan::Plan;
 use cell_engine::{Cell, State};
 use net_conf::Refusal;
 use prefix_table::PrefixTable;
-use route_select::Selector;
+use route_select::{Chosen, Selector};
 use session_queue::Direction;
 use sim_event::{Event, Reply};
 use std::alloc::Global;
@@ -18,12 +18,12 @@ use std::thread::Threads;
 
 /// A network that takes events, by cells: it decides by the selector S, and keeps each router's cells in a table T.
 #[derive(Drop)]
-pub(crate) struct EventMachine<S: Selector, T: PrefixTable<Cell<S>>> {
+pub(crate) struct EventMachine<S: Chosen, T: PrefixTable<Cell<S>>> {
     pub(crate) alloc: Global,
     pub(crate) state: State<S, T>,
 }
 
-impl<S: Selector, T: PrefixTable<Cell<S>>> Model for EventMachine<S, T> {
+impl<S: Chosen, T: PrefixTable<Cell<S>>> Model for EventMachine<S, T> {
     ghost use Rattle.std.specs.Coded.{codes};
     ghost use Rattle.cell_network.specs.Engine.{Engine};
     ghost use Rattle.cell_engine.specs.Coding.{coded_table};
@@ -35,7 +35,7 @@ impl<S: Selector, T: PrefixTable<Cell<S>>> Model for EventMachine<S, T> {
     ghost view = { λ s. s.state };
 }
 
-impl<S: Selector, T: PrefixTable<Cell<S>>> EventMachine<S, T> {
+impl<S: Chosen, T: PrefixTable<Cell<S>>> EventMachine<S, T> {
     /// Nothing is configured, received or on its way. It takes no memory.
     pub fn new(alloc: Global) -> Self
         ensures { network result ≡ nothing }

@@ -5,6 +5,7 @@ mod deliveries;
 mod edits;
 mod event_machine;
 mod feeds;
+mod installs;
 mod plan;
 mod questions;
 mod sim;

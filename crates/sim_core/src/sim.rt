@@ -1,19 +1,22 @@
 //! The simulator: a machine that takes events, and counts what it decides.
 
-ghost use Rattle.std.specs.Prelude.{◌≡◌, length, MatchResult};
+ghost use Rattle.std.specs.Prelude.{◌≡◌, None, length, IfOk, IfErr, OnOk, OnErr, MatchResult};
 ghost use Rattle.net_conf.specs.declared.refusal.Refusal.TheVariants.{Memory};
-ghost use Rattle.reference_machine.specs.Machine.{nothing, step, IsStep, IsRun};
+ghost use Rattle.sim_event.specs.declared.event.Event.TheVariants.{Deliver};
+ghost use Rattle.reference_machine.specs.Machine.{nothing, step, delivery_refusal, IsStep, IsRun};
 ghost use Rattle.cell_network.specs.Engine.{network};
 ghost use Rattle.sim_core.specs.Counting.{raised, Counts};
+ghost use Rattle.sim_core.specs.Installing.{IsOutcomeOfHead};
 ghost use Rattle.sim_core.specs.Plans.{IsPrepared, IsOfEvent, Prepares};
 
 use crate::event_machine::EventMachine;
 use crate::plan::Plan;
-use cell_engine::{Cell, State};
+use cell_engine::{Cell, Outcome, State};
 use net_conf::Refusal;
 use prefix_table::{PrefixTable, SortedTable, TrieTable};
 use reference_machine::Machine;
-use route_select::{FilterCell, GroupCell, Selector};
+use route_select::{Chosen, FilterCell, GroupCell, Selector};
+use session_queue::Direction;
 use sim_event::{Event, Reply};
 use std::alloc::Global;
 use std::marker::Model;
@@ -22,13 +25,13 @@ use std::thread::Threads;
 /// A network that takes events, by cells: it decides by the selector S, and keeps each router's cells in a table T. It counts how many
 /// routes it decided anew.
 #[derive(Drop)]
-pub struct Sim<S: Selector, T: PrefixTable<Cell<S>>> {
+pub struct Sim<S: Chosen, T: PrefixTable<Cell<S>>> {
     alloc: Global,
     machine: EventMachine<S, T>,
     decided: u64,
 }
 
-impl<S: Selector, T: PrefixTable<Cell<S>>> Model for Sim<S, T> {
+impl<S: Chosen, T: PrefixTable<Cell<S>>> Model for Sim<S, T> {
     ghost use Rattle.std.specs.Coded.{codes};
     ghost use Rattle.cell_engine.specs.Coding.{coded_table};
     ghost use Rattle.sim_core.specs.Counting.{Counted};
@@ -40,7 +43,7 @@ impl<S: Selector, T: PrefixTable<Cell<S>>> Model for Sim<S, T> {
     ghost view = { λ s. record { engine = s.machine; decided = s.decided } };
 }
 
-impl<S: Selector, T: PrefixTable<Cell<S>>> Sim<S, T> {
+impl<S: Chosen, T: PrefixTable<Cell<S>>> Sim<S, T> {
     /// Nothing is configured, received or on its way, and nothing was decided. It takes no memory.
     pub fn new(alloc: Global) -> Self
         ensures network { network result.engine ≡ nothing }
@@ -66,6 +69,30 @@ impl<S: Selector, T: PrefixTable<Cell<S>>> Sim<S, T> {
         ensures { result ≡ self.now.decided }
     {
         self.decided
+    }
+}
+
+impl<S: Chosen + Drop, T: PrefixTable<Cell<S>> + Drop> Sim<S, T> {
+    /// Takes the message at the head of the direction's queue, whose outcome was made beside the machine: this is the machine's own step.
+    /// For want of memory the error hands the outcome back, and nothing changes. It decides nothing.
+    pub fn install(
+        &mut self,
+        direction: Direction,
+        outcome: Outcome<S>,
+    ) -> Result<Reply, Outcome<S>>
+        requires allowed { delivery_refusal self.old.engine.conf direction ≡ None }
+        requires head { IsOutcomeOfHead self.old.engine direction outcome }
+        ensures reply { IfOk result (λ reply. reply ≡ (step (network self.old.engine) (Deliver direction.from direction.to)).reply) }
+        ensures next { OnOk result (network self.new.engine ≡ (step (network self.old.engine) (Deliver direction.from direction.to)).next) }
+        ensures decided { IfOk result (λ reply. Counts (network self.old.engine) (Deliver direction.from direction.to) reply self.old.decided self.new.decided) }
+        ensures back { IfErr result (λ back. back ≡ outcome) }
+        ensures same { OnErr result (network self.new.engine ≡ network self.old.engine) }
+        ensures uncounted { OnErr result (self.new.decided ≡ self.old.decided) }
+    {
+        let more = self.machine.decisions_at(direction.to);
+        let reply = self.machine.install(direction, outcome)?;
+        self.decided = raised(self.decided, more);
+        Ok(reply)
     }
 }
 

@@ -41,6 +41,13 @@ impl<W: Write> Output<W> {
         }
     }
 
+    /// The writer, no longer watched.
+    pub fn into_inner(self) -> W
+        ensures { W.contents result ≡ self.written }
+    {
+        self.writer
+    }
+
     /// Whether bytes were written since all was last sent on.
     pub fn holds_back(&self) -> bool
         ensures { result ≡ self.now.held }

@@ -2,7 +2,7 @@ use Rattle.std.proofs.Common.{◌++◌, append_assoc, append-nil}
 use Rattle.std.specs.List.{flat_map}
 use Rattle.reply_text.specs.Parts.{part_text}
 use Rattle.reply_text.specs.Replies.{attr_text, line_end}
-use Rattle.reply_text.proofs.Pieces.{writes_same, writes_cut, writes_next}
+use Rattle.reply_text.specs.Pieces.{writes_same, writes_cut, writes_next}
 use Rattle.reply_text.proofs.line.write_with_attr.Goals as goal
 
 pub returns-in_err-write_each : goal.returns-in_err-write_each

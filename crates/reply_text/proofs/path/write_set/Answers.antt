@@ -1,6 +1,6 @@
 use Rattle.std.proofs.Common.{◌++◌, ◌∷◌, []}
 use Rattle.sim_event.specs.Wording.{numbers_text}
-use Rattle.reply_text.proofs.Pieces.{writes_cut, writes_next}
+use Rattle.reply_text.specs.Pieces.{writes_cut, writes_next}
 use Rattle.reply_text.proofs.path.write_set.Goals as goal
 
 pub returns-in_err-write : goal.returns-in_err-write

@@ -1,7 +1,7 @@
 use Rattle.std.proofs.Common.{length}
 use Rattle.std.specs.List.{flat_map}
 use Rattle.reply_text.specs.Replies.{end_line}
-use Rattle.reply_text.proofs.Pieces.{writes_cut, writes_next}
+use Rattle.reply_text.specs.Pieces.{writes_cut, writes_next}
 use Rattle.reply_text.proofs.report.write_lines.Goals as goal
 
 pub returns-in_err-write_each : goal.returns-in_err-write_each

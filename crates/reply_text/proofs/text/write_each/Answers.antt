@@ -1,4 +1,4 @@
-use Rattle.reply_text.proofs.Pieces.{each_next, each_cut, each_end}
+use Rattle.reply_text.specs.Pieces.{each_next, each_cut, each_end}
 use Rattle.reply_text.proofs.text.write_each.Goals as goal
 
 pub returns-in_err-write : goal.returns-in_err-write

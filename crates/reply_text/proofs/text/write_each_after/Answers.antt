@@ -1,5 +1,5 @@
 use Rattle.std.proofs.Common.{◌∷◌}
-use Rattle.reply_text.proofs.Pieces.{each_next, each_cut, each_end}
+use Rattle.reply_text.specs.Pieces.{each_next, each_cut, each_end}
 use Rattle.reply_text.proofs.text.write_each_after.Goals as goal
 
 pub returns-in_err-write_after : goal.returns-in_err-write_after

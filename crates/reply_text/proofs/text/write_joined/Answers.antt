@@ -1,5 +1,5 @@
 use Rattle.std.proofs.Common.{arith}
-use Rattle.reply_text.proofs.Pieces.{writes_same, writes_cut, writes_next, joined_more}
+use Rattle.reply_text.specs.Pieces.{writes_same, writes_cut, writes_next, joined_more}
 use Rattle.reply_text.proofs.text.write_joined.Goals as goal
 
 pub returns-in_err-write : goal.returns-in_err-write

@@ -1,5 +1,5 @@
 use Rattle.std.proofs.Common.{refl}
-use Rattle.reply_text.proofs.Pieces.{writes_same, writes_cut, writes_next, block_pieces}
+use Rattle.reply_text.specs.Pieces.{writes_same, writes_cut, writes_next, block_pieces}
 use Rattle.reply_text.proofs.number.PrefixText.write.Goals as goal
 
 pub returns-in_err-write : goal.returns-in_err-write

@@ -1,4 +1,4 @@
--- Texts that are written piece by piece.
+-- No public contract cites this file. Texts that are written piece by piece.
 use Rattle.std.specs.Prelude.{◌≡◌, ℕ, ◌+◌, ◌-◌, ◌<◌, ◌≤◌, true, List, [], ◌∷◌, ◌++◌, length, map, take, drop, Result, Ok, Err}
 use Rattle.std.specs.Result.{IsErr}
 use Rattle.std.specs.List.{flat_map, join_with_byte}

@@ -1,0 +1,222 @@
+//! The line of a command, by its shape.
+
+ghost use Rattle.std.specs.Prelude.{◌≡◌, ◌∷◌, [], codes};
+ghost use Rattle.std.specs.Fmt.{decimal};
+ghost use Rattle.std.specs.List.{join_with_byte};
+ghost use Rattle.net_prefix.specs.Address.{addr_text};
+ghost use Rattle.net_prefix.specs.Block.{block_text};
+ghost use Rattle.command_text.specs.Words.{ask_words, edit_words, news_words, side_word, switch_word};
+ghost use Rattle.log_text.specs.Logs.{command_text};
+ghost use Rattle.watched.specs.Streams.{Writes};
+
+use crate::rule::write_rule;
+use net_conf::{Edit, PolicySide};
+use net_prefix::{Addr, Prefix};
+use reply_text::{Part, write_joined};
+use sim_event::{Ask, Event, Feed, News};
+use std::io::Write;
+use watched::{Output, WriterFailed};
+
+/// Writes the command that spells the event: its words, with one space between each and the next. At an error a front of
+/// it went out.
+pub fn write_command<W: Write>(event: &Event, output: &mut Output<W>) -> Result<(), WriterFailed>
+    ensures { Writes output.old (command_text event.now) result output.new }
+{
+    match event {
+        Event::Edit(edit) => write_edit(edit, output),
+        Event::Feed(feed) => write_feed(feed, output),
+        Event::Deliver(from, to) => write_pair(b"deliver", *from, *to, output),
+        Event::Ask(ask) => write_ask(ask, output),
+    }
+}
+
+/// Writes the words of a change of the configuration.
+fn write_edit<W: Write>(edit: &Edit, output: &mut Output<W>) -> Result<(), WriterFailed>
+    ensures { Writes output.old (join_with_byte 32 (edit_words edit.now)) result output.new }
+{
+    match edit {
+        Edit::Router(a, asn) => write_numbered(b"router", *a, asn.number(), output),
+        Edit::Virtual(a, asn) => write_numbered(b"virtual", *a, asn.number(), output),
+        Edit::Link(a, b, metric) => write_cost(b"link", *a, *b, metric.cost(), output),
+        Edit::Metric(a, b, metric) => write_cost(b"metric", *a, *b, metric.cost(), output),
+        Edit::Fail(a, b) => write_pair(b"fail", *a, *b, output),
+        Edit::Mend(a, b) => write_pair(b"mend", *a, *b, output),
+        Edit::Join(a, b) => write_pair(b"join", *a, *b, output),
+        Edit::Stop(a, b) => write_pair(b"stop", *a, *b, output),
+        Edit::Start(a, b) => write_pair(b"start", *a, *b, output),
+        Edit::Client(a, b, on) => write_switch(b"client", *a, *b, *on, output),
+        Edit::OwnNext(a, b, on) => write_switch(b"self", *a, *b, *on, output),
+        Edit::Cluster(a, id) => write_pair(b"cluster", *a, *id, output),
+        Edit::Rule(a, b, side, rule) => write_rule(*a, *b, *side, rule, output),
+        Edit::Clear(a, b, side) => write_clear(*a, *b, *side, output),
+        Edit::Origin(a, prefix) => write_prefixed(b"origin", *a, *prefix, output),
+        Edit::NoOrigin(a, prefix) => write_prefixed(b"noorigin", *a, *prefix, output),
+    }
+}
+
+/// Writes the words of a question.
+fn write_ask<W: Write>(ask: &Ask, output: &mut Output<W>) -> Result<(), WriterFailed>
+    ensures { Writes output.old (join_with_byte 32 (ask_words ask.now)) result output.new }
+{
+    match ask {
+        Ask::Routes(router) => write_joined(
+            b' ',
+            &[Part::Bytes(b"routes"), Part::Addr(*router)],
+            output,
+        ),
+        Ask::Best(router, prefix) => write_prefixed(b"best", *router, *prefix, output),
+        Ask::Why(router, prefix) => write_prefixed(b"why", *router, *prefix, output),
+        Ask::In(router, peer) => write_pair(b"in", *router, *peer, output),
+        Ask::Out(router, peer) => write_pair(b"out", *router, *peer, output),
+        Ask::Queue(from, to) => write_pair(b"queue", *from, *to, output),
+        Ask::Quiet => output.write(b"quiet"),
+        Ask::Cost(router, to) => write_pair(b"cost", *router, *to, output),
+        Ask::Trace(router, to) => write_pair(b"trace", *router, *to, output),
+    }
+}
+
+/// Writes the words of a feed.
+fn write_feed<W: Write>(feed: &Feed, output: &mut Output<W>) -> Result<(), WriterFailed>
+    ensures { Writes output.old (join_with_byte 32 (codes "feed" ∷ addr_text feed.now.from ∷ addr_text feed.now.to ∷ news_words feed.now.news)) result output.new }
+{
+    let (verb, from, to) = (
+        Part::Bytes(b"feed"),
+        Part::Addr(feed.from),
+        Part::Addr(feed.to),
+    );
+    match &feed.news {
+        News::Update(prefix, path, origin, med) => {
+            let words = [
+                verb,
+                from,
+                to,
+                Part::Bytes(b"update"),
+                Part::Prefix(*prefix),
+                Part::Path(path),
+                Part::Origin(*origin),
+                Part::MaybeNumber(*med),
+            ];
+            write_joined(b' ', &words, output)
+        }
+        News::Withdraw(prefix) => {
+            let words = [
+                verb,
+                from,
+                to,
+                Part::Bytes(b"withdraw"),
+                Part::Prefix(*prefix),
+            ];
+            write_joined(b' ', &words, output)
+        }
+    }
+}
+
+/// Writes a verb and two addresses.
+fn write_pair<W: Write>(
+    verb: &[u8],
+    first: Addr,
+    second: Addr,
+    output: &mut Output<W>,
+) -> Result<(), WriterFailed>
+    ensures { Writes output.old (join_with_byte 32 (verb.now ∷ addr_text first ∷ addr_text second ∷ [])) result output.new }
+{
+    let words = [Part::Bytes(verb), Part::Addr(first), Part::Addr(second)];
+    write_joined(b' ', &words, output)
+}
+
+/// Writes a verb, an address and a number.
+fn write_numbered<W: Write>(
+    verb: &[u8],
+    addr: Addr,
+    number: u32,
+    output: &mut Output<W>,
+) -> Result<(), WriterFailed>
+    ensures { Writes output.old (join_with_byte 32 (verb.now ∷ addr_text addr ∷ decimal number ∷ [])) result output.new }
+{
+    let words = [
+        Part::Bytes(verb),
+        Part::Addr(addr),
+        Part::Number(u64::from(number)),
+    ];
+    write_joined(b' ', &words, output)
+}
+
+/// Writes a verb, two addresses and a cost.
+fn write_cost<W: Write>(
+    verb: &[u8],
+    first: Addr,
+    second: Addr,
+    cost: u32,
+    output: &mut Output<W>,
+) -> Result<(), WriterFailed>
+    ensures { Writes output.old (join_with_byte 32 (verb.now ∷ addr_text first ∷ addr_text second ∷ decimal cost ∷ [])) result output.new }
+{
+    let words = [
+        Part::Bytes(verb),
+        Part::Addr(first),
+        Part::Addr(second),
+        Part::Number(u64::from(cost)),
+    ];
+    write_joined(b' ', &words, output)
+}
+
+/// Writes a verb, an address and a prefix.
+fn write_prefixed<W: Write>(
+    verb: &[u8],
+    addr: Addr,
+    prefix: Prefix,
+    output: &mut Output<W>,
+) -> Result<(), WriterFailed>
+    ensures { Writes output.old (join_with_byte 32 (verb.now ∷ addr_text addr ∷ block_text prefix ∷ [])) result output.new }
+{
+    let words = [Part::Bytes(verb), Part::Addr(addr), Part::Prefix(prefix)];
+    write_joined(b' ', &words, output)
+}
+
+/// Writes a verb, two addresses and a switch.
+fn write_switch<W: Write>(
+    verb: &[u8],
+    first: Addr,
+    second: Addr,
+    on: bool,
+    output: &mut Output<W>,
+) -> Result<(), WriterFailed>
+    ensures { Writes output.old (join_with_byte 32 (verb.now ∷ addr_text first ∷ addr_text second ∷ switch_word on ∷ [])) result output.new }
+{
+    let switch = if on { "on" } else { "off" };
+    let words = [
+        Part::Bytes(verb),
+        Part::Addr(first),
+        Part::Addr(second),
+        Part::Bytes(switch.as_bytes()),
+    ];
+    write_joined(b' ', &words, output)
+}
+
+/// Writes the words by which a policy is emptied.
+fn write_clear<W: Write>(
+    first: Addr,
+    second: Addr,
+    side: PolicySide,
+    output: &mut Output<W>,
+) -> Result<(), WriterFailed>
+    ensures { Writes output.old (join_with_byte 32 (codes "clear" ∷ addr_text first ∷ addr_text second ∷ side_word side ∷ [])) result output.new }
+{
+    let words = [
+        Part::Bytes(b"clear"),
+        Part::Addr(first),
+        Part::Addr(second),
+        Part::Bytes(side_name(side).as_bytes()),
+    ];
+    write_joined(b' ', &words, output)
+}
+
+/// The word for a side of a session.
+pub(crate) fn side_name(side: PolicySide) -> &'static str
+    ensures { result.now ≡ side_word side }
+{
+    match side {
+        PolicySide::Import => "in",
+        PolicySide::Export => "out",
+    }
+}

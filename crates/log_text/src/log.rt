@@ -1,0 +1,64 @@
+//! The text of a log.
+
+ghost use Rattle.std.specs.Prelude.{◌++◌, length, codes};
+ghost use Rattle.std.specs.Fmt.{decimal};
+ghost use Rattle.std.specs.List.{flat_map};
+ghost use Rattle.reply_text.specs.Replies.{line_end};
+ghost use Rattle.log_text.specs.Logs.{call_line, entry_text, log_text};
+ghost use Rattle.watched.specs.Streams.{Writes};
+
+use crate::command::write_command;
+use reply_text::{Part, write_each, write_marked_reply, write_numbered};
+use sim_event::{Entry, Event};
+use std::io::Write;
+use watched::{Output, WriterFailed};
+
+/// Writes the log of the history: a header, each call with its seat and its reply, and how many calls there are. Takes no
+/// memory. At an error a front of it went out.
+pub fn write_log<W: Write>(entries: &[Entry], output: &mut Output<W>) -> Result<(), WriterFailed>
+    ensures { Writes output.old (log_text entries.now) result output.new }
+{
+    output.write(b"bgpsim log 1\n")?;
+    write_entries(entries, output)?;
+    write_numbered(b"end ", entries.len() as u64, output)
+}
+
+/// Writes the calls, each with its reply.
+fn write_entries<W: Write>(entries: &[Entry], output: &mut Output<W>) -> Result<(), WriterFailed>
+    ensures { Writes output.old (flat_map entry_text entries.now) result output.new }
+{
+    for entry in entries {
+        write_entry(entry, output)?;
+    }
+    Ok(())
+}
+
+/// Writes a call and its reply.
+#[tactic(auto, unfolding(crate::specs::Logs::entry_text))]
+fn write_entry<W: Write>(entry: &Entry, output: &mut Output<W>) -> Result<(), WriterFailed>
+    ensures { Writes output.old (entry_text entry.now) result output.new }
+{
+    write_call(entry.seat, &entry.event, output)?;
+    write_marked_reply(b"= ", &entry.reply, output)
+}
+
+/// Writes the line of a call.
+fn write_call<W: Write>(seat: u8, event: &Event, output: &mut Output<W>) -> Result<(), WriterFailed>
+    ensures { Writes output.old (call_line seat event.now ++ line_end) result output.new }
+{
+    write_seat(seat, output)?;
+    write_command(event, output)?;
+    output.write(b"\n")
+}
+
+/// Writes the number of a seat, and a space.
+fn write_seat<W: Write>(seat: u8, output: &mut Output<W>) -> Result<(), WriterFailed>
+    ensures { Writes output.old (codes "@" ++ decimal seat ++ codes " ") result output.new }
+{
+    let parts = [
+        Part::Bytes(b"@"),
+        Part::Number(u64::from(seat)),
+        Part::Bytes(b" "),
+    ];
+    write_each(&parts, output)
+}

@@ -1,0 +1,9 @@
+use Rattle.std.proofs.Common.{drop, Result, ◌++◌}
+use Rattle.std.specs.List.{flat_map}
+use Rattle.watched.specs.declared.output.WriterFailed.{WriterFailed}
+use Rattle.watched.specs.Streams.{Writing, Writes}
+use Rattle.reply_text.proofs.marked.write_each_marked.Given as goal
+
+-- the items that are left complete what was written
+abbrev pub invariant-loop-item : goal.invariant-loop-item
+invariant-loop-item g l = (result : Result Unit WriterFailed) (new : Writing) → Writes l.output (flat_map (λ item. l.mark ++ g.T.Text.text item) (drop l.item-index l.items)) result new → Writes l.fn.output (flat_map (λ item. l.mark ++ g.T.Text.text item) l.items) result new

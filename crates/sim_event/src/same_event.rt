@@ -1,0 +1,108 @@
+//! Whether two events are the same.
+
+use crate::event::{Ask, Event, Feed, News};
+use crate::same::Same;
+use net_conf::Edit;
+use route_policy::{Action, Match, Rule};
+
+impl Same for Match {
+    fn is_same(&self, other: &Match) -> bool {
+        match (self, other) {
+            (Match::Any, Match::Any) => true,
+            (Match::Is(some), Match::Is(another)) => some == another,
+            (Match::Under(some), Match::Under(another)) => some == another,
+            (Match::Path(some), Match::Path(another)) => some == another,
+            (Match::First(some), Match::First(another)) => some == another,
+            _ => false,
+        }
+    }
+}
+
+impl Same for Action {
+    fn is_same(&self, other: &Action) -> bool {
+        self == other
+    }
+}
+
+impl Same for Rule {
+    fn is_same(&self, other: &Rule) -> bool {
+        self.cond.is_same(&other.cond) && self.act.is_same(&other.act)
+    }
+}
+
+impl Same for Edit {
+    fn is_same(&self, other: &Edit) -> bool {
+        match (self, other) {
+            (Edit::Router(a, n), Edit::Router(b, m)) => a == b && n == m,
+            (Edit::Virtual(a, n), Edit::Virtual(b, m)) => a == b && n == m,
+            (Edit::Link(a, b, cost), Edit::Link(c, d, other)) => a == c && b == d && cost == other,
+            (Edit::Metric(a, b, cost), Edit::Metric(c, d, other)) => {
+                a == c && b == d && cost == other
+            }
+            (Edit::Fail(a, b), Edit::Fail(c, d)) => a == c && b == d,
+            (Edit::Mend(a, b), Edit::Mend(c, d)) => a == c && b == d,
+            (Edit::Join(a, b), Edit::Join(c, d)) => a == c && b == d,
+            (Edit::Stop(a, b), Edit::Stop(c, d)) => a == c && b == d,
+            (Edit::Start(a, b), Edit::Start(c, d)) => a == c && b == d,
+            (Edit::Client(a, b, on), Edit::Client(c, d, also)) => a == c && b == d && on == also,
+            (Edit::OwnNext(a, b, on), Edit::OwnNext(c, d, also)) => a == c && b == d && on == also,
+            (Edit::Cluster(a, id), Edit::Cluster(b, other)) => a == b && id == other,
+            (Edit::Rule(a, b, side, rule), Edit::Rule(c, d, other, another)) => {
+                a == c && b == d && side == other && rule.is_same(another)
+            }
+            (Edit::Clear(a, b, side), Edit::Clear(c, d, other)) => a == c
+                && b == d
+                && side == other,
+            (Edit::Origin(a, p), Edit::Origin(b, q)) => a == b && p == q,
+            (Edit::NoOrigin(a, p), Edit::NoOrigin(b, q)) => a == b && p == q,
+            _ => false,
+        }
+    }
+}
+
+impl Same for News {
+    fn is_same(&self, other: &News) -> bool {
+        match (self, other) {
+            (News::Update(p, path, origin, med), News::Update(q, also, another, metric)) => {
+                p == q && path.is_same(also) && origin == another && med == metric
+            }
+            (News::Withdraw(p), News::Withdraw(q)) => p == q,
+            _ => false,
+        }
+    }
+}
+
+impl Same for Feed {
+    fn is_same(&self, other: &Feed) -> bool {
+        self.from == other.from && self.to == other.to && self.news.is_same(&other.news)
+    }
+}
+
+impl Same for Ask {
+    fn is_same(&self, other: &Ask) -> bool {
+        match (self, other) {
+            (Ask::Routes(r), Ask::Routes(s)) => r == s,
+            (Ask::Best(r, p), Ask::Best(s, q)) => r == s && p == q,
+            (Ask::Why(r, p), Ask::Why(s, q)) => r == s && p == q,
+            (Ask::In(a, b), Ask::In(c, d)) => a == c && b == d,
+            (Ask::Out(a, b), Ask::Out(c, d)) => a == c && b == d,
+            (Ask::Queue(a, b), Ask::Queue(c, d)) => a == c && b == d,
+            (Ask::Quiet, Ask::Quiet) => true,
+            (Ask::Cost(a, b), Ask::Cost(c, d)) => a == c && b == d,
+            (Ask::Trace(a, b), Ask::Trace(c, d)) => a == c && b == d,
+            _ => false,
+        }
+    }
+}
+
+impl Same for Event {
+    fn is_same(&self, other: &Event) -> bool {
+        match (self, other) {
+            (Event::Edit(edit), Event::Edit(another)) => edit.is_same(another),
+            (Event::Feed(feed), Event::Feed(another)) => feed.is_same(another),
+            (Event::Deliver(a, b), Event::Deliver(c, d)) => a == c && b == d,
+            (Event::Ask(ask), Event::Ask(another)) => ask.is_same(another),
+            _ => false,
+        }
+    }
+}
