@@ -1,5 +1,5 @@
-//! Tests of the libraries' public calls, a module for each library. They stand apart from the libraries, which would be proved once more with
-//! them. What a whole script shows is a case, in cases/ at the top of the repository.
+//! Tests of the libraries' public calls, a module for each library; those of the lowest libraries stand in `route_tests`. They stand apart from
+//! the libraries, which would be proved once more with them. What a whole script shows is a case, in cases/ at the top of the repository.
 #![tactic(auto)]
 
 #[cfg(test)]
@@ -11,22 +11,6 @@ mod costs;
 #[cfg(test)]
 mod events;
 #[cfg(test)]
-mod lists;
-#[cfg(test)]
 mod machine;
 #[cfg(test)]
-mod paths;
-#[cfg(test)]
-mod policies;
-#[cfg(test)]
-mod prefixes;
-#[cfg(test)]
 mod queues;
-#[cfg(test)]
-mod selection;
-#[cfg(test)]
-mod table_callers;
-#[cfg(test)]
-mod tables;
-#[cfg(test)]
-mod tables_by_router;
