@@ -31,6 +31,7 @@ use seq::Seq;
 use session_queue::{Direction, Queues};
 use std::alloc::{AllocError, Global};
 use std::marker::Model;
+use std::mem::replace;
 use std::thread::Threads;
 
 /// What an edit will do: the configuration that it makes, the directions for that, and the cells that are decided anew, with what
@@ -237,8 +238,15 @@ impl<S: Selector + Send + Sync + Drop, T: PrefixTable<Cell<S>> + Drop> State<S, 
         let Ok(made) = self.conf.edited(self.alloc, edit) else {
             return Err(AllocError);
         };
-        let changes = self.changes_by(rt, edit.scope(), &made)?;
-        let directions = directions_after(self.alloc, self.directions.as_slice(), edit)?;
+        let Ok(changes) = self.changes_by(rt, edit.scope(), &made) else {
+            drop(made);
+            return Err(AllocError);
+        };
+        let directions = directions_after(self.alloc, self.directions.as_slice(), edit);
+        let Ok(directions) = directions else {
+            drop((made, changes));
+            return Err(AllocError);
+        };
         boxed(self.alloc, made, directions, changes)
     }
 
@@ -302,7 +310,7 @@ impl<S: Selector + Drop, T: PrefixTable<Cell<S>> + Drop> State<S, T> {
         } = Box::into_inner(edited.parts);
         conf.facts();
         clear_down(&mut self.queues, &conf, self.directions.as_slice());
-        self.conf = conf;
+        drop(replace(&mut self.conf, conf));
         self.directions = directions;
         place_changes(&mut self.tables, &mut self.queues, changes.into_vec());
     }

@@ -48,9 +48,9 @@ fn grows_at_both_ends(rt: HostRuntime) -> Result<(), Fail> {
     let mut list = Seq::new(rt.alloc());
     assert!(rt; list.is_empty());
     for number in 5..20 {
-        change(&rt, rt.alloc(), &mut list, |l| l.push(number))?;
+        change(&rt, rt.alloc(), &mut list, |l| l.push(number)).expect(&rt, "memory");
     }
-    change(&rt, rt.alloc(), &mut list, |l| l.push_front(4))?;
+    change(&rt, rt.alloc(), &mut list, |l| l.push_front(4)).expect(&rt, "memory");
     assert_eq!(rt; list.len(), 16);
     assert!(rt; !list.is_empty());
     let numbers = [4, 5, 6, 7, 8, 9, 10, 11, 12, 13, 14, 15, 16, 17, 18, 19];
@@ -63,9 +63,9 @@ fn grows_at_both_ends(rt: HostRuntime) -> Result<(), Fail> {
 fn copies(rt: HostRuntime) -> Result<(), Fail> {
     let alloc = rt.alloc();
     let list = again(|| words(alloc, &["as", "path", ""]))?;
-    let copy = again(|| list.copy(alloc))?;
+    let copy = again(|| list.copy(alloc)).expect(&rt, "memory");
     assert_eq!(rt; copy, list);
-    let vec = again(|| copy_all(alloc, list.as_slice()))?;
+    let vec = again(|| copy_all(alloc, list.as_slice())).expect(&rt, "memory");
     assert_eq!(rt; vec.as_slice(), list.as_slice());
     assert_ne!(rt; again(|| words(alloc, &["as", "path"]))?, list);
     assert_ne!(rt; again(|| words(alloc, &["as", "patH", ""]))?, list);
@@ -76,8 +76,8 @@ fn copies(rt: HostRuntime) -> Result<(), Fail> {
 fn shares(rt: HostRuntime) -> Result<(), Fail> {
     let alloc = rt.alloc();
     let texts = again(|| words(alloc, &["as", "path"]))?;
-    let list = shared(alloc, texts.as_slice())?;
-    let other = list.share()?;
+    let list = shared(alloc, texts.as_slice()).expect(&rt, "memory");
+    let other = list.share().expect(&rt, "memory");
     assert_eq!(rt; other.as_slice(), texts.as_slice());
     assert_eq!(rt; list.copy(alloc)?, other);
     assert_eq!(rt; list.clone()?, other);

@@ -77,11 +77,14 @@ fn begins_with_a_sequence(rt: HostRuntime) -> Result<(), Fail> {
 fn begins_with_a_set(rt: HostRuntime) -> Result<(), Fail> {
     let alloc = rt.alloc();
     let set = Segment::Set(list(alloc, &[1, 2])?);
-    let mut worked = alone(alloc, set)?.ok_or("a set is a path")?;
+    let mut worked = alone(alloc, set)?
+        .ok_or("a set is a path")
+        .expect(&rt, "memory");
     assert_eq!(rt; worked.length(), 1);
     assert_eq!(rt; worked.neighbour(), None);
     prepend(&rt, alloc, &mut worked, 9)?;
-    assert_eq!(rt; worked, path(alloc, &[9], &[1, 2])?);
+    let wanted = path(alloc, &[9], &[1, 2])?;
+    assert_eq!(rt; worked, wanted);
     Ok(())
 }
 
@@ -93,8 +96,10 @@ fn prepends_to_nothing_and_to_a_full_sequence(rt: HostRuntime) -> Result<(), Fai
     let nine = Segment::Seq(list(alloc, &[9])?);
     assert_eq!(rt; worked.segments().first(), Some(&nine));
     let full = Segment::Seq(list(alloc, &[5; 255])?);
-    let copy = again(|| full.copy(alloc))?;
-    let mut worked = alone(alloc, copy)?.ok_or("a sequence is a path")?;
+    let copy = again(|| full.copy(alloc)).expect(&rt, "memory");
+    let mut worked = alone(alloc, copy)?
+        .ok_or("a sequence is a path")
+        .expect(&rt, "memory");
     prepend(&rt, alloc, &mut worked, 9)?;
     assert_eq!(rt; worked.length(), 256);
     assert_eq!(rt; worked.segments(), [nine, full].as_slice());
@@ -105,12 +110,12 @@ fn prepends_to_nothing_and_to_a_full_sequence(rt: HostRuntime) -> Result<(), Fai
 fn prepends_several_times_and_leaves_other_owners(rt: HostRuntime) -> Result<(), Fail> {
     let alloc = rt.alloc();
     let worked = path(alloc, &[7], &[1, 2])?;
-    let mut other = worked.share()?;
+    let mut other = worked.share().expect(&rt, "memory");
     prepend(&rt, alloc, &mut other, 9)?;
     assert_eq!(rt; other, path(alloc, &[9, 7], &[1, 2])?);
     assert_eq!(rt; worked, path(alloc, &[7], &[1, 2])?);
     let nine = asn(9)?;
-    let thrice = again(|| worked.prepended_times(alloc, nine, 3))?;
+    let thrice = again(|| worked.prepended_times(alloc, nine, 3)).expect(&rt, "memory");
     assert_eq!(rt; thrice, path(alloc, &[9, 9, 9, 7], &[1, 2])?);
     assert_eq!(rt; again(|| worked.prepended(alloc, nine))?, other);
     Ok(())
@@ -139,16 +144,18 @@ fn differ(rt: &impl Abort, a: &Attr, b: &Attr) {
 #[test]
 fn compares_seven_attributes(rt: HostRuntime) -> Result<(), Fail> {
     let alloc = rt.alloc();
+    let path = path(alloc, &[7], &[1, 2])?;
+    let clusters = again(|| SharedSeq::of(alloc, Vec::from_slice(alloc, &[Addr(3), Addr(4)])?));
     let whole = Attr {
-        path: path(alloc, &[7], &[1, 2])?,
+        path,
         origin: Origin::Igp,
         next: Addr(1),
         med: Some(5),
         pref: Some(100),
         oid: Some(Addr(2)),
-        clusters: again(|| SharedSeq::of(alloc, Vec::from_slice(alloc, &[Addr(3), Addr(4)])?))?,
+        clusters: clusters.expect(&rt, "memory"),
     };
-    let mut other = whole.share()?;
+    let mut other = whole.share().expect(&rt, "memory");
     other.origin = Origin::Egp;
     differ(&rt, &whole, &other);
     other.origin = whole.origin;

@@ -98,6 +98,7 @@ fn repeats_up_to_sixteen_times(rt: HostRuntime) {
 #[test]
 fn judges_by_the_first_rule(rt: HostRuntime) -> Result<(), Fail> {
     let alloc = rt.alloc();
+    let inside = prefix("10.1.0.0/16")?;
     let mut policy = worked(&rt, alloc)?;
     let attr = route(AsPath::empty());
     for (text, action) in [
@@ -114,15 +115,15 @@ fn judges_by_the_first_rule(rt: HostRuntime) -> Result<(), Fail> {
         med: None,
         prepend: None,
     };
-    assert_eq!(rt; judge(&policy, prefix("10.1.0.0/16")?, &attr), plain);
+    assert_eq!(rt; judge(&policy, inside, &attr), plain);
     Ok(())
 }
 
 #[test]
 fn matches_prefixes(rt: HostRuntime) -> Result<(), Fail> {
     let alloc = rt.alloc();
-    let attr = route(AsPath::empty());
     let sixteen = prefix("10.1.0.0/16")?;
+    let attr = route(AsPath::empty());
     for (cond, text, matches) in [
         (Match::Any, "0.0.0.0/0", true),
         (Match::Is(sixteen), "10.1.0.0/16", true),
@@ -168,10 +169,10 @@ fn matches_paths(rt: HostRuntime) -> Result<(), Fail> {
 fn takes_256_rules(rt: HostRuntime) -> Result<(), Fail> {
     let mut policy = Policy::new(rt.alloc());
     for _ in 0..255 {
-        add(&rt, &mut policy, &DENY)?;
+        add(&rt, &mut policy, &DENY).expect(&rt, "memory");
     }
     assert!(rt; !policy.is_full());
-    add(&rt, &mut policy, &PREFER)?;
+    add(&rt, &mut policy, &PREFER).expect(&rt, "memory");
     assert!(rt; policy.is_full());
     assert_eq!(rt; policy.add(DENY), Err(AddFault::Limit));
     assert_eq!(rt; policy.len(), MAX_RULES);
@@ -184,16 +185,16 @@ fn takes_256_rules(rt: HostRuntime) -> Result<(), Fail> {
 #[test]
 fn copies_and_compares(rt: HostRuntime) -> Result<(), Fail> {
     let alloc = rt.alloc();
+    let cond = Match::First(asn(7)?);
     let mut policy = worked(&rt, alloc)?;
-    let copy = again(|| policy.copy(alloc))?;
+    let copy = again(|| policy.copy(alloc)).expect(&rt, "memory");
     assert_eq!(rt; copy, policy);
     let act = Action::Permit {
         pref: None,
         med: Some(7),
         prepend: Repeat::new(2),
     };
-    let cond = Match::First(asn(7)?);
-    add(&rt, &mut policy, &Rule { cond, act })?;
+    add(&rt, &mut policy, &Rule { cond, act }).expect(&rt, "memory");
     assert_ne!(rt; copy, policy);
     assert!(rt; !copy.is_same(&policy));
     Ok(())

@@ -207,8 +207,8 @@ fn prefers_a_higher_preference_to_an_own_route(rt: HostRuntime) -> Result<(), Fa
     preferred.pref = 200;
 
     let mut chosen = FilterCell::new(alloc);
-    consider(&mut chosen, own)?;
-    consider(&mut chosen, preferred)?;
+    consider(&mut chosen, own).expect(&rt, "memory");
+    consider(&mut chosen, preferred).expect(&rt, "memory");
     assert_eq!(rt; chosen.reason(Source::Own), Some(Reason::Pref));
     assert_eq!(rt; chosen.reason(Source::Peer(B)), Some(Reason::Best));
     Ok(())
@@ -218,24 +218,24 @@ fn prefers_a_higher_preference_to_an_own_route(rt: HostRuntime) -> Result<(), Fa
 fn breaks_ties_by_clusters_and_then_by_peer(rt: HostRuntime) -> Result<(), Fail> {
     let alloc = rt.alloc();
     let mut chosen = FilterCell::new(alloc);
-    consider(&mut chosen, reflected(alloc, A, C, 2)?)?;
-    consider(&mut chosen, reflected(alloc, B, C, 1)?)?;
+    consider(&mut chosen, reflected(alloc, A, C, 2)?).expect(&rt, "memory");
+    consider(&mut chosen, reflected(alloc, B, C, 1)?).expect(&rt, "memory");
     assert_eq!(rt; chosen.reason(Source::Peer(A)), Some(Reason::Clusters));
     assert_eq!(rt; chosen.reason(Source::Peer(B)), Some(Reason::Best));
 
-    consider(&mut chosen, reflected(alloc, A, C, 1)?)?;
+    consider(&mut chosen, reflected(alloc, A, C, 1)?).expect(&rt, "memory");
     assert_eq!(rt; chosen.reason(Source::Peer(A)), Some(Reason::Best));
     assert_eq!(rt; chosen.reason(Source::Peer(B)), Some(Reason::Peer));
 
     let mut own = reflected(alloc, A, C, 1)?;
     own.source = Source::Own;
-    consider(&mut chosen, own)?;
+    consider(&mut chosen, own).expect(&rt, "memory");
     assert_eq!(rt; chosen.reason(Source::Own), Some(Reason::Peer));
 
     let from_same_address = reflected(alloc, C, C, 1)?;
     chosen.drop_source(Source::Peer(A));
     chosen.drop_source(Source::Peer(B));
-    consider(&mut chosen, from_same_address)?;
+    consider(&mut chosen, from_same_address).expect(&rt, "memory");
     assert_eq!(rt; chosen.reason(Source::Own), Some(Reason::Best));
     assert_eq!(rt; chosen.reason(Source::Peer(C)), Some(Reason::Peer));
     Ok(())

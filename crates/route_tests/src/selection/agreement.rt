@@ -106,12 +106,14 @@ fn both_selectors_agree_after_each_of_four_thousand_changes(rt: HostRuntime) -> 
             groups.drop_source(changed);
         } else {
             let standing = drawn_standing(alloc, &mut state, changed)?;
-            plain.put(changed, standing.copy(alloc)?)?;
-            groups.put(changed, standing)?;
+            plain
+                .put(changed, standing.copy(alloc).expect(&rt, "memory"))
+                .expect(&rt, "memory");
+            groups.put(changed, standing).expect(&rt, "memory");
         }
         agree(&rt, &plain, &groups);
         if step % 100 == 0 {
-            groups = groups.copy(alloc)?;
+            groups = groups.copy(alloc).expect(&rt, "memory");
             agree(&rt, &plain, &groups);
         }
     }

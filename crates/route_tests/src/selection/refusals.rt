@@ -6,7 +6,6 @@ use path_attr::AsPath;
 use route_select::{Chosen, FilterCell, GroupCell, Reason, Selector, Source, Standing};
 use std::alloc::AllocError;
 use std::process::Abort;
-use std::test::Fail;
 
 /// The reasons of the peers of the addresses 0 to 23, and where the best route is from. They take no memory.
 fn all_reasons<S: Chosen>(chosen: &S) -> ([Option<Reason>; 24], Option<Source>) {
@@ -29,7 +28,7 @@ fn put<S: Selector>(chosen: &mut S, peer: Addr, cost: u32) -> Result<(), AllocEr
 
 /// Where a put is refused, nothing is changed, and the next try works; a source that is known is never refused. Only puts take
 /// memory, so a run of this test alone with each allocation refused in turn meets each growth.
-fn refused<S: Selector + Drop>(rt: &impl Abort, mut chosen: S) -> Result<(), Fail> {
+fn refused<S: Selector + Drop>(rt: &impl Abort, mut chosen: S) {
     let mut refusals = 0u8;
     for number in 0..24u32 {
         let peer = Addr(number.wrapping_mul(7) % 24);
@@ -38,25 +37,26 @@ fn refused<S: Selector + Drop>(rt: &impl Abort, mut chosen: S) -> Result<(), Fai
         if put(&mut chosen, peer, number).is_err() {
             refusals = refusals.saturating_add(1);
             assert!(rt; all_reasons(&chosen) == before);
-            put(&mut chosen, peer, number)?;
+            put(&mut chosen, peer, number).expect(rt, "memory");
         }
         let after = all_reasons(&chosen);
         assert!(rt; after != before);
-        chosen.put(Source::Peer(peer), Standing::Excluded(Reason::Denied))?;
+        chosen
+            .put(Source::Peer(peer), Standing::Excluded(Reason::Denied))
+            .expect(rt, "memory");
         assert_eq!(rt; chosen.reason(Source::Peer(peer)), Some(Reason::Denied));
-        put(&mut chosen, peer, number)?;
+        put(&mut chosen, peer, number).expect(rt, "memory");
         assert!(rt; all_reasons(&chosen) == after);
     }
     assert!(rt; refusals < 2);
-    Ok(())
 }
 
 #[test]
-fn a_refused_put_changes_no_standings_in_order_of_source(rt: HostRuntime) -> Result<(), Fail> {
-    refused(&rt, FilterCell::new(rt.alloc()))
+fn a_refused_put_changes_no_standings_in_order_of_source(rt: HostRuntime) {
+    refused(&rt, FilterCell::new(rt.alloc()));
 }
 
 #[test]
-fn a_refused_put_changes_no_groups(rt: HostRuntime) -> Result<(), Fail> {
-    refused(&rt, GroupCell::new(rt.alloc()))
+fn a_refused_put_changes_no_groups(rt: HostRuntime) {
+    refused(&rt, GroupCell::new(rt.alloc()));
 }
