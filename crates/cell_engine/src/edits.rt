@@ -31,7 +31,6 @@ use seq::Seq;
 use session_queue::{Direction, Queues};
 use std::alloc::{AllocError, Global};
 use std::marker::Model;
-use std::mem::replace;
 use std::thread::Threads;
 
 /// What an edit will do: the configuration that it makes, the directions for that, and the cells that are decided anew, with what
@@ -310,7 +309,7 @@ impl<S: Selector + Drop, T: PrefixTable<Cell<S>> + Drop> State<S, T> {
         } = Box::into_inner(edited.parts);
         conf.facts();
         clear_down(&mut self.queues, &conf, self.directions.as_slice());
-        drop(replace(&mut self.conf, conf));
+        self.conf = conf;
         self.directions = directions;
         place_changes(&mut self.tables, &mut self.queues, changes.into_vec());
     }

@@ -21,6 +21,7 @@ use shared_map::SharedMap;
 use std::alloc::{AllocError, Global};
 use std::collections::BTreeSet;
 use std::marker::Model;
+use std::mem::replace;
 
 /// What is configured, with the interior costs and the sites of those who have a session.
 #[derive(Drop)]
@@ -78,7 +79,8 @@ impl Conf {
     pub fn edit(&mut self, alloc: Global, edit: &Edit) -> Result<(), Refusal>
         ensures { IsEdit self.old edit.now result self.new }
     {
-        *self = self.edited(alloc, edit)?.conf;
+        let made = self.edited(alloc, edit)?;
+        drop(replace(self, made.conf));
         Ok(())
     }
 
@@ -180,8 +182,15 @@ impl Conf {
         ensures concerned { IfOk result (λ made. ConcernsAlone self.now made.conf made.concerned.keys) }
     {
         let Made { conf: trees, moved } = self.trees.made(alloc, edit)?;
-        let concerned = self.trees.concerned(alloc, edit, &trees, moved)?;
-        let sites = self.sites_after(alloc, edit, &trees, &concerned)?;
+        // (an implicit drop of a whole configuration is written out at each early end: minutes of the prover)
+        let Ok(concerned) = self.trees.concerned(alloc, edit, &trees, moved) else {
+            drop(trees);
+            return Err(AllocError);
+        };
+        let Ok(sites) = self.sites_after(alloc, edit, &trees, &concerned) else {
+            drop((trees, concerned));
+            return Err(AllocError);
+        };
         let conf = Conf { trees, sites };
         Ok(EditedConf { conf, concerned })
     }
@@ -189,8 +198,10 @@ impl Conf {
 
 impl Copied for Conf {
     fn copy(&self, alloc: Global) -> Result<Conf, AllocError> {
-        let trees = self.trees.copy(alloc)?;
         let sites = self.sites.share()?;
-        Ok(Conf { trees, sites })
+        Ok(Conf {
+            trees: self.trees.copy(alloc)?,
+            sites,
+        })
     }
 }

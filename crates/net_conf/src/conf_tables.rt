@@ -260,18 +260,71 @@ pub(crate) fn policy_at(
     }
 }
 
+/// Routers and virtual peers, links, and CLUSTER_IDs.
+type Interior = (
+    SharedMap<Addr, Node>,
+    SharedMap<Ends, Link>,
+    SharedMap<Addr, Addr>,
+);
+
+/// Sessions, and the settings of their ends but for the policies.
+type Sessions = (SharedMap<Ends, bool>, SharedSet<End>, SharedSet<End>);
+
+/// The policies for what comes in and for what goes out, and who originates what.
+type Policies = (
+    SharedMap<End, Policy>,
+    SharedMap<End, Policy>,
+    SharedSet<Origination>,
+);
+
+impl ConfTables {
+    fn share_interior(&self) -> Result<Interior, AllocError>
+        ensures nodes { IfOk result (λ t. t.0 ≡ self.now.nodes) }
+        ensures links { IfOk result (λ t. t.1 ≡ self.now.links) }
+        ensures clusters { IfOk result (λ t. t.2 ≡ self.now.clusters) }
+    {
+        let nodes = self.nodes.share()?;
+        let links = self.links.share()?;
+        Ok((nodes, links, self.clusters.share()?))
+    }
+
+    fn share_sessions(&self) -> Result<Sessions, AllocError>
+        ensures sessions { IfOk result (λ t. t.0 ≡ self.now.sessions) }
+        ensures clients { IfOk result (λ t. t.1 ≡ self.now.clients) }
+        ensures own_next { IfOk result (λ t. t.2 ≡ self.now.own_next) }
+    {
+        let sessions = self.sessions.share()?;
+        let clients = self.clients.share()?;
+        Ok((sessions, clients, self.own_next.share()?))
+    }
+
+    fn share_policies(&self) -> Result<Policies, AllocError>
+        ensures imports { IfOk result (λ t. t.0 ≡ self.now.imports) }
+        ensures exports { IfOk result (λ t. t.1 ≡ self.now.exports) }
+        ensures origins { IfOk result (λ t. t.2 ≡ self.now.origins) }
+    {
+        let imports = self.imports.share()?;
+        let exports = self.exports.share()?;
+        Ok((imports, exports, self.origins.share()?))
+    }
+}
+
 impl Copied for ConfTables {
+    // The parts one after another: the prover's work grows steeply with the values that one function may have to drop.
     fn copy(&self, _alloc: Global) -> Result<ConfTables, AllocError> {
+        let (nodes, links, clusters) = self.share_interior()?;
+        let (sessions, clients, own_next) = self.share_sessions()?;
+        let (imports, exports, origins) = self.share_policies()?;
         Ok(ConfTables {
-            nodes: self.nodes.share()?,
-            links: self.links.share()?,
-            sessions: self.sessions.share()?,
-            clients: self.clients.share()?,
-            own_next: self.own_next.share()?,
-            imports: self.imports.share()?,
-            exports: self.exports.share()?,
-            clusters: self.clusters.share()?,
-            origins: self.origins.share()?,
+            nodes,
+            links,
+            sessions,
+            clients,
+            own_next,
+            imports,
+            exports,
+            clusters,
+            origins,
         })
     }
 }

@@ -119,8 +119,10 @@ impl ConfTrees {
 
 impl Copied for ConfTrees {
     fn copy(&self, alloc: Global) -> Result<ConfTrees, AllocError> {
-        let tables = self.tables.copy(alloc)?;
         let trees = self.trees.share()?;
-        Ok(ConfTrees { tables, trees })
+        Ok(ConfTrees {
+            tables: self.tables.copy(alloc)?,
+            trees,
+        })
     }
 }

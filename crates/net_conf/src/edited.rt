@@ -37,8 +37,14 @@ impl ConfTrees {
     {
         edit.knows_metric();
         let mut tables = self.tables.copy(alloc)?;
-        tables.apply(alloc, edit)?;
-        let Carried { trees, moved } = self.trees_after(alloc, edit, &tables)?;
+        let Ok(()) = tables.apply(alloc, edit) else {
+            drop(tables);
+            return Err(AllocError);
+        };
+        let Ok(Carried { trees, moved }) = self.trees_after(alloc, edit, &tables) else {
+            drop(tables);
+            return Err(AllocError);
+        };
         let conf = ConfTrees { tables, trees };
         Ok(Made { conf, moved })
     }

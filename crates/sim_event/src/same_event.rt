@@ -7,14 +7,7 @@ use route_policy::{Action, Match, Rule};
 
 impl Same for Match {
     fn is_same(&self, other: &Match) -> bool {
-        match (self, other) {
-            (Match::Any, Match::Any) => true,
-            (Match::Is(some), Match::Is(another)) => some == another,
-            (Match::Under(some), Match::Under(another)) => some == another,
-            (Match::Path(some), Match::Path(another)) => some == another,
-            (Match::First(some), Match::First(another)) => some == another,
-            _ => false,
-        }
+        self == other
     }
 }
 
@@ -80,18 +73,7 @@ impl Same for Feed {
 
 impl Same for Ask {
     fn is_same(&self, other: &Ask) -> bool {
-        match (self, other) {
-            (Ask::Routes(r), Ask::Routes(s)) => r == s,
-            (Ask::Best(r, p), Ask::Best(s, q)) => r == s && p == q,
-            (Ask::Why(r, p), Ask::Why(s, q)) => r == s && p == q,
-            (Ask::In(a, b), Ask::In(c, d)) => a == c && b == d,
-            (Ask::Out(a, b), Ask::Out(c, d)) => a == c && b == d,
-            (Ask::Queue(a, b), Ask::Queue(c, d)) => a == c && b == d,
-            (Ask::Quiet, Ask::Quiet) => true,
-            (Ask::Cost(a, b), Ask::Cost(c, d)) => a == c && b == d,
-            (Ask::Trace(a, b), Ask::Trace(c, d)) => a == c && b == d,
-            _ => false,
-        }
+        self == other
     }
 }
 
