@@ -1,9 +1,10 @@
 //! The room: the machine with the history of all calls. Only this module sees its fields, those of seats and those of jobs.
 
-ghost use Rattle.std.specs.Prelude.{◌≡◌, ◌≤◌, ◌↔◌, ◌∷◌, ◌++◌, false, [], cond, length, IfOk, IfErr, OnOk, OnErr};
+ghost use Rattle.std.specs.Prelude.{◌≡◌, ◌≤◌, ◌↔◌, ◌∷◌, ◌++◌, false, [], cond, length, IsTrue, IfOk, IfErr, OnOk, OnErr};
 ghost use Rattle.reference_machine.specs.Machine.{nothing, step, refused};
 ghost use Rattle.reference_machine.specs.Histories.{IsLegal, state_after, calls_of};
 ghost use Rattle.net_conf.specs.Configured.{IsConfigured};
+ghost use Rattle.session_queue.specs.Waiting.{IsQuiet};
 ghost use Rattle.cell_network.specs.Engine.{network, IsSound};
 ghost use Rattle.sim_core.specs.Plans.{IsPrepared};
 ghost use Rattle.desk.specs.Books.{IsKept, blank_seats, is_memory, stepped, recorded, noted, with_call, is_edit, version_of};
@@ -115,6 +116,13 @@ impl<S: Chosen, T: PrefixTable<Cell<S>>, L: Ledger> Room<S, T, L> {
         ensures configured { IsConfigured self.now.engine.conf }
     {
         self.sim.state().facts();
+    }
+
+    /// Whether no message waits.
+    pub fn is_quiet(&self) -> bool
+        ensures { IsTrue result ↔ IsQuiet self.now.engine.queues }
+    {
+        self.sim.state().queues().all_empty()
     }
 
     /// How many edits were accepted.

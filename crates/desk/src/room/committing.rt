@@ -22,7 +22,7 @@ use route_select::Chosen;
 use seq::Copied;
 use session_queue::Message;
 use sim_event::{Event, Reply};
-use std::alloc::AllocError;
+use std::alloc::{AllocError, Global};
 use std::sync::ledger::Ledger;
 
 impl<S: Chosen + Drop, T: PrefixTable<Cell<S>> + Drop, L: Ledger> Room<S, T, L> {
@@ -69,7 +69,7 @@ impl<S: Chosen + Drop, T: PrefixTable<Cell<S>> + Drop, L: Ledger> Room<S, T, L> 
             .shared_site(self.alloc, job.direction.to)?;
         if !is_same_site(&job.site, &site) {
             return Ok(Some(Newer::SiteMoved {
-                had: share_site(&job.site)?,
+                had: share_site(self.alloc, &job.site)?,
                 now: site,
             }));
         }
@@ -175,11 +175,14 @@ fn is_same_site(had: &Option<SharedSite>, now: &Option<SharedSite>) -> bool
 }
 
 /// One owner more of the site.
-fn share_site(site: &Option<SharedSite>) -> Result<Option<SharedSite>, AllocError>
+fn share_site(
+    alloc: Global,
+    site: &Option<SharedSite>,
+) -> Result<Option<SharedSite>, AllocError>
     ensures { IfOk result (λ shared. shared ≡ site.now) }
 {
     match site {
-        Some(site) => Ok(Some(site.clone()?)),
+        Some(site) => Ok(Some(site.copy(alloc)?)),
         None => Ok(None),
     }
 }

@@ -1,0 +1,7 @@
+use super::*;
+use std::test::*;
+
+#[test]
+fn nothing(rt: HostRuntime) {
+    let _ = &rt;
+}
