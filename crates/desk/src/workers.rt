@@ -58,6 +58,7 @@ impl<L: Ledger> Promise<Seat<L>> for SeatGoesOn<L> {
 }
 
 /// Starts a thread for the last seat, then those for the seats before it, and waits for all.
+#[tactic(auto, using(crate::proofs::Following::rows))]
 fn run_rest<
     S: Selector + Drop + Send,
     T: PrefixTable<Cell<S>> + Drop + Send,
@@ -157,6 +158,7 @@ fn make_turns<S: Selector + Drop, T: PrefixTable<Cell<S>> + Drop, L: Ledger, G: 
 }
 
 /// Works a job, and brings its outcome back.
+#[tactic(auto, using(crate::proofs::Following::goes_on))]
 fn do_job<S: Selector + Drop, T: PrefixTable<Cell<S>> + Drop, L: Ledger, G: Gate, R: Wait>(
     rt: &R,
     desk: &Desk<S, T, L>,
