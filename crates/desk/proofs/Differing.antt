@@ -31,9 +31,9 @@ addr_itself a = (unsigned_Decides a.0 a.0).1 refl
 
 route_true : (x y : Addr × Attr) → same_route x y ≡ true → (x.0 ≡ y.0) × (x.1 ≡ y.1)
 route_true x y h = (
-      addr_true x.0 y.0 (first_so (same_addr x.0 y.0) (same_attr x.1 y.1) h),
-      (attrs_exact x.1 y.1).0 (second_so (same_addr x.0 y.0) (same_attr x.1 y.1) h),
-    )
+  addr_true x.0 y.0 (first_so (same_addr x.0 y.0) (same_attr x.1 y.1) h),
+  (attrs_exact x.1 y.1).0 (second_so (same_addr x.0 y.0) (same_attr x.1 y.1) h),
+)
 
 route_itself : (x : Addr × Attr) → same_route x x ≡ true
 route_itself x = λ i. addr_itself x.0 i && (attrs_exact x.1 x.1).1 refl i

@@ -37,4 +37,5 @@ all_go_on_push [] (b ∷ ys) x y h p = absurd h
 all_go_on_push (a ∷ xs) [] x y h p = absurd h
 
 pub ruleset goes_on = (goes_on_itself, goes_on_same)
+
 pub ruleset rows = (all_go_on_push)

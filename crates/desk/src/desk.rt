@@ -173,12 +173,7 @@ impl<S: Chosen, T: PrefixTable<Cell<S>>, L: Ledger> Desk<S, T, L> {
 impl<S: Selector + Send + Sync + Drop, T: PrefixTable<Cell<S>> + Drop, L: Ledger> Desk<S, T, L> {
     /// Makes a call from the seat: the reply is the machine's own, in a state that a legal history leaves, and it is the last of the seat's
     /// notes. For want of memory the reply is the refusal `Memory`, and the seat stays as it is.
-    pub fn call<R: Threads + Wait + Sync>(
-        &self,
-        rt: &R,
-        seat: &mut Seat<L>,
-        event: Event,
-    ) -> Reply
+    pub fn call<R: Threads + Wait + Sync>(&self, rt: &R, seat: &mut Seat<L>, event: Event) -> Reply
         ensures seat { seat.new ≡ noted seat.old event result }
         ensures reply { is_memory result ≡ false → IsReplied event result }
     {
@@ -245,7 +240,9 @@ impl<S: Selector + Drop, T: PrefixTable<Cell<S>> + Drop, L: Ledger> Desk<S, T, L
             }
             let is_finished = table.is_finished;
             let seen = table.changes;
-            table = self.changed.wait_while(rt, table, |now| now.changes == seen);
+            table = self
+                .changed
+                .wait_while(rt, table, |now| now.changes == seen);
             if is_finished {
                 return Turn::Nothing;
             }

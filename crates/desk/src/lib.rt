@@ -10,6 +10,3 @@ pub use room::{
     Audit, CloseFault, CommitFault, Committed, Done, Fault, Job, Newer, Record, Room, Seat,
 };
 pub use workers::{Gate, run_workers};
-
-#[cfg(test)]
-mod tests;

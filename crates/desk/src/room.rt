@@ -19,17 +19,16 @@ mod record;
 mod seat;
 mod taking;
 
-pub use commit::{CommitFault, Committed, Newer};
-pub use job::{Done, Job};
-pub use record::{CloseFault, Fault, Record};
-pub use seat::Seat;
-
 use crate::room::notes::{Draft, agrees};
 use crate::room::record::{all_agree, is_each_once};
 use cell_engine::Cell;
+pub use commit::{CommitFault, Committed, Newer};
+pub use job::{Done, Job};
 use net_conf::Refusal;
 use prefix_table::PrefixTable;
+pub use record::{CloseFault, Fault, Record};
 use route_select::{Chosen, Selector};
+pub use seat::Seat;
 use sim_core::{Plan, Sim};
 use sim_event::{Entry, Event, Reply};
 use std::alloc::{AllocError, Global};

@@ -34,17 +34,26 @@ pub fn run_workers<
     L: Ledger + Send + Sync,
     G: Gate + Sync,
     R: Threads + Wait + Sync,
->(
-    rt: &R,
-    desk: &Desk<S, T, L>,
-    seats: Vec<Seat<L>>,
-    gate: &G,
-    turns: u64,
-) -> Vec<Seat<L>>
+>(rt: &R, desk: &Desk<S, T, L>, seats: Vec<Seat<L>>, gate: &G, turns: u64) -> Vec<Seat<L>>
     ensures { AllGoOn seats.items result.items }
 {
     desk.enter(rt, seats.len());
-    run_rest(rt, desk, gate, turns, seats)
+    let crew = Crew {
+        rt,
+        desk,
+        gate,
+        turns,
+    };
+    crew.run(seats)
+}
+
+/// What the workers of one call have in common.
+#[derive(Clone, Copy)]
+struct Crew<'a, S: Selector, T: PrefixTable<Cell<S>>, L: Ledger, G: Gate, R: Wait> {
+    rt: &'a R,
+    desk: &'a Desk<S, T, L>,
+    gate: &'a G,
+    turns: u64,
 }
 
 /// What a thread hands back goes on from the seat that it was given.
@@ -57,123 +66,103 @@ impl<L: Ledger> Promise<Seat<L>> for SeatGoesOn<L> {
     ghost kept_by = { λ promise seat. GoesOn promise.0.value seat };
 }
 
-/// Starts a thread for the last seat, then those for the seats before it, and waits for all.
-#[tactic(auto, using(crate::proofs::Following::rows))]
-fn run_rest<
+impl<
+    'a,
     S: Selector + Drop + Send,
     T: PrefixTable<Cell<S>> + Drop + Send,
     L: Ledger + Send + Sync,
     G: Gate + Sync,
     R: Threads + Wait + Sync,
->(
-    rt: &R,
-    desk: &Desk<S, T, L>,
-    gate: &G,
-    turns: u64,
-    mut seats: Vec<Seat<L>>,
-) -> Vec<Seat<L>>
-    ensures each { AllGoOn seats.items result.items }
-    ensures len { vec_len result ≡ vec_len seats }
-    ensures capacity { vec_capacity result ≡ vec_capacity seats }
-{
-    let Some(seat) = seats.pop() else {
-        return seats;
-    };
-    let worker = seats.len();
-    let left_out = AtomicBool::new(false);
-    let out = &left_out;
-    let (mut rest, last) = thread::scope(
-        thread::scope_env(),
-        rt,
-        |scope| -> (Vec<Seat<L>>, Seat<L>)
-            ensures { AllGoOn seats.items result.0.items × GoesOn seat result.1 × (vec_len result.0 ≡ vec_len seats) × (vec_capacity result.0 ≡ vec_capacity seats) }
-        {
-            let promise = SeatGoesOn(Snapshot::of(&seat));
-            let job = move || -> Seat<L>
-                ensures { GoesOn seat result }
+> Crew<'a, S, T, L, G, R> {
+    /// Starts a thread for the last seat, then those for the seats before it, and waits for all.
+    #[tactic(auto, using(crate::proofs::Following::rows))]
+    fn run(&self, mut seats: Vec<Seat<L>>) -> Vec<Seat<L>>
+        ensures each { AllGoOn seats.items result.items }
+        ensures len { vec_len result ≡ vec_len seats }
+        ensures capacity { vec_capacity result ≡ vec_capacity seats }
+    {
+        let Some(seat) = seats.pop() else {
+            return seats;
+        };
+        let worker = seats.len();
+        let left_out = AtomicBool::new(false);
+        let is_out = &left_out;
+        let (mut rest, last) = thread::scope(
+            thread::scope_env(),
+            self.rt,
+            |scope| -> (Vec<Seat<L>>, Seat<L>)
+                ensures { AllGoOn seats.items result.0.items × GoesOn seat result.1 × (vec_len result.0 ≡ vec_len seats) × (vec_capacity result.0 ≡ vec_capacity seats) }
             {
-                if out.load(Ordering::SeqCst) {
-                    desk.leave(rt);
-                    seat
-                } else {
-                    worked(rt, desk, gate, worker, turns, seat)
+                let promise = SeatGoesOn(Snapshot::of(&seat));
+                let job = move || -> Seat<L>
+                    ensures { GoesOn seat result }
+                { self.work(is_out, worker, seat) };
+                match scope.spawn_with(promise, job) {
+                    Ok(handle) => {
+                        let rest = self.run(seats);
+                        (rest, handle.join(self.rt))
+                    }
+                    Err(refused) => {
+                        is_out.store(true, Ordering::SeqCst);
+                        let last = (refused.value)();
+                        (self.run(seats), last)
+                    }
                 }
-            };
-            match scope.spawn_with(promise, job) {
-                Ok(handle) => {
-                    let rest = run_rest(rt, desk, gate, turns, seats);
-                    (rest, handle.join(rt))
-                }
-                Err(refused) => {
-                    out.store(true, Ordering::SeqCst);
-                    let last = (refused.value)();
-                    (run_rest(rt, desk, gate, turns, seats), last)
-                }
-            }
-        },
-    );
-    rest.push_reserved(last);
-    rest
-}
-
-/// All turns of a worker, which then leaves.
-fn worked<S: Selector + Drop, T: PrefixTable<Cell<S>> + Drop, L: Ledger, G: Gate, R: Wait>(
-    rt: &R,
-    desk: &Desk<S, T, L>,
-    gate: &G,
-    worker: usize,
-    turns: u64,
-    mut seat: Seat<L>,
-) -> Seat<L>
-    ensures { GoesOn seat result }
-{
-    make_turns(rt, desk, gate, worker, turns, &mut seat);
-    desk.leave(rt);
-    seat
-}
-
-/// All turns of a worker.
-fn make_turns<S: Selector + Drop, T: PrefixTable<Cell<S>> + Drop, L: Ledger, G: Gate, R: Wait>(
-    rt: &R,
-    desk: &Desk<S, T, L>,
-    gate: &G,
-    worker: usize,
-    turns: u64,
-    seat: &mut Seat<L>,
-)
-    ensures { GoesOn seat.old seat.new }
-{
-    let shard = worker as u64 % desk.shards();
-    let mut jobs = 0;
-    for _ in 0..turns {
-        match desk.next_turn(rt, shard) {
-            Turn::Job(job) => {
-                jobs += 1;
-                do_job(rt, desk, gate, worker, jobs, job, seat);
-            }
-            Turn::Nothing => {}
-            Turn::End => return,
-        }
+            },
+        );
+        rest.push_reserved(last);
+        rest
     }
 }
 
-/// Works a job, and brings its outcome back.
-#[tactic(auto, using(crate::proofs::Following::goes_on))]
-fn do_job<S: Selector + Drop, T: PrefixTable<Cell<S>> + Drop, L: Ledger, G: Gate, R: Wait>(
-    rt: &R,
-    desk: &Desk<S, T, L>,
-    gate: &G,
-    worker: usize,
-    n: u64,
-    job: Job<S>,
-    seat: &mut Seat<L>,
-)
-    ensures { GoesOn seat.old seat.new }
-{
-    gate.taken(worker, n);
-    let Ok(done) = job.work() else {
-        return;
-    };
-    gate.worked(worker, n);
-    let _ = desk.commit(rt, seat, done);
+impl<'a, S: Selector + Drop, T: PrefixTable<Cell<S>> + Drop, L: Ledger, G: Gate, R: Wait> Crew<
+    'a,
+    S,
+    T,
+    L,
+    G,
+    R,
+> {
+    /// A worker makes its turns, unless it is left out, and leaves.
+    #[tactic(auto, using(crate::proofs::Following::goes_on))]
+    fn work(&self, is_out: &AtomicBool, worker: usize, mut seat: Seat<L>) -> Seat<L>
+        ensures { GoesOn seat result }
+    {
+        if !is_out.load(Ordering::SeqCst) {
+            self.make_turns(worker, &mut seat);
+        }
+        self.desk.leave(self.rt);
+        seat
+    }
+
+    /// All turns of a worker.
+    fn make_turns(&self, worker: usize, seat: &mut Seat<L>)
+        ensures { GoesOn seat.old seat.new }
+    {
+        let shard = worker as u64 % self.desk.shards();
+        let mut jobs = 0;
+        for _ in 0..self.turns {
+            match self.desk.next_turn(self.rt, shard) {
+                Turn::Job(job) => {
+                    jobs += 1;
+                    self.do_job(worker, jobs, job, seat);
+                }
+                Turn::Nothing => {}
+                Turn::End => return,
+            }
+        }
+    }
+
+    /// Works a job, and brings its outcome back.
+    #[tactic(auto, using(crate::proofs::Following::goes_on))]
+    fn do_job(&self, worker: usize, n: u64, job: Job<S>, seat: &mut Seat<L>)
+        ensures { GoesOn seat.old seat.new }
+    {
+        self.gate.taken(worker, n);
+        let Ok(done) = job.work() else {
+            return;
+        };
+        self.gate.worked(worker, n);
+        let _ = self.desk.commit(self.rt, seat, done);
+    }
 }

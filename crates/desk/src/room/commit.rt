@@ -21,7 +21,10 @@ pub enum Committed {
 #[derive(Drop)]
 pub enum Newer {
     /// Edits were accepted: the versions.
-    ConfMoved { had: u64, now: u64 },
+    ConfMoved {
+        had: u64,
+        now: u64,
+    },
     /// The receiver's site is another.
     SiteMoved {
         had: Option<SharedSite>,

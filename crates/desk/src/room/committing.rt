@@ -175,10 +175,7 @@ fn is_same_site(had: &Option<SharedSite>, now: &Option<SharedSite>) -> bool
 }
 
 /// One owner more of the site.
-fn share_site(
-    alloc: Global,
-    site: &Option<SharedSite>,
-) -> Result<Option<SharedSite>, AllocError>
+fn share_site(alloc: Global, site: &Option<SharedSite>) -> Result<Option<SharedSite>, AllocError>
     ensures { IfOk result (λ shared. shared ≡ site.now) }
 {
     match site {
