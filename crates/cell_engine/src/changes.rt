@@ -162,8 +162,15 @@ impl<S: Selector + Drop, T: PrefixTable<Cell<S>> + Drop> State<S, T> {
         let edit = RouterEdit::of(self.alloc, &self.conf, conf, router)?;
         let becoming = edit.becoming();
         let mut moved = Seq::new(self.alloc);
-        becoming.add_cell(&mut moved, prefix, cell)?;
-        decide_in_turn(self.alloc, moved.as_slice())
+        let Ok(()) = becoming.add_cell(&mut moved, prefix, cell) else {
+            drop(moved);
+            drop(edit);
+            return Err(AllocError);
+        };
+        let changes = decide_in_turn(self.alloc, moved.as_slice());
+        drop(moved);
+        drop(edit);
+        changes
     }
 }
 

@@ -71,15 +71,17 @@ impl<S: Selector + Drop, T: PrefixTable<Cell<S>> + Drop> State<S, T> {
         ensures { IfOk result (λ outcome. outcome ≡ outcome_at self.now direction message.now) }
     {
         self.facts();
+        let made = self.made_site(direction.to)?;
         let nothing = Cell::new(self.alloc);
         let cell = self
             .cell(direction.to, message.prefix())
             .unwrap_or(&nothing);
-        let made = self.made_site(direction.to)?;
-        match self.site(direction.to, &made) {
+        let outcome = match self.site(direction.to, &made) {
             Some(site) => deliver(self.alloc, site, cell, direction.from, message),
             None => store(self.alloc, cell, direction.from, message),
-        }
+        };
+        drop(made);
+        outcome
     }
 
     /// Sees to it that what the outcome needs is there: a cell, and a place for each message. The network stays as it is, also at

@@ -237,8 +237,15 @@ impl<S: Selector + Send + Sync + Drop, T: PrefixTable<Cell<S>> + Drop> State<S, 
         let Ok(made) = self.conf.edited(self.alloc, edit) else {
             return Err(AllocError);
         };
-        let changes = self.changes_by(rt, edit.scope(), &made)?;
-        let directions = directions_after(self.alloc, self.directions.as_slice(), edit)?;
+        let Ok(changes) = self.changes_by(rt, edit.scope(), &made) else {
+            drop(made);
+            return Err(AllocError);
+        };
+        let directions = directions_after(self.alloc, self.directions.as_slice(), edit);
+        let Ok(directions) = directions else {
+            drop((made, changes));
+            return Err(AllocError);
+        };
         boxed(self.alloc, made, directions, changes)
     }
 

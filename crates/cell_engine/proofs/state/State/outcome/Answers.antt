@@ -9,8 +9,8 @@ use Rattle.cell_network.proofs.Decided.{heard_decided}
 use Rattle.cell_engine.proofs.Growth.{shown_or}
 use Rattle.cell_engine.proofs.state.State.outcome.Goals as goal
 
-pub deliver-requires-clause-decided : goal.deliver-requires-clause-decided
-deliver-requires-clause-decided g c =
+pub deliver-outcome-requires-clause-decided : goal.deliver-outcome-requires-clause-decided
+deliver-outcome-requires-clause-decided g c =
     let e = c.args.self.now in
     let r = c.args.direction.to in
     let p = prefix_of c.args.message.now in
@@ -21,8 +21,8 @@ deliver-requires-clause-decided g c =
     ∙ (λ i. unwrap_or ((c.cell.ensures ∙ ap (λ q. value_at r q e.tables) c.prefix.ensures) i) (c.new-nothing.ensures i)) in
     there ∙ heard_decided e c.facts.ensures.sound r p ∙ (λ i. decided (at i) p (sym there i).received)
 
-pub deliver-requires-clause-peers : goal.deliver-requires-clause-peers
-deliver-requires-clause-peers g c =
+pub deliver-outcome-requires-clause-peers : goal.deliver-outcome-requires-clause-peers
+deliver-outcome-requires-clause-peers g c =
     let e = c.args.self.now in
     let r = c.args.direction.to in
     let site = c.in-Some.site.now in

@@ -16,9 +16,9 @@ returns g c =
     let p = c.args.prefix in
     let h : Heard = c.in-Some.cell.now in
     let own : c.self.inside.conf ≡ before = ap (λ e. e.conf) c.self.view_is in
-    let moved = c.as_slice.ensures ∙ c.in_ok-add_cell.ensures ∙ ap (λ l. l ++ moved_cell c.becoming-becoming.result p h) c.new-moved.ensures ∙ ap (λ (b : Becoming). moved_cell b p h) (c.becoming-becoming.ensures ∙ ap edit_becoming c.in_ok-edit.ensures ∙ ap (λ (k : Configuration). becoming_of k after r) own) in
-    subst (λ l. IfOk c.decide_in_turn.result (λ changes. changes ≡ l))
+    let moved = c.as_slice.ensures ∙ c.in-Ok.ensures ∙ ap (λ l. l ++ moved_cell c.becoming-becoming.result p h) c.new-moved.ensures ∙ ap (λ (b : Becoming). moved_cell b p h) (c.becoming-becoming.ensures ∙ ap edit_becoming c.in_ok-edit.ensures ∙ ap (λ (k : Configuration). becoming_of k after r) own) in
+    subst (λ l. IfOk c.decide_in_turn-changes.result (λ changes. changes ≡ l))
     (ap (map change_at) moved
     ∙ decided_cells (edit_becoming (record { before = before; after = after; router = r })) ((p, h) ∷ [])
     ∙ ap (λ (o : Option Heard). router_changes (moves before after) before after r (option_to_list (option_map (λ x. (p, x)) o))) c.in-Some.ensures)
-    c.decide_in_turn.ensures
+    c.decide_in_turn-changes.ensures
