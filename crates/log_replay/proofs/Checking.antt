@@ -1,7 +1,9 @@
 -- What becomes of a line at each place.
-use Rattle.std.proofs.Common.{◌≡◌, ◌≢◌, ℕ, ◌+◌, ◌-◌, ◌<◌, ◌≤◌, Bool, true, false, inl, inr, ⊎_elim, List, [], ◌∷◌, ◌++◌, length, take, drop, codes, Some, None, refl, sym, ap, ◌∙◌, subst, arith, append_assoc}
+use Rattle.std.proofs.Common.{◌≡◌, ◌≢◌, ℕ, ◌+◌, ◌-◌, ◌<◌, ◌≤◌, Bool, true, false, inl, inr, ⊎_elim, List, [], ◌∷◌, ◌++◌, length, take, drop, codes, Some, None, Result, Ok, Err, refl, sym, ap, ◌∙◌, subst, arith, append_assoc}
 use Rattle.std.specs.Fmt.{decimal}
+use Rattle.std.specs.Result.{IsErr}
 use Rattle.std.specs.List.{AllByRecursion}
+use Rattle.std.proofs.lemmas.Bool.{true≢false}
 use Rattle.std.proofs.lemmas.List.{append_cancel_right, length-append, take-append-drop, drop_at}
 use Rattle.std.proofs.lemmas.List.Elements.{All-cons, All-append}
 use Rattle.decimal.specs.Separators.{Lacks, not_lacks, cut_exact}
@@ -11,9 +13,11 @@ use Rattle.reference_machine.specs.Machine.{nothing, step}
 use Rattle.reply_text.specs.Replies.{line_end}
 use Rattle.reply_text.specs.Lines.{marked, reply_lines, IsLine, RepliesAreLines}
 use Rattle.log_text.specs.Logs.{reply_mark, header}
+use Rattle.log_replay.specs.declared.place.Checked.{Checked}
+use Rattle.log_replay.specs.declared.place.Checker.{Checker}
 use Rattle.log_replay.specs.declared.place.Stage.TheVariants.{Beginning, Within, Finished}
-use Rattle.log_replay.specs.Replaying.{Place, beginning, within, finished, Takes, IsCallLine, awaits_reply, is_finished}
-use Rattle.log_replay.specs.Reading.{ReadsCall, IsAtStage}
+use Rattle.log_replay.specs.Replaying.{Place, beginning, within, finished, Takes, IsCallLine, IsCallAt, awaits_reply, is_finished}
+use Rattle.log_replay.specs.Reading.{Calls, IsAtStage, IsChecked}
 
 -- THE TEXT OF WHAT IS DUE
 
@@ -21,14 +25,14 @@ first_due : (front : List ℕ) (more : List (List ℕ)) → marked reply_mark ((
 first_due front more =
     ap (λ t. t ++ marked reply_mark more) (sym (append_assoc reply_mark front line_end)) ∙ append_assoc (reply_mark ++ front) line_end (marked reply_mark more)
 
-due_begins : (d : List ℕ) (more : List (List ℕ)) (h : IsLine d) → marked reply_mark (d ∷ more) ≡ (reply_mark ++ h.0) ++ (10 ∷ marked reply_mark more)
+pub due_begins : (d : List ℕ) (more : List (List ℕ)) (h : IsLine d) → marked reply_mark (d ∷ more) ≡ (reply_mark ++ h.0) ++ (10 ∷ marked reply_mark more)
 due_begins d more h = ap (λ t. marked reply_mark (t ∷ more)) h.2 ∙ first_due h.0 more
 
 no_due : (lines : List (List ℕ)) → AllByRecursion IsLine lines → Lacks 10 (marked reply_mark lines) → lines ≡ []
 no_due [] h lacks = refl
 no_due (d ∷ more) h lacks = absurd (not_lacks 10 (reply_mark ++ h.0.0) (marked reply_mark more) (subst (Lacks 10) (due_begins d more h.0) lacks))
 
-mark_lacks : (front : List ℕ) → Lacks 10 front → Lacks 10 (reply_mark ++ front)
+pub mark_lacks : (front : List ℕ) → Lacks 10 front → Lacks 10 (reply_mark ++ front)
 mark_lacks front h = All-cons (λ b. b ≢ 10) 61 (32 ∷ front) (λ e. omega (arith, e)) (All-cons (λ b. b ≢ 10) 32 front (λ e. omega (arith, e)) h)
 
 record IsDue (lines : List (List ℕ)) (next rest : List ℕ) : Type 0 where
@@ -104,7 +108,7 @@ end_taken n due line s p h lacks is =
     let q = finished n in
     (q, subst (λ x. Takes x line q) (sym (between n due s p h lacks)) (inr (is, refl)), refl)
 
-pub between_bad : (n : ℕ) (due line : List ℕ) (s : Network) (p : Place) → IsAtStage Within n due s p → Lacks 10 due → (line ≡ codes "end " ++ decimal n → ⊥) → ReadsCall line None
+pub between_bad : (n : ℕ) (due line : List ℕ) (s : Network) (p : Place) → IsAtStage Within n due s p → Lacks 10 due → (line ≡ codes "end " ++ decimal n → ⊥) → Calls line None
     → (awaits_reply p ≡ false) × ((q : Place) → Takes p line q → ⊥)
 between_bad n due line s p h lacks no_end no_call =
     let place = between n due s p h lacks in
@@ -121,3 +125,11 @@ call_taken n due line left s s' p event h lacks call law after state =
       subst (λ x. Takes x line q) (sym (between n due s p h lacks)) (inl (event, call, refl)),
       (lines, (law (step s event).reply).1, after, ap (λ t. within (n + 1) t lines) (sym state)),
     )
+
+pub call_wanting : (n : ℕ) (due line : List ℕ) (s : Network) (p : Place) → IsAtStage Within n due s p → Lacks 10 due → (event : Event) × IsCallLine line event → IsCallAt p line
+call_wanting n due line s p h lacks call = (ap awaits_reply (between n due s p h lacks), call.0, call.1)
+
+-- memory was wanted
+pub call_unread : {E : Type 0} (r : Result Checked E) (p : Place) (line : List ℕ) (c : Checker) (s : Network) → IsErr r → IsCallAt p line → IsChecked p line r c s
+call_unread (Ok checked) p line c s err h = absurd (true≢false (sym err))
+call_unread (Err e) p line c s err h = h

@@ -14,7 +14,7 @@ use Rattle.command_text.specs.Lines.{tokens, are_silent, IsSilent, Means, IsFaul
 use Rattle.command_text.specs.declared.limits.TheConstants.{MAX_LINE}
 use Rattle.reply_text.specs.Visible.{visible_lacks}
 use Rattle.log_text.specs.Logs.{command_text}
-use Rattle.log_replay.specs.Reading.{IsSpaced, ReadsCommand}
+use Rattle.log_replay.specs.Reading.{IsSpaced, IsCommand, Spells}
 use Rattle.log_replay.proofs.Words.{IsSolid, AreSolid, IsSpelled, spelled}
 
 abbrev split : List ℕ → List (List ℕ)
@@ -64,25 +64,33 @@ spaced_command text e spaced means =
 
 -- WHAT READING ANSWERS
 
-pub not_spaced : (text : List ℕ) → (IsSpaced text → ⊥) → ReadsCommand text None
-not_spaced text other event is short same = other (subst IsSpaced (sym same) (command_spaced event is))
+pub not_spaced : (text : List ℕ) → (IsSpaced text → ⊥) → Spells text None
+not_spaced text other event is = other (subst IsSpaced (sym is.2) (command_spaced event is.0))
 
-silent_event : (text : List ℕ) → IsSilent text → ReadsCommand text None
-silent_event text silent event is short same =
-    let words : tokens text ≡ words_of event = ap tokens same ∙ command_tokens event is in
-    let loud : are_silent (tokens text) ≡ false = ap are_silent words ∙ (spelled event is).loud in
+silent_event : (text : List ℕ) → IsSilent text → Spells text None
+silent_event text silent event is =
+    let words : tokens text ≡ words_of event = ap tokens is.2 ∙ command_tokens event is.0 in
+    let loud : are_silent (tokens text) ≡ false = ap are_silent words ∙ (spelled event is.0).loud in
     absurd (true≢false (sym silent.1 ∙ loud))
 
-pub read_event : (text : List ℕ) (found : Option Event) → IsSpaced text → IsReading text (Ok found) → ReadsCommand text found
-read_event text (Some event) spaced means =
+meant : (text : List ℕ) (event : Event) → IsSpaced text → Means text event → IsCommand text event
+meant text event spaced means =
     let same : text ≡ command_text event = spaced_command text event spaced means.2 in
     (means.1, subst (λ t. length t ≤ MAX_LINE) same means.0, same)
+
+pub read_event : (text : List ℕ) (found : Option Event) → IsSpaced text → IsReading text (Ok found) → Spells text found
+read_event text (Some event) spaced means = meant text event spaced means
 read_event text None spaced silent = silent_event text silent
 
-fault_event : (text : List ℕ) → IsFault text → ReadsCommand text None
-fault_event text h event is short same = h.1 event (subst (λ t. Means t event) (sym same) (command_means event is short))
+fault_event : (text : List ℕ) → IsFault text → Spells text None
+fault_event text h event is = h.1 event (subst (λ t. Means t event) (sym is.2) (command_means event is.0 is.1))
 
-pub read_fault : (text : List ℕ) (r : Refusal) → IsReading text (Err r) → (r ≡ Memory → ⊥) → ReadsCommand text None
+pub read_fault : (text : List ℕ) (r : Refusal) → IsReading text (Err r) → (r ≡ Memory → ⊥) → Spells text None
 read_fault text Syntax h other = fault_event text h
 read_fault text Memory h other = absurd (other refl)
 read_fault text _ h other = absurd h
+
+pub read_memory : (text : List ℕ) (r : Refusal) → IsSpaced text → IsReading text (Err r) → r ≡ Memory → (event : Event) × IsCommand text event
+read_memory text r spaced h is =
+    let found = subst (λ x. IsReading text (let err : Result (Option Event) Refusal = Err x in err)) is h in
+    (found.0, meant text found.0 spaced found.1)

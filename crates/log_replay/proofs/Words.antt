@@ -44,7 +44,7 @@ abbrev pub AreSolid : List (List ℕ) → Type 0
 AreSolid words = AllByRecursion IsSolid words
 
 -- words that are written out
-literal : (word : List ℕ) → are_visible word ≡ true → nat_lt 0 (length word) ≡ true → IsSolid word
+pub literal : (word : List ℕ) → are_visible word ≡ true → nat_lt 0 (length word) ≡ true → IsSolid word
 literal word visible some = (ltb-true 0 (length word) some, visible_word word visible)
 
 number : (n : ℕ) → IsSolid (decimal n)

@@ -13,7 +13,7 @@ use Rattle.log_replay.specs.declared.place.Stage.TheVariants.{Beginning, Within,
 use Rattle.log_replay.specs.declared.place.Checker.{Checker}
 use Rattle.log_replay.specs.declared.place.Checked.{Checked}
 use Rattle.log_replay.specs.declared.place.Checked.TheVariants.{Taken, Differs as Different, Bad}
-use Rattle.log_replay.specs.Replaying.{Place, beginning, within, finished, Takes, IsCallLine, awaits_reply}
+use Rattle.log_replay.specs.Replaying.{Place, beginning, within, finished, Takes, IsCallLine, IsCallAt, awaits_reply}
 
 -- between each two spaces stands a word, and at both ends
 abbrev pub IsSpaced : List ℕ → Type 0
@@ -23,16 +23,24 @@ IsSpaced text = AllByRecursion (λ word. 0 < length word) (slice_split (λ b. b 
 abbrev pub IsCommand : List ℕ → Event → Type 0
 IsCommand text event = IsEvent event × (length (command_text event) ≤ MAX_LINE) × (text ≡ command_text event)
 
--- the event that a command spells; none where there is none; want of memory only where there is one
+-- the event that a command spells; none where it spells none
+abbrev pub Spells : List ℕ → Option Event → Type 0
+Spells text (Some event) = IsCommand text event
+Spells text None = (event : Event) → IsCommand text event → ⊥
+
+-- the same, with want of memory only for a command
 abbrev pub ReadsCommand : {E : Type 0} → List ℕ → Result (Option Event) E → Type 0
-ReadsCommand text (Ok (Some event)) = IsCommand text event
-ReadsCommand text (Ok None) = (event : Event) → IsCommand text event → ⊥
+ReadsCommand text (Ok found) = Spells text found
 ReadsCommand text (Err e) = (event : Event) × IsCommand text event
 
--- the event of a call's line; none where the line is no call; want of memory only where it is one
+-- the event of a call's line; none where the line is no call
+abbrev pub Calls : List ℕ → Option Event → Type 0
+Calls line (Some event) = IsCallLine line event
+Calls line None = (event : Event) → IsCallLine line event → ⊥
+
+-- the same, with want of memory only for a call
 abbrev pub ReadsCall : {E : Type 0} → List ℕ → Result (Option Event) E → Type 0
-ReadsCall line (Ok (Some event)) = IsCallLine line event
-ReadsCall line (Ok None) = (event : Event) → IsCallLine line event → ⊥
+ReadsCall line (Ok found) = Calls line found
 ReadsCall line (Err e) = (event : Event) × IsCallLine line event
 
 abbrev pub IsAtStage : Stage → ℕ → List ℕ → Network → Place → Type 0
@@ -44,9 +52,13 @@ IsAtStage Finished n due s p = p ≡ finished n
 abbrev pub IsAt : Checker → Network → Place → Type 0
 IsAt c s p = IsAtStage c.stage c.entries (drop c.at c.due.items) s p
 
--- what becomes of a line at the place; memory is wanted only for a call
+-- what becomes of a line at the place
+abbrev pub Becomes : Place → List ℕ → Checked → Checker → Network → Type 0
+Becomes p line Taken c s = (q : Place) × Takes p line q × IsAt c s q
+Becomes p line Different c s = (awaits_reply p ≡ true) × ((q : Place) → Takes p line q → ⊥)
+Becomes p line Bad c s = (awaits_reply p ≡ false) × ((q : Place) → Takes p line q → ⊥)
+
+-- the same, with want of memory only for a call
 abbrev pub IsChecked : {E : Type 0} → Place → List ℕ → Result Checked E → Checker → Network → Type 0
-IsChecked p line (Ok Taken) c s = (q : Place) × Takes p line q × IsAt c s q
-IsChecked p line (Ok Different) c s = (awaits_reply p ≡ true) × ((q : Place) → Takes p line q → ⊥)
-IsChecked p line (Ok Bad) c s = (awaits_reply p ≡ false) × ((q : Place) → Takes p line q → ⊥)
-IsChecked p line (Err e) c s = (awaits_reply p ≡ false) × (event : Event) × IsCallLine line event
+IsChecked p line (Ok checked) c s = Becomes p line checked c s
+IsChecked p line (Err e) c s = IsCallAt p line

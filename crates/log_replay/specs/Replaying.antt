@@ -97,9 +97,13 @@ IsCutOff p left = Lacks 10 left × (is_finished p ≡ true → 0 < length left)
 abbrev pub IsBad : Place → List ℕ → Type 0
 IsBad p left = ((awaits_reply p ≡ false) × IsRefused p left) ⊎ (IsTooLong left ⊎ IsCutOff p left)
 
+-- the line is a call, where no reply is due
+abbrev pub IsCallAt : Place → List ℕ → Type 0
+IsCallAt p line = (awaits_reply p ≡ false) × (event : Event) × IsCallLine line event
+
 -- the next line is a call, for which memory may be wanted
 abbrev pub IsCalled : Place → List ℕ → Type 0
-IsCalled p left = (awaits_reply p ≡ false) × (line : List ℕ) × Begins left line × (event : Event) × IsCallLine line event
+IsCalled p left = (line : List ℕ) × Begins left line × IsCallAt p line
 
 -- the reader failed before the next line was read whole
 abbrev pub IsUnread : List ℕ → Reading → Type 0

@@ -1,13 +1,13 @@
 //! What a log has come to, and what becomes of its next line.
 
-ghost use Rattle.std.specs.Prelude.{◌≡◌, ◌↔◌, ◌+◌, ◌^◌, ◌<◌, ◌≤◌, ◌++◌, codes, drop, Ok, OnOk, IsTrue};
+ghost use Rattle.std.specs.Prelude.{◌≡◌, ◌↔◌, ◌+◌, ◌^◌, ◌<◌, ◌≤◌, ◌++◌, codes, drop, OnOk, IsTrue};
 ghost use Rattle.std.specs.Fmt.{decimal};
 ghost use Rattle.decimal.specs.Separators.{Lacks};
 ghost use Rattle.reference_machine.specs.Network.{Network};
 ghost use Rattle.reference_machine.specs.Machine.{nothing};
 ghost use Rattle.log_text.specs.Logs.{header};
 ghost use Rattle.log_replay.specs.Replaying.{Place, beginning, is_finished};
-ghost use Rattle.log_replay.specs.Reading.{IsAt, IsChecked};
+ghost use Rattle.log_replay.specs.Reading.{IsAt, Becomes, IsChecked};
 
 use crate::answer::answer;
 use crate::call::read_call;
@@ -67,7 +67,7 @@ pub(crate) fn check_line<M: Machine>(
 /// Takes the header.
 fn check_header(checker: &mut Checker, line: &[u8]) -> Checked
     requires { checker.old.stage ≡ Stage.Beginning }
-    ensures checked { (s : Network) (p : Place) → IsAt checker.old s p → IsChecked p line.now (Ok result) checker.new s }
+    ensures checked { (s : Network) (p : Place) → IsAt checker.old s p → Becomes p line.now result checker.new s }
     ensures count { checker.new.entries ≡ checker.old.entries }
 {
     if !is_header(line) {

@@ -93,7 +93,8 @@ fn take_line<M: Machine>(
 
 /// What a log is whose input has ended.
 fn ending(progress: &Progress) -> Replayed
-    requires { IsNext progress.now.pending progress.now.lines Part }
+    requires next { IsNext progress.now.pending progress.now.lines Part }
+    requires few { progress.now.lines ≤ 16000000 }
     ensures { (bytes : List ℕ) (i : Reading) (s : Network) → i.remaining ≡ Some [] →
         Comes bytes progress.now.pending progress.now.lines progress.now.checker s → IsReplay bytes (Ok result) i }
 {
@@ -113,6 +114,7 @@ fn read_on<R: Read>(
     input: &mut Input<R>,
 ) -> Result<Option<Replayed>, ReplayFault>
     requires next { IsNext progress.old.pending progress.old.lines Part }
+    requires few { progress.old.lines ≤ 16000000 }
     requires reads { input.old.failed ≡ false }
     ensures reader { input.new.failed ≡ is_read_fault result }
     ensures advance { (bytes : List ℕ) (rest : List ℕ) (s : Network) → input.old.remaining ≡ Some rest →
