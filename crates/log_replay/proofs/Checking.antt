@@ -1,11 +1,11 @@
 -- What becomes of a line at each place.
-use Rattle.std.proofs.Common.{◌≡◌, ◌≢◌, ℕ, ◌+◌, ◌-◌, ◌<◌, ◌≤◌, Bool, true, false, inl, inr, ⊎_elim, List, [], ◌∷◌, ◌++◌, length, take, drop, codes, Some, None, Result, Ok, Err, refl, sym, ap, ◌∙◌, subst, arith, append_assoc}
+use Rattle.std.proofs.Common.{◌≡◌, ◌≢◌, ℕ, ◌+◌, ◌-◌, true, false, inl, inr, ⊎_elim, List, [], ◌∷◌, ◌++◌, length, take, drop, codes, None, Result, Ok, Err, refl, sym, ap, ◌∙◌, subst, arith, append_assoc}
 use Rattle.std.specs.Fmt.{decimal}
 use Rattle.std.specs.Result.{IsErr}
 use Rattle.std.specs.List.{AllByRecursion}
 use Rattle.std.proofs.lemmas.Bool.{true≢false}
 use Rattle.std.proofs.lemmas.List.{append_cancel_right, length-append, take-append-drop, drop_at}
-use Rattle.std.proofs.lemmas.List.Elements.{All-cons, All-append}
+use Rattle.std.proofs.lemmas.List.Elements.{All-cons}
 use Rattle.decimal.specs.Separators.{Lacks, not_lacks, cut_exact}
 use Rattle.sim_event.specs.declared.event.Event.{Event}
 use Rattle.reference_machine.specs.Network.{Network}
@@ -16,7 +16,7 @@ use Rattle.log_text.specs.Logs.{reply_mark, header}
 use Rattle.log_replay.specs.declared.place.Checked.{Checked}
 use Rattle.log_replay.specs.declared.place.Checker.{Checker}
 use Rattle.log_replay.specs.declared.place.Stage.TheVariants.{Beginning, Within, Finished}
-use Rattle.log_replay.specs.Replaying.{Place, beginning, within, finished, Takes, IsCallLine, IsCallAt, awaits_reply, is_finished}
+use Rattle.log_replay.specs.Replaying.{Place, within, finished, Takes, IsCallLine, IsCallAt, awaits_reply}
 use Rattle.log_replay.specs.Reading.{Calls, IsAtStage, IsChecked}
 
 -- THE TEXT OF WHAT IS DUE
@@ -119,8 +119,7 @@ pub call_taken : (n : ℕ) (due line left : List ℕ) (s s' : Network) (p : Plac
     → (q : Place) × Takes p line q × IsAtStage Within (n + 1) left s' q
 call_taken n due line left s s' p event h lacks call law after state =
     let lines = reply_lines (step s event).reply in
-    let q = within (n + 1) (step s event).next lines in
-    (
+    let q = within (n + 1) (step s event).next lines in (
       q,
       subst (λ x. Takes x line q) (sym (between n due s p h lacks)) (inl (event, call, refl)),
       (lines, (law (step s event).reply).1, after, ap (λ t. within (n + 1) t lines) (sym state)),

@@ -1,10 +1,10 @@
 -- A command in a log, and the event that its line means.
-use Rattle.std.specs.Prelude.{◌≡◌, ◌≢◌, ℕ, ◌<◌, ◌≤◌, ◌==◌, Bool, true, false, nat_lt, List, [], ◌∷◌, ◌++◌, length, filter, Option, Some, None, Result, Ok, Err, IsTrue}
+use Rattle.std.specs.Prelude.{◌≡◌, ℕ, ◌<◌, ◌≤◌, ◌==◌, false, nat_lt, List, [], ◌∷◌, length, filter, Option, Some, None, Result, Ok, Err}
 use Rattle.std.specs.List.{AllByRecursion, join_with_byte, slice_split}
-use Rattle.std.proofs.Common.{cond, refl, sym, ap, ◌∙◌, subst, arith}
+use Rattle.std.proofs.Common.{refl, sym, ap, ◌∙◌, subst, arith}
 use Rattle.std.proofs.lemmas.Bool.{cond-true, lt-ltb, true≢false}
 use Rattle.std.proofs.lemmas.List.Splits.{slice_split_at, slice_split_none, join_with_byte-slice_split}
-use Rattle.decimal.specs.Separators.{Lacks, lacks_test}
+use Rattle.decimal.specs.Separators.{lacks_test}
 use Rattle.net_conf.specs.declared.refusal.Refusal.{Refusal}
 use Rattle.net_conf.specs.declared.refusal.Refusal.TheVariants.{Syntax, Memory}
 use Rattle.sim_event.specs.declared.event.Event.{Event}
@@ -15,7 +15,7 @@ use Rattle.command_text.specs.declared.limits.TheConstants.{MAX_LINE}
 use Rattle.reply_text.specs.Visible.{visible_lacks}
 use Rattle.log_text.specs.Logs.{command_text}
 use Rattle.log_replay.specs.Reading.{IsSpaced, IsCommand, Spells}
-use Rattle.log_replay.proofs.Words.{IsSolid, AreSolid, IsSpelled, spelled}
+use Rattle.log_replay.proofs.Words.{AreSolid, IsSpelled, spelled}
 
 abbrev split : List ℕ → List (List ℕ)
 split text = slice_split (λ b. b == 32) text

@@ -1,5 +1,5 @@
 -- Which logs agree: those of legal histories, and no other.
-use Rattle.std.proofs.Common.{◌≡◌, ◌≢◌, ℕ, ◌+◌, ◌<◌, ◌≤◌, Bool, true, false, inl, inr, ⊎_elim, List, [], ◌∷◌, ◌++◌, length, codes, Some, Ok, Err, Result, refl, sym, ap, ◌∙◌, subst, arith, append_assoc, append-nil}
+use Rattle.std.proofs.Common.{◌≡◌, ◌≢◌, ℕ, ◌+◌, ◌<◌, ◌≤◌, inl, inr, ⊎_elim, List, [], ◌∷◌, ◌++◌, length, codes, Ok, Err, Result, refl, sym, ap, ◌∙◌, subst, arith, append_assoc, append-nil}
 use Rattle.std.specs.Fmt.{decimal}
 use Rattle.std.specs.List.{flat_map, join_with_byte, AllByRecursion}
 use Rattle.std.proofs.lemmas.Bool.{true≢false}
@@ -12,7 +12,7 @@ use Rattle.sim_event.specs.declared.entry.Entry.{Entry}
 use Rattle.sim_event.specs.Events.{IsEvent}
 use Rattle.reference_machine.specs.Network.{Network}
 use Rattle.reference_machine.specs.Machine.{nothing, step}
-use Rattle.reference_machine.specs.Histories.{AreAnswered, IsLegal}
+use Rattle.reference_machine.specs.Histories.{AreAnswered}
 use Rattle.command_text.specs.Words.{words_of}
 use Rattle.command_text.specs.Lines.{Means}
 use Rattle.command_text.specs.Spelling.{OneMeaning}
@@ -21,12 +21,12 @@ use Rattle.reply_text.specs.Lines.{marked, reply_lines, IsLine, RepliesAreLines}
 use Rattle.reply_text.specs.Visible.{visible_lacks}
 use Rattle.log_text.specs.Logs.{command_text, header, call_line, reply_mark, entry_text, log_text}
 use Rattle.watched.specs.Streams.{Reading}
-use Rattle.log_replay.specs.declared.limits.TheConstants.{MOST_BYTES, MOST_LINES}
+use Rattle.log_replay.specs.declared.limits.TheConstants.{MOST_LINES}
 use Rattle.log_replay.specs.declared.verdict.Replayed.{Replayed}
 use Rattle.log_replay.specs.declared.verdict.Replayed.TheVariants.{Agrees, Differs, BadLine}
 use Rattle.log_replay.specs.declared.verdict.ReplayFault.{ReplayFault}
 use Rattle.log_replay.specs.declared.verdict.ReplayFault.TheVariants.{Read, TooManyLines, Memory}
-use Rattle.log_replay.specs.Replaying.{Place, beginning, within, finished, is_finished, IsCall, IsCallLine, Takes, TakesAll, IsFit, Stands, lines_text, Begins, IsRefused, IsTooLong, IsCutOff, IsReplay}
+use Rattle.log_replay.specs.Replaying.{Place, beginning, within, finished, is_finished, IsCall, IsCallLine, Takes, TakesAll, IsFit, Stands, lines_text, IsRefused, IsTooLong, IsCutOff, IsReplay}
 use Rattle.log_replay.specs.Exactness.{IsLogged, IsLogOf, IsProof, IsFair}
 use Rattle.log_replay.proofs.Words.{AreSolid, literal, spelled}
 use Rattle.log_replay.proofs.Commands.{command_means}
@@ -198,7 +198,7 @@ takes_log (line ∷ more) [] (x ∷ xs) s n m law fit are answered calls count e
       within (n + 1) next.next (reply_lines next.reply),
       inl (x.event, (x.seat, calls.0, cut.0), refl),
       takes_log more (reply_lines next.reply) xs next.next (n + 1) m law fit.1 (law next.reply).1 answered.1 calls.1 (omega (arith, count))
-      (cut.1 ∙ ap (λ r. marked reply_mark (reply_lines r) ++ rest) answered.0),
+          (cut.1 ∙ ap (λ r. marked reply_mark (reply_lines r) ++ rest) answered.0),
     )
 takes_log (line ∷ more) [] [] s n m law fit are answered calls count e =
     let cut = line_cut line (codes "end " ++ decimal m) (lines_text more) [] fit.0.0 (end_lacks m) e in
@@ -238,13 +238,13 @@ same_place : OneMeaning → (p : Place) (line : List ℕ) (q r : Place) → Take
 same_place law beginning line q r a b = a.1 ∙ sym b.1
 same_place law (within n s []) line q r a b = ⊎_elim
     (λ c. ⊎_elim
-      (λ d. c.2 ∙ ap (λ e. within (n + 1) (step s e).next (reply_lines (step s e).reply)) (same_event law line c.0 d.0 c.1 d.1) ∙ sym d.2)
-      (λ d. absurd (no_call line c.0 n c.1 d.0))
-      b)
+    (λ d. c.2 ∙ ap (λ e. within (n + 1) (step s e).next (reply_lines (step s e).reply)) (same_event law line c.0 d.0 c.1 d.1) ∙ sym d.2)
+    (λ d. absurd (no_call line c.0 n c.1 d.0))
+    b)
     (λ c. ⊎_elim
-      (λ d. absurd (no_call line d.0 n d.1 c.0))
-      (λ d. c.1 ∙ sym d.1)
-      b)
+    (λ d. absurd (no_call line d.0 n d.1 c.0))
+    (λ d. c.1 ∙ sym d.1)
+    b)
     a
 same_place law (within n s (due ∷ more)) line q r a b = a.1 ∙ sym b.1
 same_place law (finished n) line q r a b = absurd a
@@ -316,9 +316,9 @@ fair_verdict law lines bytes (Differs line) i n h log =
 fair_verdict law lines bytes (BadLine line) i n h log =
     let a = log_ahead law lines bytes h.2 h.0 n h.1 h.3 log in
     absurd (⊎_elim
-      (λ refused. not_refused h.2 h.1 (finished n) a.0 a.1 a.2 a.4 refused.1)
-      (λ other. ⊎_elim (λ long. not_long h.2 a.0 a.1 a.2 long) (λ cut. not_cut h.2 h.1 n a.0 a.2 a.4 cut) other)
-      h.6)
+    (λ refused. not_refused h.2 h.1 (finished n) a.0 a.1 a.2 a.4 refused.1)
+    (λ other. ⊎_elim (λ long. not_long h.2 a.0 a.1 a.2 long) (λ cut. not_cut h.2 h.1 n a.0 a.2 a.4 cut) other)
+    h.6)
 
 length_none : (ls : List (List ℕ)) → length ls ≤ 0 → ls ≡ []
 length_none [] h = refl

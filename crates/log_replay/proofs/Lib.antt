@@ -4,3 +4,4 @@ mod Calls
 mod Checking
 mod Steps
 mod Exact
+mod Idle

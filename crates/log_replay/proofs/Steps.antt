@@ -1,5 +1,5 @@
 -- How a log comes on, line by line.
-use Rattle.std.proofs.Common.{◌≡◌, ◌≢◌, ℕ, ◌+◌, ◌<◌, ◌≤◌, Bool, true, false, eqb, inl, inr, List, [], ◌∷◌, ◌++◌, length, take, drop, position, Option, Some, None, IfSome, Result, Ok, Err, All, refl, sym, ap, ◌∙◌, subst, arith, append_assoc, append-nil}
+use Rattle.std.proofs.Common.{◌≡◌, ◌≢◌, ℕ, ◌+◌, ◌<◌, ◌≤◌, true, false, eqb, inl, inr, List, [], ◌∷◌, ◌++◌, length, take, drop, position, Option, Some, None, IfSome, Result, Ok, Err, refl, sym, ap, ◌∙◌, subst, arith, append_assoc, append-nil}
 use Rattle.std.specs.List.{AllByRecursion}
 use Rattle.std.specs.Io.KnownBytes.{Consumes, IsAtEnd, Keeps}
 use Rattle.std.proofs.lemmas.Bool.{eqb-false, true≢false}
@@ -53,8 +53,7 @@ lacks_whole bytes h = All-weaker (λ b. eqb b 10 ≡ false) (λ b. b ≢ 10) (λ
 first_line : (pending rest : List ℕ) (end : ℕ) → position is_line_feed pending ≡ Some end → end ≤ MOST_BYTES
     → (pending ++ rest ≡ take end pending ++ (10 ∷ (drop (end + 1) pending ++ rest))) × IsFit (take end pending)
 first_line pending rest end is short =
-    let cut = cut_at pending end is in
-    (
+    let cut = cut_at pending end is in (
       ap (λ t. t ++ rest) cut.2 ∙ append_assoc (take end pending) (10 ∷ drop (end + 1) pending) rest,
       (lacks_whole (take end pending) cut.1, omega (arith, length-take-le end pending (omega (arith, cut.0)))),
     )
@@ -196,19 +195,18 @@ end_bad bytes pending k c s i next more h =
 
 -- before the first line
 pub comes_first : (bytes pending : List ℕ) (k : ℕ) (c : Checker) (s : Network) → pending ≡ [] → k ≡ 0 → s ≡ nothing → IsAt c nothing beginning → Comes bytes (pending ++ bytes) k c s
-comes_first bytes pending k c s none zero new at =
-    (
-      beginning,
-      record {
-        done = [];
-        parts = sym (ap (λ t. t ++ bytes) none);
-        fit = tt;
-        count = sym zero;
-        few = omega (arith, zero);
-        taken = refl;
-      },
-      subst (λ t. IsAt c t beginning) (sym new) at,
-    )
+comes_first bytes pending k c s none zero new at = (
+  beginning,
+  record {
+    done = [];
+    parts = sym (ap (λ t. t ++ bytes) none);
+    fit = tt;
+    count = sym zero;
+    few = omega (arith, zero);
+    taken = refl;
+  },
+  subst (λ t. IsAt c t beginning) (sym new) at,
+)
 
 pub if_known : (o : Option (List ℕ)) (P : List ℕ → Type 0) → ((x : List ℕ) → o ≡ Some x → P x) → IfSome o P
 if_known None P h = tt

@@ -30,11 +30,11 @@ use Rattle.sim_event.specs.declared.event.News.{News}
 use Rattle.sim_event.specs.declared.event.News.TheVariants.{Update, Withdraw}
 use Rattle.sim_event.specs.declared.event.Ask.{Ask}
 use Rattle.sim_event.specs.declared.event.Ask.TheVariants.{Routes, Best, Why, In, Out, Queue, Quiet, Cost, Trace}
-use Rattle.sim_event.specs.Wording.{maybe_number_text, origin_text, path_text, segment_text, numbers_text}
-use Rattle.sim_event.specs.Events.{IsEvent, IsEdit, IsNews, IsAsk}
+use Rattle.sim_event.specs.Wording.{maybe_number_text, origin_text, path_text, segment_text}
+use Rattle.sim_event.specs.Events.{IsEvent, IsNews}
 use Rattle.command_text.specs.Words.{words_of, edit_words, news_words, ask_words, match_words, action_words, setting_words, switch_word, side_word}
 use Rattle.command_text.specs.Lines.{are_silent}
-use Rattle.reply_text.specs.Visible.{AreVisible, are_visible, visible_word, visible_both, visible_decimal, visible_addr, visible_block, visible_path, visible_origin, visible_maybe_number}
+use Rattle.reply_text.specs.Visible.{AreVisible, are_visible, visible_word, visible_both, visible_decimal, visible_addr, visible_block, visible_path}
 
 -- a word: not empty, and of visible bytes
 abbrev pub IsSolid : List ℕ → Type 0

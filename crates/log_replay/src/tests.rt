@@ -1,5 +1,8 @@
 //! Whole logs of a machine that has done nothing, read in pieces of every kind, and how replaying ends early.
 
+ghost use Rattle.reference_machine.specs.Machine.{nothing, IsStep};
+ghost use Rattle.sim_event.specs.declared.event.Event.TheVariants.{Edit as AnEdit, Ask as AnAsk};
+
 use crate::{ReplayFault, Replayed, replay};
 use net_conf::{Edit, Refusal};
 use reference_machine::{Ask, Event, Machine, Reply, Report};
@@ -22,9 +25,31 @@ impl<A: Abort> Machine for Idle<'_, A> {
 
     fn step<R: Threads + Sync>(&mut self, _rt: &R, event: &Event) -> Reply {
         match event {
-            Event::Ask(Ask::Quiet) => Reply::Report(Report::Quiet(true)),
-            Event::Edit(Edit::Router(_, _)) => Reply::Refused(Refusal::Memory),
+            Event::Ask(ask) => self.asked(ask),
+            Event::Edit(edit) => self.edited(edit),
             _ => panic!(self.0; "another event was taken"),
+        }
+    }
+}
+
+impl<A: Abort> Idle<'_, A> {
+    /// All queues are empty.
+    fn asked(&self, ask: &Ask) -> Reply
+        ensures { IsStep nothing (AnAsk ask.now) result nothing }
+    {
+        match ask {
+            Ask::Quiet => Reply::Report(Report::Quiet(true)),
+            _ => panic!(self.0; "another question was asked"),
+        }
+    }
+
+    /// No memory for a router.
+    fn edited(&self, edit: &Edit) -> Reply
+        ensures { IsStep nothing (AnEdit edit.now) result nothing }
+    {
+        match edit {
+            Edit::Router(_, _) => Reply::Refused(Refusal::Memory),
+            _ => panic!(self.0; "another edit was made"),
         }
     }
 }
@@ -72,8 +97,14 @@ fn tells_what_a_log_is(rt: HostRuntime) {
             Replayed::Agrees { entries: 2 },
         ),
         (b"bgpsim log 1\nend 0\n", Replayed::Agrees { entries: 0 }),
-        (b"bgpsim log 1\n@0 quiet\n= no\nend 1\n", Replayed::Differs { line: 3 }),
-        (b"bgpsim log 1\n@0 quiet\nend 1\n", Replayed::Differs { line: 3 }),
+        (
+            b"bgpsim log 1\n@0 quiet\n= no\nend 1\n",
+            Replayed::Differs { line: 3 },
+        ),
+        (
+            b"bgpsim log 1\n@0 quiet\nend 1\n",
+            Replayed::Differs { line: 3 },
+        ),
         (b"", Replayed::BadLine { line: 1 }),
         (b"bgpsim log 2\n", Replayed::BadLine { line: 1 }),
         (b"bgpsim log 1\r\n", Replayed::BadLine { line: 1 }),
@@ -82,11 +113,26 @@ fn tells_what_a_log_is(rt: HostRuntime) {
         (b"bgpsim log 1\n@00 quiet\n", Replayed::BadLine { line: 2 }),
         (b"bgpsim log 1\n@0  quiet\n", Replayed::BadLine { line: 2 }),
         (b"bgpsim log 1\n@0 quiet \n", Replayed::BadLine { line: 2 }),
-        (b"bgpsim log 1\n# quiet\nend 0\n", Replayed::BadLine { line: 2 }),
-        (b"bgpsim log 1\n@0 # quiet\nend 1\n", Replayed::BadLine { line: 2 }),
-        (b"bgpsim log 1\n@0 quiet\n= yes\n", Replayed::BadLine { line: 4 }),
-        (b"bgpsim log 1\n@0 quiet\n= yes\nend 2\n", Replayed::BadLine { line: 4 }),
-        (b"bgpsim log 1\n@0 quiet\n= yes\nend 1", Replayed::BadLine { line: 4 }),
+        (
+            b"bgpsim log 1\n# quiet\nend 0\n",
+            Replayed::BadLine { line: 2 },
+        ),
+        (
+            b"bgpsim log 1\n@0 # quiet\nend 1\n",
+            Replayed::BadLine { line: 2 },
+        ),
+        (
+            b"bgpsim log 1\n@0 quiet\n= yes\n",
+            Replayed::BadLine { line: 4 },
+        ),
+        (
+            b"bgpsim log 1\n@0 quiet\n= yes\nend 2\n",
+            Replayed::BadLine { line: 4 },
+        ),
+        (
+            b"bgpsim log 1\n@0 quiet\n= yes\nend 1",
+            Replayed::BadLine { line: 4 },
+        ),
         (b"bgpsim log 1\nend 0\n\n", Replayed::BadLine { line: 3 }),
         (b"bgpsim log 1\nend 0\nend 0", Replayed::BadLine { line: 3 }),
     ];

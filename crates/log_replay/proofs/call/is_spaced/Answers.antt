@@ -1,6 +1,5 @@
 use Rattle.std.proofs.Common.{◌<◌, length, arith}
 use Rattle.std.proofs.lemmas.Bool.Decides.{nat_tests}
-use Rattle.std.proofs.lemmas.Bool.{not-true, eqb-false, eq-eqb}
 use Rattle.log_replay.proofs.Calls.{spaced_before, spaced_after, spaced_word, word_spaced}
 use Rattle.log_replay.proofs.call.is_spaced.Goals as goal
 

@@ -1,7 +1,6 @@
 use Rattle.std.proofs.Common.{◌≡◌, ◌-◌, drop, arith, length, subst, sym, ap, ◌∙◌}
 use Rattle.std.proofs.lemmas.Bool.{iff_false}
 use Rattle.log_replay.specs.Reading.{IsAtStage}
-use Rattle.log_replay.specs.declared.place.Stage.TheVariants.{Within}
 use Rattle.log_replay.proofs.Checking.{due_differs, due_taken, rest_at}
 use Rattle.log_replay.proofs.checker.check_within.Goals as goal
 

@@ -1,4 +1,4 @@
-use Rattle.std.proofs.Common.{◌≡◌, ◌+◌, ◌<◌, [], ◌∷◌, length, take, drop, ap, sym, ◌∙◌, arith, append-nil}
+use Rattle.std.proofs.Common.{◌+◌, ◌<◌, [], ◌∷◌, length, take, drop, ap, sym, ◌∙◌, arith, append-nil}
 use Rattle.std.proofs.lemmas.Bool.Decides.{nat_tests}
 use Rattle.std.proofs.lemmas.List.{length-take-le}
 use Rattle.line_buffer.specs.LineFeeds.{cut_at, no_cut}

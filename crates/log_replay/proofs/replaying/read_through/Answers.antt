@@ -1,4 +1,4 @@
-use Rattle.std.proofs.Common.{◌≡◌, ℕ, List, Some, Ok}
+use Rattle.std.proofs.Common.{ℕ, List, Ok}
 use Rattle.std.proofs.lemmas.Result.{err_from_is_err_and}
 use Rattle.log_replay.specs.Replaying.{IsReplay}
 use Rattle.log_replay.proofs.Steps.{if_known, ended_advance, more_advance}
