@@ -1,0 +1,6 @@
+mod Words
+mod Commands
+mod Calls
+mod Checking
+mod Steps
+mod Exact
