@@ -1,0 +1,4 @@
+pub mod Replaying
+pub mod Exactness
+pub mod Reading
+pub mod Progress
