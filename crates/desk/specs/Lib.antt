@@ -3,4 +3,3 @@ pub mod Closing
 pub mod Jobs
 pub mod Commits
 pub mod Differences
-pub mod Desks
