@@ -1,4 +1,4 @@
--- What it means to replay a log: its lines are read in order, and each command is run again.
+-- What it means to replay a log (own): its lines are read in order, and each command is run again.
 use Rattle.std.specs.Prelude.{◌≡◌, ◌⊎◌, ℕ, ◌+◌, ◌<◌, ◌≤◌, Bool, true, false, List, [], ◌∷◌, ◌++◌, length, codes, Some, Result, Ok, Err}
 use Rattle.std.specs.Fmt.{decimal}
 use Rattle.std.specs.List.{flat_map, AllByRecursion}

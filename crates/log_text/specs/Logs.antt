@@ -1,4 +1,4 @@
--- The text of a log: a header, the calls of a history with their replies, and how many calls there are.
+-- (own) The text of a log: a header, the calls of a history with their replies, and how many calls there are.
 use Rattle.std.specs.Prelude.{ℕ, List, ◌++◌, length, codes}
 use Rattle.std.specs.Fmt.{decimal}
 use Rattle.std.specs.List.{flat_map, join_with_byte}
