@@ -69,11 +69,20 @@ fn router_choices<S: Selector + Drop>(
     ensures { IfOk result (λ choices. choices ≡ router_choices earlier.now later.now router) }
 {
     let old_site = earlier.conf.site_at(alloc, router)?;
-    let new_site = later.conf.site_at(alloc, router)?;
-    let prefixes = prefixes_of(alloc, earlier, later, router)?;
-    let choices = choices_for::<S>(
+    let Ok(new_site) = later.conf.site_at(alloc, router) else {
+        drop(old_site);
+        return Err(AllocError);
+    };
+    let Ok(prefixes) = prefixes_of(alloc, earlier, later, router) else {
+        drop((old_site, new_site));
+        return Err(AllocError);
+    };
+    let Ok(choices) = choices_for::<S>(
         alloc, earlier, later, &old_site, &new_site, router, &prefixes,
-    )?;
+    ) else {
+        drop((old_site, new_site));
+        return Err(AllocError);
+    };
     Ok(RouterChoices {
         router,
         old_site,

@@ -194,7 +194,10 @@ pub fn with_sent<S: Selector + Drop>(
 ) -> Result<State, AllocError>
     ensures { IfOk result (λ after. after ≡ with_sent earlier.now later) }
 {
-    let queues = queues_after::<S>(alloc, earlier, &later)?;
+    let Ok(queues) = queues_after::<S>(alloc, earlier, &later) else {
+        drop(later);
+        return Err(AllocError);
+    };
     later.queues = queues;
     Ok(later)
 }

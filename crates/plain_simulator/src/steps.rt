@@ -18,6 +18,7 @@ use session_queue::{Direction, Message};
 use sim_event::{Ask, Event, Feed, Reply};
 use std::alloc::{AllocError, Global};
 use std::collections::BTreeMap;
+use std::mem::replace;
 
 impl State {
     /// Takes an event. Where memory is wanted, nothing has changed.
@@ -51,7 +52,8 @@ impl State {
             return Ok(Reply::Refused(refusal));
         }
         let later = after_edit(alloc, self, edit)?;
-        *self = with_sent::<S>(alloc, self, later)?;
+        let after = with_sent::<S>(alloc, self, later)?;
+        drop(replace(self, after));
         Ok(Reply::Done)
     }
 
@@ -90,7 +92,8 @@ impl State {
         };
         let reply = Reply::Took(message.prefix(), message.kind());
         let later = taken(alloc, self, direction, message)?;
-        *self = with_sent::<S>(alloc, self, later)?;
+        let after = with_sent::<S>(alloc, self, later)?;
+        drop(replace(self, after));
         Ok(reply)
     }
 
@@ -113,9 +116,13 @@ fn after_edit(alloc: Global, state: &State, edit: &Edit) -> Result<State, AllocE
 {
     let mut conf = state.conf.copy(alloc)?;
     if conf.edit(alloc, edit).is_err() {
+        drop(conf);
         return Err(AllocError);
     }
-    let queues = with_queues(alloc, &state.queues, edit)?;
+    let Ok(queues) = with_queues(alloc, &state.queues, edit) else {
+        drop(conf);
+        return Err(AllocError);
+    };
     reconfigured(alloc, conf, &state.received, queues)
 }
 
@@ -129,8 +136,14 @@ fn reconfigured(
 ) -> Result<State, AllocError>
     ensures { IfOk result (λ later. later ≡ reconfigured conf received.now.entries queues.items) }
 {
-    let received = kept(&conf, received)?;
-    let queues = emptied(alloc, &conf, queues)?;
+    let Ok(received) = kept(&conf, received) else {
+        drop((conf, queues));
+        return Err(AllocError);
+    };
+    let Ok(queues) = emptied(alloc, &conf, queues) else {
+        drop((conf, received));
+        return Err(AllocError);
+    };
     Ok(State {
         conf,
         received,
@@ -277,9 +290,18 @@ fn taken(
 ) -> Result<State, AllocError>
     ensures { IfOk result (λ after. after ≡ taken state.now direction message.now) }
 {
+    let conf = state.conf.copy(alloc)?;
+    let Ok(received) = received_after(&state.received, direction, message) else {
+        drop(conf);
+        return Err(AllocError);
+    };
+    let Ok(queues) = queues::without_head(alloc, &state.queues, direction) else {
+        drop((conf, received));
+        return Err(AllocError);
+    };
     Ok(State {
-        conf: state.conf.copy(alloc)?,
-        received: received_after(&state.received, direction, message)?,
-        queues: queues::without_head(alloc, &state.queues, direction)?,
+        conf,
+        received,
+        queues,
     })
 }

@@ -1,32 +1,36 @@
 //! What several modules use.
 
-use path_attr::Asn;
-use seq::{Copied, SharedSeq, copy_all};
-use std::alloc::{AllocError, Global};
+use net_prefix::{Prefix, read_prefix};
+use path_attr::{AsPath, Asn, Segment};
+use seq::{Seq, SharedSeq};
+use std::alloc::Global;
 use std::test::Fail;
 
-/// What the call answers, asked once more where memory was refused.
-pub fn again<T, F: Fn() -> Result<T, AllocError>>(call: F) -> Result<T, AllocError>
-    requires { F.IsAlwaysCallable call }
-{
-    match call() {
-        Ok(value) => Ok(value),
-        Err(AllocError) => call(),
-    }
-}
-
-/// The items as a list that is shared, tried once more where memory was refused.
-pub fn shared<T: Copied>(alloc: Global, items: &[T]) -> Result<SharedSeq<T>, AllocError> {
-    again(|| SharedSeq::of(alloc, copy_all(alloc, items)?))
+/// The prefix that the text spells.
+pub fn prefix(text: &str) -> Result<Prefix, Fail> {
+    Ok(read_prefix(text.as_bytes()).ok_or("the text spells a prefix")?)
 }
 
 pub fn asn(number: u32) -> Result<Asn, Fail> {
     Ok(Asn::new(number).ok_or("an AS has a number")?)
 }
 
-/// The next of a row of numbers from a fixed seed (a linear congruence).
-pub fn following(state: u64) -> u64 {
-    state
-        .wrapping_mul(6_364_136_223_846_793_005)
-        .wrapping_add(1_442_695_040_888_963_407)
+fn list(alloc: Global, numbers: &[u32]) -> Result<Seq<Asn>, Fail> {
+    let mut list = Vec::new(alloc);
+    for number in numbers {
+        list.push(asn(*number)?)?;
+    }
+    Ok(Seq::of(list))
+}
+
+/// A path: a sequence and a set, either of which may be left out.
+pub fn path(alloc: Global, sequence: &[u32], set: &[u32]) -> Result<AsPath, Fail> {
+    let mut segments = Vec::new(alloc);
+    if !sequence.is_empty() {
+        segments.push(Segment::Seq(list(alloc, sequence)?))?;
+    }
+    if !set.is_empty() {
+        segments.push(Segment::Set(list(alloc, set)?))?;
+    }
+    Ok(AsPath::new(SharedSeq::of(alloc, segments)?).ok_or("the path is well formed")?)
 }

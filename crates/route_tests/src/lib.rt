@@ -1,11 +1,9 @@
-//! Tests of the public calls of the libraries for prefixes, paths, policies, tables and selection, a module for each; those of the libraries
-//! above them stand in `call_tests`. They stand apart from the libraries, which would be proved once more with them.
+//! Worked examples of prefixes, paths, policies and tables, as public calls; those of the libraries above them stand in `call_tests`. They stand
+//! apart from the libraries, which would be proved once more with them. What a script shows is a case, in cases/ at the top of the repository.
 #![tactic(auto)]
 
 #[cfg(test)]
 mod common;
-#[cfg(test)]
-mod lists;
 #[cfg(test)]
 mod paths;
 #[cfg(test)]
@@ -13,10 +11,6 @@ mod policies;
 #[cfg(test)]
 mod prefixes;
 #[cfg(test)]
-mod selection;
-#[cfg(test)]
 mod table_callers;
 #[cfg(test)]
 mod tables;
-#[cfg(test)]
-mod tables_by_router;
