@@ -5,9 +5,12 @@
 #include <errno.h>
 #include <stdio.h>
 #include <stdlib.h>
+#include <unistd.h>
 static long which = -1, count = 0;
 __attribute__((constructor)) static void begin(void) { const char *n = getenv("REFUSED"); which = n ? atol(n) : 0; }
 __attribute__((destructor)) static void end(void) { if (which == 0) dprintf(2, "%ld\n", count); }
+// A program that ends so runs no destructor.
+void _exit(int status) { void (*next)(int) = dlsym(RTLD_NEXT, "_exit"); end(); next(status); __builtin_unreachable(); }
 // Threads count too.
 static int refused(void) { return __atomic_add_fetch(&count, 1, __ATOMIC_SEQ_CST) == which ? (errno = ENOMEM) : 0; }
 void *malloc(size_t n) { void *(*next)(size_t) = dlsym(RTLD_NEXT, "malloc"); return refused() ? 0 : next(n); }
