@@ -6,6 +6,9 @@ use Rattle.clap.specs.declared.error.kind.ErrorKind.{ErrorKind}
 use Rattle.clap.specs.declared.error.kind.ErrorKind.TheVariants.{OutOfMemory, DisplayHelp, DisplayVersion}
 use Rattle.sim_text.specs.declared.fault.ServeFault.{ServeFault}
 use Rattle.script_run.specs.ScriptRun.{status_of}
+use Rattle.log_replay.specs.declared.verdict.Replayed.{Replayed}
+use Rattle.log_replay.specs.declared.verdict.ReplayFault.{ReplayFault}
+use Rattle.replay_run.specs.ReplayRun.{replay_status}
 
 -- want of memory before anything is served
 abbrev pub no_memory : ℕ
@@ -21,3 +24,7 @@ status_of_kind _ = 2
 -- how a program ends that is asked to serve
 abbrev pub IsEnd : ExitCode → Type 0
 IsEnd code = (exit_status code ≡ no_memory) ⊎ ((served : Result ℕ ServeFault) × (exit_status code ≡ status_of served))
+
+-- how a program ends that is asked to replay: 4 where the line could not be written
+abbrev pub IsReplayEnd : ExitCode → Type 0
+IsReplayEnd code = (exit_status code ≡ 4) ⊎ ((found : Result Replayed ReplayFault) × (exit_status code ≡ replay_status found))

@@ -6,14 +6,15 @@ mod command_line;
 ghost use Rattle.std.specs.Prelude.{◌≡◌};
 ghost use Rattle.std.specs.Process.{exit_status};
 ghost use Rattle.clap.specs.Words.{kind_of};
-ghost use Rattle.bgpsim.specs.Status.{no_memory, status_of_kind, IsEnd};
+ghost use Rattle.bgpsim.specs.Status.{no_memory, status_of_kind, IsEnd, IsReplayEnd};
 
 use cell_engine::Cell;
 use clap::Error;
 use clap::error::ErrorKind;
 use command_line::{Choice, choose};
-use prefix_table::TrieTable;
-use route_select::GroupCell;
+use prefix_table::{SortedTable, TrieTable};
+use replay_run::run_replay;
+use route_select::{FilterCell, GroupCell};
 use script_run::run_script;
 use sim_core::Sim;
 use std::env;
@@ -23,6 +24,9 @@ use std::thread::Threads;
 
 /// The machine that runs scripts: cells that keep groups of one neighbouring AS, in tries.
 type Engine = Sim<GroupCell, TrieTable<Cell<GroupCell>>>;
+
+/// The machine that replays logs: cells that keep all standings in one list, in sorted tables.
+type PlainEngine = Sim<FilterCell, SortedTable<Cell<FilterCell>>>;
 
 /// The exit status of a mistaken command line.
 const MISTAKEN: u8 = 2;
@@ -46,6 +50,7 @@ fn main(rt: HostRuntime) -> ExitCode {
     };
     match choose(alloc, words.as_slice()) {
         Ok(Choice::Script) => serve_streams(&rt, rt.stderr()),
+        Ok(Choice::Replay) => replay_streams(&rt, rt.stderr()),
         Err(error) => show(&rt, &error),
     }
 }
@@ -97,7 +102,36 @@ fn serve_streams(
         &mut output,
         &mut errors,
     );
-    // The system takes the memory back at once.
+    leave(machine, status)
+}
+
+/// Replays the log on standard input, and tells on standard output what it is found to be.
+fn replay_streams(
+    rt: &(impl Print + Eprint + Input + AllocGlobal + Threads + Sync),
+    errors: impl Write + Drop,
+) -> ExitCode
+    ensures { IsReplayEnd result }
+{
+    let alloc = rt.alloc();
+    let mut input = watched::Input::new(rt.reader());
+    let mut output = watched::Output::new(io::writer(rt));
+    let mut errors = watched::Output::new(errors);
+    let mut machine: PlainEngine = Sim::new(alloc);
+    let status = run_replay(
+        rt,
+        alloc,
+        &mut machine,
+        &mut input,
+        &mut output,
+        &mut errors,
+    );
+    leave(machine, status)
+}
+
+/// Ends the program. The system takes the machine's memory back at once.
+fn leave<M: Drop>(machine: M, status: u8) -> ExitCode
+    ensures { exit_status result ≡ status }
+{
     std::mem::forget(machine);
     ExitCode::from(status)
 }

@@ -1,17 +1,41 @@
-use Rattle.std.proofs.Common.{rules, ap₂, refl, codes, true, [], List, ℕ, ◌∷◌, ◌≡◌, ◌∙◌}
-use Rattle.clap.proofs.OnLiterals.{clap_on_literals}
-use Rattle.clap.specs.Words.{takes}
-use Rattle.bgpsim.specs.CommandLine.{commands}
+use Rattle.std.proofs.Common.{rules, ap, ap₂, sym, subst, ◌∙◌, map, string_bytes}
+use Rattle.std.specs.Prelude.{IsSomeAnd}
+use Rattle.clap.specs.Words.{app_of, fault_of, is_simple_and_free, subcommand_of, takes}
+use Rattle.bgpsim.specs.CommandLine.{commands, IsChoice}
+use Rattle.bgpsim.proofs.Subcommands.{met, met_one, is_script, is_replay, script_is_met, script_is_taken, replay_is_met, replay_is_taken}
 use Rattle.bgpsim.proofs.command_line.choose.Goals as goal
 
--- whatever the program is called, `script` alone is taken
-is_taken : (name : List ℕ) → takes commands (name ∷ codes "script" ∷ []) ≡ true
-unfolding clap_on_literals
-is_taken name = refl
+pub chosen-choice-requires : goal.chosen-choice-requires
+chosen-choice-requires c =
+    let is = c.in_ok-command.ensures in
+    met_one (app_of c.in_ok-command.command) is (map string_bytes c.args.words.now) c.in_ok-matches.matches c.in_ok-matches.ensures.matches
+    (c.in_ok-matches.ensures.kinds (ap is_simple_and_free is))
 
-pub returns-in_err-try_get_matches_from-clause-script :
-    goal.returns-in_err-try_get_matches_from-clause-script
-returns-in_err-try_get_matches_from-clause-script c = λ name is.
-    let taken = ap₂ takes c.in_ok-command.ensures is ∙ is_taken name in
-    let want = c.in_err-try_get_matches_from.ensures.passes taken in
+pub returns-clause-faults : goal.returns-clause-faults
+returns-clause-faults c =
+    let is = c.in_ok-command.ensures in
+    ap (λ a. fault_of a (map string_bytes c.args.words.now)) (sym is) ∙ c.in_ok-matches.ensures.kinds (ap is_simple_and_free is)
+
+pub returns-clause-script : goal.returns-clause-script
+returns-clause-script c = λ name are.
+    let is = c.in_ok-command.ensures in
+    let found = met (app_of c.in_ok-command.command) is (map string_bytes c.args.words.now) c.in_ok-matches.matches c.in_ok-matches.ensures.matches in
+    let known = found ∙ ap (subcommand_of commands) are ∙ script_is_met name in
+    is_script c.chosen-choice.result _ (subst (λ met. IsSomeAnd met (IsChoice c.chosen-choice.result)) known c.chosen-choice.ensures)
+
+pub returns-clause-replay : goal.returns-clause-replay
+returns-clause-replay c = λ name are.
+    let is = c.in_ok-command.ensures in
+    let found = met (app_of c.in_ok-command.command) is (map string_bytes c.args.words.now) c.in_ok-matches.matches c.in_ok-matches.ensures.matches in
+    let known = found ∙ ap (subcommand_of commands) are ∙ replay_is_met name in
+    is_replay c.chosen-choice.result _ (subst (λ met. IsSomeAnd met (IsChoice c.chosen-choice.result)) known c.chosen-choice.ensures)
+
+pub returns-in_err-matches-clause-script : goal.returns-in_err-matches-clause-script
+returns-in_err-matches-clause-script c = λ name are.
+    let want = c.in_err-matches.ensures.passes (ap₂ takes c.in_ok-command.ensures are ∙ script_is_taken name) in
+    search rules
+
+pub returns-in_err-matches-clause-replay : goal.returns-in_err-matches-clause-replay
+returns-in_err-matches-clause-replay c = λ name are.
+    let want = c.in_err-matches.ensures.passes (ap₂ takes c.in_ok-command.ensures are ∙ replay_is_taken name) in
     search rules

@@ -1,0 +1,4 @@
+#!/usr/bin/env python3
+import sys
+
+sys.stdout.write("bgpsim log 1\n@0 quiet\n" + "= yes".ljust(1048577) + "\nend 1\n")
