@@ -1,11 +1,10 @@
 #!/usr/bin/env python3
-"""Logs of sessions by the model: writes them, tells what one is found to be, and compares `bgpsim replay` with that.
+"""Logs by the model: writes them, tells what one is found to be, and compares `bgpsim replay` with that.
 
     tools/logs.py write [--seats N]                  the log of the script on standard input, its calls spread over N seats (1)
     tools/logs.py check                              what the log on standard input is found to be
-    tools/logs.py agree [--scripts N] [--seed S]     N random scripts (100), of the seeds from S (1) on: their logs, and each with some single
-                                                     bytes changed, added and left out, are replayed by the program
-
+    tools/logs.py agree [--scripts N] [--seed S]     N random scripts (100), of the seeds from S (1) on: their logs, and each a dozen times
+                                                     with one byte changed, added or left out or the rest cut off, are replayed by the program
     tools/logs.py refuse                             the log on standard input is replayed with each of its allocations refused in turn: each run
                                                      has to end with `memory` and status 5, or as ever; it needs cc
 

@@ -16,12 +16,12 @@ bgpsim = record (new_app (codes "bgpsim")) {
 abbrev pub commands : App
 commands = with_subcommand (with_subcommand bgpsim (new_app (codes "script")).top) (new_app (codes "replay")).top
 
--- what a choice is called, and the arguments that it was given
+-- the subcommand of a choice, and the rows of its arguments; these two take none
 abbrev pub IsChoice : Choice → Text × List Row → Type 0
 IsChoice Script met = met.0 ≡ codes "script"
 IsChoice Replay met = met.0 ≡ codes "replay"
 
--- the words name the choice's subcommand, with its arguments
+-- what `clap` reads in the words is the choice's subcommand, with its arguments
 abbrev pub Chooses : List Text → Choice → Type 0
 Chooses words choice = IsSomeAnd (subcommand_of commands words) (IsChoice choice)
 
