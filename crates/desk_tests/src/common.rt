@@ -4,7 +4,7 @@ ghost use Rattle.std.specs.Prelude.{◌≡◌};
 
 use cell_engine::Cell;
 use command_text::read_line;
-use desk::{Desk, Record, Seat};
+use desk::{Desk, Gate, Record, Seat};
 use log_replay::{Replayed, replay};
 use log_text::write_log;
 use prefix_table::{SortedTable, TrieTable};
@@ -26,6 +26,27 @@ pub type GroupDesk<L> = Desk<GroupCell, Tries, L>;
 
 /// A command, and the text of its reply.
 pub type Asked<'a> = (&'a str, &'a str);
+
+/// A router with a message for two others, whose shards differ.
+pub const STAR: [Asked<'static>; 8] = [
+    ("router 1.0.0.1 1", "ok\n"),
+    ("router 2.0.0.2 2", "ok\n"),
+    ("router 3.0.0.1 3", "ok\n"),
+    ("link 1.0.0.1 2.0.0.2 5", "ok\n"),
+    ("link 1.0.0.1 3.0.0.1 5", "ok\n"),
+    ("join 1.0.0.1 2.0.0.2", "ok\n"),
+    ("join 1.0.0.1 3.0.0.1", "ok\n"),
+    ("origin 1.0.0.1 10.0.0.0/8", "ok\n"),
+];
+
+/// Holds nobody up.
+pub struct Open;
+
+impl Gate for Open {
+    fn taken(&self, _worker: usize, _n: u64) {}
+
+    fn worked(&self, _worker: usize, _n: u64) {}
+}
 
 /// Makes the calls from the seat, one after another. Whether each gets its reply.
 pub fn are_answered<L: Ledger, R: Threads + Wait + Sync>(

@@ -2,8 +2,8 @@
 
 ghost use Rattle.std.specs.Prelude.{◌≡◌};
 
-use crate::common::{Asked, GroupDesk, are_answered, replayed};
-use desk::{Audit, CloseFault, Desk, Fault, Gate, OpenFault, Room, Seat, run_workers};
+use crate::common::{Asked, GroupDesk, Open, are_answered, replayed};
+use desk::{Audit, CloseFault, Desk, Fault, OpenFault, Seat, run_workers};
 use log_replay::Replayed;
 use std::alloc::Global;
 use std::marker::Brand;
@@ -35,15 +35,6 @@ const ALONE: [Asked<'static>; 3] = [
         "11.0.0.0/8 from self path=- origin=igp next=3.0.0.1 med=- pref=100 oid=- clusters=-\nend 1\n",
     ),
 ];
-
-/// Holds nobody up.
-struct Open;
-
-impl Gate for Open {
-    fn taken(&self, _worker: usize, _n: u64) {}
-
-    fn worked(&self, _worker: usize, _n: u64) {}
-}
 
 #[test]
 fn calls_of_two_threads_are_one_history(rt: HostRuntime) -> Result<(), Fail> {

@@ -2,7 +2,7 @@
 
 ghost use Rattle.std.specs.Prelude.{◌≡◌};
 
-use crate::common::{Asked, GroupDesk, are_answered, is_answered};
+use crate::common::{Asked, GroupDesk, STAR, are_answered, is_answered};
 use desk::{Desk, Gate, OpenFault, Seat, run_workers};
 use std::alloc::Global;
 use std::marker::Brand;
@@ -16,18 +16,6 @@ use std::thread::{Threads, join};
 
 /// How often one looks for the other. Past that the test fails.
 const LOOKS: u64 = 10_000_000;
-
-/// A router with a message for two others, whose shards differ.
-const STAR: [Asked<'static>; 8] = [
-    ("router 1.0.0.1 1", "ok\n"),
-    ("router 2.0.0.2 2", "ok\n"),
-    ("router 3.0.0.1 3", "ok\n"),
-    ("link 1.0.0.1 2.0.0.2 5", "ok\n"),
-    ("link 1.0.0.1 3.0.0.1 5", "ok\n"),
-    ("join 1.0.0.1 2.0.0.2", "ok\n"),
-    ("join 1.0.0.1 3.0.0.1", "ok\n"),
-    ("origin 1.0.0.1 10.0.0.0/8", "ok\n"),
-];
 
 /// What is chosen once both messages were taken.
 const TAKEN: [Asked<'static>; 3] = [

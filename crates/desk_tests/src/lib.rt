@@ -5,6 +5,8 @@
 #[cfg(test)]
 mod common;
 #[cfg(test)]
+mod endings;
+#[cfg(test)]
 mod engineers;
 #[cfg(test)]
 mod gate;
