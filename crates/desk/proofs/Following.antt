@@ -1,5 +1,6 @@
 -- Seats that go on from what they were.
 use Rattle.std.proofs.Common.{◌≡◌, ◌+◌, Bool, true, false, List, [], ◌∷◌, ◌++◌, refl, sym, ap, ◌∙◌, subst, append_assoc, append-nil}
+use Rattle.std.specs.Prelude.{Result, Ok, Err, IfOk, OnErr}
 use Rattle.sim_event.specs.declared.event.Event.{Event}
 use Rattle.sim_event.specs.declared.reply.Reply.{Reply}
 use Rattle.desk.specs.declared.room.commit.Committed.{Committed}
@@ -28,6 +29,11 @@ goes_on_after s x (Stale newer) t is = subst (λ (u : SeatBook). GoesOn s u) (sy
 
 pub goes_on_same : (s t : SeatBook) → t ≡ s → GoesOn s t
 goes_on_same s t is = subst (λ (u : SeatBook). GoesOn s u) (sym is) (goes_on_itself s)
+
+-- whatever became of the outcome
+pub goes_on_committed : {E : Type 0} (s : SeatBook) (x : Seen) (r : Result Committed E) (t : SeatBook) → IfOk r (λ c. IsSeatAfter s x c t) → OnErr r (t ≡ s) → GoesOn s t
+goes_on_committed s x (Ok c) t ok err = goes_on_after s x c t ok
+goes_on_committed s x (Err e) t ok err = goes_on_same s t err
 
 -- one seat more
 pub all_go_on_push : (xs ys : List SeatBook) (x y : SeatBook) → AllGoOn xs ys → GoesOn x y → AllGoOn (xs ++ x ∷ []) (ys ++ y ∷ [])

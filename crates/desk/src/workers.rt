@@ -163,6 +163,6 @@ impl<'a, S: Selector + Drop, T: PrefixTable<Cell<S>> + Drop, L: Ledger, G: Gate,
             return;
         };
         self.gate.worked(worker, n);
-        let _ = self.desk.commit(self.rt, seat, done);
+        drop(self.desk.commit(self.rt, seat, done));
     }
 }

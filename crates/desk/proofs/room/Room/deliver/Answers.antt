@@ -57,12 +57,12 @@ returns-clause-delivered g c =
     let x = c.args.job.now in
     let state : c.self.inside.sim.engine ≡ room.engine = ap (λ r. r.engine) c.self.view_is in
     let dirs = c.direction-direction.ensures in
-    let replies : c.in_ok-reply.reply ≡ (step (network room.engine) (delivery_of x)).reply =
-    c.in_ok-reply.ensures.reply ∙ (λ i. (step (network (state i)) (Deliver (dirs i).from (dirs i).to)).reply) in
-    let took : Took (prefix_of x.head) (kind_of x.head) ≡ c.in_ok-reply.reply = sym (seen_took room kept c.engine_facts.ensures.sound x c.requires.seen) ∙ sym replies in
+    let replies : c.in-Ok-install.reply ≡ (step (network room.engine) (delivery_of x)).reply =
+    c.in-Ok-install.ensures.reply ∙ (λ i. (step (network (state i)) (Deliver (dirs i).from (dirs i).to)).reply) in
+    let took : Took (prefix_of x.head) (kind_of x.head) ≡ c.in-Ok-install.reply = sym (seen_took room kept c.engine_facts.ensures.sound x c.requires.seen) ∙ sym replies in
     record {
       replies = replies;
-      state = c.in_ok-reply.ensures.next ∙ (λ i. (step (network (state i)) (Deliver (dirs i).from (dirs i).to)).next);
+      state = c.in-Ok-install.ensures.next ∙ (λ i. (step (network (state i)) (Deliver (dirs i).from (dirs i).to)).next);
       history = search rules;
       notes = search rules;
       seats = search rules;

@@ -9,7 +9,7 @@ use Rattle.desk.proofs.room.Room.job_of.Goals as goal
 pub invariant_of-result : goal.invariant_of-result
 invariant_of-result g c =
     let e = c.args.self.now.engine in
-    let x : Seen = record { direction = c.args.direction; version = c.self.inside.version; head = c.in_ok-head.head; site = c.in_ok-site.site; heard = c.in_ok-cell.cell } in
-    let site : c.in_ok-site.site ≡ router_site e.conf c.args.direction.to = search rules in
-    let heard : c.in_ok-cell.cell ≡ heard_at c.args.direction.to (prefix_of c.in_ok-head.head) e.tables = search rules in
+    let x : Seen = record { direction = c.args.direction; version = c.self.inside.version; head = c.in-Ok-to_message.head; site = c.in-Ok.site; heard = c.in_ok-cell.cell } in
+    let site : c.in-Ok.site ≡ router_site e.conf c.args.direction.to = search rules in
+    let heard : c.in_ok-cell.cell ≡ heard_at c.args.direction.to (prefix_of c.in-Ok-to_message.head) e.tables = search rules in
     can_decide e c.engine_facts.ensures.sound c.engine_facts.ensures.configured x site heard
