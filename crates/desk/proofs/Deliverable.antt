@@ -1,15 +1,14 @@
 -- In a state that a legal history leaves, a message that waits can be delivered.
-use Rattle.std.proofs.Common.{◌≡◌, Bool, true, false, not, ◌&&◌, List, [], ◌∷◌, length, Option, Some, None, unwrap_or, refl, sym, ap, subst, ◌∙◌}
-use Rattle.std.proofs.lemmas.Bool.{true≢false}
+use Rattle.std.proofs.Common.{◌≡◌, Bool, true, false, not, ◌&&◌, List, [], ◌∷◌, Option, Some, None, unwrap_or, refl, sym, ap, ◌∙◌}
 use Rattle.session_queue.specs.declared.message.Message.{Message}
 use Rattle.session_queue.specs.declared.direction.Direction.{Direction}
 use Rattle.session_queue.specs.Waiting.{queue_at}
-use Rattle.net_conf.specs.Configuration.{has_node, has_session}
+use Rattle.net_conf.specs.Configuration.{has_session}
 use Rattle.net_conf.specs.Costs.{is_up}
 use Rattle.net_conf.specs.Edits.{first_of}
 use Rattle.net_conf.specs.declared.refusal.Refusal.TheVariants.{NoRouter, NoSession, SessionDown}
 use Rattle.sim_event.specs.declared.entry.Entry.{Entry}
-use Rattle.reference_machine.specs.Network.{Network, messages_in}
+use Rattle.reference_machine.specs.Network.{Network}
 use Rattle.reference_machine.specs.Machine.{nothing, step, delivery_refusal}
 use Rattle.reference_machine.specs.Histories.{after_calls, state_after}
 use Rattle.session_law.proofs.Configs.{session_either}

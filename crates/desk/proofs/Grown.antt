@@ -7,7 +7,7 @@ use Rattle.reference_machine.specs.Network.{Network}
 use Rattle.reference_machine.specs.Machine.{nothing, step, is_refusal}
 use Rattle.reference_machine.specs.Histories.{after_calls, AreAnswered, IsLegal, state_after}
 use Rattle.cell_network.specs.Engine.{Engine, network}
-use Rattle.desk.specs.Books.{RoomBook, IsKept, is_accepted_edit, version_of}
+use Rattle.desk.specs.Books.{IsKept, is_accepted_edit, version_of}
 
 state_push : (s : Network) (es : List Entry) (e : Entry) → after_calls s (es ++ e ∷ []) ≡ (step (after_calls s es) e.event).next
 state_push s [] e = refl

@@ -1,5 +1,5 @@
 -- When a room can be closed.
-use Rattle.std.specs.Prelude.{◌≡◌, ℕ, ◌<◌, nat_eq, List, [], ◌∷◌, length, count_by, sum_by}
+use Rattle.std.specs.Prelude.{◌≡◌, ℕ, ◌<◌, nat_eq, List, length, count_by, sum_by}
 use Rattle.std.specs.List.{AllByRecursion}
 use Rattle.sim_event.specs.declared.entry.Entry.{Entry}
 use Rattle.reference_machine.specs.Histories.{calls_of}

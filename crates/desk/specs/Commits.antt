@@ -1,8 +1,5 @@
 -- What becomes of a job that is done.
-use Rattle.std.specs.Prelude.{◌≡◌, ◌≢◌, ℕ, List, ◌∷◌, ◌++◌, [], Option}
-use Rattle.net_prefix.specs.declared.addr.Addr.{Addr}
-use Rattle.path_attr.specs.declared.attr.Attr.{Attr}
-use Rattle.net_conf.specs.declared.site.SiteConf.{SiteConf}
+use Rattle.std.specs.Prelude.{◌≡◌, ◌≢◌, ◌∷◌, ◌++◌, [], Option}
 use Rattle.session_queue.specs.declared.message.Message.{Message}
 use Rattle.sim_event.specs.declared.event.Event.{Event}
 use Rattle.sim_event.specs.declared.event.Event.TheVariants.{Deliver}

@@ -1,7 +1,6 @@
 -- What a worker takes away from the room to decide, and what may have moved until it comes back.
 use Rattle.std.specs.Prelude.{◌≡◌, ℕ, ⊤, map, slice_get, Option, Some, None}
 use Rattle.std.specs.List.Sorted.{IsStrictlySortedBy}
-use Rattle.net_prefix.specs.declared.addr.Addr.{Addr}
 use Rattle.net_prefix.specs.Address.{addr_cmp}
 use Rattle.net_conf.specs.declared.site.SiteConf.{SiteConf}
 use Rattle.net_conf.specs.RouterSites.{router_site}

@@ -1,11 +1,10 @@
-use Rattle.std.proofs.Common.{rules, ◌≡◌, ◌+◌, ◌∷◌, [], ◌++◌, length, cond, sym, ap, subst, ◌∙◌, length-append, arith}
+use Rattle.std.proofs.Common.{rules, ◌≡◌, ◌+◌, ◌∷◌, [], ◌++◌, length, sym, ap, ◌∙◌, length-append, arith}
 use Rattle.sim_event.specs.declared.entry.Entry.{Entry}
 use Rattle.sim_event.specs.declared.reply.Reply.TheVariants.{Refused}
 use Rattle.reference_machine.specs.Machine.{step}
 use Rattle.cell_network.specs.Engine.{network}
-use Rattle.sim_core.specs.Plans.{IsPrepared}
-use Rattle.desk.specs.Books.{is_edit, is_accepted_edit, version_of}
-use Rattle.desk.proofs.Grown.{version_push, accepted_one, refused_none, kept_push}
+use Rattle.desk.specs.Books.{is_edit, version_of}
+use Rattle.desk.proofs.Grown.{version_push, refused_none, kept_push}
 use Rattle.desk.proofs.room.Room.refuse.Goals as goal
 
 pub invariant_of-self-2 : goal.invariant_of-self-2
