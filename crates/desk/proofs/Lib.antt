@@ -1,0 +1,7 @@
+pub mod Calls
+pub mod Deliverable
+pub mod Differing
+pub mod Following
+pub mod Grown
+pub mod Seats
+pub mod Taken

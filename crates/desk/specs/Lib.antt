@@ -1,0 +1,6 @@
+pub mod Books
+pub mod Closing
+pub mod Jobs
+pub mod Commits
+pub mod Differences
+pub mod Desks

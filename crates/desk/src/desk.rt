@@ -1,0 +1,303 @@
+//! The desk: a room under one lock.
+
+ghost use Rattle.std.specs.Prelude.{◌≡◌, ◌<◌, ◌≤◌, false, IfOk, IfErr, IfSome, OnOk, OnErr};
+ghost use Rattle.session_queue.specs.Shards.{shard_of};
+ghost use Rattle.desk.specs.Books.{blank_seats, is_memory, noted};
+ghost use Rattle.desk.specs.Desks.{AreSeats, AreShards, IsOpenFault, IsReplied, IsTaken, IsNoted, IsSeatAfter};
+
+use crate::room::{Audit, CommitFault, Committed, Done, Job, Room, Seat};
+use cell_engine::Cell;
+use prefix_table::PrefixTable;
+use route_select::{Chosen, Selector};
+use sim_event::{Event, Reply};
+use std::alloc::{AllocError, Global};
+use std::marker::Model;
+use std::sync::ledger::{Blank, Ledger};
+use std::sync::{Condvar, Mutex, Wait};
+use std::thread::Threads;
+
+/// The most seats of a desk.
+pub const MAX_SEATS: u16 = 256;
+
+/// The most shards of a desk.
+pub const MAX_SHARDS: u64 = 64;
+
+/// Why a desk is not opened.
+#[derive(Clone, Copy, Debug, PartialEq, Eq)]
+pub enum OpenFault {
+    /// There are to be no seats, or more than 256.
+    Seats,
+    /// There are to be no shards, or more than 64.
+    Shards,
+    /// There is no memory.
+    Memory,
+}
+
+/// What lies under the lock.
+#[derive(Drop)]
+struct Table<S: Chosen, T: PrefixTable<Cell<S>>, L: Ledger> {
+    room: Room<S, T, L>,
+    /// Whether the engineers make no more calls.
+    is_finished: bool,
+    /// How many workers are at the desk.
+    workers: u64,
+    /// How many of them have looked for a job since the last change, and found none.
+    idle: u64,
+    /// How many changes there were. It wraps.
+    changes: u64,
+}
+
+/// A room under one lock, at which several work: engineers make calls, and workers take jobs, each of the receivers of one shard. Contracts
+/// see how many shards there are. What is under the lock is known by what holds of every room: its history is legal.
+#[derive(Drop)]
+pub struct Desk<S: Chosen, T: PrefixTable<Cell<S>>, L: Ledger> {
+    table: Mutex<Table<S, T, L>>,
+    /// Tells those who wait that a call was made, an outcome put in, or that somebody left.
+    changed: Condvar,
+    shards: u64,
+}
+
+impl<S: Chosen, T: PrefixTable<Cell<S>>, L: Ledger> Model for Desk<S, T, L> {
+    ghost use Rattle.desk.specs.Desks.{DeskBook, AreShards};
+
+    ghost Value = { DeskBook };
+
+    ghost view = { λ d. record { shards = d.shards } };
+
+    ghost invariant = { λ d. AreShards d.shards };
+}
+
+/// What a worker finds at the desk.
+pub(crate) enum Turn<S: Chosen> {
+    Job(Job<S>),
+    /// There was no memory for a job, or none waited though the engineers have finished.
+    Nothing,
+    /// The engineers have finished, and no message waits, or nobody is left who could bring one.
+    End,
+}
+
+impl<S: Chosen, T: PrefixTable<Cell<S>>, L: Ledger> Desk<S, T, L> {
+    /// A desk of an empty room, with its seats, by number, and so many shards: 1 to 256 seats, and 1 to 64 shards.
+    pub fn open(
+        alloc: Global,
+        seats: u16,
+        shards: u64,
+        blank: Blank,
+    ) -> Result<(Self, Vec<Seat<L>>), OpenFault>
+        requires name { blank.name ≡ L.name }
+        requires ledger { blank.parts ≡ L.parts }
+        requires parts { blank.parts ≡ 256 }
+        ensures seats { IfOk result (λ made. made.1.items ≡ blank_seats seats) }
+        ensures shards { IfOk result (λ made. made.0.shards ≡ shards) }
+        ensures allowed { OnOk result (AreSeats seats × AreShards shards) }
+        ensures fault { IfErr result (IsOpenFault seats shards) }
+    {
+        if seats < 1 || seats > MAX_SEATS {
+            return Err(OpenFault::Seats);
+        }
+        if shards < 1 || shards > MAX_SHARDS {
+            return Err(OpenFault::Shards);
+        }
+        match Room::new(alloc, seats, blank) {
+            Ok((room, all)) => Ok((Desk::of(room, shards), all)),
+            Err(_) => Err(OpenFault::Memory),
+        }
+    }
+
+    /// The room, under a lock.
+    fn of(room: Room<S, T, L>, shards: u64) -> Self
+        requires { AreShards shards }
+        ensures { result.shards ≡ shards }
+    {
+        let table = Table {
+            room,
+            is_finished: false,
+            workers: 0,
+            idle: 0,
+            changes: 0,
+        };
+        Desk {
+            table: Mutex::new(table),
+            changed: Condvar::new(),
+            shards,
+        }
+    }
+
+    /// How many shards there are: 1 to 64.
+    pub fn shards(&self) -> u64
+        ensures shards { result ≡ self.now.shards }
+        ensures allowed { AreShards result }
+    {
+        self.shards
+    }
+
+    /// Whether the seat's notes are its calls in the history, which is legal.
+    pub fn audit<R: Wait>(&self, rt: &R, seat: &Seat<L>) -> Audit
+        ensures { result ≡ Audit.Agrees → IsNoted seat.now }
+    {
+        self.table.lock(rt).audit(seat)
+    }
+
+    /// Tells the workers that no more calls come: they end once no message waits.
+    pub fn finish_calls<R: Wait>(&self, rt: &R) {
+        let mut table = self.table.lock(rt);
+        table.is_finished = true;
+        table.note_change();
+        drop(table);
+        self.changed.notify_all();
+    }
+
+    /// The room, once nobody is at the desk.
+    pub fn end(self) -> Room<S, T, L> {
+        self.table.into_inner().room
+    }
+
+    /// So many workers come. Each leaves once.
+    pub(crate) fn enter<R: Wait>(&self, rt: &R, workers: usize) {
+        let mut table = self.table.lock(rt);
+        table.workers = table.workers.wrapping_add(workers as u64);
+    }
+
+    /// A worker leaves.
+    pub(crate) fn leave<R: Wait>(&self, rt: &R) {
+        let mut table = self.table.lock(rt);
+        table.workers = table.workers.wrapping_sub(1);
+        table.note_change();
+        drop(table);
+        self.changed.notify_all();
+    }
+}
+
+impl<S: Selector + Send + Sync + Drop, T: PrefixTable<Cell<S>> + Drop, L: Ledger> Desk<S, T, L> {
+    /// Makes a call from the seat: the reply is the machine's own, in a state that a legal history leaves, and it is the last of the seat's
+    /// notes. For want of memory the reply is the refusal `Memory`, and the seat stays as it is.
+    pub fn call<R: Threads + Wait + Sync>(&self, rt: &R, seat: &mut Seat<L>, event: Event) -> Reply
+        ensures seat { seat.new ≡ noted seat.old event result }
+        ensures reply { is_memory result ≡ false → IsReplied event result }
+    {
+        let mut table = self.table.lock(rt);
+        let reply = table.call(rt, seat, event);
+        drop(table);
+        self.changed.notify_all();
+        reply
+    }
+}
+
+impl<S: Chosen + Drop, T: PrefixTable<Cell<S>> + Drop, L: Ledger> Desk<S, T, L> {
+    /// Puts in an outcome where all that its job held is still as it was: this is the machine's own step of the delivery, in a state that
+    /// a legal history leaves, and the last of the seat's notes. Else it is told what has moved, and the seat stays as it is. For want of
+    /// memory the outcome is handed back. Nothing is decided here.
+    pub fn commit<R: Wait>(
+        &self,
+        rt: &R,
+        seat: &mut Seat<L>,
+        done: Done<S>,
+    ) -> Result<Committed, CommitFault<S>>
+        ensures committed { IfOk result (λ committed. IsSeatAfter seat.old done committed seat.new) }
+        ensures back { IfErr result (λ fault. fault.done ≡ done) }
+        ensures seat { OnErr result (seat.new ≡ seat.old) }
+    {
+        let mut table = self.table.lock(rt);
+        let committed = table.commit(seat, done);
+        drop(table);
+        self.changed.notify_all();
+        committed
+    }
+}
+
+impl<S: Selector + Drop, T: PrefixTable<Cell<S>> + Drop, L: Ledger> Desk<S, T, L> {
+    /// A job of the shard, as `Room::job` gives it. It does not wait for one. Want of memory is the only error.
+    pub fn take<R: Wait>(&self, rt: &R, shard: u64) -> Result<Option<Job<S>>, AllocError>
+        requires { shard < self.now.shards }
+        ensures taken { IfOk result (λ found. IfSome found IsTaken) }
+        ensures shard { IfOk result (λ found. IfSome found (λ job. shard_of job.direction.to self.now.shards ≡ shard)) }
+    {
+        self.table.lock(rt).take(shard, self.shards)
+    }
+
+    /// What a worker of the shard does next. It waits, without looking again and again, until there is something.
+    pub(crate) fn next_turn<R: Wait>(&self, rt: &R, shard: u64) -> Turn<S>
+        requires { shard < self.now.shards }
+    {
+        let mut table = self.table.lock(rt);
+        for _ in rt.forever() {
+            match table.room.job(shard, self.shards) {
+                Ok(Some(job)) => return Turn::Job(job),
+                Ok(None) => {}
+                Err(_) => return Turn::Nothing,
+            }
+            table.idle = table.idle.wrapping_add(1);
+            if table.is_over() {
+                return Turn::End;
+            }
+            let is_finished = table.is_finished;
+            let seen = table.changes;
+            table = self
+                .changed
+                .wait_while(rt, table, |now| now.changes == seen);
+            if is_finished {
+                return Turn::Nothing;
+            }
+        }
+        unreachable!()
+    }
+}
+
+// What is done under the lock. Contracts see the table here: what they say outlasts the lock.
+impl<S: Chosen, T: PrefixTable<Cell<S>>, L: Ledger> Table<S, T, L> {
+    fn audit(&self, seat: &Seat<L>) -> Audit
+        ensures { result ≡ Audit.Agrees → IsNoted seat.now }
+    {
+        self.room.facts();
+        self.room.audit(seat)
+    }
+
+    /// Who waits has to look again.
+    fn note_change(&mut self)
+        ensures { self.new.room ≡ self.old.room }
+    {
+        self.changes = self.changes.wrapping_add(1);
+        self.idle = 0;
+    }
+
+    /// Whether the engineers have finished, and no message waits, or no worker has found a job since the last change.
+    fn is_over(&self) -> bool {
+        self.is_finished && (self.room.is_quiet() || self.idle >= self.workers)
+    }
+}
+
+impl<S: Selector + Send + Sync + Drop, T: PrefixTable<Cell<S>> + Drop, L: Ledger> Table<S, T, L> {
+    fn call<R: Threads + Sync>(&mut self, rt: &R, seat: &mut Seat<L>, event: Event) -> Reply
+        ensures seat { seat.new ≡ noted seat.old event result }
+        ensures reply { is_memory result ≡ false → IsReplied event result }
+    {
+        self.room.facts();
+        let reply = self.room.step(rt, seat, event);
+        self.note_change();
+        reply
+    }
+}
+
+impl<S: Chosen + Drop, T: PrefixTable<Cell<S>> + Drop, L: Ledger> Table<S, T, L> {
+    fn commit(&mut self, seat: &mut Seat<L>, done: Done<S>) -> Result<Committed, CommitFault<S>>
+        ensures committed { IfOk result (λ committed. IsSeatAfter seat.old done committed seat.new) }
+        ensures back { IfErr result (λ fault. fault.done ≡ done) }
+        ensures seat { OnErr result (seat.new ≡ seat.old) }
+    {
+        self.room.facts();
+        let committed = self.room.commit(seat, done);
+        self.note_change();
+        committed
+    }
+}
+
+impl<S: Selector + Drop, T: PrefixTable<Cell<S>> + Drop, L: Ledger> Table<S, T, L> {
+    fn take(&self, shard: u64, shards: u64) -> Result<Option<Job<S>>, AllocError>
+        requires { shard < shards }
+        ensures taken { IfOk result (λ found. IfSome found IsTaken) }
+        ensures shard { IfOk result (λ found. IfSome found (λ job. shard_of job.direction.to shards ≡ shard)) }
+    {
+        self.room.facts();
+        self.room.job(shard, shards)
+    }
+}

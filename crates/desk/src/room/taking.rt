@@ -1,0 +1,78 @@
+//! Jobs are taken.
+
+ghost use Rattle.std.specs.Prelude.{◌≡◌, ◌<◌, [], None, length, IfOk, IfSome};
+ghost use Rattle.net_prefix.specs.declared.addr.Addr as address;
+ghost use Rattle.session_queue.specs.Shards.{shard_of};
+ghost use Rattle.session_queue.specs.Waiting.{queue_at};
+ghost use Rattle.cell_network.specs.Engine.{heard_at};
+ghost use Rattle.desk.specs.Jobs.{IsSeenIn};
+
+use crate::room::Room;
+use crate::room::job::Job;
+use cell_engine::Cell;
+use net_prefix::{Addr, Prefix};
+use prefix_table::PrefixTable;
+use route_select::Selector;
+use seq::Copied;
+use session_queue::Direction;
+use std::alloc::AllocError;
+use std::sync::ledger::Ledger;
+
+impl<S: Selector + Drop, T: PrefixTable<Cell<S>>, L: Ledger> Room<S, T, L> {
+    /// A job of the shard: what the delivery of a message that waits depends on, as it is now. None where no message waits for a receiver
+    /// of the shard. Want of memory is the only error.
+    pub fn job(&self, shard: u64, shards: u64) -> Result<Option<Job<S>>, AllocError>
+        requires { shard < shards }
+        ensures seen { IfOk result (λ found. IfSome found (IsSeenIn self.now)) }
+        ensures shard { IfOk result (λ found. IfSome found (λ job. shard_of job.direction.to shards ≡ shard)) }
+        ensures none { IfOk result (λ found. found ≡ None → (from to : address.Addr) → shard_of to shards ≡ shard → queue_at self.now.engine.queues from to ≡ []) }
+    {
+        match self.sim.state().queues().next_in(shard, shards) {
+            None => Ok(None),
+            Some(direction) => {
+                let job = self.job_of(direction)?;
+                Ok(Some(job))
+            }
+        }
+    }
+
+    /// The job of a direction with a message.
+    fn job_of(&self, direction: Direction) -> Result<Job<S>, AllocError>
+        requires { 0 < length (queue_at self.now.engine.queues direction.from direction.to) }
+        ensures seen { IfOk result (IsSeenIn self.now) }
+        ensures direction { IfOk result (λ job. job.direction ≡ direction) }
+    {
+        self.engine_facts();
+        let state = self.sim.state();
+        let Some(view) = state.queues().head(direction.from, direction.to) else {
+            unreachable!()
+        };
+        let cell = self.cell_of(direction.to, view.prefix())?;
+        let Ok(site) = state.conf().shared_site(self.alloc, direction.to) else {
+            drop(cell);
+            return Err(AllocError);
+        };
+        let Ok(head) = view.to_message() else {
+            drop((cell, site));
+            return Err(AllocError);
+        };
+        Ok(Job {
+            alloc: self.alloc,
+            direction,
+            version: self.version,
+            head,
+            site,
+            cell,
+        })
+    }
+
+    /// A copy of the cell, an empty one where there is none.
+    fn cell_of(&self, router: Addr, prefix: Prefix) -> Result<Cell<S>, AllocError>
+        ensures { IfOk result (λ cell. cell ≡ heard_at router prefix self.now.engine.tables) }
+    {
+        match self.sim.state().cell(router, prefix) {
+            Some(cell) => cell.copy(self.alloc),
+            None => Ok(Cell::new(self.alloc)),
+        }
+    }
+}

@@ -1,0 +1,168 @@
+//! Worker threads at a desk.
+
+ghost use Rattle.std.specs.Prelude.{◌≡◌, ◌<◌, vec_len, vec_capacity};
+ghost use Rattle.desk.specs.Desks.{GoesOn, AllGoOn};
+
+use crate::desk::{Desk, Turn};
+use crate::room::{Job, Seat};
+use cell_engine::Cell;
+use prefix_table::PrefixTable;
+use route_select::Selector;
+use std::snapshot::Snapshot;
+use std::sync::Wait;
+use std::sync::atomic::{AtomicBool, Ordering};
+use std::sync::ledger::Ledger;
+use std::thread;
+use std::thread::{Promise, Threads};
+
+/// What is told of the workers' jobs. The n-th of a worker has the number n, from 1 on.
+pub trait Gate {
+    /// A worker took a job.
+    fn taken(&self, worker: usize, n: u64);
+
+    /// A worker has the outcome of its job.
+    fn worked(&self, worker: usize, n: u64);
+}
+
+/// A thread for each seat: the worker of place i serves the shard i modulo the shards. A turn takes a job, works it without the lock, and
+/// brings the outcome back; want of memory ends the turn, and so does an outcome that came too late. Where there is no job the worker waits.
+/// It ends after so many turns, or once `finish_calls` was called and no message waits, or none that a worker who is left could bring.
+/// A thread that cannot be started is left out, with its seat as it was.
+pub fn run_workers<
+    S: Selector + Drop + Send,
+    T: PrefixTable<Cell<S>> + Drop + Send,
+    L: Ledger + Send + Sync,
+    G: Gate + Sync,
+    R: Threads + Wait + Sync,
+>(rt: &R, desk: &Desk<S, T, L>, seats: Vec<Seat<L>>, gate: &G, turns: u64) -> Vec<Seat<L>>
+    ensures { AllGoOn seats.items result.items }
+{
+    desk.enter(rt, seats.len());
+    let crew = Crew {
+        rt,
+        desk,
+        gate,
+        turns,
+    };
+    crew.run(seats)
+}
+
+/// What the workers of one call have in common.
+#[derive(Clone, Copy)]
+struct Crew<'a, S: Selector, T: PrefixTable<Cell<S>>, L: Ledger, G: Gate, R: Wait> {
+    rt: &'a R,
+    desk: &'a Desk<S, T, L>,
+    gate: &'a G,
+    turns: u64,
+}
+
+/// What a thread hands back goes on from the seat that it was given.
+#[derive(Drop)]
+struct SeatGoesOn<L: Ledger>(Snapshot<Seat<L>>);
+
+impl<L: Ledger> Promise<Seat<L>> for SeatGoesOn<L> {
+    ghost use Rattle.desk.specs.Desks.{GoesOn};
+
+    ghost kept_by = { λ promise seat. GoesOn promise.0.value seat };
+}
+
+impl<
+    'a,
+    S: Selector + Drop + Send,
+    T: PrefixTable<Cell<S>> + Drop + Send,
+    L: Ledger + Send + Sync,
+    G: Gate + Sync,
+    R: Threads + Wait + Sync,
+> Crew<'a, S, T, L, G, R> {
+    /// Starts a thread for the last seat, then those for the seats before it, and waits for all.
+    #[tactic(auto, using(crate::proofs::Following::rows))]
+    fn run(&self, mut seats: Vec<Seat<L>>) -> Vec<Seat<L>>
+        ensures each { AllGoOn seats.items result.items }
+        ensures len { vec_len result ≡ vec_len seats }
+        ensures capacity { vec_capacity result ≡ vec_capacity seats }
+    {
+        let Some(seat) = seats.pop() else {
+            return seats;
+        };
+        let worker = seats.len();
+        let left_out = AtomicBool::new(false);
+        let is_out = &left_out;
+        let (mut rest, last) = thread::scope(
+            thread::scope_env(),
+            self.rt,
+            |scope| -> (Vec<Seat<L>>, Seat<L>)
+                ensures { AllGoOn seats.items result.0.items × GoesOn seat result.1 × (vec_len result.0 ≡ vec_len seats) × (vec_capacity result.0 ≡ vec_capacity seats) }
+            {
+                let promise = SeatGoesOn(Snapshot::of(&seat));
+                let job = move || -> Seat<L>
+                    ensures { GoesOn seat result }
+                { self.work(is_out, worker, seat) };
+                match scope.spawn_with(promise, job) {
+                    Ok(handle) => {
+                        let rest = self.run(seats);
+                        (rest, handle.join(self.rt))
+                    }
+                    Err(refused) => {
+                        is_out.store(true, Ordering::SeqCst);
+                        let last = (refused.value)();
+                        (self.run(seats), last)
+                    }
+                }
+            },
+        );
+        rest.push_reserved(last);
+        rest
+    }
+}
+
+impl<'a, S: Selector + Drop, T: PrefixTable<Cell<S>> + Drop, L: Ledger, G: Gate, R: Wait> Crew<
+    'a,
+    S,
+    T,
+    L,
+    G,
+    R,
+> {
+    /// A worker makes its turns, unless it is left out, and leaves.
+    #[tactic(auto, using(crate::proofs::Following::goes_on))]
+    fn work(&self, is_out: &AtomicBool, worker: usize, mut seat: Seat<L>) -> Seat<L>
+        ensures { GoesOn seat result }
+    {
+        if !is_out.load(Ordering::SeqCst) {
+            self.make_turns(worker, &mut seat);
+        }
+        self.desk.leave(self.rt);
+        seat
+    }
+
+    /// All turns of a worker.
+    fn make_turns(&self, worker: usize, seat: &mut Seat<L>)
+        ensures { GoesOn seat.old seat.new }
+    {
+        let shard = worker as u64 % self.desk.shards();
+        let mut jobs = 0;
+        for _ in 0..self.turns {
+            match self.desk.next_turn(self.rt, shard) {
+                Turn::Job(job) => {
+                    jobs += 1;
+                    self.do_job(worker, jobs, job, seat);
+                }
+                Turn::Nothing => {}
+                Turn::End => return,
+            }
+        }
+    }
+
+    /// Works a job, and brings its outcome back.
+    #[tactic(auto, using(crate::proofs::Following::goes_on))]
+    fn do_job(&self, worker: usize, n: u64, job: Job<S>, seat: &mut Seat<L>)
+        ensures { GoesOn seat.old seat.new }
+    {
+        self.gate.taken(worker, n);
+        let Ok(done) = job.work() else {
+            return;
+        };
+        self.gate.worked(worker, n);
+        drop(self.desk.commit(self.rt, seat, done));
+    }
+}
