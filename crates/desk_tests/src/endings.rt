@@ -46,8 +46,9 @@ fn delivered<L: Ledger + Send + Sync, R: Threads + Wait + Abort + Sync>(
     requires ledger { blank.parts ≡ L.parts }
     requires parts { blank.parts ≡ 256 }
 {
-    let opened: Result<(GroupDesk<L>, Vec<Seat<L>>), OpenFault> =
-        Desk::open(alloc, 2, shards, blank);
+    let opened: Result<(GroupDesk<L>, Vec<Seat<L>>), OpenFault> = Desk::open(
+        alloc, 2, shards, blank,
+    );
     let Ok((desk, mut workers)) = opened else {
         return Err(Fail::from("no desk"));
     };

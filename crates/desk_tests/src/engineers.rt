@@ -58,7 +58,14 @@ fn two_engineers<L: Ledger + Send + Sync, R: Threads + Wait + Abort + Sync>(
     let Some(second) = seats.pop() else {
         return Err(Fail::from("no second seat"));
     };
-    let Err(CloseFault { fault, room, mut seats }) = desk.end().close(seats) else {
+    let Err(
+        CloseFault {
+            fault,
+            room,
+            mut seats,
+        },
+    ) = desk.end().close(seats)
+    else {
         return Err(Fail::from("closed without a seat"));
     };
     assert_eq!(rt; fault, Fault::MissingSeat);
@@ -67,7 +74,10 @@ fn two_engineers<L: Ledger + Send + Sync, R: Threads + Wait + Abort + Sync>(
         return Err(Fail::from("not closed"));
     };
     assert_eq!(rt; record.entries().len(), 9);
-    assert_eq!(rt; replayed(rt, alloc, &record), Some(Replayed::Agrees { entries: 9 }));
+    assert_eq!(rt;
+        replayed(rt, alloc, &record),
+        Some(Replayed::Agrees { entries: 9 })
+    );
     Ok(())
 }
 
@@ -134,6 +144,9 @@ fn with_workers<L: Ledger + Send + Sync, R: Threads + Wait + Abort + Sync>(
         return Err(Fail::from("not closed"));
     };
     assert_eq!(rt; record.entries().len(), 10);
-    assert_eq!(rt; replayed(rt, alloc, &record), Some(Replayed::Agrees { entries: 10 }));
+    assert_eq!(rt;
+        replayed(rt, alloc, &record),
+        Some(Replayed::Agrees { entries: 10 })
+    );
     Ok(())
 }

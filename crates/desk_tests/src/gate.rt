@@ -125,7 +125,14 @@ fn edit_meanwhile<L: Ledger, R: Threads + Wait + Sync>(
     gate: &Meeting,
 ) -> bool {
     gate.await_that(&gate.has_worked);
-    let is_edited = is_answered(rt, alloc, desk, engineer, "metric 1.0.0.1 2.0.0.2 7", "ok\n");
+    let is_edited = is_answered(
+        rt,
+        alloc,
+        desk,
+        engineer,
+        "metric 1.0.0.1 2.0.0.2 7",
+        "ok\n",
+    );
     gate.is_edited.store(true, Ordering::SeqCst);
     gate.await_that(&gate.takes_again);
     desk.finish_calls(rt);

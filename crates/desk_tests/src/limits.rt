@@ -29,7 +29,8 @@ fn fault_of<L: Ledger>(alloc: Global, seats: u16, shards: u64, blank: Blank) -> 
     requires ledger { blank.parts ≡ L.parts }
     requires parts { blank.parts ≡ 256 }
 {
-    let opened: Result<(GroupDesk<L>, Vec<Seat<L>>), OpenFault> =
-        Desk::open(alloc, seats, shards, blank);
+    let opened: Result<(GroupDesk<L>, Vec<Seat<L>>), OpenFault> = Desk::open(
+        alloc, seats, shards, blank,
+    );
     opened.err()
 }

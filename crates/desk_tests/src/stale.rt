@@ -60,16 +60,29 @@ fn twice<L: Ledger, R: Threads + Wait + Abort + Sync>(
     let Ok((desk, mut seats)) = opened else {
         return Err(Fail::from("no desk"));
     };
-    let [engineer, worker] = seats.as_mut_slice() else {
+    let (Some(mut worker), Some(mut engineer)) = (seats.pop(), seats.pop()) else {
         return Err(Fail::from("no two seats"));
     };
-    assert!(rt; are_answered(rt, alloc, &desk, engineer, &FED));
+    assert!(rt; are_answered(rt, alloc, &desk, &mut engineer, &FED));
     let (Some(first), Some(second)) = (worked(rt, &desk), worked(rt, &desk)) else {
         return Err(Fail::from("no jobs"));
     };
-    assert!(rt; matches!(desk.commit(rt, worker, first), Ok(Committed::Delivered(_))));
-    let stale = desk.commit(rt, worker, second);
-    assert!(rt; matches!(stale, Ok(Committed::Stale(Newer::HeadMoved { had: Some(_), now: None }))));
+    assert!(rt;
+        matches!(
+            desk.commit(rt, &mut worker, first),
+            Ok(Committed::Delivered(_))
+        )
+    );
+    let stale = desk.commit(rt, &mut worker, second);
+    assert!(rt;
+        matches!(
+            stale,
+            Ok(Committed::Stale(Newer::HeadMoved {
+                had: Some(_),
+                now: None
+            }))
+        )
+    );
     assert_eq!(rt; worker.count(), 1);
     Ok(())
 }
@@ -92,28 +105,31 @@ fn heard_meanwhile<L: Ledger, R: Threads + Wait + Abort + Sync>(
     let Ok((desk, mut seats)) = opened else {
         return Err(Fail::from("no desk"));
     };
-    let [engineer, worker] = seats.as_mut_slice() else {
+    let (Some(mut worker), Some(mut engineer)) = (seats.pop(), seats.pop()) else {
         return Err(Fail::from("no two seats"));
     };
-    assert!(rt; are_answered(rt, alloc, &desk, engineer, &FED));
+    assert!(rt; are_answered(rt, alloc, &desk, &mut engineer, &FED));
     let Some(done) = worked(rt, &desk) else {
         return Err(Fail::from("no job"));
     };
-    assert!(rt; are_answered(rt, alloc, &desk, engineer, &HEARD));
-    let stale = desk.commit(rt, worker, done);
+    assert!(rt; are_answered(rt, alloc, &desk, &mut engineer, &HEARD));
+    let stale = desk.commit(rt, &mut worker, done);
     let Ok(Committed::Stale(Newer::CellMoved { peer, had, now })) = stale else {
         return Err(Fail::from("not stale"));
     };
     assert_eq!(rt; peer, OTHER);
     assert!(rt; had.is_none());
     assert!(rt; now.is_some_and(|attr| is_fed(&attr)));
-    assert!(rt; is_delivered(rt, &desk, worker));
+    assert!(rt; is_delivered(rt, &desk, &mut worker));
     Ok(())
 }
 
 /// Whether these are the attributes that the other peer fed.
 fn is_fed(attr: &Attr) -> bool {
-    attr.origin == Origin::Igp && attr.next == OTHER && attr.med == Some(0) && attr.path.length() == 1
+    attr.origin == Origin::Igp
+        && attr.next == OTHER
+        && attr.med == Some(0)
+        && attr.path.length() == 1
 }
 
 /// Takes a job, and works it.
