@@ -1,4 +1,4 @@
-//! Copies of events and replies.
+//! Copies with ample memory, and where memory is refused once.
 
 use net_conf::{Edit, Refusal};
 use net_prefix::{Addr, Prefix};
@@ -7,13 +7,21 @@ use route_select::Source;
 use seq::{Copied, Seq, SharedSeq};
 use session_queue::MessageKind;
 use sim_event::{Ask, Event, Feed, Held, News, Reply, Report};
-use std::alloc::Global;
+use std::alloc::{AllocError, Global};
 use std::process::Abort;
 use std::test::Fail;
 
 const FIRST: Addr = Addr(0x0100_0001);
 
 const SECOND: Addr = Addr(0x0100_0002);
+
+/// A copy, tried once more where memory was refused.
+fn copied<T: Copied>(alloc: Global, value: &T) -> Result<T, AllocError> {
+    match value.copy(alloc) {
+        Ok(copy) => Ok(copy),
+        Err(AllocError) => value.copy(alloc),
+    }
+}
 
 /// 10.0.0.0/8.
 fn ten() -> Result<Prefix, Fail> {
@@ -24,7 +32,9 @@ fn ten() -> Result<Prefix, Fail> {
 fn path(alloc: Global) -> Result<AsPath, Fail> {
     let seven = Asn::new(7).ok_or("an AS has a number")?;
     let mut path = AsPath::empty();
-    path.prepend(alloc, seven)?;
+    if path.prepend(alloc, seven).is_err() {
+        path.prepend(alloc, seven)?;
+    }
     Ok(path)
 }
 
@@ -53,7 +63,7 @@ fn copies_events(rt: HostRuntime) -> Result<(), Fail> {
         Event::Deliver(FIRST, SECOND),
         Event::Ask(Ask::Routes(FIRST)),
     ] {
-        match event.copy(alloc)? {
+        match copied(alloc, &event)? {
             Event::Edit(edit) => assert_eq!(rt; edit, Edit::Join(FIRST, SECOND)),
             Event::Deliver(from, to) => assert!(rt; from == FIRST && to == SECOND),
             Event::Ask(ask) => assert_eq!(rt; ask, Ask::Routes(FIRST)),
@@ -70,7 +80,7 @@ fn fed(rt: &impl Abort, alloc: Global, news: News) -> Result<News, Fail> {
         to: SECOND,
         news,
     });
-    let Event::Feed(feed) = event.copy(alloc)? else {
+    let Event::Feed(feed) = copied(alloc, &event)? else {
         return Err(Fail::new("a feed was copied"));
     };
     assert!(rt; feed.from == FIRST && feed.to == SECOND);
@@ -103,7 +113,7 @@ fn copies_replies(rt: HostRuntime) -> Result<(), Fail> {
         Reply::Took(ten()?, MessageKind::Withdraw),
         Reply::Refused(Refusal::Limit),
     ] {
-        match reply.copy(alloc)? {
+        match copied(alloc, &reply)? {
             Reply::Done => {}
             Reply::Took(prefix, kind) => {
                 assert_eq!(rt; prefix, ten()?);
@@ -121,9 +131,12 @@ fn copies_reports(rt: HostRuntime) -> Result<(), Fail> {
     let alloc = rt.alloc();
     let route = held(alloc)?;
     let mut routes = Vec::new(alloc);
-    routes.push(route.copy(alloc)?)?;
+    if routes.reserve(1).is_err() {
+        routes.reserve(1)?;
+    }
+    routes.push(copied(alloc, &route)?)?;
     let reply = Reply::Report(Report::Routes(Seq::of(routes)));
-    let Reply::Report(Report::Routes(routes)) = reply.copy(alloc)? else {
+    let Reply::Report(Report::Routes(routes)) = copied(alloc, &reply)? else {
         return Err(Fail::new("a report was copied"));
     };
     assert_eq!(rt; routes.len(), 1);
