@@ -1,0 +1,2 @@
+pub mod TeamRun
+pub mod Told

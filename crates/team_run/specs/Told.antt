@@ -1,0 +1,9 @@
+-- No public contract cites this file. What is told of a line that made no call.
+use Rattle.std.specs.Prelude.{ℕ, List, ◌++◌, codes}
+use Rattle.std.specs.Fmt.{decimal}
+use Rattle.reply_text.specs.Replies.{refusal_text}
+use Rattle.team_run.specs.declared.told.ToldLine.{ToldLine}
+
+-- the file and the line, and the refusal as a script's reply tells it
+abbrev pub told_text : ToldLine → List ℕ
+told_text told = codes "file " ++ decimal told.file ++ codes " line " ++ decimal told.line ++ codes ": " ++ refusal_text told.refusal

@@ -1,0 +1,106 @@
+//! The threads of a team: one for each engineer, and those of the workers.
+
+use crate::engineer::{Engineer, play};
+use crate::told::Told;
+use cell_engine::Cell;
+use desk::{Desk, Gate, Seat, run_workers};
+use prefix_table::PrefixTable;
+use route_select::Selector;
+use std::alloc::{AllocError, Global};
+use std::io::Write;
+use std::sync::Wait;
+use std::sync::atomic::{AtomicU64, Ordering};
+use std::sync::ledger::Ledger;
+use std::thread;
+use std::thread::Threads;
+
+/// A gate that lets all pass, and tells nobody.
+struct Open;
+
+impl Gate for Open {
+    fn taken(&self, _worker: usize, _n: u64) {}
+
+    fn worked(&self, _worker: usize, _n: u64) {}
+}
+
+/// What the threads of a team have in common.
+#[derive(Clone, Copy)]
+pub(crate) struct Crew<
+    'a,
+    'e,
+    S: Selector,
+    T: PrefixTable<Cell<S>>,
+    L: Ledger,
+    E: Write,
+    R: Threads + Wait,
+> {
+    pub(crate) rt: &'a R,
+    pub(crate) alloc: Global,
+    pub(crate) desk: &'a Desk<S, T, L>,
+    pub(crate) told: &'a Told<'e, E>,
+    /// How many engineers have not ended.
+    pub(crate) at_work: &'a AtomicU64,
+    /// How many turns each worker has.
+    pub(crate) turns: u64,
+}
+
+impl<
+    'a,
+    'e,
+    S: Selector + Send + Sync + Drop,
+    T: PrefixTable<Cell<S>> + Drop + Send,
+    L: Ledger + Send + Sync,
+    E: Write + Send,
+    R: Threads + Wait + Sync,
+> Crew<'a, 'e, S, T, L, E, R> {
+    /// Starts a thread for the last engineer, then those for the engineers before, then those of the workers, and waits for all. The
+    /// seats of all come back. An engineer whose thread cannot be started has ended; this is want of memory, as is none for the seats.
+    pub(crate) fn run(
+        &self,
+        mut engineers: Vec<Engineer<L>>,
+        workers: Vec<Seat<L>>,
+    ) -> Result<Vec<Seat<L>>, AllocError> {
+        let Some(engineer) = engineers.pop() else {
+            return Ok(run_workers(self.rt, self.desk, workers, &Open, self.turns));
+        };
+        let (seats, last) = thread::scope(
+            thread::scope_env(),
+            self.rt,
+            |scope| -> (Result<Vec<Seat<L>>, AllocError>, Option<Seat<L>>)
+                ensures { ⊤ }
+            {
+                let job = move || -> Seat<L>
+                    ensures { ⊤ }
+                { self.work(engineer) };
+                match scope.spawn(job) {
+                    Ok(handle) => {
+                        let seats = self.run(engineers, workers);
+                        (seats, Some(handle.join(self.rt)))
+                    }
+                    Err(refused) => {
+                        drop(refused);
+                        self.end_one();
+                        (self.run(engineers, workers), None)
+                    }
+                }
+            },
+        );
+        let mut seats = seats?;
+        seats.push(last.ok_or(AllocError)?)?;
+        Ok(seats)
+    }
+
+    /// An engineer's thread: all lines are called.
+    fn work(&self, engineer: Engineer<L>) -> Seat<L> {
+        let seat = play(self.rt, self.alloc, self.desk, self.told, engineer);
+        self.end_one();
+        seat
+    }
+
+    /// An engineer has ended. No calls come after the last one.
+    fn end_one(&self) {
+        if self.at_work.fetch_sub(1, Ordering::SeqCst) == 1 {
+            self.desk.finish_calls(self.rt);
+        }
+    }
+}

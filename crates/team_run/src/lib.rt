@@ -1,0 +1,13 @@
+//! Several engineers and workers at one desk: a thread for each, and the log of what happened.
+#![tactic(auto)]
+
+mod crew;
+mod ending;
+mod engineer;
+mod lines;
+mod scripts;
+mod team;
+mod told;
+
+pub use scripts::ScriptFile;
+pub use team::{Size, run_team};

@@ -1,0 +1,236 @@
+//! A team at its desk, from the scripts to the log.
+
+ghost use Rattle.std.specs.Prelude.{◌≡◌, ◌≤◌, false, vec_len, IfErr, OnOk};
+ghost use Rattle.reference_machine.specs.Histories.{IsLegal};
+ghost use Rattle.team_run.specs.TeamRun.{IsCutOff, IsLogged, IsOfPlay, IsPlayed, IsTeamRun};
+
+use crate::crew::Crew;
+use crate::ending::{TeamFault, status_of, tell};
+use crate::engineer::Engineer;
+use crate::scripts::{ScriptFile, read_scripts};
+use crate::told::Told;
+use cell_engine::Cell;
+use desk::{Audit, Desk, Record, Seat};
+use log_text::write_log;
+use prefix_table::PrefixTable;
+use route_select::Selector;
+use sim_event::Entry;
+use std::alloc::{AllocError, Global};
+use std::io::{Read, Write};
+use std::sync::Wait;
+use std::sync::atomic::AtomicU64;
+use std::sync::ledger::{Blank, Ledger};
+use std::thread::Threads;
+use watched::Output;
+
+/// How many workers a team has, 1 to 64, and how many turns each of them.
+#[derive(Clone, Copy, Debug, PartialEq, Eq)]
+pub struct Size {
+    pub workers: u16,
+    pub turns: u64,
+}
+
+/// Runs a team on the files, each the script of an engineer, from the empty network: a thread calls the lines of each script in turn, and
+/// the workers' threads deliver what waits, until the engineers have ended and no message waits, or their turns have. The log of all calls
+/// goes to the output. What makes no call is told on the third stream, and so is a fault; its own failure is passed over. The exit status:
+/// 0 done, 3 a file was not read, 4 write fault, 5 want of memory, or a seat whose notes are not its calls.
+pub fn run_team<
+    S: Selector + Send + Sync + Drop,
+    T: PrefixTable<Cell<S>> + Drop + Send,
+    L: Ledger + Send + Sync,
+    F: Read,
+    W: Write,
+    E: Write + Send,
+    R: Threads + Wait + Sync,
+>(
+    rt: &R,
+    alloc: Global,
+    blank: Blank,
+    size: Size,
+    files: Vec<ScriptFile<F>>,
+    output: &mut Output<W>,
+    errors: &mut Output<E>,
+) -> u8
+    requires name { blank.name ≡ L.name }
+    requires ledger { blank.parts ≡ L.parts }
+    requires parts { blank.parts ≡ 256 }
+    requires some { 1 ≤ vec_len files }
+    requires most { vec_len files ≤ 64 }
+    requires workers { 1 ≤ size.workers }
+    requires hands { size.workers ≤ 64 }
+    requires calm { output.old.failed ≡ false }
+    requires shown { output.old.held ≡ false }
+    ensures run { IsTeamRun output.old errors.old result output.new errors.new }
+{
+    match read_scripts(alloc, files) {
+        Ok(scripts) => { play::<S, T, L, W, E, R>(rt, alloc, blank, size, scripts, output, errors) }
+        Err(fault) => {
+            tell(&fault, errors);
+            status_of(&fault)
+        }
+    }
+}
+
+/// Runs a team on scripts that were read. The exit status.
+fn play<
+    S: Selector + Send + Sync + Drop,
+    T: PrefixTable<Cell<S>> + Drop + Send,
+    L: Ledger + Send + Sync,
+    W: Write,
+    E: Write + Send,
+    R: Threads + Wait + Sync,
+>(
+    rt: &R,
+    alloc: Global,
+    blank: Blank,
+    size: Size,
+    scripts: Vec<Vec<u8>>,
+    output: &mut Output<W>,
+    errors: &mut Output<E>,
+) -> u8
+    requires name { blank.name ≡ L.name }
+    requires ledger { blank.parts ≡ L.parts }
+    requires parts { blank.parts ≡ 256 }
+    requires some { 1 ≤ vec_len scripts }
+    requires most { vec_len scripts ≤ 64 }
+    requires workers { 1 ≤ size.workers }
+    requires hands { size.workers ≤ 64 }
+    requires calm { output.old.failed ≡ false }
+    requires shown { output.old.held ≡ false }
+    ensures { IsPlayed output.old result output.new }
+{
+    let ended = match recorded::<S, T, L, E, R>(rt, alloc, blank, size, scripts, errors) {
+        Ok(record) => write_record(&record, output),
+        Err(fault) => Err(fault),
+    };
+    match ended {
+        Ok(()) => 0,
+        Err(fault) => {
+            tell(&fault, errors);
+            status_of(&fault)
+        }
+    }
+}
+
+/// The record of a team on scripts that were read.
+fn recorded<
+    S: Selector + Send + Sync + Drop,
+    T: PrefixTable<Cell<S>> + Drop + Send,
+    L: Ledger + Send + Sync,
+    E: Write + Send,
+    R: Threads + Wait + Sync,
+>(
+    rt: &R,
+    alloc: Global,
+    blank: Blank,
+    size: Size,
+    scripts: Vec<Vec<u8>>,
+    errors: &mut Output<E>,
+) -> Result<Record, TeamFault>
+    requires name { blank.name ≡ L.name }
+    requires ledger { blank.parts ≡ L.parts }
+    requires parts { blank.parts ≡ 256 }
+    requires most { vec_len scripts ≤ 64 }
+    requires hands { size.workers ≤ 64 }
+    ensures { IfErr result IsOfPlay }
+{
+    let seats = scripts.len() as u16 + size.workers;
+    let Ok((desk, seats)) = Desk::<S, T, L>::open(alloc, seats, u64::from(size.workers), blank)
+    else {
+        return Err(TeamFault::Memory);
+    };
+    let told = Told::new(alloc, errors)?;
+    let seats = at_desk(rt, alloc, &desk, &told, scripts, seats, size.turns);
+    told.show();
+    closed(rt, desk, seats?)
+}
+
+/// All threads at the desk, from the first call to the last. The seats come back.
+fn at_desk<
+    S: Selector + Send + Sync + Drop,
+    T: PrefixTable<Cell<S>> + Drop + Send,
+    L: Ledger + Send + Sync,
+    E: Write + Send,
+    R: Threads + Wait + Sync,
+>(
+    rt: &R,
+    alloc: Global,
+    desk: &Desk<S, T, L>,
+    told: &Told<'_, E>,
+    scripts: Vec<Vec<u8>>,
+    seats: Vec<Seat<L>>,
+    turns: u64,
+) -> Result<Vec<Seat<L>>, AllocError> {
+    let (engineers, workers) = seated(alloc, scripts, seats)?;
+    let at_work = AtomicU64::new(engineers.len() as u64);
+    let crew = Crew {
+        rt,
+        alloc,
+        desk,
+        told,
+        at_work: &at_work,
+        turns,
+    };
+    crew.run(engineers, workers)
+}
+
+/// An engineer for each script, with the seat at its place, and the seats that are left.
+fn seated<L: Ledger>(
+    alloc: Global,
+    scripts: Vec<Vec<u8>>,
+    seats: Vec<Seat<L>>,
+) -> Result<(Vec<Engineer<L>>, Vec<Seat<L>>), AllocError> {
+    let mut engineers = Vec::new(alloc);
+    let mut seats = seats.into_iter();
+    for (index, script) in scripts.into_iter().enumerate() {
+        let seat = seats.next().ok_or(AllocError)?;
+        let file = index as u64 + 1;
+        engineers.push(Engineer { file, script, seat })?;
+    }
+    Ok((engineers, seats.collect(alloc)?))
+}
+
+/// The history of the desk, where the notes of each seat are its calls in it.
+fn closed<S: Selector + Drop, T: PrefixTable<Cell<S>> + Drop, L: Ledger, R: Wait>(
+    rt: &R,
+    desk: Desk<S, T, L>,
+    seats: Vec<Seat<L>>,
+) -> Result<Record, TeamFault>
+    ensures { IfErr result IsOfPlay }
+{
+    if !seats
+        .iter()
+        .all(|seat| desk.audit(rt, seat) == Audit::Agrees)
+    {
+        return Err(TeamFault::BookDiffers);
+    }
+    match desk.end().close(seats) {
+        Ok(record) => Ok(record),
+        Err(_) => Err(TeamFault::BookDiffers),
+    }
+}
+
+/// Writes the log of the record, and sends it on.
+fn write_record<W: Write>(record: &Record, output: &mut Output<W>) -> Result<(), TeamFault>
+    requires { output.old.failed ≡ false }
+    ensures logged { OnOk result (IsLogged output.old output.new) }
+    ensures cut_off { IfErr result (λ fault. (fault ≡ TeamFault.Write) × IsCutOff output.old output.new) }
+{
+    write_entries(record.entries(), output)
+}
+
+/// Writes the log of a legal history, and sends it on.
+fn write_entries<W: Write>(entries: &[Entry], output: &mut Output<W>) -> Result<(), TeamFault>
+    requires calm { output.old.failed ≡ false }
+    requires legal { IsLegal entries.now }
+    ensures logged { OnOk result (IsLogged output.old output.new) }
+    ensures cut_off { IfErr result (λ fault. (fault ≡ TeamFault.Write) × IsCutOff output.old output.new) }
+{
+    if write_log(entries, output).is_err() {
+        return Err(TeamFault::Write);
+    }
+    match output.flush() {
+        Ok(()) => Ok(()),
+        Err(_) => Err(TeamFault::Write),
+    }
+}

@@ -1,0 +1,73 @@
+//! What is told of lines that made no call.
+
+ghost use Rattle.std.specs.Prelude.{◌≡◌};
+ghost use Rattle.team_run.specs.Told.{told_text};
+ghost use Rattle.watched.specs.Streams.{Writes};
+
+use boxcar::Vec;
+use net_conf::Refusal;
+use reply_text::{Part, write_each};
+use std::alloc::{AllocError, Global};
+use std::io::Write;
+use std::sync::{Mutex, Wait};
+use watched::{Output, WriterFailed};
+
+/// A line that made no call. Files and lines count from 1.
+#[derive(Clone, Copy, Debug, PartialEq, Eq)]
+pub(crate) struct ToldLine {
+    pub(crate) file: u64,
+    pub(crate) line: u64,
+    pub(crate) refusal: Refusal,
+}
+
+/// The lines that made no call, from all engineers, in the order in which they were told.
+#[derive(Drop)]
+pub(crate) struct Told<'a, E: Write> {
+    lines: Vec<ToldLine>,
+    errors: Mutex<&'a mut Output<E>>,
+}
+
+impl<'a, E: Write> Told<'a, E> {
+    /// Nothing is told yet.
+    pub(crate) fn new(alloc: Global, errors: &'a mut Output<E>) -> Result<Self, AllocError> {
+        Ok(Told {
+            lines: Vec::new(alloc)?,
+            errors: Mutex::new(errors),
+        })
+    }
+
+    /// Takes a line down, or where there is no memory writes it at once.
+    pub(crate) fn tell<R: Wait>(&self, rt: &R, line: ToldLine) {
+        if self.lines.push(rt, line).is_err() {
+            let mut errors = self.errors.lock(rt);
+            let _ = write_told(line, &mut errors);
+        }
+    }
+
+    /// Writes all that was taken down. A failure to do so is passed over.
+    pub(crate) fn show(self) {
+        let Told { lines, errors } = self;
+        let errors = errors.into_inner();
+        for (_, line) in lines.iter() {
+            let _ = write_told(*line, errors);
+        }
+    }
+}
+
+/// Writes what is told of the line.
+fn write_told<W: Write>(told: ToldLine, output: &mut Output<W>) -> Result<(), WriterFailed>
+    ensures { Writes output.old (told_text told) result output.new }
+{
+    let parts = [
+        Part::Bytes(b"file "),
+        Part::Number(told.file),
+        Part::Bytes(b" line "),
+        Part::Number(told.line),
+        Part::Bytes(b": refused "),
+        Part::Number(u64::from(told.refusal.number())),
+        Part::Bytes(b" "),
+        Part::Bytes(told.refusal.name().as_bytes()),
+        Part::Bytes(b"\n"),
+    ];
+    write_each(&parts, output)
+}
