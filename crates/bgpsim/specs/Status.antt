@@ -28,3 +28,8 @@ IsEnd code = (exit_status code ≡ no_memory) ⊎ ((served : Result ℕ ServeFau
 -- how a program ends that is asked to replay: 4 where the line could not be written
 abbrev pub IsReplayEnd : ExitCode → Type 0
 IsReplayEnd code = (exit_status code ≡ 4) ⊎ ((found : Result Replayed ReplayFault) × (exit_status code ≡ replay_status found))
+
+-- how a program ends that is asked for a team: 0 where the log was written, 3 where a file could not be read, 4 where the log was cut off, or want of memory
+-- and a book that differs
+abbrev pub IsTeamEnd : ExitCode → Type 0
+IsTeamEnd code = (exit_status code ≡ 0) ⊎ ((exit_status code ≡ 3) ⊎ ((exit_status code ≡ 4) ⊎ (exit_status code ≡ no_memory)))

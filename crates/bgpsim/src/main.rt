@@ -3,24 +3,31 @@
 
 mod command_line;
 
-ghost use Rattle.std.specs.Prelude.{◌≡◌};
+ghost use Rattle.std.specs.Prelude.{◌≡◌, length, vec_len, IfOk};
 ghost use Rattle.std.specs.Process.{exit_status};
 ghost use Rattle.clap.specs.Words.{kind_of};
-ghost use Rattle.bgpsim.specs.Status.{no_memory, status_of_kind, IsEnd, IsReplayEnd};
+ghost use Rattle.bgpsim.specs.CommandLine.{IsTeam};
+ghost use Rattle.bgpsim.specs.Status.{no_memory, status_of_kind, IsEnd, IsReplayEnd, IsTeamEnd};
 
 use cell_engine::Cell;
 use clap::Error;
 use clap::error::ErrorKind;
-use command_line::{Choice, choose};
+use command_line::{Choice, Team, choose};
 use prefix_table::{SortedTable, TrieTable};
 use replay_run::run_replay;
 use route_select::{FilterCell, GroupCell};
 use script_run::run_script;
 use sim_core::Sim;
+use std::alloc::{AllocError, Global};
 use std::env;
-use std::io::{self, BufWriter, Write};
+use std::fs::{File, Files};
+use std::io::{self, BufWriter, IsTerminal, Write};
+use std::marker::Brand;
 use std::process::ExitCode;
+use std::sync::Wait;
+use std::sync::ledger::{Blank, Ledger};
 use std::thread::Threads;
+use team_run::{ScriptFile, Settings, run_team};
 
 /// The machine that runs scripts: cells that keep groups of one neighbouring AS, in tries.
 type Engine = Sim<GroupCell, TrieTable<Cell<GroupCell>>>;
@@ -51,6 +58,9 @@ fn main(rt: HostRuntime) -> ExitCode {
     match choose(alloc, words.as_slice()) {
         Ok(Choice::Script) => serve_streams(&rt, rt.stderr()),
         Ok(Choice::Replay) => replay_streams(&rt, rt.stderr()),
+        Ok(Choice::ForTeam(team)) => {
+            play_team::<Brand, _>(&rt, Blank::new(256), &team, rt.stderr())
+        }
         Err(error) => show(&rt, &error),
     }
 }
@@ -126,6 +136,62 @@ fn replay_streams(
         &mut errors,
     );
     leave(machine, status)
+}
+
+/// Runs the team, and writes the log to standard output.
+fn play_team<
+    L: Ledger + Send + Sync,
+    R: Print + AllocGlobal + Eprint + Files + Threads + Wait + Sync,
+>(rt: &R, blank: Blank, team: &Team<'_>, errors: impl Write + IsTerminal + Drop + Send) -> ExitCode
+    requires name { blank.name ≡ L.name }
+    requires ledger { blank.parts ≡ L.parts }
+    requires parts { blank.parts ≡ 256 }
+    requires team { IsTeam team.now }
+    ensures { IsTeamEnd result }
+{
+    let alloc = rt.alloc();
+    let Ok(writer) = BufWriter::new(alloc, io::writer(rt)) else {
+        return without_memory(rt);
+    };
+    let Ok(files) = opened(rt, alloc, team.files.as_slice()) else {
+        return without_memory(rt);
+    };
+    let settings = Settings {
+        workers: team.workers as u16,
+        turns: team.turns,
+        is_terminal: errors.is_terminal(),
+    };
+    let mut output = watched::Output::new(writer);
+    let mut errors = watched::Output::new(errors);
+    let status = run_team::<GroupCell, TrieTable<Cell<GroupCell>>, L, _, _, _, _>(
+        rt,
+        alloc,
+        blank,
+        settings,
+        files,
+        &mut output,
+        &mut errors,
+    );
+    ExitCode::from(status)
+}
+
+/// The files of these names, each opened where that can be done.
+fn opened<R: Files>(
+    rt: &R,
+    alloc: Global,
+    names: &[&str],
+) -> Result<Vec<ScriptFile<R::File>>, AllocError>
+    ensures { IfOk result (λ files. vec_len files ≡ length names.now) }
+{
+    let mut files = Vec::new(alloc);
+    for name in names {
+        let file = ScriptFile {
+            name: String::from_str(alloc, name)?,
+            reader: File::open(rt, *name).ok(),
+        };
+        files.push(file)?;
+    }
+    Ok(files)
 }
 
 /// Ends the program. The system takes the machine's memory back at once.

@@ -5,7 +5,7 @@ ghost use Rattle.session_queue.specs.Shards.{shard_of};
 ghost use Rattle.desk.specs.Books.{blank_seats, is_memory, noted};
 ghost use Rattle.desk.specs.Desks.{AreSeats, AreShards, IsOpenFault, IsReplied, IsTaken, IsNoted, IsSeatAfter};
 
-use crate::room::{Audit, CommitFault, Committed, Done, Job, Room, Seat};
+use crate::room::{Audit, CommitFault, Committed, Done, Job, Progress, Room, Seat};
 use cell_engine::Cell;
 use prefix_table::PrefixTable;
 use route_select::{Chosen, Selector};
@@ -136,6 +136,11 @@ impl<S: Chosen, T: PrefixTable<Cell<S>>, L: Ledger> Desk<S, T, L> {
         ensures { result ≡ Audit.Agrees → IsNoted seat.now }
     {
         self.table.lock(rt).audit(seat)
+    }
+
+    /// How far the room is, for people to read.
+    pub fn progress<R: Wait>(&self, rt: &R) -> Progress {
+        self.table.lock(rt).room.progress()
     }
 
     /// Tells the workers that no more calls come: they end once no message waits.

@@ -7,6 +7,7 @@ mod workers;
 
 pub use desk::{Desk, MAX_SEATS, MAX_SHARDS, OpenFault};
 pub use room::{
-    Audit, CloseFault, CommitFault, Committed, Done, Fault, Job, Newer, Record, Room, Seat,
+    Audit, CloseFault, CommitFault, Committed, Done, Fault, Job, Newer, Progress, Record, Room,
+    Seat,
 };
 pub use workers::{Gate, run_workers};

@@ -1,5 +1,5 @@
--- No public contract cites this file. What is told of a line that made no call.
-use Rattle.std.specs.Prelude.{ℕ, List, ◌++◌, codes}
+-- No public contract cites this file. What is told of a line that made no call, and of how far a team is.
+use Rattle.std.specs.Prelude.{ℕ, List, ◌++◌, ◌∷◌, codes}
 use Rattle.std.specs.Fmt.{decimal}
 use Rattle.reply_text.specs.Replies.{refusal_text}
 use Rattle.team_run.specs.declared.told.ToldLine.{ToldLine}
@@ -7,3 +7,7 @@ use Rattle.team_run.specs.declared.told.ToldLine.{ToldLine}
 -- the file and the line, and the refusal as a script's reply tells it
 abbrev pub told_text : ToldLine → List ℕ
 told_text told = codes "file " ++ decimal told.file ++ codes " line " ++ decimal told.line ++ codes ": " ++ refusal_text told.refusal
+
+-- the start of the terminal's line (a carriage return), which is emptied (ECMA-48, 8.3.41), the calls so far, and the messages on their way
+abbrev pub progress_text : ℕ → ℕ → List ℕ
+progress_text calls waiting = 13 ∷ 27 ∷ codes "[K" ++ decimal calls ++ codes " calls, " ++ decimal waiting ++ codes " messages wait"

@@ -14,13 +14,28 @@ use std::sync::ledger::Ledger;
 use std::thread;
 use std::thread::Threads;
 
-/// A gate that lets all pass, and tells nobody.
-struct Open;
+/// After how many jobs it is told anew how far the team is.
+const JOBS_BETWEEN: u64 = 1_000;
 
-impl Gate for Open {
+/// Lets all workers pass, and where that is wanted tells how far the team is.
+struct Teller<'a, 'e, S: Selector, T: PrefixTable<Cell<S>>, L: Ledger, E: Write, R: Wait> {
+    rt: &'a R,
+    desk: &'a Desk<S, T, L>,
+    told: &'a Told<'e, E>,
+    jobs: AtomicU64,
+}
+
+impl<'a, 'e, S: Selector, T: PrefixTable<Cell<S>>, L: Ledger, E: Write, R: Wait> Gate
+    for Teller<'a, 'e, S, T, L, E, R> {
     fn taken(&self, _worker: usize, _n: u64) {}
 
-    fn worked(&self, _worker: usize, _n: u64) {}
+    fn worked(&self, _worker: usize, _n: u64) {
+        let before = self.jobs.fetch_add(1, Ordering::SeqCst);
+        if self.told.tells_progress() && before % JOBS_BETWEEN == 0 {
+            self.told
+                .tell_progress(self.rt, self.desk.progress(self.rt));
+        }
+    }
 }
 
 /// What the threads of a team have in common.
@@ -88,6 +103,17 @@ impl<
         let mut seats = seats?;
         seats.push(last.ok_or(AllocError)?)?;
         Ok(seats)
+    }
+
+    /// The workers' threads.
+    fn work_all(&self, workers: Vec<Seat<L>>) -> Vec<Seat<L>> {
+        let teller = Teller {
+            rt: self.rt,
+            desk: self.desk,
+            told: self.told,
+            jobs: AtomicU64::new(0),
+        };
+        run_workers(self.rt, self.desk, workers, &teller, self.turns)
     }
 
     /// An engineer's thread: all lines are called.

@@ -10,4 +10,4 @@ mod team;
 mod told;
 
 pub use scripts::ScriptFile;
-pub use team::{Size, run_team};
+pub use team::{Settings, run_team};

@@ -1,7 +1,8 @@
 //! The engineers' scripts, read whole before a thread starts.
 
-ghost use Rattle.std.specs.Prelude.{◌≡◌, ◌≤◌, vec_len, IfOk, IfErr, OnOk};
+ghost use Rattle.std.specs.Prelude.{◌≡◌, ◌++◌, ℕ, List, false, vec_len, IfOk, IfErr, IfSome};
 ghost use Rattle.std.specs.Io.KnownBytes.{Consumes, IsAtEnd};
+ghost use Rattle.team_run.specs.Scripts.{IsWhole};
 ghost use Rattle.team_run.specs.TeamRun.{IsOfReading};
 
 use crate::ending::TeamFault;
@@ -100,39 +101,55 @@ impl Measure {
     }
 }
 
-/// The whole script.
-fn read_whole<F: Read>(alloc: Global, mut reader: F) -> Result<Vec<u8>, Unread> {
-    let mut script = Vec::new(alloc);
-    let mut measure = Measure::new();
+/// Reads some bytes more to the end of the script. False at the end of the input.
+fn read_on<F: Read>(
+    reader: &mut F,
+    script: &mut Vec<u8>,
+    measure: &mut Measure,
+) -> Result<bool, Unread>
+    ensures { IfOk result (λ more. (bytes : List ℕ) × Consumes (F.remaining reader.old) (F.remaining reader.new) bytes
+        × (script.new.items ≡ script.old.items ++ bytes) × (more ≡ false → IsAtEnd (F.remaining reader.new))) }
+{
     let mut buffer = [0; AT_A_TIME];
-    for _ in 0..u64::MAX {
-        let Ok(count) = reader.read(&mut buffer) else {
-            return Err(Unread::Fault);
-        };
-        let bytes = &buffer[..count];
-        if bytes.is_empty() {
-            break;
-        }
-        if !measure.take_all(bytes) {
-            return Err(Unread::Fault);
-        }
-        script.extend_from_slice(bytes)?;
-    }
-    if !measure.may_end() {
+    let Ok(count) = reader.read(&mut buffer) else {
+        return Err(Unread::Fault);
+    };
+    let bytes = &buffer[..count];
+    if !measure.take_all(bytes) {
         return Err(Unread::Fault);
     }
-    Ok(script)
+    script.extend_from_slice(bytes)?;
+    Ok(count > 0)
 }
 
-/// The script of the file.
+/// All bytes that the reader has.
+fn read_whole<F: Read>(alloc: Global, reader: &mut F) -> Result<Vec<u8>, Unread>
+    ensures { IfOk result (λ script. IsWhole (F.remaining reader.old) script.items) }
+{
+    let mut script = Vec::new(alloc);
+    let mut measure = Measure::new();
+    for _ in 0..u64::MAX {
+        if !read_on(reader, &mut script, &mut measure)? {
+            return if measure.may_end() {
+                Ok(script)
+            } else {
+                Err(Unread::Fault)
+            };
+        }
+    }
+    Err(Unread::Fault)
+}
+
+/// The script of the file: all its bytes.
 fn read_script<F: Read>(alloc: Global, file: ScriptFile<F>) -> Result<Vec<u8>, TeamFault>
-    ensures { IfErr result IsOfReading }
+    ensures script { IfOk result (λ script. IfSome file.reader (λ reader. IsWhole (F.remaining reader) script.items)) }
+    ensures fault { IfErr result IsOfReading }
 {
     let ScriptFile { name, reader } = file;
-    let Some(reader) = reader else {
+    let Some(mut reader) = reader else {
         return Err(TeamFault::Unreadable(name));
     };
-    match read_whole(alloc, reader) {
+    match read_whole(alloc, &mut reader) {
         Ok(script) => Ok(script),
         Err(Unread::Fault) => Err(TeamFault::Unreadable(name)),
         Err(Unread::Memory) => Err(TeamFault::Memory),

@@ -23,11 +23,15 @@ use std::sync::ledger::{Blank, Ledger};
 use std::thread::Threads;
 use watched::Output;
 
-/// How many workers a team has, 1 to 64, and how many turns each of them.
+/// How a team is run.
 #[derive(Clone, Copy, Debug, PartialEq, Eq)]
-pub struct Size {
+pub struct Settings {
+    /// How many workers there are, 1 to 64.
     pub workers: u16,
+    /// How many turns each of them has.
     pub turns: u64,
+    /// Whether the third stream is a terminal, on which it is told how far the team is.
+    pub is_terminal: bool,
 }
 
 /// Runs a team on the files, each the script of an engineer, from the empty network: a thread calls the lines of each script in turn, and
@@ -46,7 +50,7 @@ pub fn run_team<
     rt: &R,
     alloc: Global,
     blank: Blank,
-    size: Size,
+    settings: Settings,
     files: Vec<ScriptFile<F>>,
     output: &mut Output<W>,
     errors: &mut Output<E>,
@@ -56,14 +60,16 @@ pub fn run_team<
     requires parts { blank.parts ≡ 256 }
     requires some { 1 ≤ vec_len files }
     requires most { vec_len files ≤ 64 }
-    requires workers { 1 ≤ size.workers }
-    requires hands { size.workers ≤ 64 }
+    requires workers { 1 ≤ settings.workers }
+    requires hands { settings.workers ≤ 64 }
     requires calm { output.old.failed ≡ false }
     requires shown { output.old.held ≡ false }
     ensures run { IsTeamRun output.old errors.old result output.new errors.new }
 {
     match read_scripts(alloc, files) {
-        Ok(scripts) => { play::<S, T, L, W, E, R>(rt, alloc, blank, size, scripts, output, errors) }
+        Ok(scripts) => {
+            play::<S, T, L, W, E, R>(rt, alloc, blank, settings, scripts, output, errors)
+        }
         Err(fault) => {
             tell(&fault, errors);
             status_of(&fault)
@@ -83,7 +89,7 @@ fn play<
     rt: &R,
     alloc: Global,
     blank: Blank,
-    size: Size,
+    settings: Settings,
     scripts: Vec<Vec<u8>>,
     output: &mut Output<W>,
     errors: &mut Output<E>,
@@ -93,13 +99,13 @@ fn play<
     requires parts { blank.parts ≡ 256 }
     requires some { 1 ≤ vec_len scripts }
     requires most { vec_len scripts ≤ 64 }
-    requires workers { 1 ≤ size.workers }
-    requires hands { size.workers ≤ 64 }
+    requires workers { 1 ≤ settings.workers }
+    requires hands { settings.workers ≤ 64 }
     requires calm { output.old.failed ≡ false }
     requires shown { output.old.held ≡ false }
     ensures { IsPlayed output.old result output.new }
 {
-    let ended = match recorded::<S, T, L, E, R>(rt, alloc, blank, size, scripts, errors) {
+    let ended = match recorded::<S, T, L, E, R>(rt, alloc, blank, settings, scripts, errors) {
         Ok(record) => write_record(&record, output),
         Err(fault) => Err(fault),
     };
@@ -123,7 +129,7 @@ fn recorded<
     rt: &R,
     alloc: Global,
     blank: Blank,
-    size: Size,
+    settings: Settings,
     scripts: Vec<Vec<u8>>,
     errors: &mut Output<E>,
 ) -> Result<Record, TeamFault>
@@ -131,16 +137,16 @@ fn recorded<
     requires ledger { blank.parts ≡ L.parts }
     requires parts { blank.parts ≡ 256 }
     requires most { vec_len scripts ≤ 64 }
-    requires hands { size.workers ≤ 64 }
+    requires hands { settings.workers ≤ 64 }
     ensures { IfErr result IsOfPlay }
 {
-    let seats = scripts.len() as u16 + size.workers;
-    let Ok((desk, seats)) = Desk::<S, T, L>::open(alloc, seats, u64::from(size.workers), blank)
+    let seats = scripts.len() as u16 + settings.workers;
+    let Ok((desk, seats)) = Desk::<S, T, L>::open(alloc, seats, u64::from(settings.workers), blank)
     else {
         return Err(TeamFault::Memory);
     };
-    let told = Told::new(alloc, errors)?;
-    let seats = at_desk(rt, alloc, &desk, &told, scripts, seats, size.turns);
+    let told = Told::new(alloc, errors, settings.is_terminal)?;
+    let seats = at_desk(rt, alloc, &desk, &told, scripts, seats, settings.turns);
     told.show();
     closed(rt, desk, seats?)
 }

@@ -1,16 +1,20 @@
 //! What is told of lines that made no call.
 
 ghost use Rattle.std.specs.Prelude.{◌≡◌};
-ghost use Rattle.team_run.specs.Told.{told_text};
+ghost use Rattle.team_run.specs.Told.{progress_text, told_text};
 ghost use Rattle.watched.specs.Streams.{Writes};
 
 use boxcar::Vec;
+use desk::Progress;
 use net_conf::Refusal;
 use reply_text::{Part, write_each};
 use std::alloc::{AllocError, Global};
 use std::io::Write;
 use std::sync::{Mutex, Wait};
 use watched::{Output, WriterFailed};
+
+/// Back to the start of the terminal's line, which is emptied.
+const OVER: &[u8] = b"\r\x1b[K";
 
 /// A line that made no call. Files and lines count from 1.
 #[derive(Clone, Copy, Debug, PartialEq, Eq)]
@@ -20,20 +24,40 @@ pub(crate) struct ToldLine {
     pub(crate) refusal: Refusal,
 }
 
-/// The lines that made no call, from all engineers, in the order in which they were told.
+/// The lines that made no call, from all engineers, in the order in which they were told; and how far the team is, on a line of the
+/// terminal, if there is one, that is written over.
 #[derive(Drop)]
 pub(crate) struct Told<'a, E: Write> {
     lines: Vec<ToldLine>,
     errors: Mutex<&'a mut Output<E>>,
+    is_terminal: bool,
 }
 
 impl<'a, E: Write> Told<'a, E> {
     /// Nothing is told yet.
-    pub(crate) fn new(alloc: Global, errors: &'a mut Output<E>) -> Result<Self, AllocError> {
+    pub(crate) fn new(
+        alloc: Global,
+        errors: &'a mut Output<E>,
+        is_terminal: bool,
+    ) -> Result<Self, AllocError> {
         Ok(Told {
             lines: Vec::new(alloc)?,
             errors: Mutex::new(errors),
+            is_terminal,
         })
+    }
+
+    /// Whether it is to be told how far the team is.
+    pub(crate) fn tells_progress(&self) -> bool
+        ensures { result ≡ self.now.is_terminal }
+    {
+        self.is_terminal
+    }
+
+    /// Writes how far the team is over what stands there. A failure to do so is passed over.
+    pub(crate) fn tell_progress<R: Wait>(&self, rt: &R, progress: Progress) {
+        let mut errors = self.errors.lock(rt);
+        let _ = write_progress(progress, &mut errors);
     }
 
     /// Takes a line down, or where there is no memory writes it at once.
@@ -44,14 +68,35 @@ impl<'a, E: Write> Told<'a, E> {
         }
     }
 
-    /// Writes all that was taken down. A failure to do so is passed over.
+    /// Writes all that was taken down, in place of how far the team is. A failure to do so is passed over.
     pub(crate) fn show(self) {
-        let Told { lines, errors } = self;
+        let Told {
+            lines,
+            errors,
+            is_terminal,
+        } = self;
         let errors = errors.into_inner();
+        if is_terminal {
+            let _ = errors.write(OVER);
+        }
         for (_, line) in lines.iter() {
             let _ = write_told(*line, errors);
         }
     }
+}
+
+/// Writes how far the team is over what stands on the terminal's line.
+fn write_progress<W: Write>(progress: Progress, output: &mut Output<W>) -> Result<(), WriterFailed>
+    ensures { Writes output.old (progress_text progress.calls progress.waiting) result output.new }
+{
+    let parts = [
+        Part::Bytes(OVER),
+        Part::Number(progress.calls),
+        Part::Bytes(b" calls, "),
+        Part::Number(progress.waiting),
+        Part::Bytes(b" messages wait"),
+    ];
+    write_each(&parts, output)
 }
 
 /// Writes what is told of the line.

@@ -1,0 +1,5 @@
+use Rattle.bgpsim.proofs.main.Given as goal
+
+-- the ledger that was just made
+abbrev pub ghosts-play_team : goal.ghosts-play_team
+ghosts-play_team g a = record { name = a.blank.name; parts = a.blank.parts }

@@ -1,0 +1,45 @@
+//! How far a room is, for people to read.
+
+ghost use Rattle.std.specs.Prelude.{◌≡◌, length};
+
+use crate::room::Room;
+use cell_engine::Cell;
+use prefix_table::PrefixTable;
+use route_select::Chosen;
+use session_queue::Queues;
+use std::sync::ledger::Ledger;
+
+/// How far a room is.
+#[derive(Clone, Copy, Debug, PartialEq, Eq)]
+pub struct Progress {
+    /// How many calls were made.
+    pub calls: u64,
+    /// How many messages wait. Nothing is claimed of this number.
+    pub waiting: u64,
+}
+
+impl<S: Chosen, T: PrefixTable<Cell<S>>, L: Ledger> Room<S, T, L> {
+    /// How far it is. This looks at each direction that has a message.
+    pub fn progress(&self) -> Progress
+        ensures { result.calls ≡ length self.now.history }
+    {
+        Progress {
+            calls: self.history.len() as u64,
+            waiting: waiting_in(self.sim.state().queues()),
+        }
+    }
+}
+
+/// How many messages wait in all directions.
+fn waiting_in(queues: &Queues) -> u64 {
+    let mut waiting = 0_u64;
+    let mut past = None;
+    for _ in 0..u64::MAX {
+        let Some((from, to)) = queues.next_full(past) else {
+            break;
+        };
+        waiting = waiting.saturating_add(queues.len(from, to) as u64);
+        past = Some((from, to));
+    }
+    waiting
+}

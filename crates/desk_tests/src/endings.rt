@@ -1,0 +1,55 @@
+//! When a worker ends.
+
+ghost use Rattle.std.specs.Prelude.{◌≡◌};
+
+use crate::common::{Open, STAR, are_answered, opened};
+use desk::run_workers;
+use std::alloc::Global;
+use std::marker::Brand;
+use std::process::Abort;
+use std::sync::Wait;
+use std::sync::ledger::{Blank, Ledger};
+use std::thread::Threads;
+
+#[test]
+fn a_worker_ends_after_its_turns(rt: HostRuntime) {
+    let alloc = rt.alloc();
+    let none = delivered::<Brand, _>(&rt, alloc, 1, 0, false, Blank::new(256));
+    assert_eq!(rt; none, 0);
+    let one = delivered::<Brand, _>(&rt, alloc, 1, 1, false, Blank::new(256));
+    assert_eq!(rt; one, 1);
+}
+
+#[test]
+fn a_worker_ends_once_the_calls_do_and_it_is_left_no_job(rt: HostRuntime) {
+    let alloc = rt.alloc();
+    let all = delivered::<Brand, _>(&rt, alloc, 1, 1_000, true, Blank::new(256));
+    assert_eq!(rt; all, 2);
+    // Nobody serves the shard of the other message.
+    let one = delivered::<Brand, _>(&rt, alloc, 2, 1_000, true, Blank::new(256));
+    assert_eq!(rt; one, 1);
+}
+
+/// How many of two messages the one worker of a desk delivers.
+fn delivered<L: Ledger + Send + Sync, R: Threads + Wait + Abort + Sync>(
+    rt: &R,
+    alloc: Global,
+    shards: u64,
+    turns: u64,
+    is_finished: bool,
+    blank: Blank,
+) -> u64
+    requires name { blank.name ≡ L.name }
+    requires ledger { blank.parts ≡ L.parts }
+    requires parts { blank.parts ≡ 256 }
+{
+    let (desk, mut workers) = opened(rt, alloc, 2, shards, blank);
+    let mut engineer = workers.pop().expect(rt, "two seats");
+    assert!(rt; are_answered(rt, alloc, &desk, &mut engineer, &STAR));
+    if is_finished {
+        desk.finish_calls(rt);
+    }
+    let workers = run_workers(rt, &desk, workers, &Open, turns);
+    assert_eq!(rt; workers.len(), 1);
+    workers[0].count()
+}

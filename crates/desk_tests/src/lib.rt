@@ -1,0 +1,16 @@
+//! Tests of the desk: what no clause says of threads, of waiting and of its limits. They stand apart from the desk, which would be proved once
+//! more with them.
+#![tactic(auto)]
+
+#[cfg(test)]
+mod common;
+#[cfg(test)]
+mod endings;
+#[cfg(test)]
+mod engineers;
+#[cfg(test)]
+mod gate;
+#[cfg(test)]
+mod limits;
+#[cfg(test)]
+mod stale;

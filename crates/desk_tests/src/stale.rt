@@ -1,0 +1,147 @@
+//! Outcomes that come too late: another was first at the head, or the receiver has heard more.
+
+ghost use Rattle.std.specs.Prelude.{◌≡◌, ◌<◌};
+
+use crate::common::{Asked, GroupDesk, are_answered, opened};
+use desk::{Committed, Done, Newer, Seat};
+use net_prefix::Addr;
+use path_attr::{Attr, Origin};
+use route_select::GroupCell;
+use std::alloc::Global;
+use std::marker::Brand;
+use std::process::Abort;
+use std::sync::Wait;
+use std::sync::ledger::{Blank, Ledger};
+use std::thread::Threads;
+
+/// The router that decides.
+const MIDDLE: Addr = Addr(0x0900_0001);
+
+/// The peer that is heard meanwhile.
+const OTHER: Addr = Addr(0x0200_0001);
+
+/// A router with three peers, of which one has fed it a route.
+const FED: [Asked<'static>; 11] = [
+    ("router 9.0.0.1 9", "ok\n"),
+    ("virtual 1.0.0.1 1", "ok\n"),
+    ("virtual 1.0.0.2 1", "ok\n"),
+    ("virtual 2.0.0.1 2", "ok\n"),
+    ("link 9.0.0.1 1.0.0.1 5", "ok\n"),
+    ("link 9.0.0.1 1.0.0.2 30", "ok\n"),
+    ("link 9.0.0.1 2.0.0.1 20", "ok\n"),
+    ("join 9.0.0.1 1.0.0.1", "ok\n"),
+    ("join 9.0.0.1 1.0.0.2", "ok\n"),
+    ("join 9.0.0.1 2.0.0.1", "ok\n"),
+    ("feed 1.0.0.1 9.0.0.1 update 10.0.0.0/8 1 igp 10", "ok\n"),
+];
+
+/// Another peer feeds one too, and it is delivered.
+const HEARD: [Asked<'static>; 2] = [
+    ("feed 2.0.0.1 9.0.0.1 update 10.0.0.0/8 2 igp 0", "ok\n"),
+    ("deliver 2.0.0.1 9.0.0.1", "took 10.0.0.0/8 update\n"),
+];
+
+#[test]
+fn a_head_is_taken_once(rt: HostRuntime) {
+    twice::<Brand, _>(&rt, rt.alloc(), Blank::new(256));
+}
+
+fn twice<L: Ledger, R: Threads + Wait + Abort + Sync>(rt: &R, alloc: Global, blank: Blank)
+    requires name { blank.name ≡ L.name }
+    requires ledger { blank.parts ≡ L.parts }
+    requires parts { blank.parts ≡ 256 }
+{
+    let (desk, mut seats) = opened(rt, alloc, 2, 1, blank);
+    let mut worker = seats.pop().expect(rt, "a seat");
+    let mut engineer = seats.pop().expect(rt, "another seat");
+    assert!(rt; are_answered(rt, alloc, &desk, &mut engineer, &FED));
+    let first = worked(rt, &desk).expect(rt, "a job");
+    let second = worked(rt, &desk).expect(rt, "the same job");
+    assert!(rt;
+        matches!(
+            desk.commit(rt, &mut worker, first),
+            Ok(Committed::Delivered(_))
+        )
+    );
+    let stale = desk.commit(rt, &mut worker, second);
+    assert!(rt;
+        matches!(
+            stale,
+            Ok(Committed::Stale(Newer::HeadMoved {
+                had: Some(_),
+                now: None
+            }))
+        )
+    );
+    assert_eq!(rt; worker.count(), 1);
+}
+
+#[test]
+fn what_the_receiver_hears_meanwhile_is_told(rt: HostRuntime) {
+    heard_meanwhile::<Brand, _>(&rt, rt.alloc(), Blank::new(256));
+}
+
+fn heard_meanwhile<L: Ledger, R: Threads + Wait + Abort + Sync>(rt: &R, alloc: Global, blank: Blank)
+    requires name { blank.name ≡ L.name }
+    requires ledger { blank.parts ≡ L.parts }
+    requires parts { blank.parts ≡ 256 }
+{
+    let (desk, mut seats) = opened(rt, alloc, 2, 1, blank);
+    let mut worker = seats.pop().expect(rt, "a seat");
+    let mut engineer = seats.pop().expect(rt, "another seat");
+    assert!(rt; are_answered(rt, alloc, &desk, &mut engineer, &FED));
+    let done = worked(rt, &desk).expect(rt, "a job");
+    assert!(rt; are_answered(rt, alloc, &desk, &mut engineer, &HEARD));
+    let committed = desk.commit(rt, &mut worker, done).ok();
+    assert!(rt; committed.is_some_and(|committed| is_heard(&committed)));
+    assert!(rt; is_delivered(rt, &desk, &mut worker));
+}
+
+/// Whether the outcome is stale since the other peer was heard.
+fn is_heard(committed: &Committed) -> bool {
+    match committed {
+        Committed::Stale(
+            Newer::CellMoved {
+                peer,
+                had: None,
+                now: Some(attr),
+            },
+        ) => *peer == OTHER && is_fed(attr),
+        _ => false,
+    }
+}
+
+/// Whether these are the attributes that the other peer fed.
+fn is_fed(attr: &Attr) -> bool {
+    attr.origin == Origin::Igp
+        && attr.next == OTHER
+        && attr.med == Some(0)
+        && attr.path.length() == 1
+}
+
+/// Takes a job, and works it.
+fn worked<L: Ledger, R: Wait>(rt: &R, desk: &GroupDesk<L>) -> Option<Done<GroupCell>>
+    requires { 0 < desk.now.shards }
+{
+    desk.take(rt, 0).ok()??.work().ok()
+}
+
+/// Takes and works jobs until one is the router's. Whether all are delivered.
+fn is_delivered<L: Ledger, R: Wait>(rt: &R, desk: &GroupDesk<L>, worker: &mut Seat<L>) -> bool
+    requires { 0 < desk.now.shards }
+{
+    for _ in 0..4 {
+        let Some(done) = worked(rt, desk) else {
+            return false;
+        };
+        let (_, receiver) = done.ends();
+        let committed = desk.commit(rt, worker, done);
+        if !matches!(committed, Ok(Committed::Delivered(_))) {
+            return false;
+        }
+        if receiver == MIDDLE {
+            return true;
+        }
+    }
+    false
+}
