@@ -10,20 +10,23 @@ use Rattle.script_run.specs.ScriptRun.{IsTold}
 use Rattle.team_run.specs.declared.ending.TeamFault.{TeamFault}
 use Rattle.team_run.specs.declared.ending.TeamFault.TheVariants.{Unreadable, Write, Memory, BookDiffers}
 
--- the log of a legal history was written, whole, and sent on
-pub record IsLogged (o o' : Writing) : Type 0 where
-  pub history : List Entry
-  pub legal : IsLegal history
+-- the log of the history was written, whole, and sent on
+pub record IsLogOf (history : List Entry) (o o' : Writing) : Type 0 where
   pub written : Appends o.written o'.written (log_text history)
   pub calm : o'.failed ≡ false
   pub sent : o'.held ≡ false
 
--- the writer failed, after a front of the log of a legal history
-pub record IsCutOff (o o' : Writing) : Type 0 where
-  pub history : List Entry
-  pub legal : IsLegal history
+-- the writer failed, after a front of the log of the history
+pub record IsFrontOf (history : List Entry) (o o' : Writing) : Type 0 where
   pub written : AppendsFront o.written o'.written (log_text history)
   pub failed : o'.failed ≡ true
+
+-- that of a legal history
+abbrev pub IsLogged : Writing → Writing → Type 0
+IsLogged o o' = (history : List Entry) × IsLegal history × IsLogOf history o o'
+
+abbrev pub IsCutOff : Writing → Writing → Type 0
+IsCutOff o o' = (history : List Entry) × IsLegal history × IsFrontOf history o o'
 
 -- what is told of a fault
 abbrev pub fault_text : TeamFault → List ℕ

@@ -2,7 +2,7 @@
 
 ghost use Rattle.std.specs.Prelude.{◌≡◌, ◌≤◌, false, vec_len, IfErr, OnOk};
 ghost use Rattle.reference_machine.specs.Histories.{IsLegal};
-ghost use Rattle.team_run.specs.TeamRun.{IsCutOff, IsLogged, IsOfPlay, IsPlayed, IsTeamRun};
+ghost use Rattle.team_run.specs.TeamRun.{IsFrontOf, IsLogOf, IsOfPlay, IsPlayed, IsTeamRun};
 
 use crate::crew::Crew;
 use crate::ending::{TeamFault, status_of, tell};
@@ -219,18 +219,18 @@ fn closed<S: Selector + Drop, T: PrefixTable<Cell<S>> + Drop, L: Ledger, R: Wait
 /// Writes the log of the record, and sends it on.
 fn write_record<W: Write>(record: &Record, output: &mut Output<W>) -> Result<(), TeamFault>
     requires { output.old.failed ≡ false }
-    ensures logged { OnOk result (IsLogged output.old output.new) }
-    ensures cut_off { IfErr result (λ fault. (fault ≡ TeamFault.Write) × IsCutOff output.old output.new) }
+    ensures legal { IsLegal record.now }
+    ensures logged { OnOk result (IsLogOf record.now output.old output.new) }
+    ensures cut_off { IfErr result (λ fault. (fault ≡ TeamFault.Write) × IsFrontOf record.now output.old output.new) }
 {
     write_entries(record.entries(), output)
 }
 
-/// Writes the log of a legal history, and sends it on.
+/// Writes the log of the history, and sends it on.
 fn write_entries<W: Write>(entries: &[Entry], output: &mut Output<W>) -> Result<(), TeamFault>
-    requires calm { output.old.failed ≡ false }
-    requires legal { IsLegal entries.now }
-    ensures logged { OnOk result (IsLogged output.old output.new) }
-    ensures cut_off { IfErr result (λ fault. (fault ≡ TeamFault.Write) × IsCutOff output.old output.new) }
+    requires { output.old.failed ≡ false }
+    ensures logged { OnOk result (IsLogOf entries.now output.old output.new) }
+    ensures cut_off { IfErr result (λ fault. (fault ≡ TeamFault.Write) × IsFrontOf entries.now output.old output.new) }
 {
     if write_log(entries, output).is_err() {
         return Err(TeamFault::Write);
