@@ -1,5 +1,5 @@
 -- What it means to run a team: its log, its exit status, and what is told where no thread is started.
-use Rattle.std.specs.Prelude.{◌≡◌, ◌⊎◌, ◌++◌, ℕ, true, false, List, codes, string_bytes, ⊤, ⊥}
+use Rattle.std.specs.Prelude.{◌≡◌, ◌⊎◌, ◌++◌, ℕ, true, false, List, codes, string_bytes, ⊤}
 use Rattle.std.specs.Io.KnownBytes.{Appends}
 use Rattle.watched.specs.Streams.{Writing, AppendsFront}
 use Rattle.sim_event.specs.declared.entry.Entry.{Entry}

@@ -8,6 +8,10 @@ use Rattle.team_run.specs.declared.told.ToldLine.{ToldLine}
 abbrev pub told_text : ToldLine → List ℕ
 told_text told = codes "file " ++ decimal told.file ++ codes " line " ++ decimal told.line ++ codes ": " ++ refusal_text told.refusal
 
--- the start of the terminal's line (a carriage return), which is emptied (ECMA-48, 8.3.41), the calls so far, and the messages on their way
+-- back to the start of the terminal's line, which is emptied (ECMA-48, 8.3.15 and 8.3.41)
+abbrev pub line_start : List ℕ
+line_start = 13 ∷ 27 ∷ codes "[K"
+
+-- over what stands there: the calls so far, and the messages on their way
 abbrev pub progress_text : ℕ → ℕ → List ℕ
-progress_text calls waiting = 13 ∷ 27 ∷ codes "[K" ++ decimal calls ++ codes " calls, " ++ decimal waiting ++ codes " messages wait"
+progress_text calls waiting = line_start ++ decimal calls ++ codes " calls, " ++ decimal waiting ++ codes " messages wait"

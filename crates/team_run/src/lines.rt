@@ -1,6 +1,6 @@
 //! The lines of a script that was read whole.
 
-ghost use Rattle.std.specs.Prelude.{◌≡◌, ◌<◌, length, IfSome, OnNone};
+ghost use Rattle.std.specs.Prelude.{◌≡◌, ◌<◌, length, IfSome};
 ghost use Rattle.std.specs.Str.Lines.{strip_carriage_return};
 
 /// A line without the carriage return at its end.

@@ -141,7 +141,7 @@ fn read_whole<F: Read>(alloc: Global, reader: &mut F) -> Result<Vec<u8>, Unread>
 }
 
 /// The script of the file: all its bytes.
-fn read_script<F: Read>(alloc: Global, file: ScriptFile<F>) -> Result<Vec<u8>, TeamFault>
+fn read_script<F: Read + Drop>(alloc: Global, file: ScriptFile<F>) -> Result<Vec<u8>, TeamFault>
     ensures script { IfOk result (λ script. IfSome file.reader (λ reader. IsWhole (F.remaining reader) script.items)) }
     ensures fault { IfErr result IsOfReading }
 {
@@ -157,7 +157,7 @@ fn read_script<F: Read>(alloc: Global, file: ScriptFile<F>) -> Result<Vec<u8>, T
 }
 
 /// The scripts of the files, in their order. The fault is that of the first that was not read.
-pub(crate) fn read_scripts<F: Read>(
+pub(crate) fn read_scripts<F: Read + Drop>(
     alloc: Global,
     files: Vec<ScriptFile<F>>,
 ) -> Result<Vec<Vec<u8>>, TeamFault>
@@ -166,7 +166,8 @@ pub(crate) fn read_scripts<F: Read>(
 {
     let mut scripts = Vec::new(alloc);
     for file in files {
-        scripts.push(read_script(alloc, file)?)?;
+        let script = read_script(alloc, file)?;
+        scripts.push(script).map_err(AllocError::from)?;
     }
     Ok(scripts)
 }

@@ -42,7 +42,7 @@ pub fn run_team<
     S: Selector + Send + Sync + Drop,
     T: PrefixTable<Cell<S>> + Drop + Send,
     L: Ledger + Send + Sync,
-    F: Read,
+    F: Read + Drop,
     W: Write,
     E: Write + Send,
     R: Threads + Wait + Sync,

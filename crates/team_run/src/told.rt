@@ -13,9 +13,6 @@ use std::io::Write;
 use std::sync::{Mutex, Wait};
 use watched::{Output, WriterFailed};
 
-/// Back to the start of the terminal's line, which is emptied.
-const OVER: &[u8] = b"\r\x1b[K";
-
 /// A line that made no call. Files and lines count from 1.
 #[derive(Clone, Copy, Debug, PartialEq, Eq)]
 pub(crate) struct ToldLine {
@@ -77,7 +74,7 @@ impl<'a, E: Write> Told<'a, E> {
         } = self;
         let errors = errors.into_inner();
         if is_terminal {
-            let _ = errors.write(OVER);
+            let _ = errors.write(b"\r\x1b[K");
         }
         for (_, line) in lines.iter() {
             let _ = write_told(*line, errors);
@@ -90,7 +87,7 @@ fn write_progress<W: Write>(progress: Progress, output: &mut Output<W>) -> Resul
     ensures { Writes output.old (progress_text progress.calls progress.waiting) result output.new }
 {
     let parts = [
-        Part::Bytes(OVER),
+        Part::Bytes(b"\r\x1b[K"),
         Part::Number(progress.calls),
         Part::Bytes(b" calls, "),
         Part::Number(progress.waiting),
