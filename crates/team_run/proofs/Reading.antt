@@ -1,5 +1,5 @@
 -- Bytes that are read one piece after another.
-use Rattle.std.proofs.Common.{◌≡◌, ◌∙◌, ap, sym, ℕ, List, [], ◌++◌, refl, append_assoc, append-nil, Option, Some, None}
+use Rattle.std.proofs.Common.{◌∙◌, ap, sym, ℕ, List, [], ◌++◌, refl, append_assoc, append-nil, Option, Some, None}
 use Rattle.std.specs.Io.KnownBytes.{Consumes, IsAtEnd}
 use Rattle.team_run.specs.Scripts.{IsWhole}
 

@@ -1,5 +1,7 @@
 //! The threads of a team: one for each engineer, and those of the workers.
 
+ghost use Rattle.std.specs.Prelude.{⊤};
+
 use crate::engineer::{Engineer, play};
 use crate::told::Told;
 use cell_engine::Cell;
@@ -18,6 +20,7 @@ use std::thread::Threads;
 const JOBS_BETWEEN: u64 = 1_000;
 
 /// Lets all workers pass, and where that is wanted tells how far the team is.
+#[derive(Drop)]
 struct Teller<'a, 'e, S: Selector, T: PrefixTable<Cell<S>>, L: Ledger, E: Write, R: Wait> {
     rt: &'a R,
     desk: &'a Desk<S, T, L>,
@@ -76,7 +79,7 @@ impl<
         workers: Vec<Seat<L>>,
     ) -> Result<Vec<Seat<L>>, AllocError> {
         let Some(engineer) = engineers.pop() else {
-            return Ok(run_workers(self.rt, self.desk, workers, &Open, self.turns));
+            return Ok(self.work_all(workers));
         };
         let (seats, last) = thread::scope(
             thread::scope_env(),

@@ -1,8 +1,10 @@
 //! A team at its desk, from the scripts to the log.
 
-ghost use Rattle.std.specs.Prelude.{◌≡◌, ◌≤◌, false, vec_len, IfErr, OnOk};
+ghost use Rattle.std.specs.Prelude.{◌≡◌, ◌≤◌, false, true, vec_len, IfErr, OnOk, OnErr};
+ghost use Rattle.log_text.specs.Logs.{log_text};
 ghost use Rattle.reference_machine.specs.Histories.{IsLegal};
 ghost use Rattle.team_run.specs.TeamRun.{IsFrontOf, IsLogOf, IsOfPlay, IsPlayed, IsTeamRun};
+ghost use Rattle.watched.specs.Streams.{AppendsFront};
 
 use crate::crew::Crew;
 use crate::ending::{TeamFault, status_of, tell};
@@ -21,7 +23,7 @@ use std::sync::Wait;
 use std::sync::atomic::AtomicU64;
 use std::sync::ledger::{Blank, Ledger};
 use std::thread::Threads;
-use watched::Output;
+use watched::{Output, WriterFailed};
 
 /// How a team is run.
 #[derive(Clone, Copy, Debug, PartialEq, Eq)]
@@ -217,26 +219,25 @@ fn closed<S: Selector + Drop, T: PrefixTable<Cell<S>> + Drop, L: Ledger, R: Wait
 }
 
 /// Writes the log of the record, and sends it on.
-fn write_record<W: Write>(record: &Record, output: &mut Output<W>) -> Result<(), TeamFault>
+fn write_record<W: Write>(kept: &Record, output: &mut Output<W>) -> Result<(), TeamFault>
     requires { output.old.failed ≡ false }
-    ensures legal { IsLegal record.now }
-    ensures logged { OnOk result (IsLogOf record.now output.old output.new) }
-    ensures cut_off { IfErr result (λ fault. (fault ≡ TeamFault.Write) × IsFrontOf record.now output.old output.new) }
+    ensures legal { IsLegal kept.now }
+    ensures logged { OnOk result (IsLogOf kept.now output.old output.new) }
+    ensures cut_off { IfErr result (λ fault. (fault ≡ TeamFault.Write) × IsFrontOf kept.now output.old output.new) }
 {
-    write_entries(record.entries(), output)
-}
-
-/// Writes the log of the history, and sends it on.
-fn write_entries<W: Write>(entries: &[Entry], output: &mut Output<W>) -> Result<(), TeamFault>
-    requires { output.old.failed ≡ false }
-    ensures logged { OnOk result (IsLogOf entries.now output.old output.new) }
-    ensures cut_off { IfErr result (λ fault. (fault ≡ TeamFault.Write) × IsFrontOf entries.now output.old output.new) }
-{
-    if write_log(entries, output).is_err() {
-        return Err(TeamFault::Write);
-    }
-    match output.flush() {
+    match write_entries(kept.entries(), output) {
         Ok(()) => Ok(()),
         Err(_) => Err(TeamFault::Write),
     }
+}
+
+/// Writes the log of the history, and sends it on.
+fn write_entries<W: Write>(entries: &[Entry], output: &mut Output<W>) -> Result<(), WriterFailed>
+    requires { output.old.failed ≡ false }
+    ensures logged { OnOk result (IsLogOf entries.now output.old output.new) }
+    ensures front { OnErr result (AppendsFront output.old.written output.new.written (log_text entries.now)) }
+    ensures failed { OnErr result (output.new.failed ≡ true) }
+{
+    write_log(entries, output)?;
+    output.flush()
 }

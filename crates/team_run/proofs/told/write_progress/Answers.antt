@@ -1,7 +1,7 @@
-use Rattle.std.proofs.Common.{◌≡◌, ◌∙◌, ◌++◌, ap, sym, subst, List, ℕ, codes, append_assoc}
+use Rattle.std.proofs.Common.{◌≡◌, ◌∙◌, ◌++◌, sym, subst, List, ℕ, codes, append_assoc}
 use Rattle.std.specs.Fmt.{decimal}
 use Rattle.watched.specs.Streams.{Writes}
-use Rattle.team_run.specs.Told.{line_start, progress_text}
+use Rattle.team_run.specs.Told.{line_start}
 use Rattle.team_run.proofs.told.write_progress.Goals as goal
 
 -- however the pieces are put together
