@@ -3,8 +3,8 @@
 use crate::common::asn;
 use net_conf::{Conf, Edit, Kind, Metric, Refusal};
 use net_prefix::Addr;
-use seq::Copied;
 use std::alloc::Global;
+use std::process::Abort;
 use std::test::Fail;
 
 const ROUTER: Addr = Addr(0x0100_0001);
@@ -45,37 +45,5 @@ fn sites_routers_and_sessions(rt: HostRuntime) -> Result<(), Fail> {
     let session = site.session(PEER).ok_or("no session")?;
     assert_eq!(rt; session.peer_asn, Some(asn(2)?));
     assert!(rt; session.up && session.external);
-    Ok(())
-}
-
-#[test]
-fn sites_of_those_who_have_sessions(rt: HostRuntime) -> Result<(), Fail> {
-    let alloc = rt.alloc();
-    let conf = peered(alloc)?;
-    conf.facts();
-    assert!(rt; conf.ends_session(ROUTER) && conf.ends_session(PEER) && !conf.ends_session(NOBODY));
-    let site = conf.kept_site(ROUTER).ok_or("no site")?;
-    let copy = site.copy(alloc).map_err(|_| "no copy")?;
-    assert_eq!(rt; copy.me, ROUTER);
-    assert!(rt; copy.session(PEER).is_some());
-    assert!(rt; copy.has_same_facts(site));
-    assert!(rt; conf.kept_site(PEER).is_none());
-    assert!(rt; matches!(conf.made_site(alloc, ROUTER), Ok(None)));
-    assert!(rt; matches!(conf.router_site(alloc, PEER), Ok(None)));
-    Ok(())
-}
-
-#[test]
-fn edits_beside_what_stays(rt: HostRuntime) -> Result<(), Fail> {
-    let alloc = rt.alloc();
-    let conf = peered(alloc)?;
-    let stop = Edit::Stop(ROUTER, PEER);
-    let stopped = conf.edited(alloc, &stop).map_err(|_| "an edit is refused")?;
-    assert_eq!(rt; stopped.conf.session_up(ROUTER, PEER), Some(false));
-    assert!(rt; stopped.concerned.contains(&ROUTER) && stopped.concerned.contains(&PEER));
-    assert_eq!(rt; stopped.concerned.len(), 2);
-    assert_eq!(rt; conf.session_up(ROUTER, PEER), Some(true));
-    let join = Edit::Join(ROUTER, PEER);
-    assert!(rt; matches!(conf.edited(alloc, &join), Err(Refusal::SessionExists)));
     Ok(())
 }

@@ -1,4 +1,4 @@
-//! Copies with ample memory, and where memory is refused once.
+//! Copies of events and replies.
 
 use net_conf::{Edit, Refusal};
 use net_prefix::{Addr, Prefix};
@@ -7,21 +7,13 @@ use route_select::Source;
 use seq::{Copied, Seq, SharedSeq};
 use session_queue::MessageKind;
 use sim_event::{Ask, Event, Feed, Held, News, Reply, Report};
-use std::alloc::{AllocError, Global};
+use std::alloc::Global;
 use std::process::Abort;
 use std::test::Fail;
 
 const FIRST: Addr = Addr(0x0100_0001);
 
 const SECOND: Addr = Addr(0x0100_0002);
-
-/// A copy, tried once more where memory was refused.
-fn copied<T: Copied>(alloc: Global, value: &T) -> Result<T, AllocError> {
-    match value.copy(alloc) {
-        Ok(copy) => Ok(copy),
-        Err(AllocError) => value.copy(alloc),
-    }
-}
 
 /// 10.0.0.0/8.
 fn ten() -> Result<Prefix, Fail> {
@@ -32,9 +24,7 @@ fn ten() -> Result<Prefix, Fail> {
 fn path(alloc: Global) -> Result<AsPath, Fail> {
     let seven = Asn::new(7).ok_or("an AS has a number")?;
     let mut path = AsPath::empty();
-    if path.prepend(alloc, seven).is_err() {
-        path.prepend(alloc, seven)?;
-    }
+    path.prepend(alloc, seven)?;
     Ok(path)
 }
 
@@ -63,7 +53,7 @@ fn copies_events(rt: HostRuntime) -> Result<(), Fail> {
         Event::Deliver(FIRST, SECOND),
         Event::Ask(Ask::Routes(FIRST)),
     ] {
-        match copied(alloc, &event)? {
+        match event.copy(alloc)? {
             Event::Edit(edit) => assert_eq!(rt; edit, Edit::Join(FIRST, SECOND)),
             Event::Deliver(from, to) => assert!(rt; from == FIRST && to == SECOND),
             Event::Ask(ask) => assert_eq!(rt; ask, Ask::Routes(FIRST)),
@@ -80,7 +70,7 @@ fn fed(rt: &impl Abort, alloc: Global, news: News) -> Result<News, Fail> {
         to: SECOND,
         news,
     });
-    let Event::Feed(feed) = copied(alloc, &event)? else {
+    let Event::Feed(feed) = event.copy(alloc)? else {
         return Err(Fail::new("a feed was copied"));
     };
     assert!(rt; feed.from == FIRST && feed.to == SECOND);
@@ -113,7 +103,7 @@ fn copies_replies(rt: HostRuntime) -> Result<(), Fail> {
         Reply::Took(ten()?, MessageKind::Withdraw),
         Reply::Refused(Refusal::Limit),
     ] {
-        match copied(alloc, &reply)? {
+        match reply.copy(alloc)? {
             Reply::Done => {}
             Reply::Took(prefix, kind) => {
                 assert_eq!(rt; prefix, ten()?);
@@ -131,12 +121,9 @@ fn copies_reports(rt: HostRuntime) -> Result<(), Fail> {
     let alloc = rt.alloc();
     let route = held(alloc)?;
     let mut routes = Vec::new(alloc);
-    if routes.reserve(1).is_err() {
-        routes.reserve(1)?;
-    }
-    routes.push(copied(alloc, &route)?)?;
+    routes.push(route.copy(alloc)?)?;
     let reply = Reply::Report(Report::Routes(Seq::of(routes)));
-    let Reply::Report(Report::Routes(routes)) = copied(alloc, &reply)? else {
+    let Reply::Report(Report::Routes(routes)) = reply.copy(alloc)? else {
         return Err(Fail::new("a report was copied"));
     };
     assert_eq!(rt; routes.len(), 1);

@@ -1,11 +1,11 @@
 //! Runs of the plain simulator, with the replies that the worked examples give.
 
 use crate::common::asn;
-use net_conf::{Edit, Metric, Refusal};
+use net_conf::{Edit, Metric};
 use net_prefix::{Addr, Prefix};
 use path_attr::Asn;
 use plain_simulator::Simulator;
-use reference_machine::{Ask, Event, Machine, Reply, Report};
+use reference_machine::{Ask, Event, Reply, Report};
 use route_select::{FilterCell, Source};
 use session_queue::MessageKind;
 use std::test::Fail;
@@ -55,41 +55,10 @@ fn is_first_path(reply: &Reply) -> Result<bool, Fail> {
 fn a_run_gives_one_reply_an_event(rt: HostRuntime) -> Result<(), Fail> {
     let mut machine: Simulator<FilterCell> = Simulator::new(rt.alloc());
     let events = first_path()?;
-    let replies = match machine.run(&rt, &events) {
-        Ok(replies) => replies,
-        Err(refusal) => {
-            // Want of memory before the first step: the same run succeeds when it is asked again.
-            assert_eq!(rt; refusal, Refusal::Memory);
-            machine.run(&rt, &events).map_err(|_| "memory twice")?
-        }
-    };
+    let replies = machine.run(&rt, &events).map_err(|_| "a refusal")?;
     assert_eq!(rt; replies.len(), 7);
-    if replies.iter().any(|r| matches!(r, Reply::Refused(_))) {
-        return Ok(());
-    }
     assert!(rt; matches!(&replies[4], Reply::Done));
     assert!(rt; matches!(&replies[5], Reply::Took(_, MessageKind::Update)));
     assert!(rt; is_first_path(&replies[6])?);
-    Ok(())
-}
-
-#[test]
-fn a_step_that_wants_memory_succeeds_when_repeated(rt: HostRuntime) -> Result<(), Fail> {
-    let mut machine: Simulator<FilterCell> = Simulator::new(rt.alloc());
-    for event in &first_path()? {
-        let mut reply = machine.step(&rt, event);
-        if matches!(&reply, Reply::Refused(Refusal::Memory)) {
-            reply = machine.step(&rt, event);
-        }
-        assert!(rt; !matches!(&reply, Reply::Refused(_)));
-    }
-    let table = machine.step(&rt, &Event::Ask(Ask::Routes(TWO)));
-    let table = match table {
-        Reply::Refused(Refusal::Memory) => machine.step(&rt, &Event::Ask(Ask::Routes(TWO))),
-        other => other,
-    };
-    assert!(rt; is_first_path(&table)?);
-    let again = machine.step(&rt, &Event::Deliver(ONE, TWO));
-    assert!(rt; matches!(again, Reply::Refused(Refusal::QueueEmpty)));
     Ok(())
 }

@@ -1,9 +1,8 @@
-//! What only a call can show, on each machine: readers and writers that fail, memory that is refused, a reader that waits for its replies.
+//! What only a call can show, on each machine: readers and writers that fail, a reader that waits for its replies.
 //! Whole scripts are data, in cases/ at the top of the repository.
 
 mod counts;
 mod faults;
-mod memory;
 mod prompt;
 mod runs;
 
@@ -13,9 +12,6 @@ use std::alloc::Global;
 use std::test::Fail;
 use std::thread::Threads;
 use watched::{Input, Output};
-
-/// The reply where memory was refused.
-const WITHOUT_MEMORY: &[u8] = b"refused 20 memory\n";
 
 /// Lines, and the reply to each.
 type Lines = &'static [(&'static str, &'static str)];
@@ -41,25 +37,11 @@ fn asked<M: Machine>(
     machine: &mut M,
     lines: &str,
 ) -> Result<Vec<u8>, Fail> {
-    let mut written = Vec::with_capacity(alloc, 500).or_else(|_| Vec::with_capacity(alloc, 500))?;
+    let mut written = Vec::new(alloc);
     let mut input = Input::new(lines.as_bytes());
     let mut output = Output::new(&mut written);
     let served = serve(rt, alloc, &mut input, &mut output, machine);
     drop(output);
     served.map_err(|_| "a fault")?;
     Ok(written)
-}
-
-/// What it answers to a line, which is given once more where memory was refused.
-fn repeated<M: Machine>(
-    rt: &(impl Threads + Sync),
-    alloc: Global,
-    machine: &mut M,
-    line: &str,
-) -> Result<Vec<u8>, Fail> {
-    let answer = asked(rt, alloc, machine, line)?;
-    if answer.as_slice() == WITHOUT_MEMORY {
-        return asked(rt, alloc, machine, line);
-    }
-    Ok(answer)
 }

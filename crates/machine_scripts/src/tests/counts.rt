@@ -3,11 +3,9 @@
 use crate::machines::{SortedMachine, TrieMachine};
 use cell_engine::Cell;
 use command_text::read_line;
-use net_conf::Refusal;
 use prefix_table::PrefixTable;
 use route_select::Selector;
 use sim_core::Sim;
-use sim_event::{Event, Reply};
 use std::alloc::Global;
 use std::process::Abort;
 use std::test::Fail;
@@ -30,29 +28,17 @@ const THREE_PEERS: [&str; 13] = [
     "feed 2.0.0.1 9.0.0.1 update 10.0.0.0/8 2 igp 0",
 ];
 
-/// The event that a line spells. Where there is no memory for it once, it is read again.
-fn event_of(alloc: Global, line: &str) -> Result<Event, Fail> {
-    match read_line(alloc, line.as_bytes()) {
-        Ok(Some(event)) => Ok(event),
-        Ok(None) => Err("a blank line".into()),
-        Err(_) => match read_line(alloc, line.as_bytes()) {
-            Ok(Some(event)) => Ok(event),
-            _ => Err("a line that spells nothing".into()),
-        },
-    }
-}
-
-/// Takes the event of a line, again where there was no memory for it once. How many routes were decided anew till then.
+/// Takes the event of a line. How many routes were decided anew till then.
 fn count_after<S: Selector + Send + Sync + Drop, T: PrefixTable<Cell<S>> + Drop>(
     rt: &(impl Threads + Sync),
     alloc: Global,
     machine: &mut Sim<S, T>,
     line: &str,
 ) -> Result<u64, Fail> {
-    let event = event_of(alloc, line)?;
-    if matches!(machine.step(rt, &event), Reply::Refused(Refusal::Memory)) {
-        let _ = machine.step(rt, &event);
-    }
+    let Ok(Some(event)) = read_line(alloc, line.as_bytes()) else {
+        return Err("a line that spells nothing".into());
+    };
+    let _ = machine.step(rt, &event);
     Ok(machine.decided())
 }
 
@@ -175,37 +161,21 @@ fn counts_of_virtual_peers<S: Selector + Send + Sync + Drop, T: PrefixTable<Cell
 }
 
 #[test]
-fn tries_count_deliveries(rt: HostRuntime) -> Result<(), Fail> {
+fn tries_count(rt: HostRuntime) -> Result<(), Fail> {
     let mut machine: TrieMachine = Sim::new(rt.alloc());
-    counts_of_deliveries(&rt, rt.alloc(), &mut machine)
-}
-
-#[test]
-fn sorted_tables_count_deliveries(rt: HostRuntime) -> Result<(), Fail> {
-    let mut machine: SortedMachine = Sim::new(rt.alloc());
-    counts_of_deliveries(&rt, rt.alloc(), &mut machine)
-}
-
-#[test]
-fn tries_count_edits(rt: HostRuntime) -> Result<(), Fail> {
+    counts_of_deliveries(&rt, rt.alloc(), &mut machine)?;
     let mut machine: TrieMachine = Sim::new(rt.alloc());
-    counts_of_edits(&rt, rt.alloc(), &mut machine)
-}
-
-#[test]
-fn sorted_tables_count_edits(rt: HostRuntime) -> Result<(), Fail> {
-    let mut machine: SortedMachine = Sim::new(rt.alloc());
-    counts_of_edits(&rt, rt.alloc(), &mut machine)
-}
-
-#[test]
-fn tries_count_nothing_at_virtual_peers(rt: HostRuntime) -> Result<(), Fail> {
+    counts_of_edits(&rt, rt.alloc(), &mut machine)?;
     let mut machine: TrieMachine = Sim::new(rt.alloc());
     counts_of_virtual_peers(&rt, rt.alloc(), &mut machine)
 }
 
 #[test]
-fn sorted_tables_count_nothing_at_virtual_peers(rt: HostRuntime) -> Result<(), Fail> {
+fn sorted_tables_count(rt: HostRuntime) -> Result<(), Fail> {
+    let mut machine: SortedMachine = Sim::new(rt.alloc());
+    counts_of_deliveries(&rt, rt.alloc(), &mut machine)?;
+    let mut machine: SortedMachine = Sim::new(rt.alloc());
+    counts_of_edits(&rt, rt.alloc(), &mut machine)?;
     let mut machine: SortedMachine = Sim::new(rt.alloc());
     counts_of_virtual_peers(&rt, rt.alloc(), &mut machine)
 }
