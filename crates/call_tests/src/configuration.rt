@@ -51,7 +51,7 @@ fn has_site(rt: &impl Abort, alloc: Global, conf: &Conf) {
 fn sites(rt: HostRuntime) {
     let alloc = rt.alloc();
     let conf = peered(&rt, alloc);
-    assert!(rt; matches!(conf.site(alloc, NOBODY), Err(Refusal::NoRouter)));
-    assert!(rt; matches!(conf.site(alloc, PEER), Err(Refusal::BadEnd)));
+    assert_eq!(rt; conf.site(alloc, NOBODY).err(), Some(Refusal::NoRouter));
+    assert_eq!(rt; conf.site(alloc, PEER).err(), Some(Refusal::BadEnd));
     has_site(&rt, alloc, &conf);
 }

@@ -9,7 +9,7 @@ mod runs;
 use reference_machine::Machine;
 use sim_text::serve;
 use std::alloc::Global;
-use std::test::Fail;
+use std::process::Abort;
 use std::thread::Threads;
 use watched::{Input, Output};
 
@@ -32,16 +32,16 @@ const FIRST_PATH: Lines = &[
 
 /// What the machine answers to lines.
 fn asked<M: Machine>(
-    rt: &(impl Threads + Sync),
+    rt: &(impl Abort + Threads + Sync),
     alloc: Global,
     machine: &mut M,
     lines: &str,
-) -> Result<Vec<u8>, Fail> {
+) -> Vec<u8> {
     let mut written = Vec::new(alloc);
     let mut input = Input::new(lines.as_bytes());
     let mut output = Output::new(&mut written);
     let served = serve(rt, alloc, &mut input, &mut output, machine);
     drop(output);
-    served.map_err(|_| "a fault")?;
-    Ok(written)
+    assert!(rt; served.is_ok());
+    written
 }
