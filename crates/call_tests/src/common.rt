@@ -1,19 +1,14 @@
-//! What several modules use.
+//! What several modules use. Where a value cannot be made, the test ends there.
 
+use net_prefix::{Addr, Prefix};
 use path_attr::Asn;
-use std::alloc::AllocError;
-use std::test::Fail;
+use std::process::Abort;
 
-/// What the call answers, asked once more where memory was refused.
-pub fn again<T, F: Fn() -> Result<T, AllocError>>(call: F) -> Result<T, AllocError>
-    requires { F.IsAlwaysCallable call }
-{
-    match call() {
-        Ok(value) => Ok(value),
-        Err(AllocError) => call(),
-    }
+pub fn asn(rt: &impl Abort, number: u32) -> Asn {
+    Asn::new(number).expect(rt, "an AS has a number")
 }
 
-pub fn asn(number: u32) -> Result<Asn, Fail> {
-    Ok(Asn::new(number).ok_or("an AS has a number")?)
+/// 10.0.0.0/8.
+pub fn ten(rt: &impl Abort) -> Prefix {
+    Prefix::new(Addr(0x0a00_0000), 8).expect(rt, "no host bit is set")
 }

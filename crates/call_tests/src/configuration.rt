@@ -3,9 +3,8 @@
 use crate::common::asn;
 use net_conf::{Conf, Edit, Kind, Metric, Refusal};
 use net_prefix::Addr;
-use seq::Copied;
 use std::alloc::Global;
-use std::test::Fail;
+use std::process::Abort;
 
 const ROUTER: Addr = Addr(0x0100_0001);
 
@@ -14,68 +13,45 @@ const PEER: Addr = Addr(0x0200_0001);
 const NOBODY: Addr = Addr(0x0300_0001);
 
 /// A router that has a session with a virtual peer over a link.
-fn peered(alloc: Global) -> Result<Conf, Fail> {
-    let mut conf = Conf::new(alloc);
-    let cost = Metric::new(10).ok_or("no metric")?;
+fn peered(rt: &impl Abort, alloc: Global) -> Conf {
+    let cost = Metric::new(10).expect(rt, "a metric");
     let edits = [
-        Edit::Router(ROUTER, asn(1)?),
-        Edit::Virtual(PEER, asn(2)?),
+        Edit::Router(ROUTER, asn(rt, 1)),
+        Edit::Virtual(PEER, asn(rt, 2)),
         Edit::Link(ROUTER, PEER, cost),
         Edit::Join(ROUTER, PEER),
     ];
+    let mut conf = Conf::new(alloc);
     for edit in &edits {
-        conf.edit(alloc, edit).map_err(|_| "an edit is refused")?;
+        conf.edit(alloc, edit).expect(rt, "no edit is refused");
     }
-    Ok(conf)
+    conf
 }
 
 #[test]
-fn sites_routers_and_sessions(rt: HostRuntime) -> Result<(), Fail> {
-    let alloc = rt.alloc();
-    let conf = peered(alloc)?;
-    assert_eq!(rt; conf.router(ROUTER), Some((asn(1)?, Kind::Router)));
-    assert_eq!(rt; conf.router(PEER), Some((asn(2)?, Kind::Virtual)));
+fn routers_and_sessions(rt: HostRuntime) {
+    let conf = peered(&rt, rt.alloc());
+    assert_eq!(rt; conf.router(ROUTER), Some((asn(&rt, 1), Kind::Router)));
+    assert_eq!(rt; conf.router(PEER), Some((asn(&rt, 2), Kind::Virtual)));
     assert_eq!(rt; conf.router(NOBODY), None);
     assert_eq!(rt; conf.session_up(PEER, ROUTER), Some(true));
     assert_eq!(rt; conf.session_up(ROUTER, NOBODY), None);
-    assert!(rt; matches!(conf.site(alloc, NOBODY), Err(Refusal::NoRouter)));
-    assert!(rt; matches!(conf.site(alloc, PEER), Err(Refusal::BadEnd)));
-    let site = conf.site(alloc, ROUTER).map_err(|_| "no site")?;
-    assert_eq!(rt; site.asn, asn(1)?);
-    let session = site.session(PEER).ok_or("no session")?;
-    assert_eq!(rt; session.peer_asn, Some(asn(2)?));
+}
+
+/// Fails where the site of the router is not what the configuration says.
+fn has_site(rt: &impl Abort, alloc: Global, conf: &Conf) {
+    let site = conf.site(alloc, ROUTER).expect(rt, "a router has a site");
+    assert_eq!(rt; site.asn, asn(rt, 1));
+    let session = site.session(PEER).expect(rt, "they have a session");
+    assert_eq!(rt; session.peer_asn, Some(asn(rt, 2)));
     assert!(rt; session.up && session.external);
-    Ok(())
 }
 
 #[test]
-fn sites_of_those_who_have_sessions(rt: HostRuntime) -> Result<(), Fail> {
+fn sites(rt: HostRuntime) {
     let alloc = rt.alloc();
-    let conf = peered(alloc)?;
-    conf.facts();
-    assert!(rt; conf.ends_session(ROUTER) && conf.ends_session(PEER) && !conf.ends_session(NOBODY));
-    let site = conf.kept_site(ROUTER).ok_or("no site")?;
-    let copy = site.copy(alloc).map_err(|_| "no copy")?;
-    assert_eq!(rt; copy.me, ROUTER);
-    assert!(rt; copy.session(PEER).is_some());
-    assert!(rt; copy.has_same_facts(site));
-    assert!(rt; conf.kept_site(PEER).is_none());
-    assert!(rt; matches!(conf.made_site(alloc, ROUTER), Ok(None)));
-    assert!(rt; matches!(conf.router_site(alloc, PEER), Ok(None)));
-    Ok(())
-}
-
-#[test]
-fn edits_beside_what_stays(rt: HostRuntime) -> Result<(), Fail> {
-    let alloc = rt.alloc();
-    let conf = peered(alloc)?;
-    let stop = Edit::Stop(ROUTER, PEER);
-    let stopped = conf.edited(alloc, &stop).map_err(|_| "an edit is refused")?;
-    assert_eq!(rt; stopped.conf.session_up(ROUTER, PEER), Some(false));
-    assert!(rt; stopped.concerned.contains(&ROUTER) && stopped.concerned.contains(&PEER));
-    assert_eq!(rt; stopped.concerned.len(), 2);
-    assert_eq!(rt; conf.session_up(ROUTER, PEER), Some(true));
-    let join = Edit::Join(ROUTER, PEER);
-    assert!(rt; matches!(conf.edited(alloc, &join), Err(Refusal::SessionExists)));
-    Ok(())
+    let conf = peered(&rt, alloc);
+    assert_eq!(rt; conf.site(alloc, NOBODY).err(), Some(Refusal::NoRouter));
+    assert_eq!(rt; conf.site(alloc, PEER).err(), Some(Refusal::BadEnd));
+    has_site(&rt, alloc, &conf);
 }

@@ -1,21 +1,17 @@
-//! What only a call can show, on each machine: readers and writers that fail, memory that is refused, a reader that waits for its replies.
+//! What only a call can show, on each machine: readers and writers that fail, a reader that waits for its replies.
 //! Whole scripts are data, in cases/ at the top of the repository.
 
 mod counts;
 mod faults;
-mod memory;
 mod prompt;
 mod runs;
 
 use reference_machine::Machine;
 use sim_text::serve;
 use std::alloc::Global;
-use std::test::Fail;
+use std::process::Abort;
 use std::thread::Threads;
 use watched::{Input, Output};
-
-/// The reply where memory was refused.
-const WITHOUT_MEMORY: &[u8] = b"refused 20 memory\n";
 
 /// Lines, and the reply to each.
 type Lines = &'static [(&'static str, &'static str)];
@@ -36,30 +32,16 @@ const FIRST_PATH: Lines = &[
 
 /// What the machine answers to lines.
 fn asked<M: Machine>(
-    rt: &(impl Threads + Sync),
+    rt: &(impl Abort + Threads + Sync),
     alloc: Global,
     machine: &mut M,
     lines: &str,
-) -> Result<Vec<u8>, Fail> {
-    let mut written = Vec::with_capacity(alloc, 500).or_else(|_| Vec::with_capacity(alloc, 500))?;
+) -> Vec<u8> {
+    let mut written = Vec::new(alloc);
     let mut input = Input::new(lines.as_bytes());
     let mut output = Output::new(&mut written);
     let served = serve(rt, alloc, &mut input, &mut output, machine);
     drop(output);
-    served.map_err(|_| "a fault")?;
-    Ok(written)
-}
-
-/// What it answers to a line, which is given once more where memory was refused.
-fn repeated<M: Machine>(
-    rt: &(impl Threads + Sync),
-    alloc: Global,
-    machine: &mut M,
-    line: &str,
-) -> Result<Vec<u8>, Fail> {
-    let answer = asked(rt, alloc, machine, line)?;
-    if answer.as_slice() == WITHOUT_MEMORY {
-        return asked(rt, alloc, machine, line);
-    }
-    Ok(answer)
+    assert!(rt; served.is_ok());
+    written
 }

@@ -7,7 +7,6 @@ use sim_text::{ServeFault, serve};
 use std::alloc::Global;
 use std::io::{self, Read, Write};
 use std::process::Abort;
-use std::test::Fail;
 use std::thread::Threads;
 use watched::{Input, Output};
 
@@ -22,15 +21,22 @@ fn table_after(lines: usize) -> &'static str {
     }
 }
 
-/// The script and its replies, up to a line.
-fn joined(alloc: Global, lines: usize) -> Result<(String, String), Fail> {
+/// The whole script.
+fn script(rt: &impl Abort, alloc: Global) -> String {
     let mut script = String::new(alloc);
-    let mut replies = String::new(alloc);
-    for (line, reply) in FIRST_PATH.iter().take(lines) {
-        script.push_str(line)?;
-        replies.push_str(reply)?;
+    for (line, _) in FIRST_PATH {
+        script.push_str(line).expect(rt, "memory");
     }
-    Ok((script, replies))
+    script
+}
+
+/// The replies to the first lines.
+fn replies(rt: &impl Abort, alloc: Global, lines: usize) -> String {
+    let mut replies = String::new(alloc);
+    for (_, reply) in FIRST_PATH.iter().take(lines) {
+        replies.push_str(reply).expect(rt, "memory");
+    }
+    replies
 }
 
 /// Gives 20 bytes at a time, and fails when its reads are used up.
@@ -77,49 +83,65 @@ impl Write for Full {
     }
 }
 
+/// How many lines end in the script's first bytes.
+fn lines_in(script: &str, bytes: usize) -> usize {
+    let given = script.len().min(bytes);
+    script.as_bytes()[..given]
+        .iter()
+        .filter(|b| **b == b'\n')
+        .count()
+}
+
 /// After so many reads: each line that was given whole is answered, and the fault names the next one.
 fn reader_fails<M: Machine + Drop>(
     rt: &(impl Abort + Threads + Sync),
     alloc: Global,
     mut machine: M,
-    reads: usize,
-) -> Result<(), Fail> {
-    let (script, _) = joined(alloc, 7)?;
-    let given = script.as_bytes().len().min(reads.saturating_mul(20));
-    let lines = script.as_bytes()[..given]
-        .iter()
-        .filter(|b| **b == b'\n')
-        .count();
-    let (_, replies) = joined(alloc, lines)?;
+    reads_left: usize,
+) {
+    let script = script(rt, alloc);
+    let lines = lines_in(script.as_str(), reads_left.saturating_mul(20));
     let mut written = Vec::new(alloc);
-    let mut input = Input::new(Faltering {
-        rest: script.as_bytes(),
-        reads_left: reads,
-    });
+    let rest = script.as_bytes();
+    let mut input = Input::new(Faltering { rest, reads_left });
     let mut output = Output::new(&mut written);
     let served = serve(rt, alloc, &mut input, &mut output, &mut machine);
     drop(output);
-    assert_eq!(rt;
-        served,
-        Err(ServeFault::Read {
-            line: lines as u64 + 1
-        })
-    );
-    assert_eq!(rt; written.as_slice(), replies.as_bytes());
-    let table = asked(rt, alloc, &mut machine, "routes 2.0.0.1\n")?;
+    let line = (lines as u64).saturating_add(1);
+    assert_eq!(rt; served, Err(ServeFault::Read { line }));
+    assert_eq!(rt; written.as_slice(), replies(rt, alloc, lines).as_bytes());
+    let table = asked(rt, alloc, &mut machine, "routes 2.0.0.1\n");
     assert_eq!(rt; table.as_slice(), table_after(lines).as_bytes());
-    Ok(())
 }
 
 #[test]
-fn a_reader_that_fails_at_each_read(rt: HostRuntime) -> Result<(), Fail> {
+fn a_reader_that_fails_at_each_read(rt: HostRuntime) {
     let alloc = rt.alloc();
     for reads in 0..8 {
-        reader_fails(&rt, alloc, PlainMachine::new(alloc), reads)?;
-        reader_fails(&rt, alloc, SortedMachine::new(alloc), reads)?;
-        reader_fails(&rt, alloc, TrieMachine::new(alloc), reads)?;
+        reader_fails(&rt, alloc, PlainMachine::new(alloc), reads);
+        reader_fails(&rt, alloc, SortedMachine::new(alloc), reads);
+        reader_fails(&rt, alloc, TrieMachine::new(alloc), reads);
     }
-    Ok(())
+}
+
+/// Serves the whole script to a writer that fails after so many writes. What it took, and the line of the fault.
+fn cut_off<M: Machine>(
+    rt: &(impl Abort + Threads + Sync),
+    alloc: Global,
+    machine: &mut M,
+    writes_left: usize,
+) -> (Vec<u8>, usize) {
+    let script = script(rt, alloc);
+    let taken = Vec::new(alloc);
+    let mut full = Full { taken, writes_left };
+    let mut input = Input::new(script.as_bytes());
+    let mut output = Output::new(&mut full);
+    let served = serve(rt, alloc, &mut input, &mut output, machine);
+    drop(output);
+    let Err(ServeFault::Write { line }) = served else {
+        panic!(rt; "no write fault");
+    };
+    (full.taken, line as usize)
 }
 
 /// After so many writes: the replies before the fault's line were written, and a front of its own; its event was taken.
@@ -128,38 +150,23 @@ fn writer_fails<M: Machine + Drop>(
     alloc: Global,
     mut machine: M,
     writes: usize,
-) -> Result<(), Fail> {
-    let (script, replies) = joined(alloc, 7)?;
-    let mut full = Full {
-        taken: Vec::new(alloc),
-        writes_left: writes,
-    };
-    let mut input = Input::new(script.as_bytes());
-    let mut output = Output::new(&mut full);
-    let served = serve(rt, alloc, &mut input, &mut output, &mut machine);
-    drop(output);
-    let Err(ServeFault::Write { line }) = served else {
-        return Err("no write fault".into());
-    };
-    assert!(rt; replies.as_bytes().starts_with(full.taken.as_slice()));
-    let lines = line as usize;
+) {
+    let (taken, lines) = cut_off(rt, alloc, &mut machine, writes);
     assert!(rt; 1 <= lines && lines <= 7);
-    let (_, earlier) = joined(alloc, lines - 1)?;
-    let (_, with_it) = joined(alloc, lines)?;
-    assert!(rt; earlier.len() <= full.taken.len());
-    assert!(rt; full.taken.len() < with_it.len());
-    let table = asked(rt, alloc, &mut machine, "routes 2.0.0.1\n")?;
+    let with_it = replies(rt, alloc, lines);
+    assert!(rt; with_it.as_bytes().starts_with(taken.as_slice()));
+    assert!(rt; replies(rt, alloc, lines - 1).len() <= taken.len());
+    assert!(rt; taken.len() < with_it.len());
+    let table = asked(rt, alloc, &mut machine, "routes 2.0.0.1\n");
     assert_eq!(rt; table.as_slice(), table_after(lines).as_bytes());
-    Ok(())
 }
 
 #[test]
-fn a_writer_that_fails_at_each_write(rt: HostRuntime) -> Result<(), Fail> {
+fn a_writer_that_fails_at_each_write(rt: HostRuntime) {
     let alloc = rt.alloc();
     for writes in 0..10 {
-        writer_fails(&rt, alloc, PlainMachine::new(alloc), writes)?;
-        writer_fails(&rt, alloc, SortedMachine::new(alloc), writes)?;
-        writer_fails(&rt, alloc, TrieMachine::new(alloc), writes)?;
+        writer_fails(&rt, alloc, PlainMachine::new(alloc), writes);
+        writer_fails(&rt, alloc, SortedMachine::new(alloc), writes);
+        writer_fails(&rt, alloc, TrieMachine::new(alloc), writes);
     }
-    Ok(())
 }

@@ -1,24 +1,26 @@
 //! Lists of events that the engine is given at once.
 
 use crate::machines::{SortedMachine, TrieMachine};
+use cell_engine::Cell;
 use net_conf::{Edit, Refusal};
 use net_prefix::Addr;
 use path_attr::Asn;
+use prefix_table::PrefixTable;
+use route_select::Selector;
 use sim_core::Sim;
 use sim_event::{Ask, Event, Reply, Report};
 use std::process::Abort;
-use std::test::Fail;
+use std::thread::Threads;
 
 const ONE: Addr = Addr(0x0100_0001);
 
 /// A router, the same one again, and whether anything is on its way.
-fn events() -> Result<[Event; 3], Fail> {
-    let number = Asn::new(1).ok_or("an AS has a number")?;
-    Ok([
+fn events(number: Asn) -> [Event; 3] {
+    [
         Event::Edit(Edit::Router(ONE, number)),
         Event::Edit(Edit::Router(ONE, number)),
         Event::Ask(Ask::Quiet),
-    ])
+    ]
 }
 
 /// Fails where these are not the replies to the events, but for want of memory.
@@ -32,26 +34,25 @@ fn are_replies(rt: &impl Abort, replies: &[Reply]) {
     assert!(rt; matches!(&replies[2], Reply::Report(Report::Quiet(true))));
 }
 
-#[test]
-fn tries_run_a_list(rt: HostRuntime) -> Result<(), Fail> {
-    let mut machine: TrieMachine = Sim::new(rt.alloc());
-    let events = events()?;
-    let replies = match machine.run(&rt, &events) {
+/// Fails where the machine answers the list otherwise. It is asked again where there was no memory for the replies.
+fn runs<S: Selector + Send + Sync + Drop, T: PrefixTable<Cell<S>> + Drop>(
+    rt: &(impl Abort + Threads + Sync),
+    machine: &mut Sim<S, T>,
+) {
+    let events = events(Asn::new(1).expect(rt, "an AS has a number"));
+    let replies = match machine.run(rt, &events) {
         Ok(replies) => replies,
-        Err(_) => machine.run(&rt, &events).map_err(|_| "memory twice")?,
+        Err(_) => machine.run(rt, &events).expect(rt, "memory"),
     };
-    are_replies(&rt, &replies);
-    Ok(())
+    are_replies(rt, &replies);
 }
 
 #[test]
-fn sorted_tables_run_a_list(rt: HostRuntime) -> Result<(), Fail> {
-    let mut machine: SortedMachine = Sim::new(rt.alloc());
-    let events = events()?;
-    let replies = match machine.run(&rt, &events) {
-        Ok(replies) => replies,
-        Err(_) => machine.run(&rt, &events).map_err(|_| "memory twice")?,
-    };
-    are_replies(&rt, &replies);
-    Ok(())
+fn tries_run_a_list(rt: HostRuntime) {
+    runs(&rt, &mut TrieMachine::new(rt.alloc()));
+}
+
+#[test]
+fn sorted_tables_run_a_list(rt: HostRuntime) {
+    runs(&rt, &mut SortedMachine::new(rt.alloc()));
 }
