@@ -6,7 +6,7 @@ mod command_line;
 ghost use Rattle.std.specs.Prelude.{◌≡◌, length, vec_len, IfOk};
 ghost use Rattle.std.specs.Process.{exit_status};
 ghost use Rattle.clap.specs.Words.{kind_of};
-ghost use Rattle.bgpsim.specs.CommandLine.{TeamIsWithin};
+ghost use Rattle.bgpsim.specs.CommandLine.{IsTeamWithin};
 ghost use Rattle.bgpsim.specs.Status.{no_memory, status_of_kind, IsEnd, IsReplayEnd, IsTeamEnd};
 
 use cell_engine::Cell;
@@ -146,7 +146,7 @@ fn play_team<
     requires name { blank.name ≡ L.name }
     requires ledger { blank.parts ≡ L.parts }
     requires parts { blank.parts ≡ 256 }
-    requires team { TeamIsWithin team.now }
+    requires team { IsTeamWithin team.now }
     ensures { IsTeamEnd result }
 {
     let alloc = rt.alloc();
