@@ -3,7 +3,7 @@ use Rattle.std.proofs.Common.{◌≡◌, ap, sym, subst, refl, ℕ, Bool, true, 
 use Rattle.std.specs.Prelude.{◌⊎◌, IfSome, suc, length, fold, if◌then◌else◌}
 use Rattle.std.specs.Str.{bytes_eq}
 use Rattle.clap.specs.Words.{Text, Rule, Shape}
-use Rattle.clap.specs.Walk.{Held, Names, Outcome, Step, Waiting, Walk, idle, option, positional, next, trailing, subcommand, value, done, waits, plain, refused, after_flag, after_step, arg_by_index, long_or_other, nothing_held, plain_word, short_or_plain, subcommand_met, subcommand_or_other, to_positional, walk, walk_from, rows_after, finished, settled, walked, answers_to}
+use Rattle.clap.specs.Walk.{Held, Names, Outcome, Step, Waiting, Walk, idle, option, positional, next, trailing, subcommand, value, done, waits, plain, refused, after_flag, after_step, arg_by_index, long_or_other, nothing_held, plain_word, short_or_plain, subcommand_met, subcommand_or_other, to_positional, walk as walk_of, walk_from, rows_after, finished, settled, walked, answers_to}
 use Rattle.clap.specs.Lexer.{long_of, short_of}
 use Rattle.clap.specs.Kinds.{Kinds, or_else}
 use Rattle.clap.specs.declared.error.kind.ErrorKind.{ErrorKind}
@@ -119,15 +119,25 @@ is_word name word e = go (bytes_eq name word) (bytes_eq-Decides name word) e
     go true h e = sym (h.0 refl)
     go false h e = absurd (true≢false (sym e))
 
--- a level of a parse that has no fault
-pub level_free : (s : Shape) (names : Names) (words : List Text) (has : Bool) (below : Kinds) → level_fault s names nothing_held words has below ≡ []
-    → (walk_fault s names (walk_from nothing_held) words ≡ []) × (check_fault s (rows_after s.rules names words) has ≡ [])
+-- a level of a parse that has no fault, in none of its steps
+pub record IsFree (s : Shape) (names : Names) (words : List Text) (has : Bool) (entered : Kinds) : Type 0 where
+  pub walk : walk_fault s names (walk_from nothing_held) words ≡ []
+  pub below : entered ≡ []
+  pub settle : settle_fault s.rules s.args_override_self (walk_of s.rules names nothing_held words).held ≡ []
+  pub check : check_fault s (rows_after s.rules names words) has ≡ []
+
+pub level_free : (s : Shape) (names : Names) (words : List Text) (has : Bool) (below : Kinds) → level_fault s names nothing_held words has below ≡ [] → IsFree s names words has below
 level_free s names words has below e =
-    let end = (walk s.rules names nothing_held words).held in
+    let end = (walk_of s.rules names nothing_held words).held in
     let check = check_fault s (finished s.rules end) has in
     let defaults = defaults_fault (settled s.rules end).rows s.rules in
     let settle = settle_fault s.rules s.args_override_self end in
     let walk_free = or_else_none (walk_fault s names (walk_from nothing_held) words) (or_else below (or_else settle (or_else defaults check))) e in
     let below_free = or_else_none below (or_else settle (or_else defaults check)) walk_free.1 in
     let settle_free = or_else_none settle (or_else defaults check) below_free.1 in
-    (walk_free.0, (or_else_none defaults check settle_free.1).1)
+    record {
+      walk = walk_free.0;
+      below = below_free.0;
+      settle = settle_free.0;
+      check = (or_else_none defaults check settle_free.1).1;
+    }

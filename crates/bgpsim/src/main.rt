@@ -11,7 +11,7 @@ ghost use Rattle.bgpsim.specs.Status.{no_memory, status_of_kind, IsEnd, IsReplay
 use cell_engine::Cell;
 use clap::Error;
 use clap::error::ErrorKind;
-use command_line::{Choice, choose};
+use command_line::{Choice, Team, choose};
 use prefix_table::{SortedTable, TrieTable};
 use replay_run::run_replay;
 use route_select::{FilterCell, GroupCell};
@@ -51,6 +51,7 @@ fn main(rt: HostRuntime) -> ExitCode {
     match choose(alloc, words.as_slice()) {
         Ok(Choice::Script) => serve_streams(&rt, rt.stderr()),
         Ok(Choice::Replay) => replay_streams(&rt, rt.stderr()),
+        Ok(Choice::ForTeam(team)) => play_team(&rt, team),
         Err(error) => show(&rt, &error),
     }
 }
@@ -126,6 +127,15 @@ fn replay_streams(
         &mut errors,
     );
     leave(machine, status)
+}
+
+/// A placeholder: no team is run yet.
+fn play_team(rt: &impl Eprint, team: Team<'_>) -> ExitCode
+    ensures { exit_status result ≡ MISTAKEN }
+{
+    drop(team);
+    let _ = rt.eprintln("error: team is not there yet");
+    ExitCode::from(MISTAKEN)
 }
 
 /// Ends the program. The system takes the machine's memory back at once.

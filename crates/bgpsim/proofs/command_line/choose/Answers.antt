@@ -5,8 +5,8 @@ use Rattle.bgpsim.specs.CommandLine.{commands, IsChoice}
 use Rattle.bgpsim.proofs.Subcommands.{met, met_one, is_script, is_replay, script_is_met, script_is_taken, replay_is_met, replay_is_taken}
 use Rattle.bgpsim.proofs.command_line.choose.Goals as goal
 
-pub chosen-choice-requires : goal.chosen-choice-requires
-chosen-choice-requires c =
+pub chosen-requires : goal.chosen-requires
+chosen-requires c =
     let is = c.in_ok-command.ensures in
     met_one (app_of c.in_ok-command.command) is (map string_bytes c.args.words.now) c.in_ok-matches.matches c.in_ok-matches.ensures.matches
     (c.in_ok-matches.ensures.kinds (ap is_simple_and_free is))
@@ -21,14 +21,14 @@ returns-clause-script c = λ name are.
     let is = c.in_ok-command.ensures in
     let found = met (app_of c.in_ok-command.command) is (map string_bytes c.args.words.now) c.in_ok-matches.matches c.in_ok-matches.ensures.matches in
     let known = found ∙ ap (subcommand_of commands) are ∙ script_is_met name in
-    is_script c.chosen-choice.result _ (subst (λ met. IsSomeAnd met (IsChoice c.chosen-choice.result)) known c.chosen-choice.ensures)
+    is_script c.in_ok-choice.choice _ (subst (λ met. IsSomeAnd met (IsChoice c.in_ok-choice.choice)) known c.in_ok-choice.ensures.choice)
 
 pub returns-clause-replay : goal.returns-clause-replay
 returns-clause-replay c = λ name are.
     let is = c.in_ok-command.ensures in
     let found = met (app_of c.in_ok-command.command) is (map string_bytes c.args.words.now) c.in_ok-matches.matches c.in_ok-matches.ensures.matches in
     let known = found ∙ ap (subcommand_of commands) are ∙ replay_is_met name in
-    is_replay c.chosen-choice.result _ (subst (λ met. IsSomeAnd met (IsChoice c.chosen-choice.result)) known c.chosen-choice.ensures)
+    is_replay c.in_ok-choice.choice _ (subst (λ met. IsSomeAnd met (IsChoice c.in_ok-choice.choice)) known c.in_ok-choice.ensures.choice)
 
 pub returns-in_err-matches-clause-script : goal.returns-in_err-matches-clause-script
 returns-in_err-matches-clause-script c = λ name are.
