@@ -43,7 +43,7 @@ fn delivered<L: Ledger + Send + Sync, R: Threads + Wait + Abort + Sync>(
     requires ledger { blank.parts ≡ L.parts }
     requires parts { blank.parts ≡ 256 }
 {
-    let (desk, mut workers) = opened(rt, alloc, 2, shards, blank);
+    let (desk, mut workers) = opened::<L, R>(rt, alloc, 2, shards, blank);
     let mut engineer = workers.pop().expect(rt, "two seats");
     assert!(rt; are_answered(rt, alloc, &desk, &mut engineer, &STAR));
     if is_finished {

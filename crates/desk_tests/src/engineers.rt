@@ -49,7 +49,7 @@ fn two_engineers<L: Ledger + Send + Sync, R: Threads + Wait + Abort + Sync>(
     requires ledger { blank.parts ≡ L.parts }
     requires parts { blank.parts ≡ 256 }
 {
-    let (desk, mut seats) = opened(rt, alloc, 2, 1, blank);
+    let (desk, mut seats) = opened::<L, R>(rt, alloc, 2, 1, blank);
     assert!(rt; make_calls(rt, alloc, &desk, &mut seats));
     let second = seats.pop().expect(rt, "a second seat");
     let left = desk
@@ -117,7 +117,7 @@ fn with_workers<L: Ledger + Send + Sync, R: Threads + Wait + Abort + Sync>(
     requires ledger { blank.parts ≡ L.parts }
     requires parts { blank.parts ≡ 256 }
 {
-    let (desk, mut workers) = opened(rt, alloc, 4, 2, blank);
+    let (desk, mut workers) = opened::<L, R>(rt, alloc, 4, 2, blank);
     let mut seats = Vec::new(alloc);
     seats
         .push(workers.pop().expect(rt, "a seat"))
@@ -125,7 +125,7 @@ fn with_workers<L: Ledger + Send + Sync, R: Threads + Wait + Abort + Sync>(
     seats
         .push(workers.pop().expect(rt, "a seat"))
         .expect(rt, "memory");
-    let (made, workers) = join(
+    let (made, mut workers) = join(
         rt,
         || {
             let made = make_calls(rt, alloc, &desk, &mut seats);
@@ -136,7 +136,7 @@ fn with_workers<L: Ledger + Send + Sync, R: Threads + Wait + Abort + Sync>(
     );
     assert!(rt; made);
     assert_eq!(rt; delivered(rt, &desk, &workers), 1);
-    seats.append(workers).expect(rt, "memory");
+    seats.append(&mut workers).expect(rt, "memory");
     is_record_of(rt, alloc, desk.end(), seats, 10);
 }
 

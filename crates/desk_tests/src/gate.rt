@@ -96,7 +96,7 @@ fn meet<L: Ledger + Send + Sync, R: Threads + Wait + Abort + Sync>(
     requires ledger { blank.parts ≡ L.parts }
     requires parts { blank.parts ≡ 256 }
 {
-    let (desk, mut workers) = opened(rt, alloc, 3, 2, blank);
+    let (desk, mut workers) = opened::<L, R>(rt, alloc, 3, 2, blank);
     let mut engineer = workers.pop().expect(rt, "three seats");
     assert!(rt; are_answered(rt, alloc, &desk, &mut engineer, &STAR));
     let gate = Meeting::new();

@@ -51,7 +51,7 @@ fn twice<L: Ledger, R: Threads + Wait + Abort + Sync>(rt: &R, alloc: Global, bla
     requires ledger { blank.parts ≡ L.parts }
     requires parts { blank.parts ≡ 256 }
 {
-    let (desk, mut seats) = opened(rt, alloc, 2, 1, blank);
+    let (desk, mut seats) = opened::<L, R>(rt, alloc, 2, 1, blank);
     let mut worker = seats.pop().expect(rt, "a seat");
     let mut engineer = seats.pop().expect(rt, "another seat");
     assert!(rt; are_answered(rt, alloc, &desk, &mut engineer, &FED));
@@ -86,7 +86,7 @@ fn heard_meanwhile<L: Ledger, R: Threads + Wait + Abort + Sync>(rt: &R, alloc: G
     requires ledger { blank.parts ≡ L.parts }
     requires parts { blank.parts ≡ 256 }
 {
-    let (desk, mut seats) = opened(rt, alloc, 2, 1, blank);
+    let (desk, mut seats) = opened::<L, R>(rt, alloc, 2, 1, blank);
     let mut worker = seats.pop().expect(rt, "a seat");
     let mut engineer = seats.pop().expect(rt, "another seat");
     assert!(rt; are_answered(rt, alloc, &desk, &mut engineer, &FED));
