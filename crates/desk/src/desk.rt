@@ -3,7 +3,7 @@
 ghost use Rattle.std.specs.Prelude.{◌≡◌, ◌<◌, ◌≤◌, false, IfOk, IfErr, IfSome, OnOk, OnErr};
 ghost use Rattle.session_queue.specs.Shards.{shard_of};
 ghost use Rattle.desk.specs.Books.{blank_seats, is_memory, noted};
-ghost use Rattle.desk.specs.Desks.{AreSeats, AreShards, IsOpenFault, IsReplied, IsTaken, IsNoted, IsSeatAfter};
+ghost use Rattle.desk.specs.Desks.{AreSeats, AreShards, GoesOn, IsOpenFault, IsReplied, IsTaken, IsNoted, IsSeatAfter};
 
 use crate::room::{Audit, CommitFault, Committed, Done, Job, Progress, Room, Seat};
 use cell_engine::Cell;
@@ -51,6 +51,7 @@ struct Table<S: Chosen, T: PrefixTable<Cell<S>>, L: Ledger> {
 /// see how many shards there are. What is under the lock is known by what holds of every room: its history is legal.
 #[derive(Drop)]
 pub struct Desk<S: Chosen, T: PrefixTable<Cell<S>>, L: Ledger> {
+    alloc: Global,
     table: Mutex<Table<S, T, L>>,
     /// Tells those who wait that a call was made, an outcome put in, or that somebody left.
     changed: Condvar,
@@ -69,7 +70,8 @@ impl<S: Chosen, T: PrefixTable<Cell<S>>, L: Ledger> Model for Desk<S, T, L> {
 
 /// What a worker finds at the desk.
 pub(crate) enum Turn<S: Chosen> {
-    Job(Job<S>),
+    /// Jobs, each of another receiver.
+    Jobs(Vec<Job<S>>),
     /// There was no memory for a job, or none waited though the engineers have finished.
     Nothing,
     /// The engineers have finished, and no message waits, or nobody is left who could bring one.
@@ -99,13 +101,13 @@ impl<S: Chosen, T: PrefixTable<Cell<S>>, L: Ledger> Desk<S, T, L> {
             return Err(OpenFault::Shards);
         }
         match Room::new(alloc, seats, blank) {
-            Ok((room, all)) => Ok((Desk::of(room, shards), all)),
+            Ok((room, all)) => Ok((Desk::of(alloc, room, shards), all)),
             Err(_) => Err(OpenFault::Memory),
         }
     }
 
     /// The room, under a lock.
-    fn of(room: Room<S, T, L>, shards: u64) -> Self
+    fn of(alloc: Global, room: Room<S, T, L>, shards: u64) -> Self
         requires { AreShards shards }
         ensures { result.shards ≡ shards }
     {
@@ -117,6 +119,7 @@ impl<S: Chosen, T: PrefixTable<Cell<S>>, L: Ledger> Desk<S, T, L> {
             changes: 0,
         };
         Desk {
+            alloc,
             table: Mutex::new(table),
             changed: Condvar::new(),
             shards,
@@ -129,6 +132,11 @@ impl<S: Chosen, T: PrefixTable<Cell<S>>, L: Ledger> Desk<S, T, L> {
         ensures allowed { AreShards result }
     {
         self.shards
+    }
+
+    /// Where memory comes from.
+    pub(crate) fn alloc(&self) -> Global {
+        self.alloc
     }
 
     /// Whether the seat's notes are its calls in the history, which is legal.
@@ -147,9 +155,9 @@ impl<S: Chosen, T: PrefixTable<Cell<S>>, L: Ledger> Desk<S, T, L> {
     pub fn finish_calls<R: Wait>(&self, rt: &R) {
         let mut table = self.table.lock(rt);
         table.is_finished = true;
-        table.note_change();
+        let wakes = table.note_change();
         drop(table);
-        self.changed.notify_all();
+        self.wake(wakes);
     }
 
     /// The room, once nobody is at the desk.
@@ -167,9 +175,16 @@ impl<S: Chosen, T: PrefixTable<Cell<S>>, L: Ledger> Desk<S, T, L> {
     pub(crate) fn leave<R: Wait>(&self, rt: &R) {
         let mut table = self.table.lock(rt);
         table.workers = table.workers.wrapping_sub(1);
-        table.note_change();
+        let wakes = table.note_change();
         drop(table);
-        self.changed.notify_all();
+        self.wake(wakes);
+    }
+
+    /// Wakes those who wait, where somebody does.
+    fn wake(&self, wakes: bool) {
+        if wakes {
+            self.changed.notify_all();
+        }
     }
 }
 
@@ -181,9 +196,9 @@ impl<S: Selector + Send + Sync + Drop, T: PrefixTable<Cell<S>> + Drop, L: Ledger
         ensures reply { is_memory result ≡ false → IsReplied event result }
     {
         let mut table = self.table.lock(rt);
-        let reply = table.call(rt, seat, event);
+        let (reply, wakes) = table.call(rt, seat, event);
         drop(table);
-        self.changed.notify_all();
+        self.wake(wakes);
         reply
     }
 }
@@ -204,9 +219,21 @@ impl<S: Chosen + Drop, T: PrefixTable<Cell<S>> + Drop, L: Ledger> Desk<S, T, L> 
     {
         let mut table = self.table.lock(rt);
         let committed = table.commit(seat, done);
+        let wakes = table.note_change();
         drop(table);
-        self.changed.notify_all();
+        self.wake(wakes);
         committed
+    }
+
+    /// Puts in each outcome in turn, as `commit` does. Those that came too late are let go, and so are those for which there is no memory.
+    pub(crate) fn commit_all<R: Wait>(&self, rt: &R, seat: &mut Seat<L>, outcomes: Vec<Done<S>>)
+        ensures { GoesOn seat.old seat.new }
+    {
+        let mut table = self.table.lock(rt);
+        table.commit_all(seat, outcomes);
+        let wakes = table.note_change();
+        drop(table);
+        self.wake(wakes);
     }
 }
 
@@ -220,17 +247,19 @@ impl<S: Selector + Drop, T: PrefixTable<Cell<S>> + Drop, L: Ledger> Desk<S, T, L
         self.table.lock(rt).take(shard, self.shards)
     }
 
-    /// What a worker of the shard does next. It waits, without looking again and again, until there is something.
-    pub(crate) fn next_turn<R: Wait>(&self, rt: &R, shard: u64) -> Turn<S>
+    /// What a worker of the shard does next, so many jobs at most. It waits, without looking again and again, until there is something.
+    pub(crate) fn next_turn<R: Wait>(&self, rt: &R, shard: u64, most: usize) -> Turn<S>
         requires { shard < self.now.shards }
     {
         let mut table = self.table.lock(rt);
         for _ in rt.forever() {
-            match table.room.job(shard, self.shards) {
-                Ok(Some(job)) => return Turn::Job(job),
-                Ok(None) => {}
-                Err(_) => return Turn::Nothing,
+            let Ok(jobs) = table.room.jobs(shard, self.shards, most) else {
+                return Turn::Nothing;
+            };
+            if !jobs.is_empty() {
+                return Turn::Jobs(jobs);
             }
+            drop(jobs);
             table.idle = table.idle.wrapping_add(1);
             if table.is_over() {
                 return Turn::End;
@@ -257,12 +286,14 @@ impl<S: Chosen, T: PrefixTable<Cell<S>>, L: Ledger> Table<S, T, L> {
         self.room.audit(seat)
     }
 
-    /// Who waits has to look again.
-    fn note_change(&mut self)
+    /// Who waits has to look again. Whether somebody does.
+    fn note_change(&mut self) -> bool
         ensures { self.new.room ≡ self.old.room }
     {
+        let is_awaited = self.idle > 0;
         self.changes = self.changes.wrapping_add(1);
         self.idle = 0;
+        is_awaited
     }
 
     /// Whether the engineers have finished, and no message waits, or no worker has found a job since the last change.
@@ -272,14 +303,15 @@ impl<S: Chosen, T: PrefixTable<Cell<S>>, L: Ledger> Table<S, T, L> {
 }
 
 impl<S: Selector + Send + Sync + Drop, T: PrefixTable<Cell<S>> + Drop, L: Ledger> Table<S, T, L> {
-    fn call<R: Threads + Sync>(&mut self, rt: &R, seat: &mut Seat<L>, event: Event) -> Reply
-        ensures seat { seat.new ≡ noted seat.old event result }
-        ensures reply { is_memory result ≡ false → IsReplied event result }
+    /// The reply, and whether somebody waits for a change.
+    fn call<R: Threads + Sync>(&mut self, rt: &R, seat: &mut Seat<L>, event: Event) -> (Reply, bool)
+        ensures seat { seat.new ≡ noted seat.old event result.0 }
+        ensures reply { is_memory result.0 ≡ false → IsReplied event result.0 }
     {
         self.room.facts();
         let reply = self.room.step(rt, seat, event);
-        self.note_change();
-        reply
+        let wakes = self.note_change();
+        (reply, wakes)
     }
 }
 
@@ -290,9 +322,23 @@ impl<S: Chosen + Drop, T: PrefixTable<Cell<S>> + Drop, L: Ledger> Table<S, T, L>
         ensures seat { OnErr result (seat.new ≡ seat.old) }
     {
         self.room.facts();
-        let committed = self.room.commit(seat, done);
-        self.note_change();
-        committed
+        self.room.commit(seat, done)
+    }
+
+    fn commit_all(&mut self, seat: &mut Seat<L>, outcomes: Vec<Done<S>>)
+        ensures { GoesOn seat.old seat.new }
+    {
+        for done in outcomes {
+            self.bring(seat, done);
+        }
+    }
+
+    /// Puts in an outcome, or lets it go.
+    #[tactic(auto, using(crate::proofs::Following::goes_on))]
+    fn bring(&mut self, seat: &mut Seat<L>, done: Done<S>)
+        ensures { GoesOn seat.old seat.new }
+    {
+        drop(self.commit(seat, done));
     }
 }
 

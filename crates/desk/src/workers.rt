@@ -4,7 +4,7 @@ ghost use Rattle.std.specs.Prelude.{◌≡◌, ◌<◌, vec_len, vec_capacity};
 ghost use Rattle.desk.specs.Desks.{GoesOn, AllGoOn};
 
 use crate::desk::{Desk, Turn};
-use crate::room::{Job, Seat};
+use crate::room::{Done, Job, Seat};
 use cell_engine::Cell;
 use prefix_table::PrefixTable;
 use route_select::Selector;
@@ -14,6 +14,9 @@ use std::sync::atomic::{AtomicBool, Ordering};
 use std::sync::ledger::Ledger;
 use std::thread;
 use std::thread::{Promise, Threads};
+
+/// How many turns a worker makes at once at most.
+const TURNS_AT_ONCE: u64 = 16;
 
 /// What is told of the workers' jobs. The n-th of a worker has the number n, from 1 on.
 pub trait Gate {
@@ -25,7 +28,9 @@ pub trait Gate {
 }
 
 /// A thread for each seat: the worker of place i serves the shard i modulo the shards. A turn takes a job, works it without the lock, and
-/// brings the outcome back; want of memory ends the turn, and so does an outcome that came too late. Where there is no job the worker waits.
+/// brings the outcome back; want of memory ends the turn, and so does an outcome that came too late. Up to sixteen turns are made at once, where
+/// messages wait for as many receivers: their jobs are taken together, worked one after another, and brought back together. Where there is no
+/// job the worker waits.
 /// It ends after so many turns, or once `finish_calls` was called and no message waits, or none that a worker who is left could bring.
 /// A thread that cannot be started is left out, with its seat as it was.
 pub fn run_workers<
@@ -140,29 +145,46 @@ impl<'a, S: Selector + Drop, T: PrefixTable<Cell<S>> + Drop, L: Ledger, G: Gate,
         ensures { GoesOn seat.old seat.new }
     {
         let shard = worker as u64 % self.desk.shards();
-        let mut jobs = 0;
+        let mut turns = 0;
+        let mut jobs_before = 0;
         for _ in 0..self.turns {
-            match self.desk.next_turn(self.rt, shard) {
-                Turn::Job(job) => {
-                    jobs += 1;
-                    self.do_job(worker, jobs, job, seat);
+            if turns >= self.turns {
+                return;
+            }
+            let most = (self.turns - turns).min(TURNS_AT_ONCE) as usize;
+            match self.desk.next_turn(self.rt, shard, most) {
+                Turn::Jobs(jobs) => {
+                    let count = jobs.len() as u64;
+                    self.do_jobs(worker, jobs_before, jobs, seat);
+                    jobs_before = count.saturating_add(jobs_before);
+                    turns = count.saturating_add(turns);
                 }
-                Turn::Nothing => {}
+                Turn::Nothing => turns += 1,
                 Turn::End => return,
             }
         }
     }
 
-    /// Works a job, and brings its outcome back.
-    #[tactic(auto, using(crate::proofs::Following::goes_on))]
-    fn do_job(&self, worker: usize, n: u64, job: Job<S>, seat: &mut Seat<L>)
+    /// Works jobs one after another, of which the first is one more than so many, and brings their outcomes back.
+    fn do_jobs(&self, worker: usize, jobs_before: u64, jobs: Vec<Job<S>>, seat: &mut Seat<L>)
         ensures { GoesOn seat.old seat.new }
     {
+        let mut outcomes = Vec::new(self.desk.alloc());
+        let mut n = jobs_before;
+        for job in jobs {
+            n = n.saturating_add(1);
+            self.do_job(worker, n, job, &mut outcomes);
+        }
+        self.desk.commit_all(self.rt, seat, outcomes);
+    }
+
+    /// Works a job, and keeps its outcome where there is memory.
+    fn do_job(&self, worker: usize, n: u64, job: Job<S>, outcomes: &mut Vec<Done<S>>) {
         self.gate.taken(worker, n);
         let Ok(done) = job.work() else {
             return;
         };
         self.gate.worked(worker, n);
-        drop(self.desk.commit(self.rt, seat, done));
+        drop(outcomes.push(done));
     }
 }

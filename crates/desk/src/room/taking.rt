@@ -36,6 +36,66 @@ impl<S: Selector + Drop, T: PrefixTable<Cell<S>>, L: Ledger> Room<S, T, L> {
         }
     }
 
+    /// Jobs of the shard, each of another receiver, no more than so many: one where a message waits for a receiver of the shard, and none
+    /// else. Want of memory for the first is the only error.
+    pub(crate) fn jobs(
+        &self,
+        shard: u64,
+        shards: u64,
+        most: usize,
+    ) -> Result<Vec<Job<S>>, AllocError>
+        requires { shard < shards }
+    {
+        let mut jobs = Vec::new(self.alloc);
+        let Some(first) = self.job(shard, shards)? else {
+            return Ok(jobs);
+        };
+        let mut past = first.direction();
+        if jobs.push(first).is_err() {
+            return Err(AllocError);
+        }
+        for _ in 1..most {
+            let Some(direction) = self.next_past(shard, shards, past) else {
+                break;
+            };
+            past = direction;
+            if !self.is_added(&mut jobs, direction) {
+                break;
+            }
+        }
+        Ok(jobs)
+    }
+
+    /// Adds the job of the direction, unless one of its receiver is there. False where there is no memory.
+    fn is_added(&self, jobs: &mut Vec<Job<S>>, direction: Direction) -> bool
+        requires { 0 < length (queue_at self.now.engine.queues direction.from direction.to) }
+    {
+        if jobs.iter().any(|job| job.direction().to == direction.to) {
+            return true;
+        }
+        match self.job_of(direction) {
+            Ok(job) => jobs.push(job).is_ok(),
+            Err(_) => false,
+        }
+    }
+
+    /// The next direction with a message to a receiver of the shard, by sender, then by receiver.
+    fn next_past(&self, shard: u64, shards: u64, past: Direction) -> Option<Direction>
+        requires { shard < shards }
+        ensures { IfSome result (λ next. 0 < length (queue_at self.now.engine.queues next.from next.to)) }
+    {
+        let queues = self.sim.state().queues();
+        let mut past = (past.from, past.to);
+        for _ in 0..u64::MAX {
+            let (from, to) = queues.next_full(Some(past))?;
+            if u64::from(to.0) % shards == shard {
+                return Some(Direction { from, to });
+            }
+            past = (from, to);
+        }
+        None
+    }
+
     /// The job of a direction with a message.
     fn job_of(&self, direction: Direction) -> Result<Job<S>, AllocError>
         requires { 0 < length (queue_at self.now.engine.queues direction.from direction.to) }
