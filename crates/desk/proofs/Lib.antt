@@ -3,5 +3,6 @@ pub mod Deliverable
 pub mod Differing
 pub mod Following
 pub mod Grown
+pub mod Pushed
 pub mod Seats
 pub mod Taken

@@ -1,6 +1,6 @@
 //! Jobs are taken.
 
-ghost use Rattle.std.specs.Prelude.{◌≡◌, ◌<◌, [], None, length, IfOk, IfSome};
+ghost use Rattle.std.specs.Prelude.{◌≡◌, ◌<◌, ◌≤◌, [], None, length, All, IfOk, IfSome};
 ghost use Rattle.net_prefix.specs.declared.addr.Addr as address;
 ghost use Rattle.session_queue.specs.Shards.{shard_of};
 ghost use Rattle.session_queue.specs.Waiting.{queue_at};
@@ -45,30 +45,52 @@ impl<S: Selector + Drop, T: PrefixTable<Cell<S>>, L: Ledger> Room<S, T, L> {
         most: usize,
     ) -> Result<Vec<Job<S>>, AllocError>
         requires { shard < shards }
+        ensures seen { IfOk result (λ jobs. All (IsSeenIn self.now) jobs.items) }
+        ensures none { IfOk result (λ jobs. jobs.items ≡ [] → (from to : address.Addr) → shard_of to shards ≡ shard → queue_at self.now.engine.queues from to ≡ []) }
     {
         let mut jobs = Vec::new(self.alloc);
         let Some(first) = self.job(shard, shards)? else {
             return Ok(jobs);
         };
-        let mut past = first.direction();
+        let past = first.direction();
         if jobs.push(first).is_err() {
             return Err(AllocError);
         }
+        self.add_jobs(&mut jobs, shard, shards, most, past);
+        Ok(jobs)
+    }
+
+    /// Adds jobs of the shard, of directions past that one, till there are so many, or there is no memory.
+    fn add_jobs(
+        &self,
+        jobs: &mut Vec<Job<S>>,
+        shard: u64,
+        shards: u64,
+        most: usize,
+        mut past: Direction,
+    )
+        requires shard { shard < shards }
+        requires seen { All (IsSeenIn self.now) jobs.old.items }
+        ensures seen { All (IsSeenIn self.now) jobs.new.items }
+        ensures more { length jobs.old.items ≤ length jobs.new.items }
+    {
         for _ in 1..most {
             let Some(direction) = self.next_past(shard, shards, past) else {
-                break;
+                return;
             };
             past = direction;
-            if !self.is_added(&mut jobs, direction) {
-                break;
+            if !self.is_added(jobs, direction) {
+                return;
             }
         }
-        Ok(jobs)
     }
 
     /// Adds the job of the direction, unless one of its receiver is there. False where there is no memory.
     fn is_added(&self, jobs: &mut Vec<Job<S>>, direction: Direction) -> bool
-        requires { 0 < length (queue_at self.now.engine.queues direction.from direction.to) }
+        requires message { 0 < length (queue_at self.now.engine.queues direction.from direction.to) }
+        requires seen { All (IsSeenIn self.now) jobs.old.items }
+        ensures seen { All (IsSeenIn self.now) jobs.new.items }
+        ensures more { length jobs.old.items ≤ length jobs.new.items }
     {
         if jobs.iter().any(|job| job.direction().to == direction.to) {
             return true;
