@@ -2,7 +2,7 @@
 
 ghost use Rattle.std.specs.Prelude.{◌≡◌, ◌++◌, ℕ, List, false, vec_len, IfOk, IfErr, IfSome};
 ghost use Rattle.std.specs.Io.KnownBytes.{Consumes, IsAtEnd};
-ghost use Rattle.team_run.specs.Scripts.{IsWhole};
+ghost use Rattle.team_run.specs.Scripts.{IsWhole, no_memory};
 ghost use Rattle.team_run.specs.TeamRun.{IsOfReading};
 
 use crate::ending::TeamFault;
@@ -35,6 +35,8 @@ enum Unread {
 }
 
 impl From<AllocError> for Unread {
+    ghost from_gives = { λ _ unread. unread ≡ no_memory };
+
     fn from(_error: AllocError) -> Unread {
         Unread::Memory
     }
