@@ -1,5 +1,5 @@
 -- A delivery whose outcome was made beside the machine.
-use Rattle.std.proofs.Common.{◌≡◌, ℕ, slice_get, length, Some, None, refl, sym, ap, subst, ◌∙◌}
+use Rattle.std.proofs.Common.{◌≡◌, ℕ, slice_get, length, Some, None, sym, ap, subst, ◌∙◌}
 use Rattle.std.proofs.lemmas.Option.{same_Some}
 use Rattle.net_prefix.specs.Block.{Block}
 use Rattle.session_queue.specs.declared.direction.Direction.{Direction}

@@ -1,6 +1,10 @@
 //! Questions.
 
+ghost use Rattle.std.specs.Prelude.{◌≡◌, ℕ};
 ghost use Rattle.sim_event.specs.declared.event.Event.TheVariants.{Ask as AnAsk};
+ghost use Rattle.reference_machine.specs.Machine.{IsStep};
+ghost use Rattle.cell_network.specs.Engine.{network};
+ghost use Rattle.sim_core.specs.Counting.{Counts, raised};
 ghost use Rattle.sim_core.specs.Plans.{Prepares};
 
 use crate::event_machine::EventMachine;
@@ -26,6 +30,17 @@ impl<S: Selector, T: PrefixTable<Cell<S>>> EventMachine<S, T> {
                 edited: None,
             }),
             Err(refusal) => Err(refusal),
+        }
+    }
+
+    /// Answers the question, which changes nothing and decides nothing: no plan is made.
+    pub(crate) fn answer(&self, question: &Ask) -> Reply
+        ensures step { IsStep (network self.now) (AnAsk question.now) result (network self.now) }
+        ensures counts { (n : ℕ) → n ≡ raised n 0 → Counts (network self.now) (AnAsk question.now) result n n }
+    {
+        match ask(self.alloc, &self.state, question) {
+            Ok(report) => Reply::Report(report),
+            Err(refusal) => Reply::Refused(refusal),
         }
     }
 }

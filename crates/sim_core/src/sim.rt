@@ -112,6 +112,10 @@ impl<S: Selector + Send + Sync + Drop, T: PrefixTable<Cell<S>> + Drop> Sim<S, T>
         ensures step { IsStep (network self.old.engine) event.now result (network self.new.engine) }
         ensures decided { Counts (network self.old.engine) event.now result self.old.decided self.new.decided }
     {
+        if let Event::Ask(question) = event {
+            raised_by_none(self.decided);
+            return self.machine.answer(question);
+        }
         match self.prepare(rt, event) {
             Ok(plan) => self.apply(plan),
             Err(refusal) => Reply::Refused(refusal),
@@ -185,3 +189,8 @@ fn raised(count: u64, more: usize) -> u64
         count + more
     }
 }
+
+/// A call gives the caller's proof that none leaves the count as it is.
+fn raised_by_none(count: u64)
+    ensures { count ≡ raised count 0 }
+{}
