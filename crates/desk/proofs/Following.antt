@@ -20,7 +20,7 @@ goes_on_further r s t p q =
       goes_on = (p.goes_on.0 ++ q.goes_on.0, sym (append_assoc r.notes p.goes_on.0 q.goes_on.0) ∙ (ap (λ w. w ++ q.goes_on.0) p.goes_on.1 ∙ q.goes_on.1));
     }
 
-with_call_goes_on : (s : SeatBook) (event : Event) (reply : Reply) (t : SeatBook) → t ≡ with_call s event reply → GoesOn s t
+pub with_call_goes_on : (s : SeatBook) (event : Event) (reply : Reply) (t : SeatBook) → t ≡ with_call s event reply → GoesOn s t
 with_call_goes_on s event reply t is = subst (λ (u : SeatBook). GoesOn s u) (sym is) (record { same = refl; goes_on = (record { event = event; reply = reply } ∷ [], refl) })
 
 pub goes_on_after : (s : SeatBook) (x : Seen) (c : Committed) (t : SeatBook) → IsSeatAfter s x c t → GoesOn s t

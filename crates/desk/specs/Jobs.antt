@@ -1,5 +1,5 @@
 -- What a worker takes away from the room to decide, and what may have moved until it comes back.
-use Rattle.std.specs.Prelude.{◌≡◌, ℕ, ⊤, map, slice_get, Option, Some, None}
+use Rattle.std.specs.Prelude.{◌≡◌, ℕ, ⊤, List, All, map, slice_get, Option, Some, None}
 use Rattle.std.specs.List.Sorted.{IsStrictlySortedBy}
 use Rattle.net_prefix.specs.Address.{addr_cmp}
 use Rattle.net_conf.specs.declared.site.SiteConf.{SiteConf}
@@ -42,6 +42,10 @@ pub record IsSeenIn (room : RoomBook) (x : Seen) : Type 0 where
   pub site : x.site ≡ site_in room x.direction
   pub head : head_in room x.direction ≡ Some x.head
   pub heard : x.heard ≡ heard_in room x.direction x.head
+
+-- the jobs were taken at one time: there is a room in which each holds what is there
+abbrev pub AreTakenTogether : List Seen → Type 0
+AreTakenTogether xs = (room : RoomBook) × All (IsSeenIn room) xs
 
 -- DECIDED
 

@@ -5,7 +5,7 @@ ghost use Rattle.session_queue.specs.Shards.{shard_of};
 ghost use Rattle.desk.specs.Books.{blank_seats, is_memory, noted};
 ghost use Rattle.desk.specs.Desks.{AreSeats, AreShards, GoesOn, IsOpenFault, IsReplied, IsTaken, IsNoted, IsSeatAfter};
 
-use crate::room::{Audit, CommitFault, Committed, Done, Job, Progress, Room, Seat};
+use crate::room::{Audit, CommitFault, Committed, Done, Job, Jobs, Outcomes, Progress, Room, Seat};
 use cell_engine::Cell;
 use prefix_table::PrefixTable;
 use route_select::{Chosen, Selector};
@@ -70,8 +70,8 @@ impl<S: Chosen, T: PrefixTable<Cell<S>>, L: Ledger> Model for Desk<S, T, L> {
 
 /// What a worker finds at the desk.
 pub(crate) enum Turn<S: Chosen> {
-    /// Jobs, each of another receiver.
-    Jobs(Vec<Job<S>>),
+    /// Jobs, at least one.
+    Jobs(Jobs<S>),
     /// There was no memory for a job, or none waited though the engineers have finished.
     Nothing,
     /// The engineers have finished, and no message waits, or nobody is left who could bring one.
@@ -226,11 +226,11 @@ impl<S: Chosen + Drop, T: PrefixTable<Cell<S>> + Drop, L: Ledger> Desk<S, T, L> 
     }
 
     /// Puts in each outcome in turn, as `commit` does. Those that came too late are let go, and so are those for which there is no memory.
-    pub(crate) fn commit_all<R: Wait>(&self, rt: &R, seat: &mut Seat<L>, outcomes: Vec<Done<S>>)
+    pub(crate) fn commit_all<R: Wait>(&self, rt: &R, seat: &mut Seat<L>, outcomes: Outcomes<S>)
         ensures { GoesOn seat.old seat.new }
     {
         let mut table = self.table.lock(rt);
-        table.commit_all(seat, outcomes);
+        table.room.commit_all(seat, outcomes);
         let wakes = table.note_change();
         drop(table);
         self.wake(wakes);
@@ -323,22 +323,6 @@ impl<S: Chosen + Drop, T: PrefixTable<Cell<S>> + Drop, L: Ledger> Table<S, T, L>
     {
         self.room.facts();
         self.room.commit(seat, done)
-    }
-
-    fn commit_all(&mut self, seat: &mut Seat<L>, outcomes: Vec<Done<S>>)
-        ensures { GoesOn seat.old seat.new }
-    {
-        for done in outcomes {
-            self.bring(seat, done);
-        }
-    }
-
-    /// Puts in an outcome, or lets it go.
-    #[tactic(auto, using(crate::proofs::Following::goes_on))]
-    fn bring(&mut self, seat: &mut Seat<L>, done: Done<S>)
-        ensures { GoesOn seat.old seat.new }
-    {
-        drop(self.commit(seat, done));
     }
 }
 

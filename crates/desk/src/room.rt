@@ -19,6 +19,7 @@ mod received;
 mod record;
 mod seat;
 mod taking;
+mod together;
 
 use crate::room::notes::{Draft, agrees};
 use crate::room::record::{all_agree, is_each_once};
@@ -37,6 +38,7 @@ use std::alloc::{AllocError, Global};
 use std::marker::Model;
 use std::sync::ledger::{Blank, Book, Ledger, Share};
 use std::thread::Threads;
+pub(crate) use together::{Jobs, Outcomes};
 
 /// The machine, with the history of all calls that were made of it, which is legal, and the account of how many each seat made. L names
 /// the room and its seats.

@@ -1,10 +1,12 @@
 //! Worker threads at a desk.
 
-ghost use Rattle.std.specs.Prelude.{◌≡◌, ◌<◌, vec_len, vec_capacity};
+ghost use Rattle.std.specs.Prelude.{◌≡◌, ◌<◌, All, vec_len, vec_capacity};
+ghost use Rattle.desk.specs.Books.{RoomBook};
+ghost use Rattle.desk.specs.Jobs.{IsSeenIn};
 ghost use Rattle.desk.specs.Desks.{GoesOn, AllGoOn};
 
 use crate::desk::{Desk, Turn};
-use crate::room::{Done, Job, Seat};
+use crate::room::{Done, Job, Jobs, Outcomes, Seat};
 use cell_engine::Cell;
 use prefix_table::PrefixTable;
 use route_select::Selector;
@@ -29,8 +31,8 @@ pub trait Gate {
 
 /// A thread for each seat: the worker of place i serves the shard i modulo the shards. A turn takes a job, works it without the lock, and
 /// brings the outcome back; want of memory ends the turn, and so does an outcome that came too late. Up to sixteen turns are made at once, where
-/// messages wait for as many receivers: their jobs are taken together, worked one after another, and brought back together. Where there is no
-/// job the worker waits.
+/// as many deliveries wait of which none changes what another depends on: their jobs are taken together, worked one after another, and brought
+/// back together. Where there is no job the worker waits.
 /// It ends after so many turns, or once `finish_calls` was called and no message waits, or none that a worker who is left could bring.
 /// A thread that cannot be started is left out, with its seat as it was.
 pub fn run_workers<
@@ -166,20 +168,28 @@ impl<'a, S: Selector + Drop, T: PrefixTable<Cell<S>> + Drop, L: Ledger, G: Gate,
     }
 
     /// Works jobs one after another, of which the first is one more than so many, and brings their outcomes back.
-    fn do_jobs(&self, worker: usize, jobs_before: u64, jobs: Vec<Job<S>>, seat: &mut Seat<L>)
+    fn do_jobs(&self, worker: usize, jobs_before: u64, jobs: Jobs<S>, seat: &mut Seat<L>)
         ensures { GoesOn seat.old seat.new }
     {
-        let mut outcomes = Vec::new(self.desk.alloc());
-        let mut n = jobs_before;
-        for job in jobs {
-            n = n.saturating_add(1);
-            self.do_job(worker, n, job, &mut outcomes);
-        }
+        let outcomes = self.outcomes_of(worker, jobs_before, jobs);
         self.desk.commit_all(self.rt, seat, outcomes);
     }
 
+    /// The outcomes of jobs.
+    fn outcomes_of(&self, worker: usize, jobs_before: u64, jobs: Jobs<S>) -> Outcomes<S> {
+        let mut outcomes = Vec::new(self.desk.alloc());
+        let mut n = jobs_before;
+        for job in jobs.into_vec() {
+            n = n.saturating_add(1);
+            self.do_job(worker, n, job, &mut outcomes);
+        }
+        Outcomes::of(outcomes)
+    }
+
     /// Works a job, and keeps its outcome where there is memory.
-    fn do_job(&self, worker: usize, n: u64, job: Job<S>, outcomes: &mut Vec<Done<S>>) {
+    fn do_job(&self, worker: usize, n: u64, job: Job<S>, outcomes: &mut Vec<Done<S>>)
+        ensures { (room : RoomBook) → IsSeenIn room job → All (IsSeenIn room) outcomes.old.items → All (IsSeenIn room) outcomes.new.items }
+    {
         self.gate.taken(worker, n);
         let Ok(done) = job.work() else {
             return;

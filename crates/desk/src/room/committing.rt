@@ -1,11 +1,12 @@
 //! Outcomes come back.
 
-ghost use Rattle.std.specs.Prelude.{◌≡◌, ◌↔◌, Some, None, IsTrue, IfOk, IfErr, IfSome, OnOk, OnErr};
+ghost use Rattle.std.specs.Prelude.{◌≡◌, ◌↔◌, true, Some, None, IsTrue, IfOk, IfErr, IfSome, OnOk, OnErr};
 ghost use Rattle.route_cell.specs.Cells.{route_of};
 ghost use Rattle.cell_network.specs.Engine.{network, heard_at};
 ghost use Rattle.desk.specs.Books.{version_of};
 ghost use Rattle.desk.specs.Jobs.{IsSeenIn, site_in, head_in, outcome_of};
 ghost use Rattle.desk.specs.Commits.{IsNewer, IsCommitted, IsDelivered, delivery_of, head_seen};
+ghost use Rattle.desk.specs.Desks.{GoesOn};
 
 use crate::room::Room;
 use crate::room::commit::{CommitFault, Committed, Newer};
@@ -13,6 +14,7 @@ use crate::room::job::{Done, Job};
 use crate::room::notes::Draft;
 use crate::room::received::first_difference;
 use crate::room::seat::Seat;
+use crate::room::together::Outcomes;
 use cell_engine::{Cell, Outcome};
 use net_conf::SharedSite;
 use net_prefix::{Addr, Prefix};
@@ -38,7 +40,7 @@ impl<S: Chosen + Drop, T: PrefixTable<Cell<S>> + Drop, L: Ledger> Room<S, T, L> 
         ensures seat { OnErr result (seat.new ≡ seat.old) }
     {
         let Done { job, outcome } = done;
-        match self.newer(&job) {
+        match self.newer(&job, false) {
             Ok(Some(newer)) => {
                 drop((job, outcome));
                 Ok(Committed::Stale(newer))
@@ -58,8 +60,43 @@ impl<S: Chosen + Drop, T: PrefixTable<Cell<S>> + Drop, L: Ledger> Room<S, T, L> 
         }
     }
 
-    /// What has moved since the job was taken.
-    fn newer(&self, job: &Job<S>) -> Result<Option<Newer>, AllocError>
+    /// Puts in each outcome in turn, as `commit` does. Those that came too late are let go, and so are those for which there is no memory.
+    /// The site of a receiver is compared once for all that come one after another.
+    pub(crate) fn commit_all(&mut self, seat: &mut Seat<L>, outcomes: Outcomes<S>)
+        ensures { GoesOn seat.old seat.new }
+    {
+        let mut known = None;
+        for done in outcomes.into_vec() {
+            let receiver = done.ends().1;
+            let is_known = is_receiver(known, receiver);
+            let is_same = self.bring(seat, done, is_known);
+            known = if is_same { Some(receiver) } else { None };
+        }
+    }
+
+    /// Puts in an outcome, or lets it go. Where it says so, the receiver's site is as the job had it, now and before.
+    fn bring(&mut self, seat: &mut Seat<L>, done: Done<S>, is_site_known: bool) -> bool
+        requires { is_site_known ≡ true → done.site ≡ site_in self.old done.direction }
+        ensures seat { GoesOn seat.old seat.new }
+        ensures site { result ≡ true → done.site ≡ site_in self.new done.direction }
+    {
+        let Done { job, outcome } = done;
+        match self.newer(&job, is_site_known) {
+            Ok(None) => {
+                let delivered = self.deliver(seat, &job, outcome);
+                drop((job, delivered));
+                true
+            }
+            newer => {
+                drop((job, outcome, newer));
+                false
+            }
+        }
+    }
+
+    /// What has moved since the job was taken. The site is not compared where it is known to be the same.
+    fn newer(&self, job: &Job<S>, is_site_known: bool) -> Result<Option<Newer>, AllocError>
+        requires { is_site_known ≡ true → job.now.site ≡ site_in self.now job.now.direction }
         ensures newer { IfOk result (λ found. IfSome found (IsNewer self.now job.now)) }
         ensures none { IfOk result (λ found. found ≡ None → IsSeenIn self.now job.now) }
     {
@@ -69,9 +106,22 @@ impl<S: Chosen + Drop, T: PrefixTable<Cell<S>> + Drop, L: Ledger> Room<S, T, L> 
                 now: self.version,
             }));
         }
+        if is_site_known {
+            return self.newer_delivery(job);
+        }
         if let Some(newer) = self.newer_site(job)? {
             return Ok(Some(newer));
         }
+        self.newer_delivery(job)
+    }
+
+    /// Whether the message or what the receiver has received is another, where version and site are as the job had them.
+    fn newer_delivery(&self, job: &Job<S>) -> Result<Option<Newer>, AllocError>
+        requires version { job.now.version ≡ version_of self.now.history }
+        requires site { job.now.site ≡ site_in self.now job.now.direction }
+        ensures newer { IfOk result (λ found. IfSome found (IsNewer self.now job.now)) }
+        ensures none { IfOk result (λ found. found ≡ None → IsSeenIn self.now job.now) }
+    {
         if let Some(newer) = self.newer_head(job)? {
             return Ok(Some(newer));
         }
@@ -171,6 +221,7 @@ impl<S: Chosen + Drop, T: PrefixTable<Cell<S>> + Drop, L: Ledger> Room<S, T, L> 
         requires seen { IsSeenIn self.old job.now }
         requires outcome { outcome ≡ outcome_of job.now }
         ensures delivered { IfOk result (λ reply. IsDelivered self.old seat.old (delivery_of job.now) reply self.new seat.new) }
+        ensures conf { self.new.engine.conf ≡ self.old.engine.conf }
         ensures back { IfErr result (λ back. back ≡ outcome) }
         ensures network { OnErr result (network self.new.engine ≡ network self.old.engine) }
         ensures history { OnErr result (self.new.history ≡ self.old.history) }
@@ -203,6 +254,13 @@ impl<S: Chosen + Drop, T: PrefixTable<Cell<S>> + Drop, L: Ledger> Room<S, T, L> 
         seat.count += 1;
         Ok(reply)
     }
+}
+
+/// Whether it is that receiver.
+fn is_receiver(known: Option<Addr>, receiver: Addr) -> bool
+    ensures { result ≡ true → known ≡ Some receiver }
+{
+    known == Some(receiver)
 }
 
 /// Whether both sites are the same.

@@ -9,10 +9,11 @@ ghost use Rattle.desk.specs.Jobs.{IsSeenIn};
 
 use crate::room::Room;
 use crate::room::job::Job;
+use crate::room::together::Jobs;
 use cell_engine::Cell;
 use net_prefix::{Addr, Prefix};
 use prefix_table::PrefixTable;
-use route_select::Selector;
+use route_select::{Chosen, Selector};
 use seq::Copied;
 use session_queue::Direction;
 use std::alloc::AllocError;
@@ -36,14 +37,19 @@ impl<S: Selector + Drop, T: PrefixTable<Cell<S>>, L: Ledger> Room<S, T, L> {
         }
     }
 
-    /// Jobs of the shard, each of another receiver, no more than so many: one where a message waits for a receiver of the shard, and none
-    /// else. Want of memory for the first is the only error.
-    pub(crate) fn jobs(
-        &self,
-        shard: u64,
-        shards: u64,
-        most: usize,
-    ) -> Result<Vec<Job<S>>, AllocError>
+    /// Jobs of the shard, no more than so many, none of which makes another of them come too late: one where a message waits for a receiver of
+    /// the shard, and none else. Want of memory for the first is the only error.
+    pub(crate) fn jobs(&self, shard: u64, shards: u64, most: usize) -> Result<Jobs<S>, AllocError>
+        requires { shard < shards }
+        ensures seen { IfOk result (All (IsSeenIn self.now)) }
+        ensures none { IfOk result (λ jobs. jobs ≡ [] → (from to : address.Addr) → shard_of to shards ≡ shard → queue_at self.now.engine.queues from to ≡ []) }
+    {
+        let jobs = self.job_list(shard, shards, most)?;
+        Ok(Jobs::of(jobs))
+    }
+
+    /// The same, as a list.
+    fn job_list(&self, shard: u64, shards: u64, most: usize) -> Result<Vec<Job<S>>, AllocError>
         requires { shard < shards }
         ensures seen { IfOk result (λ jobs. All (IsSeenIn self.now) jobs.items) }
         ensures none { IfOk result (λ jobs. jobs.items ≡ [] → (from to : address.Addr) → shard_of to shards ≡ shard → queue_at self.now.engine.queues from to ≡ []) }
@@ -85,14 +91,19 @@ impl<S: Selector + Drop, T: PrefixTable<Cell<S>>, L: Ledger> Room<S, T, L> {
         }
     }
 
-    /// Adds the job of the direction, unless one of its receiver is there. False where there is no memory.
+    /// Adds the job of the direction, unless there is one of its receiver and prefix: what the receiver has of the prefix would be
+    /// another then. False where there is no memory.
     fn is_added(&self, jobs: &mut Vec<Job<S>>, direction: Direction) -> bool
         requires message { 0 < length (queue_at self.now.engine.queues direction.from direction.to) }
         requires seen { All (IsSeenIn self.now) jobs.old.items }
         ensures seen { All (IsSeenIn self.now) jobs.new.items }
         ensures more { length jobs.old.items ≤ length jobs.new.items }
     {
-        if jobs.iter().any(|job| job.direction().to == direction.to) {
+        let queues = self.sim.state().queues();
+        let Some(view) = queues.head(direction.from, direction.to) else {
+            return true;
+        };
+        if has_cell(jobs, direction.to, view.prefix()) {
             return true;
         }
         match self.job_of(direction) {
@@ -157,4 +168,9 @@ impl<S: Selector + Drop, T: PrefixTable<Cell<S>>, L: Ledger> Room<S, T, L> {
             None => Ok(Cell::new(self.alloc)),
         }
     }
+}
+
+/// Whether one of the jobs is of the receiver and prefix.
+fn has_cell<S: Chosen>(jobs: &[Job<S>], router: Addr, prefix: Prefix) -> bool {
+    jobs.iter().any(|job| job.direction().to == router && job.head().prefix() == prefix)
 }

@@ -9,6 +9,7 @@ use Rattle.sim_core.specs.Installing.{IsOutcomeOfHead}
 use Rattle.desk.specs.Books.{IsKept, version_of}
 use Rattle.desk.specs.Commits.{delivery_of}
 use Rattle.desk.proofs.Grown.{version_push, kept_push}
+use Rattle.desk.proofs.Known.{conf_after_delivery, conf_still}
 use Rattle.desk.proofs.Taken.{seen_allowed, seen_outcome, seen_took}
 use Rattle.desk.proofs.room.Room.deliver.Goals as goal
 
@@ -67,3 +68,15 @@ returns-clause-delivered g c =
       notes = search rules;
       seats = search rules;
     }
+
+pub returns-in-Err-clause-conf : goal.returns-in-Err-clause-conf
+returns-in-Err-clause-conf g c =
+    conf_still c.self.inside.sim.engine c.install.new.self.engine c.in-Err.ensures.same ∙ ap (λ r. r.engine.conf) c.self.view_is
+
+pub returns-clause-conf : goal.returns-clause-conf
+returns-clause-conf g c =
+    let e = c.self.inside.sim.engine in
+    let x = c.args.job.now in
+    let next : network c.install.new.self.engine ≡ (step (network e) (delivery_of x)).next =
+    c.in-Ok-install.ensures.next ∙ (λ i. (step (network e) (Deliver (c.direction-direction.ensures i).from (c.direction-direction.ensures i).to)).next) in
+    conf_after_delivery e c.install.new.self.engine x next ∙ ap (λ r. r.engine.conf) c.self.view_is

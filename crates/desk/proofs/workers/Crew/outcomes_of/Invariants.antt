@@ -1,0 +1,11 @@
+use Rattle.std.proofs.Common.{All}
+use Rattle.desk.specs.Books.{RoomBook}
+use Rattle.desk.specs.Jobs.{IsSeenIn}
+use Rattle.desk.proofs.workers.Crew.outcomes_of.Given as goal
+
+-- the jobs that are left and the outcomes were seen in one room
+abbrev pub invariant-loop-job : goal.invariant-loop-job
+invariant-loop-job g l =
+    (goal.iterator-loop-job g).can_next l.job-iterator ×
+    (goal.iterator-loop-job g).is_finite l.job-iterator ×
+    ((room : RoomBook) × All (IsSeenIn room) l.job-iterator.rest.items × All (IsSeenIn room) l.outcomes.items)
