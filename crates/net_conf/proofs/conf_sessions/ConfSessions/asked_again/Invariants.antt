@@ -1,6 +1,6 @@
 use Rattle.std.proofs.Common.{◌≡◌, map, take}
 use Rattle.net_conf.specs.Kept.{asked}
-use Rattle.net_conf.proofs.conf_trees.ConfTrees.asked_again.Given as goal
+use Rattle.net_conf.proofs.conf_sessions.ConfSessions.asked_again.Given as goal
 
 -- the sessions so far
 abbrev pub invariant-loop-session : goal.invariant-loop-session

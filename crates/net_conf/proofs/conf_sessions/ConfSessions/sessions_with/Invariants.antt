@@ -1,6 +1,6 @@
 use Rattle.std.proofs.Common.{◌≡◌, map, take}
 use Rattle.net_conf.specs.Sites.{session_of}
-use Rattle.net_conf.proofs.conf_trees.ConfTrees.sessions_with.Given as goal
+use Rattle.net_conf.proofs.conf_sessions.ConfSessions.sessions_with.Given as goal
 
 -- the sessions with the peers so far
 abbrev pub invariant-loop-peer : goal.invariant-loop-peer
