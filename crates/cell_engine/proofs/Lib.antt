@@ -1,3 +1,4 @@
+pub mod Cleared
 pub mod Counts
 pub mod Deciding
 pub mod Delivered

@@ -1,9 +1,7 @@
 -- An edit's plan carried out: queues over sessions that are not up cleared, the plan's parts put in and its messages sent are the
 -- machine's own next state, and the engine stays sound.
 use Rattle.std.proofs.Common.{◌≡◌, Bool, true, false, [], ◌++◌, None, unwrap_or, if◌then◌else◌, refl, sym, ap, subst, ◌∙◌}
-use Rattle.std.specs.List.{list_any}
 use Rattle.net_prefix.specs.declared.addr.Addr.{Addr}
-use Rattle.session_queue.specs.declared.direction.Direction.{Direction}
 use Rattle.session_queue.specs.Waiting.{WaitingByDirection, queue_at}
 use Rattle.net_conf.specs.declared.edit.Edit.{Edit}
 use Rattle.net_conf.specs.Configuration.{Configuration, has_session}
@@ -11,17 +9,19 @@ use Rattle.net_conf.specs.Configured.{IsConfigured}
 use Rattle.net_conf.specs.Costs.{is_up}
 use Rattle.net_conf.specs.Edits.{edited, refusal_of}
 use Rattle.net_conf.specs.Scopes.{scope}
+use Rattle.net_conf.proofs.KeptTrees.{or_right}
 use Rattle.net_conf.proofs.OthersStay.{sites_of_others, sessions_stay, origins_alone, other_origins}
 use Rattle.reference_machine.specs.Advertising.{sent}
 use Rattle.reference_machine.specs.Machine.{after_edit, with_sent, reconfigured}
 use Rattle.route_cell.specs.Cells.{nothing_heard}
-use Rattle.cell_network.specs.Engine.{Engine, IsSound, network, is_direction}
+use Rattle.cell_network.specs.Engine.{Engine, IsSound, network}
 use Rattle.cell_network.specs.Keeping.{kept_from, kept_tables}
 use Rattle.cell_network.specs.Editing.{with_origin, left_at, edited_tables, edited_engine, all_sends, told_by_all}
 use Rattle.cell_network.specs.Changes.{with_changes, sends_for, AreOverSessionsUp}
 use Rattle.cell_network.specs.Moves.{moves}
 use Rattle.cell_network.specs.Settled.{AreSettledOutside, AreSettledBut, AreThere}
 use Rattle.cell_network.specs.Reporting.{AreOfPrefixes}
+use Rattle.cell_network.proofs.Edits.{passes, joins, session_edited}
 use Rattle.cell_network.proofs.Edited.{sound_edited}
 use Rattle.cell_network.proofs.Matches.{prefixes_kept}
 use Rattle.cell_network.proofs.Placed.{changes_there, changes_placed}
@@ -34,18 +34,18 @@ use Rattle.cell_network.proofs.Refreshed.{told_edited, network_edited}
 use Rattle.cell_engine.specs.Edits.{Planned, planned, IsPlanned}
 use Rattle.cell_engine.proofs.Delivered.{down_without_session, sent_without_session}
 
--- of the directions of the engine those are cleared whose session is not up
+-- the directions of the sessions that are down are cleared
 pub record IsCleared (e : Engine) (c : Configuration) (q : WaitingByDirection) : Type 0 where
   pub up : (f t : Addr) → is_up c f t ≡ true → queue_at q f t ≡ queue_at e.queues f t
-  pub down : (d : Direction) → list_any (is_direction d) e.directions ≡ true → is_up c d.from d.to ≡ false → queue_at q d.from d.to ≡ []
+  pub down : (f t : Addr) → has_session c f t ≡ true → is_up c f t ≡ false → queue_at q f t ≡ []
   pub empty : (f t : Addr) → queue_at e.queues f t ≡ [] → queue_at q f t ≡ []
 
-module _ (e : Engine) (sound : IsSound e) (c : Configuration) (q : WaitingByDirection) (cleared : IsCleared e c q) where
+module _ (e : Engine) (sound : IsSound e) (c : Configuration) (still : (f t : Addr) → has_session e.conf f t ≡ true → has_session c f t ≡ true) (q : WaitingByDirection) (cleared : IsCleared e c q) where
   -- what is left is what was on its way over sessions that are up
   left_over : (f t : Addr) → queue_at q f t ≡ left_at c e.queues f t
   left_over f t = by (is_up c f t) refl where
     none_by : (session : Bool) → has_session e.conf f t ≡ session → is_up c f t ≡ false → queue_at q f t ≡ []
-    none_by true is off = cleared.down (record { from = f; to = t }) (sound.sessions (record { from = f; to = t }) ∙ is) off
+    none_by true is off = cleared.down f t (still f t is) off
     none_by false is off = cleared.empty f t (sound.silent f t is)
 
     by : (up : Bool) → is_up c f t ≡ up → queue_at q f t ≡ (if up then queue_at e.queues f t else [])
@@ -106,9 +106,13 @@ module _ (e : Engine) (sound : IsSound e) (configured : IsConfigured e.conf) (up
         told_by_changes (moves e.conf new) (scope edit) e.conf new e.tables sound.by_address settled unmoved f t
         ∙ ap (λ ts. told_by_all (all_sends e.conf new ts) f t) (sym origin)
 
+    -- a session that is there stays
+    still_there : (f t : Addr) → has_session e.conf f t ≡ true → has_session new f t ≡ true
+    still_there f t is = session_edited e.conf edit (passes e.conf edit allowed) f t ∙ or_right (joins edit f t) is
+
     follows : Follows (planned e edit)
     follows then_ q r cleared pushed =
-        let left = left_over e sound new q cleared in
+        let left = left_over e sound new still_there q cleared in
         let sends = all_sends e.conf new (with_origin edit e.tables) in
         let queued : (f t : Addr) → queue_at r f t ≡ queue_at q f t ++ told_by_all sends f t = λ f t. pushed f t ∙ ap (λ l. queue_at q f t ++ l) (all_told f t) in
         let silent : (f t : Addr) → has_session new f t ≡ false → queue_at r f t ≡ [] =

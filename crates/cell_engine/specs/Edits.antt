@@ -1,17 +1,18 @@
 -- What the engine does with an edit, beside the network: what it plans before it changes anything, and the places that it needs
 -- before it can change without memory.
-use Rattle.std.specs.Prelude.{◌≡◌, ◌≤◌, ℕ, Bool, true, false, List, map, filter, length, Option, Some, None, is_some}
+use Rattle.std.specs.Prelude.{◌≡◌, ◌≤◌, ℕ, Bool, true, false, ◌||◌, List, map, filter, length, Option, Some, None, is_some}
 use Rattle.net_conf.specs.declared.tables.Kind.{Kind}
 use Rattle.net_conf.specs.declared.tables.Kind.TheVariants.{Router, Virtual}
 use Rattle.net_prefix.specs.declared.addr.Addr.{Addr}
 use Rattle.net_prefix.specs.Block.{Block}
 use Rattle.net_conf.specs.RouterSites.{router_site}
 use Rattle.net_conf.specs.declared.edit.Edit.{Edit}
+use Rattle.net_conf.specs.declared.tables.Ends.{Ends}
 use Rattle.net_conf.specs.Configuration.{Configuration}
 use Rattle.net_conf.specs.Edits.{edited, refusal_of}
 use Rattle.net_conf.specs.Scopes.{scope}
 use Rattle.session_queue.specs.declared.direction.Direction.{Direction}
-use Rattle.session_queue.specs.Waiting.{spare_at}
+use Rattle.session_queue.specs.Waiting.{spare_at, same_direction}
 use Rattle.cell_network.specs.Engine.{Engine}
 use Rattle.cell_network.specs.Editing.{with_directions, with_origin, told_by_all}
 use Rattle.cell_network.specs.Changes.{Change, changes_in, sends_for}
@@ -55,3 +56,7 @@ abbrev pub has_router_kind : Option (ℕ × Kind) → Bool
 has_router_kind None = false
 has_router_kind (Some (asn, Router)) = true
 has_router_kind (Some (asn, Virtual)) = false
+
+-- the session is that of the two, in either order
+abbrev pub is_of : Addr → Addr → Ends → Bool
+is_of f t e = same_direction e.low e.high f t || same_direction e.high e.low f t

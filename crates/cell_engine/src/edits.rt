@@ -1,9 +1,10 @@
 //! What the engine does with an edit: first all that takes memory, beside the state; then the change, which takes none.
 
-ghost use Rattle.std.specs.Prelude.{◌≡◌, ◌++◌, None, [], true, false, map, filter, is_some, IfOk, OnOk};
+ghost use Rattle.std.specs.Prelude.{◌≡◌, ◌++◌, None, [], true, false, map, filter, is_some, IfOk, OnOk, if◌then◌else◌};
 ghost use Rattle.std.specs.List.{list_any};
 ghost use Rattle.std.specs.List.Sorted.{IsStrictlySortedBy};
 ghost use Rattle.std.specs.Ordering.{is_lt, is_gt};
+ghost use Rattle.net_conf.specs.Configuration.{has_session};
 ghost use Rattle.net_conf.specs.Costs.{is_up};
 ghost use Rattle.net_conf.specs.Concerned.{ConcernsAlone};
 ghost use Rattle.net_conf.specs.Edits.{refusal_of};
@@ -11,17 +12,17 @@ ghost use Rattle.net_conf.specs.declared.edit.Scope.TheVariants.{Network, Site, 
 ghost use Rattle.std.specs.BTreeSet.{insert_key};
 ghost use Rattle.session_queue.specs.Waiting.{direction_cmp, queue_at, spare_at};
 ghost use Rattle.reference_machine.specs.Machine.{with_sent, after_edit};
-ghost use Rattle.cell_network.specs.Engine.{network, is_direction};
+ghost use Rattle.cell_network.specs.Engine.{network};
 ghost use Rattle.cell_network.specs.Changes.{changes_in};
 ghost use Rattle.cell_network.specs.Editing.{with_directions, with_origin};
 ghost use Rattle.cell_engine.specs.Deliveries.{KeepsSame};
 ghost use Rattle.net_conf.specs.RouterSites.{router_site};
-ghost use Rattle.cell_engine.specs.Edits.{planned, IsPlanned, IsOfEdit, HasPlaces, refreshed_by, has_router_kind};
+ghost use Rattle.cell_engine.specs.Edits.{planned, IsPlanned, IsOfEdit, HasPlaces, refreshed_by, has_router_kind, is_of};
 
 use crate::changes::{Change, place_changes};
 use crate::places::reserve_each;
 use crate::state::State;
-use net_conf::{Conf, Edit, EditedConf, Kind, Scope};
+use net_conf::{Conf, Edit, EditedConf, Ends, Kind, Scope};
 use net_prefix::{Addr, Prefix};
 use path_attr::Asn;
 use prefix_table::PrefixTable;
@@ -176,21 +177,33 @@ fn directions_after(
     }
 }
 
-/// Removes what is on its way in those of the directions whose session is not up. It takes no memory.
-fn clear_down(queues: &mut Queues, conf: &Conf, directions: &[Direction])
+/// Removes what is on its way over sessions that are down. It takes no memory.
+fn clear_down(queues: &mut Queues, conf: &Conf)
     ensures up { (f t : Addr) → is_up conf.now f t ≡ true → queue_at queues.new f t ≡ queue_at queues.old f t }
-    ensures down { (d : Direction) → list_any (is_direction d) directions.now ≡ true → is_up conf.now d.from d.to ≡ false → queue_at queues.new d.from d.to ≡ [] }
+    ensures down { (f t : Addr) → has_session conf.now f t ≡ true → is_up conf.now f t ≡ false → queue_at queues.new f t ≡ [] }
     ensures empty { (f t : Addr) → queue_at queues.old f t ≡ [] → queue_at queues.new f t ≡ [] }
     ensures spare { (f t : Addr) → spare_at queues.new f t ≡ spare_at queues.old f t }
 {
-    for direction in directions {
-        if queues.len(direction.from, direction.to) == 0 {
-            continue;
-        }
-        if !conf.is_up(direction.from, direction.to) {
-            queues.clear(direction.from, direction.to);
-        }
+    clear_all(queues, conf.down_sessions());
+}
+
+/// Removes what is on its way over these sessions.
+fn clear_all(queues: &mut Queues, sessions: &[Ends])
+    ensures queue { (f t : Addr) → queue_at queues.new f t ≡ (if list_any (is_of f t) sessions.now then [] else queue_at queues.old f t) }
+    ensures spare { (f t : Addr) → spare_at queues.new f t ≡ spare_at queues.old f t }
+{
+    for ends in sessions {
+        clear_both(queues, *ends);
     }
+}
+
+/// Removes what is on its way over the session, in both directions.
+fn clear_both(queues: &mut Queues, session: Ends)
+    ensures queue { (f t : Addr) → queue_at queues.new f t ≡ (if is_of f t session then [] else queue_at queues.old f t) }
+    ensures spare { (f t : Addr) → spare_at queues.new f t ≡ spare_at queues.old f t }
+{
+    queues.clear(session.low, session.high);
+    queues.clear(session.high, session.low);
 }
 
 /// Sees to it that what an edit will do stands behind one pointer.
@@ -308,7 +321,7 @@ impl<S: Selector + Drop, T: PrefixTable<Cell<S>> + Drop> State<S, T> {
             changes,
         } = Box::into_inner(edited.parts);
         conf.facts();
-        clear_down(&mut self.queues, &conf, self.directions.as_slice());
+        clear_down(&mut self.queues, &conf);
         self.conf = conf;
         self.directions = directions;
         place_changes(&mut self.tables, &mut self.queues, changes.into_vec());

@@ -17,3 +17,4 @@ mod TreeOf
 mod LoneNode
 mod OneMore
 mod Leaf
+mod MoreEdges

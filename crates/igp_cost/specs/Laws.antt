@@ -1,8 +1,8 @@
 -- What holds of costs, first hops and trees in any graph.
-use Rattle.std.specs.Prelude.{◌≡◌, ℕ, IsTrue, ◌∷◌, ◌++◌, Option, None, All}
+use Rattle.std.specs.Prelude.{◌≡◌, ℕ, true, IsTrue, ◌∷◌, ◌++◌, Option, None, is_some, All}
 use Rattle.net_prefix.specs.declared.addr.Addr.{Addr}
 use Rattle.igp_cost.specs.Metric.{IsMetric}
-use Rattle.igp_cost.specs.Walks.{Nodes, Edges, asn_of, IsCost, IsFirstHop}
+use Rattle.igp_cost.specs.Walks.{Nodes, Edges, HasEdge, asn_of, IsCost, IsFirstHop}
 use Rattle.igp_cost.specs.Costs.{cost, first_hop}
 use Rattle.igp_cost.specs.declared.change.Change.TheVariants.{Added, Removed, Changed}
 use Rattle.igp_cost.specs.Changes.{IsChange}
@@ -46,3 +46,11 @@ TreeOfIsATree = (nodes : Nodes) (edges : Edges) → IsTopology nodes edges → A
 -- one more node, of an address that was none, and no edge to it: the trees of the other nodes are the same
 abbrev pub LoneNodeMovesNoTree : Type 0
 LoneNodeMovesNoTree = (front back : Nodes) (x : Addr) (n : ℕ) (edges : Edges) → IsTopology (front ++ back) edges → asn_of (front ++ back) x ≡ None → All (λ e. IsMetric e.2) edges → (r : Addr) → IsTrue (is_node (front ++ back) r) → tree_of (front ++ (x, n) ∷ back) edges r ≡ tree_of (front ++ back) edges r
+
+-- each edge of some joins the ends of an edge of these, whatever its metric
+abbrev pub JoinAllOf : Edges → Edges → Type 0
+JoinAllOf old new = (a b : Addr) (m : ℕ) → HasEdge old a b m → (n : ℕ) × HasEdge new a b n
+
+-- over edges that join all that others join, whoever had a cost to an address has one
+abbrev pub MoreEdgesReachMore : Type 0
+MoreEdgesReachMore = (nodes : Nodes) (old new : Edges) → JoinAllOf old new → (r x : Addr) → is_some (cost nodes old r x) ≡ true → is_some (cost nodes new r x) ≡ true

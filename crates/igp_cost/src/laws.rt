@@ -1,6 +1,6 @@
 //! What holds of costs, first hops and trees in any graph. These functions do nothing: a call gives the caller's proof what they ensure.
 
-ghost use Rattle.igp_cost.specs.Laws.{CostsAreLeast, FirstHopsAreLeast, CostsAreOne, FirstHopsAreOne, TreesAreOne, OneEdgeIsAChange, TreeOfIsATree, LoneNodeMovesNoTree};
+ghost use Rattle.igp_cost.specs.Laws.{CostsAreLeast, FirstHopsAreLeast, CostsAreOne, FirstHopsAreOne, TreesAreOne, OneEdgeIsAChange, TreeOfIsATree, LoneNodeMovesNoTree, MoreEdgesReachMore};
 
 /// The specification's function `cost` is the cost of a least walk.
 pub fn costs_are_least()
@@ -40,4 +40,9 @@ pub fn tree_of_is_a_tree()
 /// A node that no edge leads to changes no tree of the other nodes.
 pub fn lone_node_moves_no_tree()
     ensures { LoneNodeMovesNoTree }
+{}
+
+/// Where more is joined by edges, no router reaches less: their metrics do not matter.
+pub fn more_edges_reach_more()
+    ensures { MoreEdgesReachMore }
 {}

@@ -26,7 +26,8 @@ pub use graph::Graph;
 pub use label::Label;
 pub use laws::{
     costs_are_least, costs_are_one, first_hops_are_least, first_hops_are_one,
-    lone_node_moves_no_tree, one_edge_is_a_change, tree_of_is_a_tree, trees_are_one,
+    lone_node_moves_no_tree, more_edges_reach_more, one_edge_is_a_change, tree_of_is_a_tree,
+    trees_are_one,
 };
 pub use limits::MAX_NODES;
 pub use metric::Metric;

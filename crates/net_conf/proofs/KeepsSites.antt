@@ -1,5 +1,5 @@
 -- The sites that are kept, after an edit.
-use Rattle.std.proofs.Common.{◌≡◌, ℕ, ◌+◌, ◌<◌, Bool, true, false, cond, ◌||◌, List, [], ◌∷◌, map, take, length, get_or, Option, Some, None, option_map, is_some, if◌then◌else◌, refl, sym, ap, ◌∙◌}
+use Rattle.std.proofs.Common.{◌≡◌, ℕ, ◌+◌, ◌<◌, Bool, true, false, cond, ◌||◌, List, [], ◌∷◌, map, take, length, get_or, Option, Some, None, option_map, is_some, if◌then◌else◌, refl, sym, ap, ◌∙◌, subst}
 use Rattle.std.specs.Option.{unwrap_or}
 use Rattle.std.specs.Cmp.{unsigned_ties}
 use Rattle.std.specs.Ordering.{is_eq}
@@ -11,7 +11,7 @@ use Rattle.std.proofs.lemmas.Cmp.{nat_eq_equiv, eq_by_cmp_equiv}
 use Rattle.std.proofs.lemmas.Map.{lookup-remove_entry}
 use Rattle.std.proofs.lemmas.Map.Keys.{IsDistinct-from_sorted}
 use Rattle.std.proofs.lemmas.List.Folds.{list_any_more}
-use Rattle.std.proofs.lemmas.Option.{none-some}
+use Rattle.std.proofs.lemmas.Option.{none-some, same_Some}
 use Rattle.net_prefix.specs.declared.addr.Addr.{Addr}
 use Rattle.net_prefix.specs.Address.{addr_cmp}
 use Rattle.net_prefix.specs.Orders.{addr_exact, addr_total}
@@ -21,7 +21,7 @@ use Rattle.net_conf.specs.declared.tables.Ends.{Ends}
 use Rattle.net_conf.specs.declared.tables.Node.{Node}
 use Rattle.net_conf.specs.Configuration.{Configuration, node_at, is_kind_virtual, ends_session, cluster_id, is_reflector, origins_of}
 use Rattle.net_conf.specs.Concerned.{is_among, StaysAt}
-use Rattle.net_conf.specs.Costs.{costs_of}
+use Rattle.net_conf.specs.Costs.{costs_of, is_up}
 use Rattle.net_conf.specs.declared.edit.Edit.{Edit}
 use Rattle.net_conf.specs.Edits.{edited, refusal_of}
 use Rattle.net_conf.specs.Kept.{IsLinked, IsRelinked, link_in, asked, relinked}
@@ -30,7 +30,7 @@ use Rattle.net_conf.specs.Sites.{session_of, sessions_of, peers_of, site_of}
 use Rattle.net_conf.proofs.Carry.{one_address}
 use Rattle.net_conf.proofs.Inserted.{found_in}
 use Rattle.net_conf.proofs.KeptTrees.{equal_when}
-use Rattle.net_conf.proofs.Concerns.{own_costs}
+use Rattle.net_conf.proofs.Concerns.{own_costs, up_turned}
 use Rattle.net_conf.proofs.TreesAfter.{linked_after}
 
 -- where the router's part and its ends stay, so does its site
@@ -109,6 +109,30 @@ site_after_link c d r is =
 
 pub ends_after_link : (c d : Configuration) (r : Addr) → IsRelinked c d → ends_session d r ≡ ends_session c r
 ends_after_link c d r is = ap (λ x. ends_session x r) is
+
+-- where the router's sessions stay up or down, they are what is asked
+module _ (c d : Configuration) (r : Addr) (same : (u : Addr) → is_up d u r ≡ is_up c u r) where
+  one_asked : (u : Addr) → asked d r (session_of c r u) ≡ session_of c r u
+  one_asked u = ap (λ (up : Bool). record (session_of c r u) { up = up }) (up_turned d r u ∙ same u ∙ up_turned c u r)
+
+  all_asked : (us : List Addr) → map (asked d r) (map (session_of c r) us) ≡ map (session_of c r) us
+  all_asked [] = refl
+  all_asked (u ∷ us) = λ i. one_asked u i ∷ all_asked us i
+
+  pub sessions_stay_in : (site : SiteConf) → router_site c r ≡ Some site → map (asked d r) site.sessions ≡ site.sessions
+  unfolding site_of
+  sessions_stay_in site is = by (node_at c r) is
+    where
+      made : Node → SiteConf
+      made n = record { me = r; asn = n.asn; cluster = cluster_id c r; reflector = is_reflector c r; origins = origins_of c r; sessions = sessions_of c r; costs = costs_of c r }
+
+      by : (o : Option Node) → (if unwrap_or (option_map (λ n. is_kind_virtual n.kind) o) false then None else option_map made o) ≡ Some site → map (asked d r) site.sessions ≡ site.sessions
+      by None it = absurd (none-some site it)
+      by (Some n) it = at (is_kind_virtual n.kind) it
+        where
+          at : (virtual : Bool) → (if virtual then None else Some (made n)) ≡ Some site → map (asked d r) site.sessions ≡ site.sessions
+          at true it = absurd (none-some site it)
+          at false it = subst (λ (s : SiteConf). map (asked d r) s.sessions ≡ s.sessions) (same_Some (made n) site it) (all_asked (peers_of c r))
 
 -- ONE SITE MORE
 

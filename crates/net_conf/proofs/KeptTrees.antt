@@ -91,8 +91,8 @@ pub session_ends : (c : Configuration) (a b : Addr) → has_session c a b ≡ tr
 session_ends c a b is = ends_found a (ends_of a b) (first_of_two a b) c.sessions is
 
 -- an end of a session is a node
-pub end_node : (c : Configuration) (r : Addr) → IsSound c → ends_session c r ≡ true → has_node c r ≡ true
-end_node c r sound is = among c.sessions sound.sessions is
+pub node_of_end : (c : Configuration) (r : Addr) → All (HasEnds c) (keys_of c.sessions) → ends_session c r ≡ true → has_node c r ≡ true
+node_of_end c r ends is = among c.sessions ends is
   where
     one : (e : Ends) (t u : Bool) → e.low.0 == r.0 ≡ t → e.high.0 == r.0 ≡ u → HasEnds c e → (rest : Bool) → (rest ≡ true → has_node c r ≡ true) → ((t || u) || rest) ≡ true → has_node c r ≡ true
     one e true u low high has rest later is = subst (λ x. has_node c x ≡ true) (same_address e.low r low) has.0
@@ -102,6 +102,9 @@ end_node c r sound is = among c.sessions sound.sessions is
     among : (sessions : List (Ends × Bool)) → All (HasEnds c) (keys_of sessions) → list_any (λ s. is_end r s.0) sessions ≡ true → has_node c r ≡ true
     among [] all is = absurd (true≢false (sym is))
     among (s ∷ sessions) all is = one s.0 (s.0.low.0 == r.0) (s.0.high.0 == r.0) refl refl (All-head (HasEnds c) s.0 (keys_of sessions) all) (list_any (λ s. is_end r s.0) sessions) (among sessions (All-tail (HasEnds c) s.0 (keys_of sessions) all)) is
+
+pub end_node : (c : Configuration) (r : Addr) → IsSound c → ends_session c r ≡ true → has_node c r ≡ true
+end_node c r sound is = node_of_end c r sound.sessions is
 
 -- the tree of an end of a session
 pub tree_there : (c : Configuration) (a : Addr) → ends_session c a ≡ true → tree_kept c a ≡ Some (costs_of c a)

@@ -17,3 +17,6 @@ pub mod LinkConcerns
 pub mod NamedConcerns
 pub mod KeepsSites
 pub mod SameSites
+pub mod SameKeys
+pub mod LinkTurns
+pub mod DownSessions

@@ -23,7 +23,7 @@ use Rattle.net_conf.proofs.Concerns.{facts_alike, up_turned, down_without}
 use Rattle.net_conf.proofs.KeptTrees.{first_of_two, ends_turned, ends_exact, found_itself, or_right}
 
 -- each session of the router stays up or down
-abbrev StaysUp : Configuration → Configuration → Addr → Type 0
+abbrev pub StaysUp : Configuration → Configuration → Addr → Type 0
 StaysUp c d r = (e : Ends) → is_end r e ≡ true → list_any (is_at (ends_cmp e)) (keys_of c.sessions) ≡ true → is_up d e.low e.high ≡ is_up c e.low e.high
 
 module _ (c : Configuration) (a b : Addr) (link : TheLink) (r : Addr) where
@@ -62,18 +62,22 @@ module _ (c : Configuration) (a b : Addr) (link : TheLink) (r : Addr) where
   each_session same [] = refl
   each_session same (u ∷ us) = λ i. same_session u (same u) i ∷ each_session same us i
 
-  link_concerns : StaysUp c d r → (ends_session c r ≡ true → costs_of d r ≡ costs_of c r) → StaysAt c d r
-  link_concerns stays costs = record {
-    facts = facts_alike c d r (record { node = refl; cluster = refl; reflector = refl; origins = refl; sessions = each_session (up_at stays) (peers_of c r) });
+  link_concerns : ((u : Addr) → is_up d u r ≡ is_up c u r) → (ends_session c r ≡ true → costs_of d r ≡ costs_of c r) → StaysAt c d r
+  link_concerns same costs = record {
+    facts = facts_alike c d r (record { node = refl; cluster = refl; reflector = refl; origins = refl; sessions = each_session same (peers_of c r) });
     costs = costs;
-    up = up_at stays;
+    up = same;
   }
 
 -- the same of any configuration that is this one with a link
-pub concerns_of_link : (c d : Configuration) (a b : Addr) → IsLinked c d a b → (r : Addr) → StaysUp c d r → (ends_session c r ≡ true → costs_of d r ≡ costs_of c r) → StaysAt c d r
-concerns_of_link c d a b linked r stays costs =
+pub concerns_of_link : (c d : Configuration) (a b : Addr) → IsLinked c d a b → (r : Addr) → ((u : Addr) → is_up d u r ≡ is_up c u r) → (ends_session c r ≡ true → costs_of d r ≡ costs_of c r) → StaysAt c d r
+concerns_of_link c d a b linked r same costs =
     subst (λ x. StaysAt c x r) (sym linked.is)
-    (link_concerns c a b linked.link r (subst (λ x. StaysUp c x r) linked.is stays) (λ ends. ap (λ x. costs_of x r) (sym linked.is) ∙ costs ends))
+    (link_concerns c a b linked.link r (subst (λ x. (u : Addr) → is_up x u r ≡ is_up c u r) linked.is same) (λ ends. ap (λ x. costs_of x r) (sym linked.is) ∙ costs ends))
+
+pub stays_with_each : (c d : Configuration) (a b : Addr) → IsLinked c d a b → (r : Addr) → StaysUp c d r → (u : Addr) → is_up d u r ≡ is_up c u r
+stays_with_each c d a b linked r stays u =
+    ap (λ x. is_up x u r) linked.is ∙ up_at c a b linked.link r (subst (λ x. StaysUp c x r) linked.is stays) u
 
 -- A SESSION APART FROM THE LINK
 

@@ -53,7 +53,7 @@ module _ (law : LoneNodeMovesNoTree) (c : Configuration) (a : Addr) (n : Node) (
       ∙ ap (λ x. if is_external c u v then has_link_up c u v else (is_some (cost_in x v) && is_some (cost d v u))) (costs_with_node law c a n sound sorted new u first)
       ∙ ap (λ x. if is_external c u v then has_link_up c u v else (is_some (cost c u v) && is_some (cost_in x u))) (costs_with_node law c a n sound sorted new v second)
 
-  same_up : (u v : Addr) → is_up d u v ≡ is_up c u v
+  pub same_up : (u v : Addr) → is_up d u v ≡ is_up c u v
   unfolding session_up
   same_up u v = by (session_between c u v) refl
     where

@@ -1,7 +1,8 @@
 -- Interior costs, and which sessions are up.
-use Rattle.std.specs.Prelude.{ℕ, Bool, false, ◌&&◌, List, map, Option, Some, None, option_map, is_some, if◌then◌else◌}
+use Rattle.std.specs.Prelude.{ℕ, Bool, false, not, ◌&&◌, List, map, filter, Option, Some, None, option_map, is_some, if◌then◌else◌}
 use Rattle.std.specs.Option.{unwrap_or}
 use Rattle.std.specs.List.{filter_map}
+use Rattle.std.specs.Map.{keys_of}
 use Rattle.net_prefix.specs.declared.addr.Addr.{Addr}
 use Rattle.igp_cost.specs.Trees.{Reached, cost_in, tree_of}
 use Rattle.net_conf.specs.declared.tables.Ends.{Ends}
@@ -39,3 +40,7 @@ session_up c a b = option_map (λ enabled. enabled && is_connected c a b) (sessi
 
 abbrev pub is_up : Configuration → Addr → Addr → Bool
 is_up c a b = unwrap_or (session_up c a b) false
+
+-- the sessions that are not up, in order
+abbrev pub down_sessions : Configuration → List Ends
+down_sessions c = filter (λ e. not (is_up c e.low e.high)) (keys_of c.sessions)

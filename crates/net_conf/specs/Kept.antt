@@ -20,9 +20,9 @@ use Rattle.net_conf.specs.declared.edit.Edit.{Edit}
 use Rattle.net_conf.specs.declared.edit.Edit.TheVariants.{Router, Virtual, Link, Metric, Fail, Mend, Join, Stop, Start, Origin, NoOrigin}
 use Rattle.net_conf.specs.Configuration.{Configuration, ends_of, ends_session, link_between, origins_of}
 use Rattle.net_conf.specs.Edits.{with_link, with_session}
-use Rattle.net_conf.specs.Costs.{costs_of, is_up}
+use Rattle.net_conf.specs.Costs.{costs_of, is_up, down_sessions}
 use Rattle.net_conf.specs.RouterSites.{router_site, site_kept}
-use Rattle.net_conf.specs.Concerned.{is_among}
+use Rattle.net_conf.specs.Concerned.{is_among, StaysAt}
 use Rattle.net_conf.specs.Configured.{AreApart, HasEnds}
 
 pub record IsSound (c : Configuration) : Type 0 where
@@ -61,15 +61,36 @@ WereTrees change nodes edges trees = (r : Addr) (t : Reached) → lookup (is_at 
 abbrev pub IsOldOrNew : Option Reached → Reached → Option Reached → Type 0
 IsOldOrNew old new there = (carried : Bool) × (there ≡ cond carried (Some new) old)
 
+-- THE SESSIONS THAT ARE DOWN
+
+-- these are the sessions that are down
+abbrev pub AreDown : Configuration → List Ends → Type 0
+AreDown c down = down ≡ down_sessions c
+
+-- no session that is up by the one is down by the other
+abbrev pub NoneGoesDown : Configuration → Configuration → Type 0
+NoneGoesDown c d = (a b : Addr) → is_up c a b ≡ true → is_up d a b ≡ true
+
+-- the sessions of who is not among these stay up or down
+abbrev pub SessionsStayBut : Configuration → Configuration → List Addr → Type 0
+SessionsStayBut c d rs = (r u : Addr) → is_among r rs ≡ false → is_up d u r ≡ is_up c u r
+
+-- who is not among these is an end of a session still, or still is none
+abbrev pub EndsStayBut : Configuration → Configuration → List Addr → Type 0
+EndsStayBut c d rs = (r : Addr) → is_among r rs ≡ false → ends_session d r ≡ ends_session c r
+
+-- the sessions that are down by the other configuration, and whom it concerns besides those whose costs have moved
+pub record IsTurned (c d : Configuration) (moved : List Addr) (down : List Ends) (turned : List Addr) : Type 0 where
+  pub are_down : AreDown d down
+  pub sessions : SessionsStayBut c d turned
+  pub ends : EndsStayBut c d turned
+  pub alone : (r : Addr) → is_among r moved ≡ false → is_among r turned ≡ false → StaysAt c d r
+
 -- THE SITES OF THE ENDS OF SESSIONS
 
 -- each router that has a session has its site here, and nobody else has one
 abbrev pub AreSitesKept : Configuration → List (Addr × SiteConf) → Type 0
 AreSitesKept c sites = (r : Addr) → lookup (is_at (addr_cmp r)) sites ≡ site_kept c r
-
--- who is not among these is an end of a session still, or still is none
-abbrev pub EndsStayBut : Configuration → Configuration → List Addr → Type 0
-EndsStayBut c d rs = (r : Addr) → is_among r rs ≡ false → ends_session d r ≡ ends_session c r
 
 -- the two differ in their links alone
 abbrev pub IsRelinked : Configuration → Configuration → Type 0

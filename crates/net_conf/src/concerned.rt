@@ -1,141 +1,231 @@
 //! Whom an edit concerns.
 
-ghost use Rattle.std.specs.Prelude.{◌≡◌, ◌||◌, true, false, None, Some, IfOk, OnOk, option_map};
+ghost use Rattle.std.specs.Prelude.{◌≡◌, true, false, None, Some, List, IfOk, OnOk, option_map};
 ghost use Rattle.std.specs.List.{list_any};
-ghost use Rattle.std.specs.Map.{keys_of};
 ghost use Rattle.std.specs.BTreeMap.{is_at};
 ghost use Rattle.net_prefix.specs.declared.addr.Addr.{Addr};
 ghost use Rattle.net_prefix.specs.Address.{addr_cmp};
 ghost use Rattle.net_conf.specs.declared.tables.Ends.{Ends};
-ghost use Rattle.net_conf.specs.Configuration.{ends_of, ends_cmp, is_end, ends_session};
+ghost use Rattle.net_conf.specs.Configuration.{ends_cmp, is_end};
 ghost use Rattle.net_conf.specs.Concerned.{is_among, ConcernsAlone};
-ghost use Rattle.net_conf.specs.Costs.{is_up};
 ghost use Rattle.net_conf.specs.Edits.{refusal_of, edited};
-ghost use Rattle.net_conf.specs.Kept.{CostsStayBut, EndsStayBut, AreLinked, node_in, session_in};
+ghost use Rattle.net_conf.specs.Kept.{CostsStayBut, EndsStayBut, SessionsStayBut, IsTurned, IsLinked, link_in, node_in, session_in};
 ghost use Rattle.net_conf.specs.Scopes.{scope, router_in};
 
-use crate::conf_tables::ConfTables;
+use crate::conf_sessions::ConfSessions;
 use crate::conf_trees::ConfTrees;
 use crate::edit::Edit;
+use crate::edited::Made;
 use crate::tables::Ends;
 use igp_cost::lone_node_moves_no_tree;
 use net_prefix::Addr;
+use shared_map::SharedSet;
 use std::alloc::{AllocError, Global};
 use std::collections::BTreeSet;
 
-impl ConfTrees {
-    /// Whom an edit that makes the other configuration of this one concerns, where the trees of these have moved.
-    pub(crate) fn concerned(
+/// What an edit makes, and whom it concerns.
+#[derive(Drop)]
+pub(crate) struct MadeSessions {
+    pub(crate) conf: ConfSessions,
+    pub(crate) concerned: BTreeSet<Addr>,
+    /// Those of them who have a session that may have come up or gone down.
+    pub(crate) turned: BTreeSet<Addr>,
+}
+
+/// The sessions that are down after an edit, and whom it concerns besides those whose trees have moved.
+#[derive(Drop)]
+struct Turned {
+    down: SharedSet<Ends>,
+    turned: BTreeSet<Addr>,
+}
+
+impl ConfSessions {
+    /// What is configured after an edit that is not refused, and whom the edit concerns.
+    pub(crate) fn made(&self, alloc: Global, edit: &Edit) -> Result<MadeSessions, AllocError>
+        requires { refusal_of self.now edit.now ≡ None }
+        ensures conf { IfOk result (λ made. made.conf ≡ edited self.now edit.now) }
+        ensures alone { IfOk result (λ made. ConcernsAlone self.now made.conf made.concerned.keys) }
+        ensures ends { IfOk result (λ made. EndsStayBut self.now made.conf made.concerned.keys) }
+        ensures sessions { IfOk result (λ made. SessionsStayBut self.now made.conf made.turned.keys) }
+    {
+        let Made { conf: trees, moved } = self.trees.made(alloc, edit)?;
+        let Ok(Turned { down, turned }) = self.turned(alloc, edit, &trees, &moved) else {
+            drop((trees, moved));
+            return Err(AllocError);
+        };
+        let conf = ConfSessions { trees, down };
+        let Ok(concerned) = with_all(alloc, moved, &turned) else {
+            drop((conf, turned));
+            return Err(AllocError);
+        };
+        Ok(MadeSessions {
+            conf,
+            concerned,
+            turned,
+        })
+    }
+
+    /// The sessions that are down after the edit, and whom it concerns besides those whose trees have moved.
+    fn turned(
         &self,
         alloc: Global,
         edit: &Edit,
         after: &ConfTrees,
-        moved: BTreeSet<Addr>,
-    ) -> Result<BTreeSet<Addr>, AllocError>
+        moved: &BTreeSet<Addr>,
+    ) -> Result<Turned, AllocError>
         requires passes { refusal_of self.now edit.now ≡ None }
         requires made { after.now ≡ edited self.now edit.now }
-        requires moved { CostsStayBut self.now after.now moved.keys }
-        ensures alone { IfOk result (λ concerned. ConcernsAlone self.now after.now concerned.keys) }
-        ensures ends { IfOk result (λ concerned. EndsStayBut self.now after.now concerned.keys) }
+        requires moved { CostsStayBut self.now after.now moved.now.keys }
+        ensures { IfOk result (λ turned. IsTurned self.now after.now moved.now.keys turned.down turned.turned.keys) }
     {
         match edit.link() {
-            Some((one, other)) => self.with_turned(alloc, after, Ends::of(one, other), moved),
-            None => {
-                lone_node_moves_no_tree();
-                self.tables.orders();
-                let named = named(alloc, edit)?;
-                Ok(named)
-            }
+            Some((one, other)) => self.turned_by_link(alloc, after, one, other, moved),
+            None => self.turned_by_other(alloc, edit, after, moved),
         }
     }
 
-    /// Those whose trees have moved, with the ends of sessions that came up or went down with the link.
-    fn with_turned(
+    /// The same, of an edit of the link of the two: where it stays up or down, so do all sessions.
+    fn turned_by_link(
         &self,
         alloc: Global,
         after: &ConfTrees,
-        link: Ends,
-        moved: BTreeSet<Addr>,
+        one: Addr,
+        other: Addr,
+        moved: &BTreeSet<Addr>,
+    ) -> Result<Turned, AllocError>
+        requires linked { IsLinked self.now after.now one other }
+        requires moved { CostsStayBut self.now after.now moved.now.keys }
+        ensures { IfOk result (λ turned. IsTurned self.now after.now moved.now.keys turned.down turned.turned.keys) }
+    {
+        let was_up = self.trees.tables().has_link_up(one, other);
+        if after.tables().has_link_up(one, other) == was_up {
+            self.trees.turn_with_link(after, one, other);
+            let down = self.down.share()?;
+            let turned = BTreeSet::new(alloc);
+            return Ok(Turned { down, turned });
+        }
+        let down = self.down_after_link(alloc, after, one, other, moved)?;
+        let turned = ends_that_differ(alloc, &self.down, &down)?;
+        Ok(Turned { down, turned })
+    }
+
+    /// The same, of an edit of no link: it names whom it concerns.
+    fn turned_by_other(
+        &self,
+        alloc: Global,
+        edit: &Edit,
+        after: &ConfTrees,
+        moved: &BTreeSet<Addr>,
+    ) -> Result<Turned, AllocError>
+        requires passes { refusal_of self.now edit.now ≡ None }
+        requires made { after.now ≡ edited self.now edit.now }
+        requires link { link_in edit.now ≡ None }
+        ensures { IfOk result (λ turned. IsTurned self.now after.now moved.now.keys turned.down turned.turned.keys) }
+    {
+        let down = self.down_after_other(alloc, edit, after)?;
+        let turned = self.trees.concerned_by_name(alloc, edit, after)?;
+        Ok(Turned { down, turned })
+    }
+}
+
+impl ConfTrees {
+    /// Whom an edit of no link that makes the other configuration of this one concerns.
+    fn concerned_by_name(
+        &self,
+        alloc: Global,
+        edit: &Edit,
+        after: &ConfTrees,
     ) -> Result<BTreeSet<Addr>, AllocError>
-        requires linked { AreLinked self.now after.now link }
-        requires moved { CostsStayBut self.now after.now moved.keys }
+        requires passes { refusal_of self.now edit.now ≡ None }
+        requires made { after.now ≡ edited self.now edit.now }
+        requires link { link_in edit.now ≡ None }
         ensures alone { IfOk result (λ concerned. ConcernsAlone self.now after.now concerned.keys) }
         ensures ends { IfOk result (λ concerned. EndsStayBut self.now after.now concerned.keys) }
     {
-        let sessions = self.tables.session_list(alloc)?;
-        let concerned = self.turned_among(after, link, &sessions, moved)?;
-        Ok(concerned)
-    }
-
-    /// These, with the ends of those of the sessions that came up or went down.
-    fn turned_among(
-        &self,
-        after: &ConfTrees,
-        link: Ends,
-        sessions: &[Ends],
-        moved: BTreeSet<Addr>,
-    ) -> Result<BTreeSet<Addr>, AllocError>
-        requires linked { AreLinked self.now after.now link }
-        requires moved { CostsStayBut self.now after.now moved.keys }
-        requires sessions { sessions.now ≡ keys_of self.now.sessions }
-        ensures known { IfOk result (λ concerned. (r : Addr) → is_among r concerned.keys ≡ false → is_among r moved.keys ≡ false) }
-        ensures turned { IfOk result (λ concerned. (r : Addr) (e : Ends) → is_among r concerned.keys ≡ false → is_end r e ≡ true → list_any (is_at (ends_cmp e)) sessions.now ≡ true → is_up after.now e.low e.high ≡ is_up self.now e.low e.high) }
-    {
-        let mut concerned = moved;
-        for ends in sessions {
-            self.add_turned(after, link, &mut concerned, *ends)?;
-        }
-        Ok(concerned)
-    }
-
-    /// Adds the ends of the session, where it came up or went down.
-    fn add_turned(
-        &self,
-        after: &ConfTrees,
-        link: Ends,
-        concerned: &mut BTreeSet<Addr>,
-        ends: Ends,
-    ) -> Result<(), AllocError>
-        requires linked { AreLinked self.now after.now link }
-        requires moved { CostsStayBut self.now after.now concerned.old.keys }
-        requires low { ends_session self.now ends.low ≡ true }
-        requires high { ends_session self.now ends.high ≡ true }
-        ensures known { OnOk result ((r : Addr) → is_among r concerned.new.keys ≡ false → is_among r concerned.old.keys ≡ false) }
-        ensures turned { OnOk result ((r : Addr) → is_among r concerned.new.keys ≡ false → is_end r ends ≡ true → is_up after.now ends.low ends.high ≡ is_up self.now ends.low ends.high) }
-    {
-        if !may_turn(concerned, link, ends) {
-            return Ok(());
-        }
-        let before = self.is_up(ends.low, ends.high);
-        let now = after.is_up(ends.low, ends.high);
-        if before == now {
-            return Ok(());
-        }
-        concerned.insert(ends.low)?;
-        concerned.insert(ends.high)?;
-        Ok(())
+        lone_node_moves_no_tree();
+        self.tables.orders();
+        let named = named(alloc, edit)?;
+        Ok(named)
     }
 }
 
-impl ConfTables {
-    /// The ends of all sessions, in order.
-    fn session_list(&self, alloc: Global) -> Result<Vec<Ends>, AllocError>
-        ensures { IfOk result (λ v. v.items ≡ keys_of self.now.sessions) }
-    {
-        self.sessions
-            .as_slice()
-            .iter()
-            .map(|(ends, _)| *ends)
-            .collect(alloc)
-    }
-}
-
-/// Whether the session may come up or go down with the link: it is that link's, or the tree of an end of it has moved.
-fn may_turn(concerned: &BTreeSet<Addr>, link: Ends, session: Ends) -> bool
-    ensures { result ≡ ((is_among session.low concerned.now.keys || is_among session.high concerned.now.keys) || is_at (ends_cmp (ends_of session.low session.high)) link) }
+/// The ends of the sessions that are in one of the sets and not in the other.
+fn ends_that_differ(
+    alloc: Global,
+    some: &SharedSet<Ends>,
+    others: &SharedSet<Ends>,
+) -> Result<BTreeSet<Addr>, AllocError>
+    ensures { IfOk result (λ ends. (r : Addr) (e : Ends) → is_among r ends.keys ≡ false → is_end r e ≡ true → list_any (is_at (ends_cmp e)) others.now ≡ list_any (is_at (ends_cmp e)) some.now) }
 {
-    let moved = concerned.contains(&session.low) || concerned.contains(&session.high);
-    moved || Ends::of(session.low, session.high) == link
+    let first = with_ends_unless(BTreeSet::new(alloc), some.as_slice(), others)?;
+    let both = with_ends_unless(first, others.as_slice(), some)?;
+    Ok(both)
+}
+
+/// The addresses, with the ends of each of the sessions that is not in the set.
+fn with_ends_unless(
+    addrs: BTreeSet<Addr>,
+    sessions: &[Ends],
+    known: &SharedSet<Ends>,
+) -> Result<BTreeSet<Addr>, AllocError>
+    ensures known { IfOk result (λ more. (r : Addr) → is_among r more.keys ≡ false → is_among r addrs.keys ≡ false) }
+    ensures added { IfOk result (λ more. (r : Addr) (e : Ends) → is_among r more.keys ≡ false → is_end r e ≡ true → list_any (is_at (ends_cmp e)) sessions.now ≡ true → list_any (is_at (ends_cmp e)) known.now ≡ true) }
+{
+    let mut more = addrs;
+    for ends in sessions {
+        add_ends_unless(&mut more, known, *ends)?;
+    }
+    Ok(more)
+}
+
+/// Adds the ends of the session, unless it is in the set.
+fn add_ends_unless(
+    addrs: &mut BTreeSet<Addr>,
+    known: &SharedSet<Ends>,
+    ends: Ends,
+) -> Result<(), AllocError>
+    ensures known { OnOk result ((r : Addr) → is_among r addrs.new.keys ≡ false → is_among r addrs.old.keys ≡ false) }
+    ensures added { OnOk result ((r : Addr) → is_among r addrs.new.keys ≡ false → is_end r ends ≡ true → list_any (is_at (ends_cmp ends)) known.now ≡ true) }
+{
+    if known.contains(&ends) {
+        return Ok(());
+    }
+    addrs.insert(ends.low)?;
+    addrs.insert(ends.high)?;
+    Ok(())
+}
+
+/// These addresses, and those.
+fn with_all(
+    alloc: Global,
+    these: BTreeSet<Addr>,
+    those: &BTreeSet<Addr>,
+) -> Result<BTreeSet<Addr>, AllocError>
+    ensures these { IfOk result (λ all. (r : Addr) → is_among r all.keys ≡ false → is_among r these.keys ≡ false) }
+    ensures those { IfOk result (λ all. (r : Addr) → is_among r all.keys ≡ false → is_among r those.now.keys ≡ false) }
+{
+    let more = listed(alloc, those)?;
+    let all = with_each(these, &more)?;
+    Ok(all)
+}
+
+/// The addresses, with each of these.
+fn with_each(addrs: BTreeSet<Addr>, more: &[Addr]) -> Result<BTreeSet<Addr>, AllocError>
+    ensures known { IfOk result (λ all. (r : Addr) → is_among r all.keys ≡ false → is_among r addrs.keys ≡ false) }
+    ensures added { IfOk result (λ all. (r : Addr) → is_among r all.keys ≡ false → is_among r more.now ≡ false) }
+{
+    let mut all = addrs;
+    for addr in more {
+        all.insert(*addr)?;
+    }
+    Ok(all)
+}
+
+/// The addresses, in order.
+pub(crate) fn listed(alloc: Global, addrs: &BTreeSet<Addr>) -> Result<Vec<Addr>, AllocError>
+    ensures { IfOk result (λ v. v.items ≡ addrs.now.keys) }
+{
+    addrs.iter().map(|addr| *addr).collect(alloc)
 }
 
 /// Those whom an edit of no link names: the router whose settings it changes, the address that it adds, or the ends of its session.

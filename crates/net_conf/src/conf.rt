@@ -3,16 +3,16 @@
 ghost use Rattle.std.specs.Prelude.{◌≡◌, true, None, Some, Ok, Err, IfOk, MatchResult, option_map, length};
 ghost use Rattle.net_conf.specs.Configuration.{unconfigured, node_at, has_node, is_virtual, as_of, has_session, ends_session, origins_of};
 ghost use Rattle.net_conf.specs.Concerned.{ConcernsAlone};
-ghost use Rattle.net_conf.specs.Costs.{costs_of, session_up, is_up};
+ghost use Rattle.net_conf.specs.Costs.{costs_of, session_up, is_up, down_sessions};
 ghost use Rattle.net_conf.specs.Configured.{IsConfigured};
 ghost use Rattle.net_conf.specs.Edits.{refusal_of, edited, IsEdit, IsEdited};
 
-use crate::conf_trees::ConfTrees;
+use crate::concerned::MadeSessions;
+use crate::conf_sessions::ConfSessions;
 use crate::edit::Edit;
-use crate::edited::Made;
 use crate::refusal::Refusal;
 use crate::shared_site::SharedSite;
-use crate::tables::Kind;
+use crate::tables::{Ends, Kind};
 use igp_cost::Tree;
 use net_prefix::{Addr, Prefix};
 use path_attr::Asn;
@@ -23,10 +23,10 @@ use std::collections::BTreeSet;
 use std::marker::Model;
 use std::mem::replace;
 
-/// What is configured, with the interior costs and the sites of those who have a session.
+/// What is configured, with the interior costs and the sites of those who have a session, and the sessions that are down.
 #[derive(Drop)]
 pub struct Conf {
-    pub(crate) trees: ConfTrees,
+    pub(crate) sessions: ConfSessions,
     pub(crate) sites: SharedMap<Addr, SharedSite>,
 }
 
@@ -45,9 +45,9 @@ impl Model for Conf {
 
     ghost Value = { Configuration };
 
-    ghost view = { λ c. c.trees };
+    ghost view = { λ c. c.sessions };
 
-    ghost invariant = { λ c. AreSitesKept c.trees c.sites };
+    ghost invariant = { λ c. AreSitesKept c.sessions c.sites };
 }
 
 impl Conf {
@@ -56,7 +56,7 @@ impl Conf {
         ensures { result ≡ unconfigured }
     {
         Conf {
-            trees: ConfTrees::new(),
+            sessions: ConfSessions::new(),
             sites: SharedMap::new(),
         }
     }
@@ -65,14 +65,14 @@ impl Conf {
     pub fn facts(&self)
         ensures configured { IsConfigured self.now }
     {
-        self.trees.facts();
+        self.sessions.facts();
     }
 
     /// Whether the edit may be made: the first test that holds refuses it. It takes no memory.
     pub fn check(&self, edit: &Edit) -> Result<(), Refusal>
         ensures { MatchResult result (λ _. refusal_of self.now edit.now ≡ None) (λ r. refusal_of self.now edit.now ≡ Some r) }
     {
-        self.trees.tables().check(edit)
+        self.sessions.tables().check(edit)
     }
 
     /// Makes the edit, unless it is refused. A refusal, or want of memory, changes nothing.
@@ -88,7 +88,7 @@ impl Conf {
     pub fn router(&self, addr: Addr) -> Option<(Asn, Kind)>
         ensures { result ≡ option_map (λ n. (n.asn, n.kind)) (node_at self.now addr) }
     {
-        self.trees
+        self.sessions
             .tables()
             .node(addr)
             .map(|node| (node.asn, node.kind))
@@ -98,63 +98,70 @@ impl Conf {
     pub fn node_count(&self) -> usize
         ensures { result ≡ length self.now.nodes }
     {
-        self.trees.tables().node_count()
+        self.sessions.tables().node_count()
     }
 
     /// Whether a router or virtual peer stands at the address.
     pub fn has_node(&self, addr: Addr) -> bool
         ensures { result ≡ has_node self.now addr }
     {
-        self.trees.tables().has_node(addr)
+        self.sessions.tables().has_node(addr)
     }
 
     /// Whether a virtual peer stands at the address.
     pub fn is_virtual(&self, addr: Addr) -> bool
         ensures { result ≡ is_virtual self.now addr }
     {
-        self.trees.tables().is_virtual(addr)
+        self.sessions.tables().is_virtual(addr)
     }
 
     /// The AS of the router or peer, where there is one.
     pub fn as_of(&self, addr: Addr) -> Option<Asn>
         ensures { result ≡ as_of self.now addr }
     {
-        self.trees.tables().as_of(addr)
+        self.sessions.tables().as_of(addr)
     }
 
     /// Whether the two have a session, up or down.
     pub fn has_session(&self, one: Addr, other: Addr) -> bool
         ensures { result ≡ has_session self.now one other }
     {
-        self.trees.tables().has_session(one, other)
+        self.sessions.tables().has_session(one, other)
     }
 
     /// The prefixes that the router originates, in order.
     pub fn origins_of(&self, alloc: Global, router: Addr) -> Result<Vec<Prefix>, AllocError>
         ensures { IfOk result (λ v. v.items ≡ origins_of self.now router) }
     {
-        self.trees.tables().origins_of(alloc, router)
+        self.sessions.tables().origins_of(alloc, router)
     }
 
     /// Whether the address is an end of a session, up or down.
     pub fn ends_session(&self, addr: Addr) -> bool
         ensures { result ≡ ends_session self.now addr }
     {
-        self.trees.ends_session(addr)
+        self.sessions.ends_session(addr)
     }
 
     /// Whether the session of the two is up (RFC 4271, 8), where they have one. It takes no memory.
     pub fn session_up(&self, one: Addr, other: Addr) -> Option<bool>
         ensures { result ≡ session_up self.now one other }
     {
-        self.trees.session_up(one, other)
+        self.sessions.session_up(one, other)
     }
 
     /// Whether the two have a session, and it is up.
     pub fn is_up(&self, one: Addr, other: Addr) -> bool
         ensures { result ≡ is_up self.now one other }
     {
-        self.trees.is_up(one, other)
+        self.sessions.is_up(one, other)
+    }
+
+    /// The sessions that are down, in order. It takes no memory.
+    pub fn down_sessions(&self) -> &[Ends]
+        ensures { result.now ≡ down_sessions self.now }
+    {
+        self.sessions.down_sessions()
     }
 
     /// All costs and first hops of a router or peer.
@@ -162,7 +169,7 @@ impl Conf {
         requires { has_node self.now router ≡ true }
         ensures { IfOk result (λ tree. tree ≡ costs_of self.now router) }
     {
-        self.trees.costs(alloc, router)
+        self.sessions.costs(alloc, router)
     }
 
     /// The configuration after the edit, made beside this one, and whom the edit concerns: of all others nothing is changed. It is refused
@@ -181,17 +188,17 @@ impl Conf {
         ensures conf { IfOk result (λ made. made.conf ≡ edited self.now edit.now) }
         ensures concerned { IfOk result (λ made. ConcernsAlone self.now made.conf made.concerned.keys) }
     {
-        let Made { conf: trees, moved } = self.trees.made(alloc, edit)?;
+        let MadeSessions {
+            conf: sessions,
+            concerned,
+            turned,
+        } = self.sessions.made(alloc, edit)?;
         // (an implicit drop of a whole configuration is written out at each early end: minutes of the prover)
-        let Ok(concerned) = self.trees.concerned(alloc, edit, &trees, moved) else {
-            drop(trees);
+        let Ok(sites) = self.sites_after(alloc, edit, &sessions, &concerned, &turned) else {
+            drop((sessions, concerned, turned));
             return Err(AllocError);
         };
-        let Ok(sites) = self.sites_after(alloc, edit, &trees, &concerned) else {
-            drop((trees, concerned));
-            return Err(AllocError);
-        };
-        let conf = Conf { trees, sites };
+        let conf = Conf { sessions, sites };
         Ok(EditedConf { conf, concerned })
     }
 }
@@ -200,7 +207,7 @@ impl Copied for Conf {
     fn copy(&self, alloc: Global) -> Result<Conf, AllocError> {
         let sites = self.sites.share()?;
         Ok(Conf {
-            trees: self.trees.copy(alloc)?,
+            sessions: self.sessions.copy(alloc)?,
             sites,
         })
     }

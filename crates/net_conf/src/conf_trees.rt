@@ -63,9 +63,9 @@ impl ConfTrees {
         self.trees.contains_key(&addr)
     }
 
-    /// Whether the session of the two is up (RFC 4271, 8), where they have one.
+    /// Whether the session of the two is up (RFC 4271, 8), where they have one: asked of its link, or of the trees of both.
     #[tactic(auto, unfolding(crate::specs::Costs::session_up))]
-    pub(crate) fn session_up(&self, one: Addr, other: Addr) -> Option<bool>
+    fn session_up(&self, one: Addr, other: Addr) -> Option<bool>
         ensures { result ≡ session_up self.now one other }
     {
         match self.tables.session(one, other) {
@@ -74,7 +74,7 @@ impl ConfTrees {
         }
     }
 
-    /// Whether the two have a session, and it is up.
+    /// Whether the two have a session, and it is up: asked anew.
     pub(crate) fn is_up(&self, one: Addr, other: Addr) -> bool
         ensures { result ≡ is_up self.now one other }
     {

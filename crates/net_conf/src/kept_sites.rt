@@ -8,11 +8,12 @@ ghost use Rattle.net_prefix.specs.Address.{addr_cmp};
 ghost use Rattle.net_conf.specs.Configuration.{ends_session};
 ghost use Rattle.net_conf.specs.Concerned.{is_among, ConcernsAlone};
 ghost use Rattle.net_conf.specs.Edits.{refusal_of, edited};
-ghost use Rattle.net_conf.specs.Kept.{AreSitesKept, EndsStayBut, IsRelinked, IsReoriginated, asked, relinked, reoriginated};
+ghost use Rattle.net_conf.specs.Kept.{AreSitesKept, EndsStayBut, SessionsStayBut, IsRelinked, IsReoriginated, asked, relinked, reoriginated};
 ghost use Rattle.net_conf.specs.RouterSites.{router_site, site_kept, site_made};
 
+use crate::concerned::listed;
 use crate::conf::Conf;
-use crate::conf_trees::ConfTrees;
+use crate::conf_sessions::ConfSessions;
 use crate::edit::Edit;
 use crate::shared_site::SharedSite;
 use crate::site::{SiteConf, SiteSession};
@@ -74,18 +75,20 @@ impl Conf {
         &self,
         alloc: Global,
         edit: &Edit,
-        after: &ConfTrees,
+        after: &ConfSessions,
         concerned: &BTreeSet<Addr>,
+        turned: &BTreeSet<Addr>,
     ) -> Result<SharedMap<Addr, SharedSite>, AllocError>
         requires passes { refusal_of self.now edit.now ≡ None }
         requires made { after.now ≡ edited self.now edit.now }
         requires concerned { ConcernsAlone self.now after.now concerned.now.keys }
         requires ends { EndsStayBut self.now after.now concerned.now.keys }
+        requires sessions { SessionsStayBut self.now after.now turned.now.keys }
         ensures { IfOk result (λ sites. AreSitesKept after.now sites) }
     {
         let sites = self.sites.share()?;
         let routers = listed(alloc, concerned)?;
-        let renewed = self.renewed(alloc, edit, after, sites, &routers)?;
+        let renewed = self.renewed(alloc, edit, after, sites, &routers, turned)?;
         Ok(renewed)
     }
 
@@ -94,17 +97,19 @@ impl Conf {
         &self,
         alloc: Global,
         edit: &Edit,
-        after: &ConfTrees,
+        after: &ConfSessions,
         sites: SharedMap<Addr, SharedSite>,
         routers: &[Addr],
+        turned: &BTreeSet<Addr>,
     ) -> Result<SharedMap<Addr, SharedSite>, AllocError>
         requires passes { refusal_of self.now edit.now ≡ None }
         requires made { after.now ≡ edited self.now edit.now }
+        requires sessions { SessionsStayBut self.now after.now turned.now.keys }
         ensures { IfOk result (λ new. (r : Addr) → lookup (is_at (addr_cmp r)) new ≡ cond (is_among r routers.now) (site_kept after.now r) (lookup (is_at (addr_cmp r)) sites)) }
     {
         let mut renewed = sites;
         for router in routers {
-            self.renew(alloc, edit, after, &mut renewed, *router)?;
+            self.renew(alloc, edit, after, &mut renewed, *router, turned)?;
         }
         Ok(renewed)
     }
@@ -114,15 +119,17 @@ impl Conf {
         &self,
         alloc: Global,
         edit: &Edit,
-        after: &ConfTrees,
+        after: &ConfSessions,
         sites: &mut SharedMap<Addr, SharedSite>,
         router: Addr,
+        turned: &BTreeSet<Addr>,
     ) -> Result<(), AllocError>
         requires passes { refusal_of self.now edit.now ≡ None }
         requires made { after.now ≡ edited self.now edit.now }
+        requires sessions { SessionsStayBut self.now after.now turned.now.keys }
         ensures { OnOk result ((r : Addr) → lookup (is_at (addr_cmp r)) sites.new ≡ cond (is_at (addr_cmp router) r) (site_kept after.now router) (lookup (is_at (addr_cmp r)) sites.old)) }
     {
-        match self.site_after(alloc, edit, after, router)? {
+        match self.site_after(alloc, edit, after, router, turned)? {
             Some(site) => {
                 let shared = SharedSite::of(alloc, site)?;
                 sites.put(alloc, router, shared)?;
@@ -141,15 +148,17 @@ impl Conf {
         &self,
         alloc: Global,
         edit: &Edit,
-        after: &ConfTrees,
+        after: &ConfSessions,
         router: Addr,
+        turned: &BTreeSet<Addr>,
     ) -> Result<Option<SiteConf>, AllocError>
         requires passes { refusal_of self.now edit.now ≡ None }
         requires made { after.now ≡ edited self.now edit.now }
+        requires sessions { SessionsStayBut self.now after.now turned.now.keys }
         ensures { IfOk result (λ site. site ≡ site_kept after.now router) }
     {
         if after.ends_session(router) {
-            let site = self.site_of_end(alloc, edit, after, router)?;
+            let site = self.site_of_end(alloc, edit, after, router, turned)?;
             Ok(site)
         } else {
             Ok(None)
@@ -161,16 +170,18 @@ impl Conf {
         &self,
         alloc: Global,
         edit: &Edit,
-        after: &ConfTrees,
+        after: &ConfSessions,
         router: Addr,
+        turned: &BTreeSet<Addr>,
     ) -> Result<Option<SiteConf>, AllocError>
         requires passes { refusal_of self.now edit.now ≡ None }
         requires made { after.now ≡ edited self.now edit.now }
+        requires sessions { SessionsStayBut self.now after.now turned.now.keys }
         requires ends { ends_session after.now router ≡ true }
         ensures { IfOk result (λ site. site ≡ router_site after.now router) }
     {
         match edit.link() {
-            Some(_) => self.site_relinked(alloc, after, router),
+            Some(_) => self.site_relinked(alloc, after, router, turned),
             None => self.site_unlinked(alloc, edit, after, router),
         }
     }
@@ -180,7 +191,7 @@ impl Conf {
         &self,
         alloc: Global,
         edit: &Edit,
-        after: &ConfTrees,
+        after: &ConfSessions,
         router: Addr,
     ) -> Result<Option<SiteConf>, AllocError>
         requires made { after.now ≡ edited self.now edit.now }
@@ -197,7 +208,7 @@ impl Conf {
     fn site_reoriginated(
         &self,
         alloc: Global,
-        after: &ConfTrees,
+        after: &ConfSessions,
         router: Addr,
     ) -> Result<Option<SiteConf>, AllocError>
         requires reoriginated { IsReoriginated self.now after.now router }
@@ -217,24 +228,26 @@ impl Conf {
     fn site_relinked(
         &self,
         alloc: Global,
-        after: &ConfTrees,
+        after: &ConfSessions,
         router: Addr,
+        turned: &BTreeSet<Addr>,
     ) -> Result<Option<SiteConf>, AllocError>
         requires linked { IsRelinked self.now after.now }
+        requires sessions { SessionsStayBut self.now after.now turned.now.keys }
         requires ends { ends_session after.now router ≡ true }
         ensures { IfOk result (λ site. site ≡ router_site after.now router) }
     {
         match self.kept_site(router) {
             None => Ok(None),
             Some(old) => {
-                let site = after.relinked(alloc, router, old)?;
+                let site = after.relinked(alloc, router, old, turned)?;
                 Ok(Some(site))
             }
         }
     }
 }
 
-impl ConfTrees {
+impl ConfSessions {
     /// The old site, with the prefixes that the router originates by this configuration.
     fn reoriginated(
         &self,
@@ -249,30 +262,52 @@ impl ConfTrees {
             asn: old.asn,
             cluster: old.cluster,
             reflector: old.reflector,
-            origins: SharedSeq::of(alloc, self.tables.origins_of(alloc, router)?)?,
+            origins: SharedSeq::of(alloc, self.tables().origins_of(alloc, router)?)?,
             sessions: old.sessions.share()?,
             costs: old.costs.copy(alloc)?,
         })
     }
 
     /// The old site, with its costs and the state of its sessions by this configuration.
-    fn relinked(&self, alloc: Global, router: Addr, old: &SiteConf) -> Result<SiteConf, AllocError>
-        requires { ends_session self.now router ≡ true }
+    fn relinked(
+        &self,
+        alloc: Global,
+        router: Addr,
+        old: &SiteConf,
+        turned: &BTreeSet<Addr>,
+    ) -> Result<SiteConf, AllocError>
+        requires ends { ends_session self.now router ≡ true }
+        requires stay { is_among router turned.now.keys ≡ false → map (asked self.now router) old.now.sessions ≡ old.now.sessions }
         ensures { IfOk result (λ site. site ≡ relinked self.now router old.now) }
     {
-        let _ = &self.tables;
+        self.facts();
         Ok(SiteConf {
             me: old.me,
             asn: old.asn,
             cluster: old.cluster,
             reflector: old.reflector,
             origins: old.origins.share()?,
-            sessions: SharedSeq::of(
-                alloc,
-                self.asked_again(alloc, router, old.sessions.as_slice())?,
-            )?,
+            sessions: self.sessions_again(alloc, router, &old.sessions, turned)?,
             costs: self.costs(alloc, router)?,
         })
+    }
+
+    /// The sessions of the router, each up or down as it is by this configuration: the same list, where none of them may have turned.
+    fn sessions_again(
+        &self,
+        alloc: Global,
+        router: Addr,
+        sessions: &SharedSeq<SiteSession>,
+        turned: &BTreeSet<Addr>,
+    ) -> Result<SharedSeq<SiteSession>, AllocError>
+        requires { is_among router turned.now.keys ≡ false → map (asked self.now router) sessions.now ≡ sessions.now }
+        ensures { IfOk result (λ again. again ≡ map (asked self.now router) sessions.now) }
+    {
+        if turned.contains(&router) {
+            SharedSeq::of(alloc, self.asked_again(alloc, router, sessions.as_slice())?)
+        } else {
+            sessions.share()
+        }
     }
 
     /// The sessions of the router, each up or down as it is by this configuration.
@@ -311,11 +346,4 @@ impl ConfTrees {
             policy_out: session.policy_out.copy(alloc)?,
         })
     }
-}
-
-/// The addresses, in order.
-fn listed(alloc: Global, addrs: &BTreeSet<Addr>) -> Result<Vec<Addr>, AllocError>
-    ensures { IfOk result (λ v. v.items ≡ addrs.now.keys) }
-{
-    addrs.iter().map(|addr| *addr).collect(alloc)
 }

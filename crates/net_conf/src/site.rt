@@ -4,8 +4,8 @@ ghost use Rattle.std.specs.Prelude.{◌≡◌};
 ghost use Rattle.net_conf.specs.Sites.{peer_in};
 
 use crate::conf::Conf;
+use crate::conf_sessions::ConfSessions;
 use crate::conf_tables::ConfTables;
-use crate::conf_trees::ConfTrees;
 use crate::refusal::Refusal;
 use crate::tables::Ends;
 use igp_cost::Tree;
@@ -128,18 +128,18 @@ impl Conf {
     pub fn site_at(&self, alloc: Global, router: Addr) -> Result<Option<SiteConf>, AllocError>
         ensures { IfOk result (λ site. site ≡ site_of self.now router) }
     {
-        self.trees.site_at(alloc, router)
+        self.sessions.site_at(alloc, router)
     }
 
     /// The router's own part of the configuration, where there is a router: none where a virtual peer stands.
     pub fn router_site(&self, alloc: Global, router: Addr) -> Result<Option<SiteConf>, AllocError>
         ensures { IfOk result (λ site. site ≡ router_site self.now router) }
     {
-        self.trees.router_site(alloc, router)
+        self.sessions.router_site(alloc, router)
     }
 }
 
-impl ConfTrees {
+impl ConfSessions {
     ghost use Rattle.std.specs.Prelude.{◌≡◌, map, IfOk};
     ghost use Rattle.net_conf.specs.Sites.{session_of, sessions_of, site_of};
     ghost use Rattle.net_conf.specs.RouterSites.{router_site};
@@ -153,15 +153,15 @@ impl ConfTrees {
     ) -> Result<Option<SiteConf>, AllocError>
         ensures { IfOk result (λ site. site ≡ site_of self.now router) }
     {
-        let Some(node) = self.tables.node(router) else {
+        let Some(node) = self.tables().node(router) else {
             return Ok(None);
         };
         Ok(Some(SiteConf {
             me: router,
             asn: node.asn,
-            cluster: self.tables.cluster_id(router),
-            reflector: self.tables.is_reflector(router),
-            origins: SharedSeq::of(alloc, self.tables.origins_of(alloc, router)?)?,
+            cluster: self.tables().cluster_id(router),
+            reflector: self.tables().is_reflector(router),
+            origins: SharedSeq::of(alloc, self.tables().origins_of(alloc, router)?)?,
             sessions: SharedSeq::of(alloc, self.sessions_of(alloc, router)?)?,
             costs: self.costs(alloc, router)?,
         }))
@@ -175,7 +175,7 @@ impl ConfTrees {
     ) -> Result<Option<SiteConf>, AllocError>
         ensures { IfOk result (λ site. site ≡ router_site self.now router) }
     {
-        if self.tables.is_virtual(router) {
+        if self.tables().is_virtual(router) {
             Ok(None)
         } else {
             self.site_at(alloc, router)
@@ -188,13 +188,13 @@ impl ConfTrees {
     {
         Ok(SiteSession {
             peer,
-            peer_asn: self.tables.as_of(peer),
+            peer_asn: self.tables().as_of(peer),
             up: self.is_up(router, peer),
-            external: self.tables.is_external(router, peer),
-            client: self.tables.is_client(router, peer),
-            own_next: self.tables.puts_itself(router, peer),
-            policy_in: self.tables.import_policy(alloc, router, peer)?,
-            policy_out: self.tables.export_policy(alloc, router, peer)?,
+            external: self.tables().is_external(router, peer),
+            client: self.tables().is_client(router, peer),
+            own_next: self.tables().puts_itself(router, peer),
+            policy_in: self.tables().import_policy(alloc, router, peer)?,
+            policy_out: self.tables().export_policy(alloc, router, peer)?,
         })
     }
 
@@ -202,7 +202,7 @@ impl ConfTrees {
     fn sessions_of(&self, alloc: Global, router: Addr) -> Result<Vec<SiteSession>, AllocError>
         ensures { IfOk result (λ sessions. sessions.items ≡ sessions_of self.now router) }
     {
-        let peers = self.tables.peers_of(alloc, router)?;
+        let peers = self.tables().peers_of(alloc, router)?;
         self.sessions_with(alloc, router, &peers)
     }
 

@@ -34,7 +34,7 @@ invariant_of-self g c =
     let shown : x ≡ c.args.edited = ap (λ v. record { conf = v.conf; directions = v.directions; changes = v.changes }) c.into_inner-conf.ensures ∙ c.edited.view_is in
     let edit = c.requires.of.edit in
     let is : IsPlanned e edit x = subst (λ n. IsPlanned n edit x) (sym c.self.view_is) (subst (IsPlanned c.args.self.now edit) (sym shown) c.requires.of.is) in
-    let cleared : IsCleared e x.conf c.clear_down.new.queues = record { up = c.clear_down.ensures.up; down = rw c.as_slice.ensures at c.clear_down.ensures.down; empty = c.clear_down.ensures.empty } in
+    let cleared : IsCleared e x.conf c.clear_down.new.queues = record { up = c.clear_down.ensures.up; down = c.clear_down.ensures.down; empty = c.clear_down.ensures.empty } in
     let pushed : IsPushed x c.clear_down.new.queues c.place_changes.new.queues = rw c.into_vec.ensures at c.place_changes.ensures.queue in
     let placed : c.place_changes.new.tables ≡ with_changes x.changes e.tables = c.place_changes.ensures.tables ∙ ap (λ l. with_changes l e.tables) c.into_vec.ensures in
     let configured = c.facts.ensures.configured in
@@ -51,7 +51,7 @@ returns g c =
     let e : Engine = record { conf = c.self.inside.conf; tables = c.self.inside.tables; directions = c.self.inside.directions; queues = c.self.inside.queues } in
     let x : Planned = record { conf = c.into_inner-conf.result.conf; directions = c.into_inner-conf.result.directions; changes = c.into_inner-conf.result.changes } in
     let shown : x ≡ c.args.edited = ap (λ v. record { conf = v.conf; directions = v.directions; changes = v.changes }) c.into_inner-conf.ensures ∙ c.edited.view_is in
-    let cleared : IsCleared e x.conf c.clear_down.new.queues = record { up = c.clear_down.ensures.up; down = rw c.as_slice.ensures at c.clear_down.ensures.down; empty = c.clear_down.ensures.empty } in
+    let cleared : IsCleared e x.conf c.clear_down.new.queues = record { up = c.clear_down.ensures.up; down = c.clear_down.ensures.down; empty = c.clear_down.ensures.empty } in
     let pushed : IsPushed x c.clear_down.new.queues c.place_changes.new.queues = rw c.into_vec.ensures at c.place_changes.ensures.queue in
     let placed : c.place_changes.new.tables ≡ with_changes x.changes e.tables = c.place_changes.ensures.tables ∙ ap (λ l. with_changes l e.tables) c.into_vec.ensures in
     λ edit given.
