@@ -16,6 +16,6 @@ with_attr pool attr = if has_attr pool attr then pool else pool ++ attr ∷ []
 abbrev pub KeepsNumbers : List Attr → List Attr → Type 0
 KeepsNumbers old new = (n : ℕ) (attr : Attr) → slice_get old n ≡ Some attr → slice_get new n ≡ Some attr
 
--- attributes have one number
+-- equal attributes have one number
 abbrev pub HaveOneNumber : List Attr → Type 0
 HaveOneNumber pool = (m n : ℕ) (attr : Attr) → slice_get pool m ≡ Some attr → slice_get pool n ≡ Some attr → m ≡ n

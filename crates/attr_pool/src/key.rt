@@ -7,7 +7,7 @@ use path_attr::Attr;
 use std::hash::{Hash, Hasher};
 use std::marker::Model;
 
-/// Attributes, which are found by all seven. A hash reads each of them whole, so that none can be varied without its changing.
+/// Attributes, which are compared by all seven. A hash reads all seven whole.
 #[derive(Debug, Drop)]
 pub(crate) struct Key {
     attr: Attr,
