@@ -3,7 +3,7 @@ use Rattle.std.proofs.Common.{◌≡◌, List, [], ◌∷◌, ◌++◌, map, fil
 use Rattle.std.proofs.lemmas.List.{map-append, append-nil}
 use Rattle.std.specs.Prelude.{Result, MatchResult}
 use Rattle.std.specs.Borrow.{Bor}
-use Rattle.std.specs.List.{AllZip, flat_map}
+use Rattle.std.specs.List.{AllZip}
 use Rattle.std.specs.declared.vec.Vec.{Vec}
 use Rattle.std.specs.FinMap as finite
 use Rattle.net_prefix.specs.declared.addr.Addr.{Addr}
@@ -11,9 +11,8 @@ use Rattle.net_prefix.specs.Block.{Block}
 use Rattle.prefix_table.specs.Tables.{Table}
 use Rattle.router_tables.specs.RouterTables.{table_at}
 use Rattle.route_cell.specs.Cells.{Heard}
-use Rattle.cell_network.specs.Changes.{Change}
 use Rattle.cell_network.specs.Moves.{is_moved_by}
-use Rattle.cell_engine.specs.Changes.{Becoming, MovedCell, RouterEdit, change_of, change_at, moved_cells, all_moved, edit_becoming, edit_changes, all_changes}
+use Rattle.cell_engine.specs.Changes.{Becoming, RouterEdit, change_of, change_at, moved_cells, all_moved, edit_becoming, edit_changes, all_changes}
 
 -- IN THREADS
 

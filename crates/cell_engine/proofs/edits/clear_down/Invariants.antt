@@ -14,3 +14,4 @@ invariant-loop-direction l =
     × ((d : Direction) → list_any (is_direction d) (take l.direction-index l.directions) ≡ true → is_up l.conf d.from d.to ≡ false → queue_at l.queues d.from d.to ≡ [])
     × ((f t : Addr) → queue_at l.initial.queues f t ≡ [] → queue_at l.queues f t ≡ [])
     × ((f t : Addr) → spare_at l.queues f t ≡ spare_at l.initial.queues f t)
+    × (l.queues.admitted ≡ l.initial.queues.admitted)

@@ -1,4 +1,4 @@
-use Rattle.std.proofs.Common.{◌≡◌, ap, ◌∙◌}
+use Rattle.std.proofs.Common.{ap, ◌∙◌}
 use Rattle.cell_engine.specs.Edits.{has_router_kind}
 use Rattle.cell_engine.proofs.Redecided.{router_by_kind}
 use Rattle.cell_engine.proofs.edits.is_router.Goals as goal

@@ -1,8 +1,7 @@
-use Rattle.std.proofs.Common.{◌≡◌, ◌++◌, ◌∷◌, [], OnOk, sym, ap, subst, ◌∙◌}
+use Rattle.std.proofs.Common.{◌++◌, sym, ap, ◌∙◌}
 use Rattle.std.proofs.lemmas.List.{append-nil}
 use Rattle.cell_network.proofs.Unmoved.{none_of_router}
-use Rattle.cell_engine.specs.Changes.{RouterEdit, all_changes, edit_changes}
-use Rattle.cell_engine.proofs.Deciding.{one_router_more}
+use Rattle.cell_engine.specs.Changes.{all_changes}
 use Rattle.cell_engine.proofs.state.State.add_concerned.Goals as goal
 
 pub returns-then-not-contains : goal.returns-then-not-contains
