@@ -43,7 +43,7 @@ pub record IsOfEdit (e : Engine) (x : Planned) : Type 0 where
   pub edit : Edit
   pub is : IsPlanned e edit x
 
--- each message that will be sent has a place in its queue, and may be sent
+-- each message that will be sent has a place in its queue, and is admitted
 pub record HasPlaces (e : Engine) (x : Planned) : Type 0 where
   pub places : (f t : Addr) → length (told_by_all (sends_for x.changes) f t) ≤ spare_at e.queues f t
   pub admitted : AreAllAdmitted e.queues.admitted x.changes
