@@ -5,15 +5,17 @@ ghost use Rattle.session_queue.specs.Shards.{shard_of};
 ghost use Rattle.desk.specs.Books.{blank_seats, is_memory, noted};
 ghost use Rattle.desk.specs.Desks.{AreSeats, AreShards, GoesOn, IsOpenFault, IsReplied, IsTaken, IsNoted, IsSeatAfter};
 
+use crate::posts::{Bells, Concerned, Posts};
 use crate::room::{Audit, CommitFault, Committed, Done, Job, Jobs, Outcomes, Progress, Room, Seat};
 use cell_engine::Cell;
+use net_prefix::Addr;
 use prefix_table::PrefixTable;
 use route_select::{Chosen, Selector};
 use sim_event::{Event, Reply};
 use std::alloc::{AllocError, Global};
 use std::marker::Model;
 use std::sync::ledger::{Blank, Ledger};
-use std::sync::{Condvar, Mutex, Wait};
+use std::sync::{Mutex, Wait};
 use std::thread::Threads;
 
 /// The most seats of a desk.
@@ -41,10 +43,7 @@ struct Table<S: Chosen, T: PrefixTable<Cell<S>>, L: Ledger> {
     is_finished: bool,
     /// How many workers are at the desk.
     workers: u64,
-    /// How many of them have looked for a job since the last change, and found none.
-    idle: u64,
-    /// How many changes there were. It wraps.
-    changes: u64,
+    posts: Posts,
 }
 
 /// A room under one lock, at which several work: engineers make calls, and workers take jobs, each of the receivers of one shard. Contracts
@@ -53,8 +52,8 @@ struct Table<S: Chosen, T: PrefixTable<Cell<S>>, L: Ledger> {
 pub struct Desk<S: Chosen, T: PrefixTable<Cell<S>>, L: Ledger> {
     alloc: Global,
     table: Mutex<Table<S, T, L>>,
-    /// Tells those who wait that a call was made, an outcome put in, or that somebody left.
-    changed: Condvar,
+    /// Wakes the workers who wait, where a message may wait for them, or where they may end.
+    bells: Bells,
     shards: u64,
 }
 
@@ -65,7 +64,7 @@ impl<S: Chosen, T: PrefixTable<Cell<S>>, L: Ledger> Model for Desk<S, T, L> {
 
     ghost view = { λ d. record { shards = d.shards } };
 
-    ghost invariant = { λ d. AreShards d.shards };
+    ghost invariant = { λ d. AreShards d.shards × (d.bells ≡ d.shards) };
 }
 
 /// What a worker finds at the desk.
@@ -100,30 +99,43 @@ impl<S: Chosen, T: PrefixTable<Cell<S>>, L: Ledger> Desk<S, T, L> {
         if shards < 1 || shards > MAX_SHARDS {
             return Err(OpenFault::Shards);
         }
-        match Room::new(alloc, seats, blank) {
-            Ok((room, all)) => Ok((Desk::of(alloc, room, shards), all)),
-            Err(_) => Err(OpenFault::Memory),
+        let Ok((room, all)) = Room::new(alloc, seats, blank) else {
+            return Err(OpenFault::Memory);
+        };
+        match Desk::of(alloc, room, shards) {
+            Ok(desk) => Ok((desk, all)),
+            Err(_) => {
+                drop(all);
+                Err(OpenFault::Memory)
+            }
         }
     }
 
     /// The room, under a lock.
-    fn of(alloc: Global, room: Room<S, T, L>, shards: u64) -> Self
+    fn of(alloc: Global, room: Room<S, T, L>, shards: u64) -> Result<Self, AllocError>
         requires { AreShards shards }
-        ensures { result.shards ≡ shards }
+        ensures { IfOk result (λ desk. desk.shards ≡ shards) }
     {
+        let Ok(posts) = Posts::new(alloc, shards) else {
+            drop(room);
+            return Err(AllocError);
+        };
+        let Ok(bells) = Bells::new(alloc, shards) else {
+            drop((room, posts));
+            return Err(AllocError);
+        };
         let table = Table {
             room,
             is_finished: false,
             workers: 0,
-            idle: 0,
-            changes: 0,
+            posts,
         };
-        Desk {
+        Ok(Desk {
             alloc,
             table: Mutex::new(table),
-            changed: Condvar::new(),
+            bells,
             shards,
-        }
+        })
     }
 
     /// How many shards there are: 1 to 64.
@@ -155,9 +167,7 @@ impl<S: Chosen, T: PrefixTable<Cell<S>>, L: Ledger> Desk<S, T, L> {
     pub fn finish_calls<R: Wait>(&self, rt: &R) {
         let mut table = self.table.lock(rt);
         table.is_finished = true;
-        let wakes = table.note_change();
-        drop(table);
-        self.wake(wakes);
+        self.bells.ring_all(&mut table.posts);
     }
 
     /// The room, once nobody is at the desk.
@@ -175,15 +185,57 @@ impl<S: Chosen, T: PrefixTable<Cell<S>>, L: Ledger> Desk<S, T, L> {
     pub(crate) fn leave<R: Wait>(&self, rt: &R) {
         let mut table = self.table.lock(rt);
         table.workers = table.workers.wrapping_sub(1);
-        let wakes = table.note_change();
-        drop(table);
-        self.wake(wakes);
+        self.bells.ring_all(&mut table.posts);
     }
 
-    /// Wakes those who wait, where somebody does.
-    fn wake(&self, wakes: bool) {
-        if wakes {
-            self.changed.notify_all();
+    /// Wakes those whom a call concerns: nobody, while no message waits.
+    fn tell(&self, table: &mut Table<S, T, L>, concerned: Concerned) {
+        if table.posts.idle() == 0 || table.room.is_quiet() {
+            return;
+        }
+        match concerned {
+            Concerned::Nobody => {}
+            Concerned::Receiver(receiver) => self.tell_receiver(&mut table.posts, receiver),
+            Concerned::ReceiversFrom(sender) => self.tell_receivers(table, sender),
+            Concerned::Everybody => self.bells.ring_all(&mut table.posts),
+        }
+    }
+
+    /// A message may wait for the receiver.
+    fn tell_receiver(&self, posts: &mut Posts, receiver: Addr) {
+        self.bells.ring(posts, u64::from(receiver.0) % self.shards);
+    }
+
+    /// Wakes those for whose receivers a message waits from the sender.
+    fn tell_receivers(&self, table: &mut Table<S, T, L>, sender: Addr) {
+        let mut next = table.room.first_receiver(sender);
+        for _ in 0..u64::MAX {
+            let Some(receiver) = next else {
+                return;
+            };
+            self.tell_receiver(&mut table.posts, receiver);
+            next = table.room.next_receiver(sender, receiver);
+        }
+    }
+
+    /// Wakes those for whose receivers a message is sent where the outcome is put in.
+    fn tell_sends(&self, posts: &mut Posts, done: &Done<S>) {
+        for (receiver, _) in &done.outcome().sends {
+            self.tell_receiver(posts, *receiver);
+        }
+    }
+
+    /// The same of several outcomes.
+    fn tell_all_sends(&self, posts: &mut Posts, outcomes: &Outcomes<S>) {
+        for done in outcomes.as_slice() {
+            self.tell_sends(posts, done);
+        }
+    }
+
+    /// Wakes all once they may end: no calls come, and no message waits.
+    fn tell_end(&self, table: &mut Table<S, T, L>) {
+        if table.is_finished && table.room.is_quiet() {
+            self.bells.ring_all(&mut table.posts);
         }
     }
 }
@@ -195,10 +247,10 @@ impl<S: Selector + Send + Sync + Drop, T: PrefixTable<Cell<S>> + Drop, L: Ledger
         ensures seat { seat.new ≡ noted seat.old event result }
         ensures reply { is_memory result ≡ false → IsReplied event result }
     {
+        let concerned = Concerned::by(&event);
         let mut table = self.table.lock(rt);
-        let (reply, wakes) = table.call(rt, seat, event);
-        drop(table);
-        self.wake(wakes);
+        let reply = table.call(rt, seat, event);
+        self.tell(&mut table, concerned);
         reply
     }
 }
@@ -218,10 +270,9 @@ impl<S: Chosen + Drop, T: PrefixTable<Cell<S>> + Drop, L: Ledger> Desk<S, T, L> 
         ensures seat { OnErr result (seat.new ≡ seat.old) }
     {
         let mut table = self.table.lock(rt);
+        self.tell_sends(&mut table.posts, &done);
         let committed = table.commit(seat, done);
-        let wakes = table.note_change();
-        drop(table);
-        self.wake(wakes);
+        self.tell_end(&mut table);
         committed
     }
 
@@ -230,10 +281,9 @@ impl<S: Chosen + Drop, T: PrefixTable<Cell<S>> + Drop, L: Ledger> Desk<S, T, L> 
         ensures { GoesOn seat.old seat.new }
     {
         let mut table = self.table.lock(rt);
+        self.tell_all_sends(&mut table.posts, &outcomes);
         table.room.commit_all(seat, outcomes);
-        let wakes = table.note_change();
-        drop(table);
-        self.wake(wakes);
+        self.tell_end(&mut table);
     }
 }
 
@@ -251,6 +301,7 @@ impl<S: Selector + Drop, T: PrefixTable<Cell<S>> + Drop, L: Ledger> Desk<S, T, L
     pub(crate) fn next_turn<R: Wait>(&self, rt: &R, shard: u64, most: usize) -> Turn<S>
         requires { shard < self.now.shards }
     {
+        let bell = self.bells.of(shard);
         let mut table = self.table.lock(rt);
         for _ in rt.forever() {
             let Ok(jobs) = table.room.jobs(shard, self.shards, most) else {
@@ -260,15 +311,12 @@ impl<S: Selector + Drop, T: PrefixTable<Cell<S>> + Drop, L: Ledger> Desk<S, T, L
                 return Turn::Jobs(jobs);
             }
             drop(jobs);
-            table.idle = table.idle.wrapping_add(1);
+            let seen = table.posts.rest(shard);
             if table.is_over() {
                 return Turn::End;
             }
             let is_finished = table.is_finished;
-            let seen = table.changes;
-            table = self
-                .changed
-                .wait_while(rt, table, |now| now.changes == seen);
+            table = bell.wait_while(rt, table, |now| now.posts.changes(shard) == seen);
             if is_finished {
                 return Turn::Nothing;
             }
@@ -286,32 +334,19 @@ impl<S: Chosen, T: PrefixTable<Cell<S>>, L: Ledger> Table<S, T, L> {
         self.room.audit(seat)
     }
 
-    /// Who waits has to look again. Whether somebody does.
-    fn note_change(&mut self) -> bool
-        ensures { self.new.room ≡ self.old.room }
-    {
-        let is_awaited = self.idle > 0;
-        self.changes = self.changes.wrapping_add(1);
-        self.idle = 0;
-        is_awaited
-    }
-
     /// Whether the engineers have finished, and no message waits, or no worker has found a job since the last change.
     fn is_over(&self) -> bool {
-        self.is_finished && (self.room.is_quiet() || self.idle >= self.workers)
+        self.is_finished && (self.room.is_quiet() || self.posts.idle() >= self.workers)
     }
 }
 
 impl<S: Selector + Send + Sync + Drop, T: PrefixTable<Cell<S>> + Drop, L: Ledger> Table<S, T, L> {
-    /// The reply, and whether somebody waits for a change.
-    fn call<R: Threads + Sync>(&mut self, rt: &R, seat: &mut Seat<L>, event: Event) -> (Reply, bool)
-        ensures seat { seat.new ≡ noted seat.old event result.0 }
-        ensures reply { is_memory result.0 ≡ false → IsReplied event result.0 }
+    fn call<R: Threads + Sync>(&mut self, rt: &R, seat: &mut Seat<L>, event: Event) -> Reply
+        ensures seat { seat.new ≡ noted seat.old event result }
+        ensures reply { is_memory result ≡ false → IsReplied event result }
     {
         self.room.facts();
-        let reply = self.room.step(rt, seat, event);
-        let wakes = self.note_change();
-        (reply, wakes)
+        self.room.step(rt, seat, event)
     }
 }
 

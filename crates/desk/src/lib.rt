@@ -2,6 +2,7 @@
 #![tactic(auto)]
 
 mod desk;
+mod posts;
 mod room;
 mod workers;
 

@@ -4,6 +4,7 @@ ghost use Rattle.std.specs.Prelude.{◌≡◌, length};
 
 use crate::room::Room;
 use cell_engine::Cell;
+use net_prefix::Addr;
 use prefix_table::PrefixTable;
 use route_select::Chosen;
 use session_queue::Queues;
@@ -27,6 +28,21 @@ impl<S: Chosen, T: PrefixTable<Cell<S>>, L: Ledger> Room<S, T, L> {
             calls: self.history.len() as u64,
             waiting: waiting_in(self.sim.state().queues()),
         }
+    }
+
+    /// The first to whom a message waits from the sender, by address.
+    pub(crate) fn first_receiver(&self, sender: Addr) -> Option<Addr> {
+        let least = Addr(0);
+        if self.sim.state().queues().len(sender, least) > 0 {
+            return Some(least);
+        }
+        self.next_receiver(sender, least)
+    }
+
+    /// The next one past this one.
+    pub(crate) fn next_receiver(&self, sender: Addr, past: Addr) -> Option<Addr> {
+        let (from, to) = self.sim.state().queues().next_full(Some((sender, past)))?;
+        if from == sender { Some(to) } else { None }
     }
 }
 

@@ -28,6 +28,9 @@ impl<S: Selector + Drop, T: PrefixTable<Cell<S>>, L: Ledger> Room<S, T, L> {
         ensures shard { IfOk result (λ found. IfSome found (λ job. shard_of job.direction.to shards ≡ shard)) }
         ensures none { IfOk result (λ found. found ≡ None → (from to : address.Addr) → shard_of to shards ≡ shard → queue_at self.now.engine.queues from to ≡ []) }
     {
+        if self.is_quiet() {
+            return Ok(None);
+        }
         match self.sim.state().queues().next_in(shard, shards) {
             None => Ok(None),
             Some(direction) => {

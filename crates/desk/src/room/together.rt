@@ -86,6 +86,12 @@ impl<S: Chosen> Outcomes<S> {
         Outcomes { outcomes }
     }
 
+    pub(crate) fn as_slice(&self) -> &[Done<S>]
+        ensures { result.now ≡ self.now }
+    {
+        &self.outcomes
+    }
+
     /// The outcomes, one by one.
     pub(super) fn into_vec(self) -> Vec<Done<S>>
         ensures outcomes { result.items ≡ self }
