@@ -1,0 +1,35 @@
+//! The hasher that each hash of a pool begins with.
+
+use std::hash::{BuildHasher, DefaultHasher, RandomState};
+
+/// SipHash-1-3, which has read its keys and nothing more.
+#[derive(Clone, Copy, Debug)]
+pub(crate) struct FirstHasher {
+    hasher: DefaultHasher,
+}
+
+impl FirstHasher {
+    /// Under keys that everybody knows: both are 0.
+    pub(crate) fn known() -> FirstHasher {
+        FirstHasher {
+            hasher: DefaultHasher::new(),
+        }
+    }
+
+    /// Under these keys. Whoever does not know them cannot choose attributes whose hashes meet.
+    pub(crate) fn keyed(keys: RandomState) -> FirstHasher {
+        FirstHasher {
+            hasher: keys.build_hasher(),
+        }
+    }
+}
+
+impl BuildHasher for FirstHasher {
+    type Hasher = DefaultHasher;
+
+    ghost build_hasher = { λ first. first.hasher };
+
+    fn build_hasher(&self) -> DefaultHasher {
+        self.hasher
+    }
+}
