@@ -9,18 +9,14 @@ pub(crate) struct FirstHasher {
 }
 
 impl FirstHasher {
-    /// Under keys that everybody knows: both are 0.
-    pub(crate) fn known() -> FirstHasher {
-        FirstHasher {
-            hasher: DefaultHasher::new(),
-        }
-    }
-
-    /// Under these keys. Whoever does not know them cannot choose attributes whose hashes meet.
-    pub(crate) fn keyed(keys: RandomState) -> FirstHasher {
-        FirstHasher {
-            hasher: keys.build_hasher(),
-        }
+    /// Under these keys: whoever does not know them cannot choose attributes whose hashes meet. With none, under keys that everybody
+    /// knows: both are 0.
+    pub(crate) fn keyed(keys: Option<RandomState>) -> FirstHasher {
+        let hasher = match keys {
+            Some(keys) => keys.build_hasher(),
+            None => DefaultHasher::new(),
+        };
+        FirstHasher { hasher }
     }
 }
 

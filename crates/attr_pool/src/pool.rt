@@ -35,17 +35,9 @@ impl Model for Pool {
 }
 
 impl Pool {
-    /// The empty pool. It takes no memory. Whoever knows the program can choose attributes that make it slow.
-    pub fn new(alloc: Global) -> Pool
-        ensures { result ≡ [] }
-    {
-        Pool {
-            attrs: IndexSet::with_hasher(alloc, FirstHasher::known()),
-        }
-    }
-
-    /// The empty pool, which takes no memory, and which nobody who does not know the keys can make slow by a choice of attributes.
-    pub fn with_keys(alloc: Global, keys: RandomState) -> Pool
+    /// The empty pool. It takes no memory. Nobody who does not know the keys can make it slow by a choice of attributes; with none,
+    /// whoever knows the program can.
+    pub fn new(alloc: Global, keys: Option<RandomState>) -> Pool
         ensures { result ≡ [] }
     {
         Pool {

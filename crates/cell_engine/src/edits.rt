@@ -192,6 +192,7 @@ fn clear_down(queues: &mut Queues, conf: &Conf)
 fn clear_all(queues: &mut Queues, sessions: &[Ends])
     ensures queue { (f t : Addr) → queue_at queues.new f t ≡ (if list_any (is_of f t) sessions.now then [] else queue_at queues.old f t) }
     ensures spare { (f t : Addr) → spare_at queues.new f t ≡ spare_at queues.old f t }
+    ensures admitted { queues.new.admitted ≡ queues.old.admitted }
 {
     for ends in sessions {
         clear_both(queues, *ends);
@@ -202,6 +203,7 @@ fn clear_all(queues: &mut Queues, sessions: &[Ends])
 fn clear_both(queues: &mut Queues, session: Ends)
     ensures queue { (f t : Addr) → queue_at queues.new f t ≡ (if is_of f t session then [] else queue_at queues.old f t) }
     ensures spare { (f t : Addr) → spare_at queues.new f t ≡ spare_at queues.old f t }
+    ensures admitted { queues.new.admitted ≡ queues.old.admitted }
 {
     queues.clear(session.low, session.high);
     queues.clear(session.high, session.low);

@@ -40,28 +40,16 @@ impl Queues {
     ghost use Rattle.session_queue.specs.Telling.{message_of};
     ghost use Rattle.session_queue.specs.Waiting.{queue_at, spare_at, IsAdmitted, KeepsAdmitted, KeepsOthers, IsQuiet, IsPast, SkipsNone};
 
-    /// No message and no spare place in any direction, and no attributes. It takes no memory. Whoever knows the program can choose
-    /// attributes that make `admit` and `push` slow.
-    pub fn new(alloc: Global) -> Self
+    /// No message and no spare place in any direction, and no attributes. It takes no memory. Nobody who does not know the keys can make
+    /// `admit` and `push` slow by a choice of attributes; with none, whoever knows the program can.
+    pub fn new(alloc: Global, keys: Option<RandomState>) -> Self
         ensures messages { IsQuiet result }
         ensures spare { (from to : Addr) → spare_at result from to ≡ 0 }
         ensures admitted { result.admitted ≡ [] }
     {
         Queues {
             queues: NumberedQueues::new(alloc),
-            pool: Pool::new(alloc),
-        }
-    }
-
-    /// As `new`, but nobody who does not know the keys can make a call slow by a choice of attributes.
-    pub fn with_keys(alloc: Global, keys: RandomState) -> Self
-        ensures messages { IsQuiet result }
-        ensures spare { (from to : Addr) → spare_at result from to ≡ 0 }
-        ensures admitted { result.admitted ≡ [] }
-    {
-        Queues {
-            queues: NumberedQueues::new(alloc),
-            pool: Pool::with_keys(alloc, keys),
+            pool: Pool::new(alloc, keys),
         }
     }
 
