@@ -147,8 +147,13 @@ fn recorded<
     ensures { IfErr result IsOfPlay }
 {
     let seats = scripts.len() as u16 + settings.workers;
-    let Ok((desk, seats)) = Desk::<S, T, L>::open(alloc, keys, seats, u64::from(settings.workers), blank)
-    else {
+    let Ok((desk, seats)) = Desk::<S, T, L>::open(
+        alloc,
+        keys,
+        seats,
+        u64::from(settings.workers),
+        blank,
+    ) else {
         return Err(TeamFault::Memory);
     };
     let told = Told::new(alloc, errors, settings.is_terminal)?;
