@@ -21,9 +21,11 @@ use sim_core::Sim;
 use std::alloc::{AllocError, Global};
 use std::env;
 use std::fs::{File, Files};
+use std::hash::RandomState;
 use std::io::{self, BufWriter, IsTerminal, Write};
 use std::marker::Brand;
 use std::process::ExitCode;
+use std::random::RandomSource;
 use std::sync::Wait;
 use std::sync::ledger::{Blank, Ledger};
 use std::thread::Threads;
@@ -91,7 +93,7 @@ fn without_memory(rt: &impl Eprint) -> ExitCode
 
 /// Serves standard input to standard output.
 fn serve_streams(
-    rt: &(impl Print + Eprint + Input + AllocGlobal + Threads + Sync),
+    rt: &(impl Print + Eprint + Input + AllocGlobal + RandomSource + Threads + Sync),
     errors: impl Write + Drop,
 ) -> ExitCode
     ensures { IsEnd result }
@@ -103,7 +105,7 @@ fn serve_streams(
     let mut input = watched::Input::new(rt.reader());
     let mut output = watched::Output::new(writer);
     let mut errors = watched::Output::new(errors);
-    let mut machine: Engine = Sim::new(alloc);
+    let mut machine: Engine = Sim::new(alloc, drawn_keys(rt));
     let status = run_script(
         rt,
         alloc,
@@ -117,7 +119,7 @@ fn serve_streams(
 
 /// Replays the log on standard input, and tells on standard output what it is found to be.
 fn replay_streams(
-    rt: &(impl Print + Eprint + Input + AllocGlobal + Threads + Sync),
+    rt: &(impl Print + Eprint + Input + AllocGlobal + RandomSource + Threads + Sync),
     errors: impl Write + Drop,
 ) -> ExitCode
     ensures { IsReplayEnd result }
@@ -126,7 +128,7 @@ fn replay_streams(
     let mut input = watched::Input::new(rt.reader());
     let mut output = watched::Output::new(io::writer(rt));
     let mut errors = watched::Output::new(errors);
-    let mut machine: PlainEngine = Sim::new(alloc);
+    let mut machine: PlainEngine = Sim::new(alloc, drawn_keys(rt));
     let status = run_replay(
         rt,
         alloc,
@@ -141,7 +143,7 @@ fn replay_streams(
 /// Runs the team, and writes the log to standard output.
 fn play_team<
     L: Ledger + Send + Sync,
-    R: Print + AllocGlobal + Eprint + Files + Threads + Wait + Sync,
+    R: Print + AllocGlobal + Eprint + Files + RandomSource + Threads + Wait + Sync,
 >(rt: &R, blank: Blank, team: &Team<'_>, errors: impl Write + IsTerminal + Drop + Send) -> ExitCode
     requires name { blank.name ≡ L.name }
     requires ledger { blank.parts ≡ L.parts }
@@ -166,6 +168,7 @@ fn play_team<
     let status = run_team::<GroupCell, TrieTable<Cell<GroupCell>>, L, _, _, _, _>(
         rt,
         alloc,
+        drawn_keys(rt),
         blank,
         settings,
         files,
@@ -173,6 +176,11 @@ fn play_team<
         &mut errors,
     );
     ExitCode::from(status)
+}
+
+/// Keys that nobody else knows, if the system has random bytes to draw them from.
+fn drawn_keys(rt: &impl RandomSource) -> Option<RandomState> {
+    RandomState::new(rt).ok()
 }
 
 /// The files of these names, each opened where that can be done.

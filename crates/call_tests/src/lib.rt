@@ -13,4 +13,6 @@ mod events;
 #[cfg(test)]
 mod machine;
 #[cfg(test)]
+mod pool;
+#[cfg(test)]
 mod queues;

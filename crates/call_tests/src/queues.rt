@@ -1,7 +1,8 @@
 //! A walk over the directions with a message.
 
+use crate::pool::attr;
 use net_prefix::{Addr, Prefix};
-use session_queue::{Message, Queues};
+use session_queue::{Message, Queues, View};
 use std::process::Abort;
 
 const A: Addr = Addr(0x0100_0001);
@@ -17,11 +18,25 @@ fn put(rt: &impl Abort, queues: &mut Queues, from: Addr, to: Addr) {
 
 #[test]
 fn walks_over_full_directions(rt: HostRuntime) {
-    let mut queues = Queues::new(rt.alloc());
+    let mut queues = Queues::new(rt.alloc(), None);
     assert_eq!(rt; queues.next_full(None), None);
     put(&rt, &mut queues, B, A);
     put(&rt, &mut queues, A, B);
     assert_eq!(rt; queues.next_full(None), Some((A, B)));
     assert_eq!(rt; queues.next_full(Some((A, B))), Some((B, A)));
     assert_eq!(rt; queues.next_full(Some((B, A))), None);
+}
+
+#[test]
+fn updates_keep_their_attributes_while_others_come(rt: HostRuntime) {
+    let mut queues = Queues::new(rt.alloc(), None);
+    let all = Prefix::new(Addr(0), 0).expect(&rt, "no host bit is set");
+    for med in 0..100 {
+        queues.admit(&attr(med)).expect(&rt, "memory");
+        queues.reserve(A, B, 1).expect(&rt, "memory");
+        queues.push(A, B, Message::Update(all, attr(med)));
+    }
+    assert_eq!(rt; queues.head(A, B), Some(View::Update(all, &attr(0))));
+    assert_eq!(rt; queues.at(A, B, 99), Some(View::Update(all, &attr(99))));
+    assert_eq!(rt; queues.at(A, B, 100), None);
 }

@@ -1,3 +1,4 @@
+pub mod Admitted
 pub mod Cleared
 pub mod Counts
 pub mod Deciding

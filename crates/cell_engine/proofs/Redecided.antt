@@ -11,7 +11,8 @@ use Rattle.net_prefix.specs.declared.addr.Addr.{Addr}
 use Rattle.net_prefix.specs.Address.{addr_cmp}
 use Rattle.net_prefix.specs.Orders.{addr_exact}
 use Rattle.net_prefix.specs.Block.{Block, block_cmp}
-use Rattle.session_queue.specs.Waiting.{queue_at}
+use Rattle.session_queue.specs.Lines.{messages_at}
+use Rattle.session_queue.specs.Waiting.{nothing_waits, queue_at}
 use Rattle.net_conf.specs.declared.edit.Edit.{Edit}
 use Rattle.net_conf.specs.declared.tables.Node.{Node}
 use Rattle.net_conf.specs.declared.tables.Kind.TheVariants.{Router, Virtual}
@@ -106,15 +107,15 @@ module _ (e : Engine) (sound : IsSound e) (configured : IsConfigured e.conf) (up
   abbrev changes : List Change
   changes = changes_in (scope edit) e.conf new e.tables
 
-  no_queue : (f t : Addr) → queue_at [] f t ≡ []
-  unfolding queue_at
+  no_queue : (f t : Addr) → queue_at nothing_waits f t ≡ []
+  unfolding queue_at messages_at
   no_queue f t = refl
 
   abbrev later : Engine
-  later = edited_engine e edit []
+  later = edited_engine e edit nothing_waits
 
   later_sound : IsSound later
-  later_sound = sound_edited e sound edit allowed [] (λ f t off. no_queue f t)
+  later_sound = sound_edited e sound edit allowed nothing_waits (λ f t off. no_queue f t)
 
   same_network : (r : Addr) (p : Block) → standings_at next r p ≡ standings_at (network later) r p
   unfolding with_sent reconfigured network

@@ -13,6 +13,7 @@ use Rattle.router_tables.specs.RouterTables.{value_at}
 use Rattle.route_cell.specs.Cells.{Heard, Outcome, delivered, stored}
 use Rattle.cell_network.specs.Engine.{Engine, heard_at, all_entries}
 use Rattle.cell_network.specs.Sending.{told}
+use Rattle.cell_engine.specs.Admitting.{AreAdmitted}
 
 -- a router decides, a virtual peer keeps what it receives
 abbrev pub outcome_by : Option SiteConf → Heard → Addr → Message → Outcome
@@ -23,10 +24,11 @@ outcome_by (Some site) h u m = delivered site h u m
 abbrev pub outcome_at : Engine → Direction → Message → Outcome
 outcome_at e d m = outcome_by (router_site e.conf d.to) (heard_at d.to (prefix_of m) e.tables) d.from m
 
--- the router has a cell of the prefix, and each message has a place in its queue
+-- the router has a cell of the prefix, and each message has a place in its queue, and is admitted
 pub record HasRoom (e : Engine) (r : Addr) (p : Block) (sends : List (Addr × Message)) : Type 0 where
   pub cell : is_some (value_at r p e.tables) ≡ true
   pub places : (t : Addr) → length (told t sends) ≤ spare_at e.queues r t
+  pub admitted : AreAdmitted e.queues.admitted sends
 
 -- the outcome is that of the message at the head of the direction's queue
 pub record IsOfHead (e : Engine) (d : Direction) (p : Block) (o : Outcome) : Type 0 where
@@ -36,7 +38,7 @@ pub record IsOfHead (e : Engine) (d : Direction) (p : Block) (o : Outcome) : Typ
   pub prefix : p ≡ prefix_of message
   pub outcome : o ≡ outcome_at e d message
 
--- the two keep the same: empty cells and spare places alone differ
+-- the two keep the same: empty cells, spare places and what is admitted alone differ
 pub record KeepsSame (e e' : Engine) : Type 0 where
   pub conf : e'.conf ≡ e.conf
   pub directions : e'.directions ≡ e.directions

@@ -16,6 +16,7 @@ use Rattle.session_queue.specs.Waiting.{spare_at, same_direction}
 use Rattle.cell_network.specs.Engine.{Engine}
 use Rattle.cell_network.specs.Editing.{with_directions, with_origin, told_by_all}
 use Rattle.cell_network.specs.Changes.{Change, changes_in, sends_for}
+use Rattle.cell_engine.specs.Admitting.{AreAllAdmitted}
 
 -- what will be configured; the directions for that; and the cells that are decided anew, with what each router
 -- sends for that
@@ -43,9 +44,10 @@ pub record IsOfEdit (e : Engine) (x : Planned) : Type 0 where
   pub edit : Edit
   pub is : IsPlanned e edit x
 
--- each message that will be sent has a place in its queue
-abbrev pub HasPlaces : Engine → Planned → Type 0
-HasPlaces e x = (f t : Addr) → length (told_by_all (sends_for x.changes) f t) ≤ spare_at e.queues f t
+-- each message that will be sent has a place in its queue, and is admitted
+pub record HasPlaces (e : Engine) (x : Planned) : Type 0 where
+  pub places : (f t : Addr) → length (told_by_all (sends_for x.changes) f t) ≤ spare_at e.queues f t
+  pub admitted : AreAllAdmitted e.queues.admitted x.changes
 
 -- the cells of routers among those that are decided anew: a virtual peer decides nothing
 abbrev pub refreshed_by : Planned → List (Addr × Block)

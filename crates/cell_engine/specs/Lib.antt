@@ -1,3 +1,4 @@
+pub mod Admitting
 pub mod Changes
 pub mod Coding
 pub mod Counts

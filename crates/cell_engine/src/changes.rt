@@ -10,6 +10,7 @@ ghost use Rattle.cell_network.specs.Editing.{told_by_all};
 ghost use Rattle.cell_network.specs.Changes.{router_changes, changes_in, with_changes, sends_for};
 ghost use Rattle.cell_network.specs.Settled.{AreThere};
 ghost use Rattle.cell_network.specs.Moves.{moves};
+ghost use Rattle.cell_engine.specs.Admitting.{AreAllAdmitted};
 ghost use Rattle.cell_engine.specs.Changes.{moved_cells, all_moved, all_changes};
 
 use crate::becoming::Becoming;
@@ -57,6 +58,7 @@ pub(crate) fn place_changes<S: Selector + Drop, T: PrefixTable<Cell<S>> + Drop>(
 )
     requires there { AreThere changes.items tables.old }
     requires room { (f t : Addr) → length (told_by_all (sends_for changes.items) f t) ≤ spare_at queues.old f t }
+    requires admitted { AreAllAdmitted queues.old.admitted changes.items }
     ensures tables { tables.new ≡ with_changes changes.items tables.old }
     ensures queue { (f t : Addr) → queue_at queues.new f t ≡ queue_at queues.old f t ++ told_by_all (sends_for changes.items) f t }
 {

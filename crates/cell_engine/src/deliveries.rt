@@ -9,8 +9,10 @@ ghost use Rattle.reference_machine.specs.Network.{messages_in};
 ghost use Rattle.reference_machine.specs.Machine.{head_step};
 ghost use Rattle.cell_network.specs.Engine.{network};
 ghost use Rattle.cell_network.specs.Sending.{told, told_from};
+ghost use Rattle.cell_engine.specs.Admitting.{AreAdmitted};
 ghost use Rattle.cell_engine.specs.Deliveries.{outcome_at, HasRoom, IsOfHead, KeepsSame};
 
+use crate::admitting::admit_all;
 use crate::state::State;
 use net_prefix::{Addr, Prefix};
 use prefix_table::PrefixTable;
@@ -37,7 +39,7 @@ fn add_cell<S: Selector + Drop, T: PrefixTable<Cell<S>> + Drop>(
 }
 
 /// Sees to it that there is a place for each message, where each goes to a peer of its own.
-pub(crate) fn reserve_all(
+fn reserve_all(
     queues: &mut Queues,
     router: Addr,
     sends: &[(Addr, Message)],
@@ -46,6 +48,7 @@ pub(crate) fn reserve_all(
     ensures queue { (f t : Addr) → queue_at queues.new f t ≡ queue_at queues.old f t }
     ensures spare { (f t : Addr) → spare_at queues.old f t ≤ spare_at queues.new f t }
     ensures room { OnOk result ((t : Addr) → length (told t sends.now) ≤ spare_at queues.new router t) }
+    ensures admitted { queues.new.admitted ≡ queues.old.admitted }
 {
     for send in sends {
         queues.reserve(router, send.0, 1)?;
@@ -53,11 +56,28 @@ pub(crate) fn reserve_all(
     Ok(())
 }
 
+/// Sees to it that each message may be sent, and has a place, where each goes to a peer of its own.
+pub(crate) fn make_ready(
+    queues: &mut Queues,
+    router: Addr,
+    sends: &[(Addr, Message)],
+) -> Result<(), AllocError>
+    requires { (t : Addr) → length (told t sends.now) ≤ 1 }
+    ensures queue { (f t : Addr) → queue_at queues.new f t ≡ queue_at queues.old f t }
+    ensures room { OnOk result ((t : Addr) → length (told t sends.now) ≤ spare_at queues.new router t) }
+    ensures admitted { OnOk result (AreAdmitted queues.new.admitted sends.now) }
+{
+    admit_all(queues, sends)?;
+    reserve_all(queues, router, sends)
+}
+
 /// Sends each message. It takes no memory.
 pub(crate) fn push_all(queues: &mut Queues, router: Addr, sends: Vec<(Addr, Message)>)
-    requires { (t : Addr) → length (told t sends.items) ≤ spare_at queues.old router t }
+    requires places { (t : Addr) → length (told t sends.items) ≤ spare_at queues.old router t }
+    requires admitted { AreAdmitted queues.old.admitted sends.items }
     ensures queue { (f t : Addr) → queue_at queues.new f t ≡ queue_at queues.old f t ++ told_from router sends.items f t }
     ensures spare { (f t : Addr) → spare_at queues.new f t + length (told_from router sends.items f t) ≡ spare_at queues.old f t }
+    ensures admitted { queues.new.admitted ≡ queues.old.admitted }
 {
     for (peer, message) in sends {
         queues.push(router, peer, message);
@@ -84,8 +104,8 @@ impl<S: Selector + Drop, T: PrefixTable<Cell<S>> + Drop> State<S, T> {
         outcome
     }
 
-    /// Sees to it that what the outcome needs is there: a cell, and a place for each message. The network stays as it is, also at
-    /// an error, which is want of memory.
+    /// Sees to it that what the outcome needs is there: a cell, the attributes that are sent, and a place for each message. The network
+    /// stays as it is, also at an error, which is want of memory.
     pub fn make_room(
         &mut self,
         router: Addr,
@@ -98,7 +118,7 @@ impl<S: Selector + Drop, T: PrefixTable<Cell<S>> + Drop> State<S, T> {
         ensures room { OnOk result (HasRoom self.new router prefix outcome.now.sends) }
     {
         self.make_cell(router, prefix)?;
-        reserve_all(&mut self.queues, router, &outcome.sends)
+        make_ready(&mut self.queues, router, &outcome.sends)
     }
 
     /// Sees to it that the router has a cell of the prefix.

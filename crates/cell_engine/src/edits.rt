@@ -183,6 +183,7 @@ fn clear_down(queues: &mut Queues, conf: &Conf)
     ensures down { (f t : Addr) → has_session conf.now f t ≡ true → is_up conf.now f t ≡ false → queue_at queues.new f t ≡ [] }
     ensures empty { (f t : Addr) → queue_at queues.old f t ≡ [] → queue_at queues.new f t ≡ [] }
     ensures spare { (f t : Addr) → spare_at queues.new f t ≡ spare_at queues.old f t }
+    ensures admitted { queues.new.admitted ≡ queues.old.admitted }
 {
     clear_all(queues, conf.down_sessions());
 }
@@ -191,6 +192,7 @@ fn clear_down(queues: &mut Queues, conf: &Conf)
 fn clear_all(queues: &mut Queues, sessions: &[Ends])
     ensures queue { (f t : Addr) → queue_at queues.new f t ≡ (if list_any (is_of f t) sessions.now then [] else queue_at queues.old f t) }
     ensures spare { (f t : Addr) → spare_at queues.new f t ≡ spare_at queues.old f t }
+    ensures admitted { queues.new.admitted ≡ queues.old.admitted }
 {
     for ends in sessions {
         clear_both(queues, *ends);
@@ -201,6 +203,7 @@ fn clear_all(queues: &mut Queues, sessions: &[Ends])
 fn clear_both(queues: &mut Queues, session: Ends)
     ensures queue { (f t : Addr) → queue_at queues.new f t ≡ (if is_of f t session then [] else queue_at queues.old f t) }
     ensures spare { (f t : Addr) → spare_at queues.new f t ≡ spare_at queues.old f t }
+    ensures admitted { queues.new.admitted ≡ queues.old.admitted }
 {
     queues.clear(session.low, session.high);
     queues.clear(session.high, session.low);
@@ -292,7 +295,7 @@ impl<S: Selector + Drop, T: PrefixTable<Cell<S>> + Drop> State<S, T> {
         }
     }
 
-    /// Sees to it that there is a place for each message that will be sent. The network stays as it is, also at an error, which is
+    /// Sees to it that each message that will be sent may be, and has a place. The network stays as it is, also at an error, which is
     /// want of memory.
     pub fn make_room_for(&mut self, edited: &Edited<S>) -> Result<(), AllocError>
         ensures same { KeepsSame self.old self.new }

@@ -7,9 +7,10 @@ ghost use Rattle.reference_machine.specs.Network.{messages_in};
 ghost use Rattle.reference_machine.specs.Machine.{head_step};
 ghost use Rattle.cell_network.specs.Engine.{network};
 ghost use Rattle.cell_network.specs.Sending.{told};
+ghost use Rattle.cell_engine.specs.Admitting.{AreAdmitted};
 ghost use Rattle.cell_engine.specs.Deliveries.{IsOfHead, KeepsSame};
 
-use crate::deliveries::{push_all, reserve_all};
+use crate::deliveries::{make_ready, push_all};
 use crate::state::State;
 use net_prefix::{Addr, Prefix};
 use prefix_table::PrefixTable;
@@ -40,16 +41,17 @@ impl<S: Chosen + Drop, T: PrefixTable<Cell<S>> + Drop> State<S, T> {
         self.put(direction, prefix, outcome)
     }
 
-    /// Sees to it that there is a place for each message. The network stays as it is, also at an error, which is want of memory.
+    /// Sees to it that each message may be sent, and has a place. The network stays as it is, also at an error, which is want of memory.
     fn make_places(&mut self, router: Addr, sends: &[(Addr, Message)]) -> Result<(), AllocError>
         requires { (t : Addr) → length (told t sends.now) ≤ 1 }
         ensures same { KeepsSame self.old self.new }
         ensures room { OnOk result ((t : Addr) → length (told t sends.now) ≤ spare_at self.new.queues router t) }
+        ensures admitted { OnOk result (AreAdmitted self.new.queues.admitted sends.now) }
     {
-        reserve_all(&mut self.queues, router, sends)
+        make_ready(&mut self.queues, router, sends)
     }
 
-    /// Puts in the outcome's cell, takes the message at the head and sends what changed, for which there are places.
+    /// Puts in the outcome's cell, takes the message at the head and sends what changed, for which all is there.
     fn put(
         &mut self,
         direction: Direction,
@@ -59,6 +61,7 @@ impl<S: Chosen + Drop, T: PrefixTable<Cell<S>> + Drop> State<S, T> {
         requires up { is_up self.old.conf direction.from direction.to ≡ true }
         requires head { IsOfHead self.old direction prefix outcome }
         requires places { (t : Addr) → length (told t outcome.sends) ≤ spare_at self.old.queues direction.to t }
+        requires admitted { AreAdmitted self.old.queues.admitted outcome.sends }
         ensures next { OnOk result (network self.new ≡ (head_step (network self.old) direction (messages_in (network self.old).queues direction)).next) }
         ensures same { OnErr result (self.new ≡ self.old) }
         ensures back { IfErr result (λ back. back ≡ outcome) }

@@ -1,6 +1,7 @@
 //! The engine: tables of cells beside the configuration, and the queues; and what it does with a message and with an edit.
 #![tactic(auto)]
 
+mod admitting;
 mod becoming;
 mod changes;
 mod deliveries;

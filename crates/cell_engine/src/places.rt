@@ -5,8 +5,10 @@ ghost use Rattle.session_queue.specs.Waiting.{queue_at, spare_at, same_direction
 ghost use Rattle.cell_network.specs.Sending.{told_from};
 ghost use Rattle.cell_network.specs.Editing.{told_by_all};
 ghost use Rattle.cell_network.specs.Changes.{sends_for};
+ghost use Rattle.cell_engine.specs.Admitting.{AreAllAdmitted};
 ghost use Rattle.cell_engine.specs.Counts.{count_at};
 
+use crate::admitting::admit_each;
 use crate::changes::Change;
 use net_prefix::Addr;
 use route_select::Selector;
@@ -69,6 +71,7 @@ fn reserve_counts(
 ) -> Result<(), AllocError>
     ensures queue { (f t : Addr) → queue_at queues.new f t ≡ queue_at queues.old f t }
     ensures room { OnOk result ((f t : Addr) → count_at counts.now.entries f t ≤ spare_at queues.new f t) }
+    ensures admitted { queues.new.admitted ≡ queues.old.admitted }
 {
     for (direction, count) in counts {
         queues.reserve(direction.from, direction.to, *count)?;
@@ -76,7 +79,7 @@ fn reserve_counts(
     Ok(())
 }
 
-/// Sees to it that there is a place for each message that the changes send. Each direction is asked for its places once.
+/// Sees to it that each message that the changes send may be sent, and has a place. Each direction is asked for its places once.
 pub(crate) fn reserve_each<S: Selector>(
     alloc: Global,
     queues: &mut Queues,
@@ -84,7 +87,9 @@ pub(crate) fn reserve_each<S: Selector>(
 ) -> Result<(), AllocError>
     ensures queue { (f t : Addr) → queue_at queues.new f t ≡ queue_at queues.old f t }
     ensures room { OnOk result ((f t : Addr) → length (told_by_all (sends_for changes.now) f t) ≤ spare_at queues.new f t) }
+    ensures admitted { OnOk result (AreAllAdmitted queues.new.admitted changes.now) }
 {
+    admit_each(queues, changes)?;
     let counts = counts_of(alloc, changes)?;
     reserve_counts(queues, &counts)
 }

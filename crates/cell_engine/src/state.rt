@@ -22,6 +22,7 @@ use router_tables::RouterTables;
 use seq::Seq;
 use session_queue::{Direction, Queues};
 use std::alloc::{AllocError, Global};
+use std::hash::RandomState;
 use std::marker::Model;
 
 /// What is configured, what was received, by router and prefix with the choice among it, and what is on its way.
@@ -53,8 +54,9 @@ impl<S: Chosen, T: PrefixTable<Cell<S>>> Model for State<S, T> {
 }
 
 impl<S: Chosen, T: PrefixTable<Cell<S>>> State<S, T> {
-    /// Nothing is configured, received or on its way. It takes no memory.
-    pub fn new(alloc: Global) -> Self
+    /// Nothing is configured, received or on its way. It takes no memory. Nobody who does not know the keys can make it slow by a choice
+    /// of attributes; with none, whoever knows the program can.
+    pub fn new(alloc: Global, keys: Option<RandomState>) -> Self
         ensures { network result ≡ nothing }
     {
         State {
@@ -62,7 +64,7 @@ impl<S: Chosen, T: PrefixTable<Cell<S>>> State<S, T> {
             conf: Conf::new(alloc),
             tables: RouterTables::new(alloc),
             directions: Seq::new(alloc),
-            queues: Queues::new(alloc),
+            queues: Queues::new(alloc, keys),
         }
     }
 

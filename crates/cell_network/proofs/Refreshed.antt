@@ -19,7 +19,8 @@ use Rattle.net_prefix.specs.Block.{Block, block_cmp}
 use Rattle.net_prefix.specs.Orders.{block_total}
 use Rattle.prefix_table.specs.Tables.{Table}
 use Rattle.session_queue.specs.declared.message.Message.{Message}
-use Rattle.session_queue.specs.Waiting.{WaitingByDirection, queue_at}
+use Rattle.session_queue.specs.Lines.{messages_at}
+use Rattle.session_queue.specs.Waiting.{WaitingByDirection, nothing_waits, queue_at}
 use Rattle.net_conf.specs.Configuration.{Configuration, node_at, has_node, is_virtual, is_kind_virtual, has_session}
 use Rattle.net_conf.specs.Configured.{IsConfigured}
 use Rattle.net_conf.specs.Costs.{is_up}
@@ -220,17 +221,17 @@ module _ (e : Engine) (sound : IsSound e) (edit : Edit) (configured : IsConfigur
   best_before f p router =
       ap (λ s. best s f p) (sym (network_originating e sound edit)) ∙ best_heard (originating e sound edit) (sound_originating e sound edit) f p router
 
-  none_waits : (f t : Addr) → queue_at [] f t ≡ []
-  unfolding queue_at
+  none_waits : (f t : Addr) → queue_at nothing_waits f t ≡ []
+  unfolding queue_at messages_at
   none_waits f t = refl
 
-  same_after : (f : Addr) (p : Block) → best after f p ≡ best (network (edited_engine e edit [])) f p
+  same_after : (f : Addr) (p : Block) → best after f p ≡ best (network (edited_engine e edit nothing_waits)) f p
   unfolding best network reconfigured
   same_after f p = ap (λ es. option_and_then (λ site. best_of (standings site p es)) (site_of new f)) (sym (received_edited e sound edit none))
 
   best_after : (f : Addr) (p : Block) → is_virtual new f ≡ false → best after f p ≡ best_of (heard_at f p (kept_tables new ts)).standings
   best_after f p router =
-      same_after f p ∙ best_heard (edited_engine e edit []) (sound_edited e sound edit none [] (λ f t alone. none_waits f t)) f p router
+      same_after f p ∙ best_heard (edited_engine e edit nothing_waits) (sound_edited e sound edit none nothing_waits (λ f t alone. none_waits f t)) f p router
 
   kept_heard : (f : Addr) (p : Block) (x : Option Heard) → value_at f p ts ≡ x → heard_at f p (kept_tables new ts) ≡ unwrap_or (option_map (kept_cell new f p) x) nothing_heard
   kept_heard f p x is = ap (λ y. unwrap_or y nothing_heard) (value_kept new f p ts ∙ ap (option_map (kept_cell new f p)) is)

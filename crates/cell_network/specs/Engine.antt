@@ -1,4 +1,4 @@
--- What the engine keeps, as plain data, and the network that this is. Empty cells and spare places are seen by nothing.
+-- What the engine keeps, as plain data, and the network that this is. Empty cells, spare places and what is admitted are seen by nothing.
 use Rattle.std.specs.Prelude.{◌≡◌, Bool, true, false, ◌&&◌, List, [], map, is_some, unwrap_or, IsTrue}
 use Rattle.std.specs.List.{flat_map, list_any, AllByRecursion}
 use Rattle.std.specs.List.Sorted.{IsStrictlySortedBy}
@@ -21,7 +21,7 @@ use Rattle.router_tables.specs.RouterTables.{value_at}
 use Rattle.route_cell.specs.Cells.{Heard, nothing_heard, decided}
 
 -- conf: what is configured; tables: for each address that has one, its cells by prefix; directions: those of all sessions, by
--- sender, then receiver; queues: the messages of each direction, and its spare places
+-- sender, then receiver; queues: the messages of each direction, and its spare places, and the attributes that may be sent
 pub record Engine : Type 0 where
   pub conf : Configuration
   pub tables : List (Addr × Table Heard)

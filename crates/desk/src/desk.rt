@@ -13,6 +13,7 @@ use prefix_table::PrefixTable;
 use route_select::{Chosen, Selector};
 use sim_event::{Event, Reply};
 use std::alloc::{AllocError, Global};
+use std::hash::RandomState;
 use std::marker::Model;
 use std::sync::ledger::{Blank, Ledger};
 use std::sync::{Mutex, Wait};
@@ -78,9 +79,11 @@ pub(crate) enum Turn<S: Chosen> {
 }
 
 impl<S: Chosen, T: PrefixTable<Cell<S>>, L: Ledger> Desk<S, T, L> {
-    /// A desk of an empty room, with its seats, by number, and so many shards: 1 to 256 seats, and 1 to 64 shards.
+    /// A desk of an empty room, its machine under these keys, with its seats, by number, and so many shards: 1 to 256 seats, and 1 to 64
+    /// shards.
     pub fn open(
         alloc: Global,
+        keys: Option<RandomState>,
         seats: u16,
         shards: u64,
         blank: Blank,
@@ -99,7 +102,7 @@ impl<S: Chosen, T: PrefixTable<Cell<S>>, L: Ledger> Desk<S, T, L> {
         if shards < 1 || shards > MAX_SHARDS {
             return Err(OpenFault::Shards);
         }
-        let Ok((room, all)) = Room::new(alloc, seats, blank) else {
+        let Ok((room, all)) = Room::new(alloc, keys, seats, blank) else {
             return Err(OpenFault::Memory);
         };
         match Desk::of(alloc, room, shards) {

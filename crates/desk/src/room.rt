@@ -35,6 +35,7 @@ pub use seat::Seat;
 use sim_core::{Plan, Sim};
 use sim_event::{Entry, Event, Reply};
 use std::alloc::{AllocError, Global};
+use std::hash::RandomState;
 use std::marker::Model;
 use std::sync::ledger::{Blank, Book, Ledger, Share};
 use std::thread::Threads;
@@ -80,8 +81,14 @@ pub enum Audit {
 }
 
 impl<S: Chosen, T: PrefixTable<Cell<S>>, L: Ledger> Room<S, T, L> {
-    /// A machine of which nothing is configured, with no call in its history, and its seats, by number. The only fault is want of memory.
-    pub fn new(alloc: Global, seats: u16, blank: Blank) -> Result<(Self, Vec<Seat<L>>), AllocError>
+    /// A machine of which nothing is configured, under these keys, with no call in its history, and its seats, by number. The only fault is
+    /// want of memory.
+    pub fn new(
+        alloc: Global,
+        keys: Option<RandomState>,
+        seats: u16,
+        blank: Blank,
+    ) -> Result<(Self, Vec<Seat<L>>), AllocError>
         requires some { 1 ≤ seats }
         requires most { seats ≤ 256 }
         requires name { blank.name ≡ L.name }
@@ -96,7 +103,7 @@ impl<S: Chosen, T: PrefixTable<Cell<S>>, L: Ledger> Room<S, T, L> {
         let all = seat::all_of(alloc, seats, &mut rest)?;
         let room = Room {
             alloc,
-            sim: Sim::new(alloc),
+            sim: Sim::new(alloc, keys),
             history: Vec::new(alloc),
             version: 0,
             book,

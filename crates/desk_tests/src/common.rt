@@ -42,7 +42,7 @@ pub fn opened<L: Ledger, R: Abort>(
     ensures { result.0.shards ≡ shards }
 {
     let opened: Result<(GroupDesk<L>, Vec<Seat<L>>), OpenFault> = Desk::open(
-        alloc, seats, shards, blank,
+        alloc, None, seats, shards, blank,
     );
     opened.ok().expect(rt, "a desk")
 }
@@ -117,6 +117,6 @@ pub fn replayed<R: Threads + Sync>(rt: &R, alloc: Global, record: &Record) -> Op
     let mut output = Output::new(Vec::new(alloc));
     write_log(record.entries(), &mut output).ok()?;
     let log = output.into_inner();
-    let mut machine: Sim<FilterCell, SortedTable<Cell<FilterCell>>> = Sim::new(alloc);
+    let mut machine: Sim<FilterCell, SortedTable<Cell<FilterCell>>> = Sim::new(alloc, None);
     replay(rt, alloc, &mut Input::new(log.as_slice()), &mut machine).ok()
 }

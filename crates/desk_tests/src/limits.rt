@@ -30,7 +30,7 @@ fn fault_of<L: Ledger>(alloc: Global, seats: u16, shards: u64, blank: Blank) -> 
     requires parts { blank.parts ≡ 256 }
 {
     let opened: Result<(GroupDesk<L>, Vec<Seat<L>>), OpenFault> = Desk::open(
-        alloc, seats, shards, blank,
+        alloc, None, seats, shards, blank,
     );
     opened.err()
 }

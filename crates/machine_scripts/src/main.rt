@@ -37,8 +37,8 @@ fn main(rt: HostRuntime) -> ExitCode {
     };
     match choose(words.as_slice()) {
         Some(Kind::Plain) => serve_streams(&rt, rt.stderr(), PlainMachine::new(alloc)),
-        Some(Kind::Sorted) => serve_streams(&rt, rt.stderr(), SortedMachine::new(alloc)),
-        Some(Kind::Trie) => serve_streams(&rt, rt.stderr(), TrieMachine::new(alloc)),
+        Some(Kind::Sorted) => serve_streams(&rt, rt.stderr(), SortedMachine::new(alloc, None)),
+        Some(Kind::Trie) => serve_streams(&rt, rt.stderr(), TrieMachine::new(alloc, None)),
         None => without_machine(&rt),
     }
 }

@@ -1,3 +1,4 @@
 pub mod Places
 pub mod Tidiness
 pub mod Walk
+pub mod Shown

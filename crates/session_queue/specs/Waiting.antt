@@ -1,52 +1,43 @@
 -- The queues of sessions: in each direction the messages on their way, the head first, and its spare places (own).
 -- Messages are received in the order in which they were sent (RFC 4271, 3), and none is merged with another (own).
-use Rattle.std.specs.Prelude.{◌≡◌, ℕ, Bool, false, ◌&&◌, List, [], Option, Some, None}
-use Rattle.std.specs.Map.{lookup}
-use Rattle.std.specs.BTreeMap.{is_at}
-use Rattle.std.specs.declared.cmp.Ordering.{Ordering}
-use Rattle.std.specs.declared.cmp.Ordering.TheVariants.{Less}
-use Rattle.std.specs.Ordering.{ordering_then}
+use Rattle.std.specs.Prelude.{◌≡◌, ℕ, true, false, List, [], Option, Some, None}
 use Rattle.net_prefix.specs.declared.addr.Addr.{Addr}
-use Rattle.net_prefix.specs.Address.{same_addr, addr_cmp}
+use Rattle.path_attr.specs.declared.attr.Attr.{Attr}
+use Rattle.attr_pool.specs.Pooled.{has_attr}
 use Rattle.session_queue.specs.declared.message.Message.{Message}
-use Rattle.session_queue.specs.declared.direction.Direction.{Direction}
+use Rattle.session_queue.specs.declared.message.Message.TheVariants.{Update, Withdraw}
+use Rattle.session_queue.specs.Lines.{Lines, messages_at, places_at, same_direction, IsBefore, IsPast}
+pub use Rattle.session_queue.specs.Lines.{direction_cmp, same_direction, IsBefore, IsPast}
 
--- what one direction holds: its messages, the head first, and for how many more it has places
-pub record Waiting : Type 0 where
-  pub messages : List Message
-  pub spare : ℕ
+-- lines: the messages of each direction, and its spare places; admitted: the attributes that an update may have, each once (own)
+pub record WaitingByDirection : Type 0 where
+  pub lines : Lines Message
+  pub admitted : List Attr
 
--- by sender, then by receiver (own)
-abbrev pub direction_cmp : Direction → Direction → Ordering
-direction_cmp d e = ordering_then (addr_cmp d.from e.from) (addr_cmp d.to e.to)
-
--- what each direction holds, by sender and receiver: only those with a message or a spare place
-abbrev pub WaitingByDirection : Type 0
-WaitingByDirection = List (Direction × Waiting)
-
--- what the direction holds, if anything
-abbrev pub waiting_at : WaitingByDirection → Addr → Addr → Option Waiting
-waiting_at q from to = lookup (is_at (direction_cmp (record { from = from; to = to }))) q
-
-abbrev pub messages_of : Option Waiting → List Message
-messages_of None = []
-messages_of (Some w) = w.messages
-
-abbrev pub spare_of : Option Waiting → ℕ
-spare_of None = 0
-spare_of (Some w) = w.spare
+-- no line, and no attributes
+abbrev pub nothing_waits : WaitingByDirection
+nothing_waits = record { lines = []; admitted = [] }
 
 -- the messages on their way in the direction, the head first
 unfoldable pub queue_at : WaitingByDirection → Addr → Addr → List Message
-queue_at q from to = messages_of (waiting_at q from to)
+queue_at q from to = messages_at q.lines from to
 
 -- how many more messages the direction has places for
 unfoldable pub spare_at : WaitingByDirection → Addr → Addr → ℕ
-spare_at q from to = spare_of (waiting_at q from to)
+spare_at q from to = places_at q.lines from to
 
--- both ends are the same
-abbrev pub same_direction : Addr → Addr → Addr → Addr → Bool
-same_direction from to f t = same_addr f from && same_addr t to
+-- an update's attributes are among these; a withdrawal has none
+abbrev pub IsAdmittedBy : List Attr → Message → Type 0
+IsAdmittedBy attrs (Update p attr) = has_attr attrs attr ≡ true
+IsAdmittedBy attrs (Withdraw p) = Unit {0}
+
+-- the attributes of the message are admitted
+abbrev pub IsAdmitted : WaitingByDirection → Message → Type 0
+IsAdmitted q m = IsAdmittedBy q.admitted m
+
+-- what was admitted stays so
+abbrev pub KeepsAdmitted : WaitingByDirection → WaitingByDirection → Type 0
+KeepsAdmitted q r = (attr : Attr) → has_attr q.admitted attr ≡ true → has_attr r.admitted attr ≡ true
 
 -- each other direction keeps its messages and its spare places
 pub record KeepsOthers (from to : Addr) (q r : WaitingByDirection) : Type 0 where
@@ -56,15 +47,6 @@ pub record KeepsOthers (from to : Addr) (q r : WaitingByDirection) : Type 0 wher
 -- no message is on its way in any direction
 abbrev pub IsQuiet : WaitingByDirection → Type 0
 IsQuiet q = (from to : Addr) → queue_at q from to ≡ []
-
--- the first direction comes before the second: by sender, then by receiver
-abbrev pub IsBefore : Addr × Addr → Addr × Addr → Type 0
-IsBefore d e = direction_cmp (record { from = d.0; to = d.1 }) (record { from = e.0; to = e.1 }) ≡ Less
-
--- the direction comes after this one, if one is given
-abbrev pub IsPast : Option (Addr × Addr) → Addr × Addr → Type 0
-IsPast None d = Unit {0}
-IsPast (Some start) d = IsBefore start d
 
 -- no message is on its way in a direction past the start and before the one that was found; where none was found, in
 -- none past the start

@@ -3,6 +3,8 @@
 
 mod direction;
 mod message;
+mod numbered;
+mod numbered_queues;
 mod queue;
 mod queues;
 mod view;

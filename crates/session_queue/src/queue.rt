@@ -1,26 +1,26 @@
 //! The queue of one direction.
 
-ghost use Rattle.std.specs.Prelude.{◌≡◌, ◌+◌, ◌-◌, ◌<◌, ◌≤◌, ◌↔◌, ◌==◌, [], ◌∷◌, ◌++◌, length, max, drop, slice_get, option_map, IsTrue, OnOk, OnErr, IfOk};
+ghost use Rattle.std.specs.Prelude.{◌≡◌, ◌+◌, ◌-◌, ◌<◌, ◌≤◌, ◌↔◌, ◌==◌, [], ◌∷◌, ◌++◌, length, max, drop, slice_get, IsTrue, OnOk, OnErr, IfOk};
 
-use crate::message::Message;
-use crate::view::View;
+use crate::numbered::Numbered;
 use std::alloc::{AllocError, Global};
 use std::collections::VecDeque;
 use std::marker::Model;
 
 /// The messages of one direction, the head first, and how many more it has places for.
 #[derive(Debug, Drop)]
-pub struct Queue {
-    messages: VecDeque<Message>,
+pub(crate) struct Queue {
+    messages: VecDeque<Numbered>,
     spare: usize,
 }
 
 impl Model for Queue {
     ghost use Rattle.std.specs.Prelude.{◌+◌, ◌≤◌};
     ghost use Rattle.std.specs.VecDeque.{deque_len, deque_capacity};
-    ghost use Rattle.session_queue.specs.Waiting.{Waiting};
+    ghost use Rattle.session_queue.specs.declared.numbered.Numbered.{Numbered};
+    ghost use Rattle.session_queue.specs.Lines.{Waiting};
 
-    ghost Value = { Waiting };
+    ghost Value = { Waiting Numbered };
 
     ghost view = { λ q. record { messages = q.messages.items; spare = q.spare } };
 
@@ -28,10 +28,8 @@ impl Model for Queue {
 }
 
 impl Queue {
-    ghost use Rattle.session_queue.specs.Telling.{message_of};
-
     /// No message, and places for n.
-    pub fn with_spare(alloc: Global, n: usize) -> Result<Self, AllocError>
+    pub(crate) fn with_spare(alloc: Global, n: usize) -> Result<Self, AllocError>
         ensures { IfOk result (λ q. q ≡ record { messages = []; spare = n }) }
     {
         Ok(Queue {
@@ -41,7 +39,7 @@ impl Queue {
     }
 
     /// Sees to it that there are places for n more. It takes memory only where fewer are spare. An error changes nothing.
-    pub fn reserve(&mut self, n: usize) -> Result<(), AllocError>
+    pub(crate) fn reserve(&mut self, n: usize) -> Result<(), AllocError>
         ensures ok { OnOk result (self.new ≡ record self.old { spare = max n self.old.spare }) }
         ensures short { OnErr result (self.old.spare < n) }
         ensures err { OnErr result (self.new ≡ self.old) }
@@ -54,7 +52,7 @@ impl Queue {
     }
 
     /// Adds a message at the end. It takes a place.
-    pub fn push(&mut self, message: Message)
+    pub(crate) fn push(&mut self, message: Numbered)
         requires { 0 < self.old.spare }
         ensures { self.new ≡ record { messages = self.old.messages ++ message ∷ []; spare = self.old.spare - 1 } }
     {
@@ -63,7 +61,7 @@ impl Queue {
     }
 
     /// Removes the head, if there is one, and says whether there was.
-    pub fn pop(&mut self) -> bool
+    pub(crate) fn pop(&mut self) -> bool
         ensures rest { self.new ≡ record self.old { messages = drop 1 self.old.messages } }
         ensures had { IsTrue result ↔ (0 < length self.old.messages) }
     {
@@ -71,44 +69,44 @@ impl Queue {
     }
 
     /// Removes all messages.
-    pub fn clear(&mut self)
+    pub(crate) fn clear(&mut self)
         ensures { self.new ≡ record self.old { messages = [] } }
     {
         self.messages.clear();
     }
 
     /// How many messages there are.
-    pub fn len(&self) -> usize
+    pub(crate) fn len(&self) -> usize
         ensures { result ≡ length self.now.messages }
     {
         self.messages.len()
     }
 
     /// Whether there is no message.
-    pub fn is_empty(&self) -> bool
+    pub(crate) fn is_empty(&self) -> bool
         ensures { result ≡ (length self.now.messages == 0) }
     {
         self.messages.is_empty()
     }
 
     /// How many more messages it has places for.
-    pub fn spare(&self) -> usize
+    pub(crate) fn spare(&self) -> usize
         ensures { result ≡ self.now.spare }
     {
         self.spare
     }
 
     /// Whether there is neither a message nor a spare place.
-    pub fn is_blank(&self) -> bool
+    pub(crate) fn is_blank(&self) -> bool
         ensures { IsTrue result ↔ (length self.now.messages + self.now.spare ≡ 0) }
     {
         self.messages.is_empty() && self.spare == 0
     }
 
     /// The message at the place, the head's being 0.
-    pub fn at(&self, n: usize) -> Option<View<'_>>
-        ensures { option_map message_of result ≡ slice_get self.now.messages n }
+    pub(crate) fn at(&self, n: usize) -> Option<Numbered>
+        ensures { result ≡ slice_get self.now.messages n }
     {
-        self.messages.get(n).map(View::of)
+        self.messages.get(n).copied()
     }
 }

@@ -1,120 +1,125 @@
 //! The queues of all directions.
 
-ghost use Rattle.std.specs.Prelude.{◌≡◌, ℕ, ◌+◌, ◌<◌, ◌≤◌, ◌↔◌, [], ◌∷◌, ◌++◌, length, max, drop, slice_get, option_map, option_copied, find, filter, IsTrue, IfSome, IfNone, OnOk, OnErr};
+ghost use Rattle.std.specs.Prelude.{◌≡◌, ◌+◌, ◌<◌, ◌≤◌, ◌↔◌, [], ◌∷◌, ◌++◌, true, length, max, drop, slice_get, option_map, IsTrue, IfSome, IfNone, OnOk, OnErr};
+ghost use Rattle.attr_pool.specs.Pooled.{has_attr, with_attr};
 
 use crate::direction::Direction;
 use crate::message::Message;
-use crate::queue::Queue;
+use crate::numbered::numbered_in;
+use crate::numbered_queues::NumberedQueues;
 use crate::view::View;
+use attr_pool::Pool;
 use net_prefix::Addr;
+use path_attr::Attr;
 use std::alloc::{AllocError, Global};
-use std::collections::BTreeMap;
+use std::hash::RandomState;
 use std::marker::Model;
-use std::ops::Bound;
 
-/// In each direction of a session the messages on their way, the head first, and how many more it has places for.
+/// In each direction of a session the messages on their way, the head first, and how many more it has places for; and the attributes
+/// that updates may have. These are kept once each, and for good; a message takes 16 bytes beside them.
 #[derive(Debug, Drop)]
 pub struct Queues {
-    alloc: Global,
-    /// The directions with a message or a spare place.
-    queues: BTreeMap<Direction, Queue>,
-    /// How many directions have a message.
-    full: usize,
+    queues: NumberedQueues,
+    /// What the numbers in the queues mean.
+    pool: Pool,
 }
 
 impl Model for Queues {
     ghost use Rattle.session_queue.specs.Waiting.{WaitingByDirection};
-    ghost use Rattle.session_queue.specs.Tidy.{IsTidy};
+    ghost use Rattle.session_queue.specs.Numbers.{shown, AreGiven};
 
     ghost Value = { WaitingByDirection };
 
-    ghost view = { λ q. q.queues.entries };
+    ghost view = { λ q. shown q.pool q.queues };
 
-    ghost invariant = { λ q. IsTidy q.queues.entries q.full };
+    ghost invariant = { λ q. AreGiven q.pool q.queues };
 }
 
 impl Queues {
-    ghost use Rattle.std.specs.BTreeMap.Range.{entries_between};
-    ghost use Rattle.std.specs.List.Sorted.{IsStrictlySortedBy};
-    ghost use Rattle.std.specs.Map.{keys_of};
-    ghost use Rattle.session_queue.specs.Tidy.{has_message, start_past};
-    ghost use Rattle.session_queue.specs.Shards.{shard_of, is_in_shard};
+    ghost use Rattle.session_queue.specs.Shards.{shard_of};
     ghost use Rattle.session_queue.specs.Telling.{message_of};
-    ghost use Rattle.session_queue.specs.Waiting.{direction_cmp, queue_at, spare_at, waiting_at, KeepsOthers, IsQuiet, IsPast, SkipsNone};
+    ghost use Rattle.session_queue.specs.Waiting.{queue_at, spare_at, IsAdmitted, KeepsAdmitted, KeepsOthers, IsQuiet, IsPast, SkipsNone};
 
-    /// No message, and no spare place, in any direction. It takes no memory.
-    #[tactic(auto, unfolding(crate::specs::Waiting::queue_at, crate::specs::Waiting::spare_at))]
-    pub fn new(alloc: Global) -> Self
+    /// No message and no spare place in any direction, and no attributes. It takes no memory. Nobody who does not know the keys can make
+    /// `admit` and `push` slow by a choice of attributes; with none, whoever knows the program can.
+    pub fn new(alloc: Global, keys: Option<RandomState>) -> Self
         ensures messages { IsQuiet result }
         ensures spare { (from to : Addr) → spare_at result from to ≡ 0 }
+        ensures admitted { result.admitted ≡ [] }
     {
         Queues {
-            alloc,
-            queues: BTreeMap::new(alloc),
-            full: 0,
+            queues: NumberedQueues::new(alloc),
+            pool: Pool::new(alloc, keys),
         }
     }
 
-    /// Sees to it that the direction has places for n more messages. Only this call takes memory, and only where fewer places
+    /// Sees to it that the direction has places for n more messages. It takes memory only where fewer places
     /// are spare: where n are, it changes nothing and cannot fail. An error changes nothing.
     pub fn reserve(&mut self, from: Addr, to: Addr, n: usize) -> Result<(), AllocError>
         ensures spare { OnOk result (spare_at self.new from to ≡ max n (spare_at self.old from to)) }
         ensures queue { queue_at self.new from to ≡ queue_at self.old from to }
         ensures others { KeepsOthers from to self.old self.new }
+        ensures admitted { self.new.admitted ≡ self.old.admitted }
         ensures enough { n ≤ spare_at self.old from to → self.new ≡ self.old }
         ensures short { OnErr result (spare_at self.old from to < n) }
         ensures err { OnErr result (self.new ≡ self.old) }
     {
-        if n == 0 {
-            return Ok(());
+        self.queues.reserve(from, to, n)
+    }
+
+    /// Sees to it that an update may have these attributes: a copy of new ones is kept. The error is want of memory, and changes
+    /// nothing.
+    pub fn admit(&mut self, attr: &Attr) -> Result<(), AllocError>
+        ensures admitted { OnOk result (self.new.admitted ≡ with_attr self.old.admitted attr.now) }
+        ensures ok { OnOk result (has_attr self.new.admitted attr.now ≡ true) }
+        ensures keeps { KeepsAdmitted self.old self.new }
+        ensures queue { (from to : Addr) → queue_at self.new from to ≡ queue_at self.old from to }
+        ensures spare { (from to : Addr) → spare_at self.new from to ≡ spare_at self.old from to }
+        ensures err { OnErr result (self.new ≡ self.old) }
+    {
+        let copy = attr.share()?;
+        match self.pool.intern(copy) {
+            Ok(_id) => return Ok(()),
+            Err(refused) => {
+                drop(refused);
+                return Err(AllocError);
+            }
         }
-        let direction = Direction { from, to };
-        if let Some(queue) = self.queues.get_mut(&direction) {
-            return queue.reserve(n);
-        }
-        let queue = Queue::with_spare(self.alloc, n)?;
-        self.queues.insert(direction, queue)?;
-        Ok(())
     }
 
     /// Adds a message at the end of the direction's queue. It takes one of the spare places, and no memory.
     pub fn push(&mut self, from: Addr, to: Addr, message: Message)
-        requires { 0 < spare_at self.old from to }
+        requires room { 0 < spare_at self.old from to }
+        requires admitted { IsAdmitted self.old message }
         ensures queue { queue_at self.new from to ≡ queue_at self.old from to ++ message ∷ [] }
         ensures spare { spare_at self.new from to + 1 ≡ spare_at self.old from to }
         ensures others { KeepsOthers from to self.old self.new }
+        ensures admitted { self.new.admitted ≡ self.old.admitted }
     {
-        // No more directions have a message than there are, so one more can be counted.
-        prove!(self.full <= self.queues.len());
-        let Some(queue) = self.queues.get_mut(&Direction { from, to }) else {
-            unreachable!()
-        };
-        self.full += usize::from(queue.is_empty());
-        queue.push(message);
+        let numbered = numbered_in(&mut self.pool, message);
+        self.queues.push(from, to, numbered);
     }
 
     /// How many messages are on their way in the direction.
-    #[tactic(auto, unfolding(crate::specs::Waiting::queue_at))]
     pub fn len(&self, from: Addr, to: Addr) -> usize
         ensures { result ≡ length (queue_at self.now from to) }
     {
-        self.queue(from, to).map_or(0, |queue| queue.len())
+        self.queues.len(from, to)
     }
 
     /// How many more messages the direction has places for.
-    #[tactic(auto, unfolding(crate::specs::Waiting::spare_at))]
     pub fn spare(&self, from: Addr, to: Addr) -> usize
         ensures { result ≡ spare_at self.now from to }
     {
-        self.queue(from, to).map_or(0, |queue| queue.spare())
+        self.queues.spare(from, to)
     }
 
-    /// The message at the place of the direction's queue, the head's being 0.
-    #[tactic(auto, unfolding(crate::specs::Waiting::queue_at))]
+    /// The message at the place of the direction's queue, the head's being 0. Each place is found at once, however far behind.
     pub fn at(&self, from: Addr, to: Addr, n: usize) -> Option<View<'_>>
         ensures { option_map message_of result ≡ slice_get (queue_at self.now from to) n }
     {
-        self.queue(from, to)?.at(n)
+        let message = self.queues.at(from, to, n)?;
+        Some(View::by(&self.pool, message))
     }
 
     /// The head of the direction's queue.
@@ -130,17 +135,9 @@ impl Queues {
         ensures queue { queue_at self.new from to ≡ drop 1 (queue_at self.old from to) }
         ensures spare { spare_at self.new from to ≡ spare_at self.old from to }
         ensures others { KeepsOthers from to self.old self.new }
+        ensures admitted { self.new.admitted ≡ self.old.admitted }
     {
-        let served = Direction { from, to };
-        let Some(queue) = self.queues.get_mut(&served) else {
-            return false;
-        };
-        self.full -= usize::from(queue.len() == 1);
-        let popped = queue.pop();
-        if queue.is_blank() {
-            drop(self.queues.remove(&served));
-        }
-        popped
+        self.queues.pop(from, to)
     }
 
     /// Removes all messages of the direction.
@@ -148,23 +145,16 @@ impl Queues {
         ensures queue { queue_at self.new from to ≡ [] }
         ensures spare { spare_at self.new from to ≡ spare_at self.old from to }
         ensures others { KeepsOthers from to self.old self.new }
+        ensures admitted { self.new.admitted ≡ self.old.admitted }
     {
-        let silenced = Direction { from, to };
-        let Some(queue) = self.queues.get_mut(&silenced) else {
-            return;
-        };
-        self.full -= usize::from(!queue.is_empty());
-        queue.clear();
-        if queue.is_blank() {
-            drop(self.queues.remove(&silenced));
-        }
+        self.queues.clear(from, to);
     }
 
     /// Whether no message is on its way in any direction.
     pub fn all_empty(&self) -> bool
         ensures { IsTrue result ↔ IsQuiet self.now }
     {
-        self.full == 0
+        self.queues.all_empty()
     }
 
     /// The next direction with a message, by sender, then by receiver: the first of all, or the first past the one
@@ -174,8 +164,7 @@ impl Queues {
         ensures past { IfSome result (IsPast past) }
         ensures none_between { SkipsNone self.now past result }
     {
-        self.first_full(Self::start_past(past))
-            .map(|direction| (direction.from, direction.to))
+        self.queues.next_full(past)
     }
 
     /// The first direction with a message to a receiver of the shard, by sender, then by receiver. The shard of an address is its number
@@ -186,50 +175,6 @@ impl Queues {
         ensures shard { IfSome result (λ found. shard_of found.to shards ≡ shard) }
         ensures none { IfNone result ((from to : Addr) → shard_of to shards ≡ shard → queue_at self.now from to ≡ []) }
     {
-        self.first_in(shard, shards)
-    }
-
-    /// The first direction with a message of those of the shard. The order is said for `next_in`, which reads no field itself.
-    fn first_in(&self, shard: u64, shards: u64) -> Option<Direction>
-        requires { shard < shards }
-        ensures ordered { IsStrictlySortedBy direction_cmp (keys_of self.now) }
-        ensures first { result ≡ option_map (λ e. e.0) (find (λ e. has_message e.1) (filter (λ e. is_in_shard shard shards e.0) self.now)) }
-    {
-        for (direction, queue) in self.queues.iter() {
-            if u64::from(direction.to.0) % shards == shard && !queue.is_empty() {
-                return Some(*direction);
-            }
-        }
-        None
-    }
-
-    /// Where the directions past this one begin.
-    fn start_past(past: Option<(Addr, Addr)>) -> Bound<Direction>
-        ensures { result ≡ start_past past }
-    {
-        match past {
-            Some((from, to)) => Bound::Excluded(Direction { from, to }),
-            None => Bound::Unbounded,
-        }
-    }
-
-    /// The first direction with a message, from the start on. The order is said for `next_full`, which reads no field itself.
-    fn first_full(&self, start: Bound<Direction>) -> Option<Direction>
-        ensures ordered { IsStrictlySortedBy direction_cmp (keys_of self.now) }
-        ensures first { result ≡ option_map (λ e. e.0) (find (λ e. has_message e.1) (entries_between direction_cmp start Bound.Unbounded self.now)) }
-    {
-        for (direction, queue) in self.queues.range((start, Bound::Unbounded)) {
-            if !queue.is_empty() {
-                return Some(*direction);
-            }
-        }
-        None
-    }
-
-    /// The queue of the direction, where it has a message or a spare place.
-    fn queue(&self, from: Addr, to: Addr) -> Option<&Queue>
-        ensures { option_copied result ≡ waiting_at self.now from to }
-    {
-        self.queues.get(&Direction { from, to })
+        self.queues.next_in(shard, shards)
     }
 }

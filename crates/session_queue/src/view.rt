@@ -3,11 +3,13 @@
 ghost use Rattle.std.specs.Prelude.{◌≡◌, IfOk};
 
 use crate::message::{Message, MessageKind};
+use crate::numbered::Numbered;
+use attr_pool::Pool;
 use net_prefix::Prefix;
 use path_attr::Attr;
 use std::alloc::AllocError;
 
-/// A message, borrowed from its queue.
+/// A message that stays in its queue, its attributes borrowed.
 #[derive(Clone, Copy, Debug, PartialEq)]
 pub enum View<'a> {
     /// A route to the prefix is advertised, in place of any that was advertised before.
@@ -17,15 +19,22 @@ pub enum View<'a> {
 }
 
 impl<'a> View<'a> {
+    ghost use Rattle.session_queue.specs.Numbers.{message_by, IsGiven};
     ghost use Rattle.session_queue.specs.Telling.{message_of, prefix_of, kind_of};
 
-    /// The message, borrowed.
-    pub fn of(message: &'a Message) -> Self
-        ensures { message_of result ≡ message.now }
+    /// The numbered message, its attributes borrowed from the pool that gave the number.
+    pub(crate) fn by(pool: &'a Pool, message: Numbered) -> Self
+        requires { IsGiven pool.now message }
+        ensures { message_of result ≡ message_by pool.now message }
     {
         match message {
-            Message::Update(prefix, attr) => View::Update(*prefix, attr),
-            Message::Withdraw(prefix) => View::Withdraw(*prefix),
+            Numbered::Update(prefix, id) => {
+                let Some(attr) = pool.attr(id) else {
+                    unreachable!()
+                };
+                View::Update(prefix, attr)
+            }
+            Numbered::Withdraw(prefix) => View::Withdraw(prefix),
         }
     }
 

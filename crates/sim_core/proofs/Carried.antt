@@ -3,7 +3,7 @@ use Rattle.std.proofs.Common.{◌≡◌, ◌<◌, true, false, Some, None, refl,
 use Rattle.std.proofs.lemmas.Option.{none-some, same_Some}
 use Rattle.session_queue.specs.declared.direction.Direction.{Direction}
 use Rattle.session_queue.specs.declared.message.Message.{Message}
-use Rattle.session_queue.specs.Waiting.{spare_at}
+use Rattle.session_queue.specs.Waiting.{spare_at, IsAdmitted}
 use Rattle.net_conf.specs.Configuration.{has_session}
 use Rattle.net_conf.specs.Costs.{is_up}
 use Rattle.net_conf.specs.declared.edit.Edit.{Edit}
@@ -69,6 +69,7 @@ taking e (AnAsk q) p is t has = absurd (none-some t (sym is.does.taken ∙ has))
 pub record IsPushing (e : Engine) (event : Event) (d : Direction) (m : Message) : Type 0 where
   pub session : has_session e.conf d.from d.to ≡ true
   pub room : 0 < spare_at e.queues d.from d.to
+  pub admitted : IsAdmitted e.queues m
   pub next : (step (network e) event).next ≡ record (network e) { queues = with_message d m (network e).queues }
 
 pub pushing : (e : Engine) (event : Event) (p : Plan) → IsPrepared e event p → (x : Direction × Message) → p.pushed ≡ Some x → IsPushing e event x.0 x.1
@@ -79,6 +80,7 @@ pushing e (AFeed f) p is x has =
     subst (λ y. IsPushing e (AFeed f) y.0 y.1) (same_Some _ x (sym is.does.pushed ∙ has)) (record {
       session = feed_session e.conf f none;
       room = is.does.room;
+      admitted = is.does.admitted;
       next = ap (λ o. o.next) (feed_done (network e) f none);
     })
 pushing e (Deliver a b) p is x has = absurd (none-some x (sym is.does.pushed ∙ has))

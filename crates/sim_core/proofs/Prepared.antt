@@ -6,7 +6,7 @@ use Rattle.net_conf.specs.Configured.{IsConfigured}
 use Rattle.session_queue.specs.declared.direction.Direction.{Direction}
 use Rattle.session_queue.specs.declared.message.Message.{Message}
 use Rattle.session_queue.specs.Telling.{prefix_of, kind_of}
-use Rattle.session_queue.specs.Waiting.{queue_at, spare_at}
+use Rattle.session_queue.specs.Waiting.{queue_at, spare_at, IsAdmitted}
 use Rattle.net_conf.specs.declared.edit.Edit.{Edit}
 use Rattle.net_conf.specs.Edits.{edited, refusal_of}
 use Rattle.net_conf.specs.Scopes.{scope}
@@ -59,13 +59,13 @@ prepared_edit e e' same tables sound configured up edit x is room cells are =
       does = record { plan = x; pushed = refl; taken = refl; edited = refl; is = still; room = room };
     }
 
-pub prepared_feed : (e e' : Engine) → KeepsSame e e' → (f : Feed) (m : Message) → feed_refusal e.conf f ≡ None → m ≡ fed_message f.from f.news → 0 < spare_at e'.queues f.from f.to → (cells : List (Addr × Block)) → cells ≡ [] → IsPrepared e' (AFeed f) (record { reply = Done; refreshed = cells; pushed = Some (fed_in f, m); taken = None; edited = None })
+pub prepared_feed : (e e' : Engine) → KeepsSame e e' → (f : Feed) (m : Message) → feed_refusal e.conf f ≡ None → m ≡ fed_message f.from f.news → 0 < spare_at e'.queues f.from f.to → IsAdmitted e'.queues m → (cells : List (Addr × Block)) → cells ≡ [] → IsPrepared e' (AFeed f) (record { reply = Done; refreshed = cells; pushed = Some (fed_in f, m); taken = None; edited = None })
 unfolding network
-prepared_feed e e' same f m none is room cells are = record {
+prepared_feed e e' same f m none is room admitted cells are = record {
   reply = sym (ap (λ o. o.reply) (feed_done (network e) f none)) ∙ reply_kept e e' same (AFeed f);
   accepted = refl;
   refreshes = are;
-  does = record { pushed = ap (λ w. Some (fed_in f, w)) is; taken = refl; edited = refl; room = room };
+  does = record { pushed = ap (λ w. Some (fed_in f, w)) is; taken = refl; edited = refl; room = room; admitted = subst (IsAdmitted e'.queues) is admitted };
 }
 
 -- the prefix of the message that was taken

@@ -4,7 +4,7 @@ use Rattle.net_prefix.specs.declared.addr.Addr.{Addr}
 use Rattle.net_prefix.specs.Block.{Block}
 use Rattle.session_queue.specs.declared.message.Message.{Message}
 use Rattle.session_queue.specs.declared.direction.Direction.{Direction}
-use Rattle.session_queue.specs.Waiting.{spare_at}
+use Rattle.session_queue.specs.Waiting.{spare_at, IsAdmitted}
 use Rattle.net_conf.specs.declared.edit.Edit.{Edit}
 use Rattle.net_conf.specs.declared.refusal.Refusal.{Refusal}
 use Rattle.net_conf.specs.declared.refusal.Refusal.TheVariants.{Memory}
@@ -52,6 +52,7 @@ pub record DoesFeed (e : Engine) (f : Feed) (x : Plan) : Type 0 where
   pub taken : x.taken ≡ None
   pub edited : x.edited ≡ None
   pub room : 0 < spare_at e.queues f.from f.to
+  pub admitted : IsAdmitted e.queues (fed_message f.from f.news)
 
 pub record DoesDelivery (e : Engine) (d : Direction) (x : Plan) : Type 0 where
   pub prefix : Block

@@ -13,6 +13,7 @@ use route_select::{Chosen, Selector};
 use session_queue::Direction;
 use sim_event::{Event, Reply};
 use std::alloc::Global;
+use std::hash::RandomState;
 use std::marker::Model;
 use std::thread::Threads;
 
@@ -36,13 +37,13 @@ impl<S: Chosen, T: PrefixTable<Cell<S>>> Model for EventMachine<S, T> {
 }
 
 impl<S: Chosen, T: PrefixTable<Cell<S>>> EventMachine<S, T> {
-    /// Nothing is configured, received or on its way. It takes no memory.
-    pub fn new(alloc: Global) -> Self
+    /// Nothing is configured, received or on its way. It takes no memory. The keys are those of the engine's state.
+    pub fn new(alloc: Global, keys: Option<RandomState>) -> Self
         ensures { network result ≡ nothing }
     {
         EventMachine {
             alloc,
-            state: State::new(alloc),
+            state: State::new(alloc, keys),
         }
     }
 

@@ -43,7 +43,7 @@ impl<S: Selector + Drop, T: PrefixTable<Cell<S>> + Drop> EventMachine<S, T> {
             to: feed.to,
         };
         let message = fed_message(feed.from, &feed.news)?;
-        self.state.reserve_one(direction)?;
+        self.state.reserve_one(direction, &message)?;
         Ok(Plan {
             reply: Reply::Done,
             refreshed: Vec::new(self.alloc),

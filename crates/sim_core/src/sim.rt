@@ -19,6 +19,7 @@ use route_select::{Chosen, FilterCell, GroupCell, Selector};
 use session_queue::Direction;
 use sim_event::{Event, Reply};
 use std::alloc::Global;
+use std::hash::RandomState;
 use std::marker::Model;
 use std::thread::Threads;
 
@@ -44,14 +45,15 @@ impl<S: Chosen, T: PrefixTable<Cell<S>>> Model for Sim<S, T> {
 }
 
 impl<S: Chosen, T: PrefixTable<Cell<S>>> Sim<S, T> {
-    /// Nothing is configured, received or on its way, and nothing was decided. It takes no memory.
-    pub fn new(alloc: Global) -> Self
+    /// Nothing is configured, received or on its way, and nothing was decided. It takes no memory. Nobody who does not know the keys can
+    /// make it slow by a choice of attributes; with none, whoever knows the program can.
+    pub fn new(alloc: Global, keys: Option<RandomState>) -> Self
         ensures network { network result.engine ≡ nothing }
         ensures decided { result.decided ≡ 0 }
     {
         Sim {
             alloc,
-            machine: EventMachine::new(alloc),
+            machine: EventMachine::new(alloc, keys),
             decided: 0,
         }
     }

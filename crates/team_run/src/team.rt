@@ -18,6 +18,7 @@ use prefix_table::PrefixTable;
 use route_select::Selector;
 use sim_event::Entry;
 use std::alloc::{AllocError, Global};
+use std::hash::RandomState;
 use std::io::{Read, Write};
 use std::sync::Wait;
 use std::sync::atomic::AtomicU64;
@@ -36,7 +37,7 @@ pub struct Settings {
     pub is_terminal: bool,
 }
 
-/// Runs a team on the files, each the script of an engineer, from the empty network: a thread calls the lines of each script in turn, and
+/// Runs a team on the files, each the script of an engineer, from the empty network, its machine under these keys: a thread calls the lines of each script in turn, and
 /// the workers' threads deliver what waits, until the engineers have ended and no message waits, or their turns have. The log of all calls
 /// goes to the output. What makes no call is told on the third stream, and so is a fault; its own failure is passed over. The exit status:
 /// 0 done, 3 a file was not read, 4 write fault, 5 want of memory, or a seat whose notes are not its calls.
@@ -51,6 +52,7 @@ pub fn run_team<
 >(
     rt: &R,
     alloc: Global,
+    keys: Option<RandomState>,
     blank: Blank,
     settings: Settings,
     files: Vec<ScriptFile<F>>,
@@ -70,7 +72,7 @@ pub fn run_team<
 {
     match read_scripts(alloc, files) {
         Ok(scripts) => {
-            play::<S, T, L, W, E, R>(rt, alloc, blank, settings, scripts, output, errors)
+            play::<S, T, L, W, E, R>(rt, alloc, keys, blank, settings, scripts, output, errors)
         }
         Err(fault) => {
             tell(&fault, errors);
@@ -90,6 +92,7 @@ fn play<
 >(
     rt: &R,
     alloc: Global,
+    keys: Option<RandomState>,
     blank: Blank,
     settings: Settings,
     scripts: Vec<Vec<u8>>,
@@ -107,7 +110,7 @@ fn play<
     requires shown { output.old.held ≡ false }
     ensures { IsPlayed output.old result output.new }
 {
-    let ended = match recorded::<S, T, L, E, R>(rt, alloc, blank, settings, scripts, errors) {
+    let ended = match recorded::<S, T, L, E, R>(rt, alloc, keys, blank, settings, scripts, errors) {
         Ok(record) => write_record(&record, output),
         Err(fault) => Err(fault),
     };
@@ -130,6 +133,7 @@ fn recorded<
 >(
     rt: &R,
     alloc: Global,
+    keys: Option<RandomState>,
     blank: Blank,
     settings: Settings,
     scripts: Vec<Vec<u8>>,
@@ -143,8 +147,13 @@ fn recorded<
     ensures { IfErr result IsOfPlay }
 {
     let seats = scripts.len() as u16 + settings.workers;
-    let Ok((desk, seats)) = Desk::<S, T, L>::open(alloc, seats, u64::from(settings.workers), blank)
-    else {
+    let Ok((desk, seats)) = Desk::<S, T, L>::open(
+        alloc,
+        keys,
+        seats,
+        u64::from(settings.workers),
+        blank,
+    ) else {
         return Err(TeamFault::Memory);
     };
     let told = Told::new(alloc, errors, settings.is_terminal)?;

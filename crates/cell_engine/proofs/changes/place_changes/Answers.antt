@@ -8,7 +8,18 @@ use Rattle.cell_network.specs.Editing.{told_by_all}
 use Rattle.cell_network.specs.Changes.{Change, with_changes, sends_for}
 use Rattle.cell_network.specs.Settled.{AreThere}
 use Rattle.cell_network.proofs.Placed.{there_still}
+use Rattle.std.proofs.lemmas.List.Elements.{All-head, All-tail}
+use Rattle.cell_engine.specs.Admitting.{AreAdmitted, AreAllAdmitted}
 use Rattle.cell_engine.proofs.changes.place_changes.Goals as goal
+
+pub push_all-requires-clause-admitted : goal.push_all-requires-clause-admitted
+push_all-requires-clause-admitted g c =
+    let admitted = c.loop-change.queues.admitted in
+    let rest = c.next.new.self.rest.items in
+    let x : Change = record { router = c.change.inside.router; prefix = c.change.inside.prefix; outcome = record { heard = c.outcome.inside.cell; sends = c.outcome.inside.sends.items } } in
+    let same : x ≡ c.in-Some.change = (λ i. record { router = x.router; prefix = x.prefix; outcome = c.outcome.view_is i }) ∙ c.change.view_is in
+    let step = c.in-Some.ensures.steps.0 ∙ ap (λ y. y ∷ rest) (sym same) in
+    All-head (λ (y : Change). AreAdmitted admitted y.outcome.sends) x rest (subst (AreAllAdmitted admitted) step c.loop-change.invariant.6)
 
 pub loop-change-preserved : goal.loop-change-preserved
 loop-change-preserved g c =
@@ -35,4 +46,5 @@ loop-change-preserved g c =
           let left = c.push_all.ensures.spare f t in
           let both = length-append (sent f t) (later f t) in
           omega (arith, room, left, both),
+      subst (λ a. AreAllAdmitted a rest) (sym c.push_all.ensures.admitted) (All-tail (λ (y : Change). AreAdmitted c.loop-change.queues.admitted y.outcome.sends) x rest (subst (AreAllAdmitted c.loop-change.queues.admitted) step c.loop-change.invariant.6)),
     )

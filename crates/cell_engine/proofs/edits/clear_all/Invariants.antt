@@ -10,4 +10,5 @@ abbrev pub invariant-loop-ends : goal.invariant-loop-ends
 invariant-loop-ends l = record {
   queue : (f t : Addr) → queue_at l.queues f t ≡ (if list_any (is_of f t) (take l.ends-index l.sessions) then [] else queue_at l.initial.queues f t);
   spare : (f t : Addr) → spare_at l.queues f t ≡ spare_at l.initial.queues f t;
+  admitted : l.queues.admitted ≡ l.initial.queues.admitted;
 }

@@ -30,4 +30,5 @@ loop-direction-preserved c =
           let more = grows f t in
           subst (λ l. count_at l f t ≤ spare_at r f t) (sym (map-append (λ e. (e.0.now, e.1.now)) c.loop-direction.yielded ((c.in-Some.direction, c.in-Some.count) ∷ [])))
           (counts_covered before d n f t (spare_at r f t) (omega (arith, was, more)) (covers f t)),
+      c.reserve.ensures.admitted ∙ c.loop-direction.invariant.2,
     )

@@ -10,13 +10,13 @@ use Rattle.cell_engine.proofs.state.State.make_room.Goals as goal
 pub returns-in_err-make_cell-clause-network : goal.returns-in_err-make_cell-clause-network
 returns-in_err-make_cell-clause-network g c = network_kept c.args.self.now c.make_cell.new.self c.make_cell.ensures.same
 
-pub reserve_all-requires : goal.reserve_all-requires
-reserve_all-requires g c =
+pub make_ready-requires : goal.make_ready-requires
+make_ready-requires g c =
     subst (λ (l : List (Addr × Message)). (t : Addr) → length (told t l) ≤ 1) (sym (c.deref.ensures.value ∙ ap (λ o. o.sends) c.outcome.view_is)) c.requires
 
 pub returns-clause-network : goal.returns-clause-network
 returns-clause-network g c =
     let e : Engine = record { conf = c.self.inside.conf; tables = c.self.inside.tables; directions = c.self.inside.directions; queues = c.self.inside.queues } in
-    network_same e c.reserve_all.new.queues c.reserve_all.ensures.queue
+    network_same e c.make_ready.new.queues c.make_ready.ensures.queue
     ∙ ap network c.self.view_is
     ∙ network_kept c.args.self.now c.make_cell.new.self c.make_cell.ensures.same

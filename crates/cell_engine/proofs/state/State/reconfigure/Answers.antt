@@ -6,6 +6,7 @@ use Rattle.cell_network.specs.Editing.{told_by_all}
 use Rattle.cell_network.specs.Changes.{with_changes, sends_for, AreOverSessionsUp}
 use Rattle.cell_network.specs.Reporting.{AreOfPrefixes}
 use Rattle.cell_network.specs.Settled.{AreThere}
+use Rattle.cell_engine.specs.Admitting.{AreAllAdmitted}
 use Rattle.cell_engine.specs.Edits.{Planned, IsPlanned, HasPlaces}
 use Rattle.cell_engine.proofs.Reconfigured.{IsCleared, IsPushed, plan_there, plan_over_sessions_up, plan_of_prefixes, plan_followed}
 use Rattle.cell_engine.proofs.state.State.reconfigure.Goals as goal
@@ -25,7 +26,15 @@ place_changes-requires-clause-room g c =
     let x : Planned = record { conf = c.into_inner-conf.result.conf; directions = c.into_inner-conf.result.directions; changes = c.into_inner-conf.result.changes } in
     let shown : x ≡ c.args.edited = ap (λ v. record { conf = v.conf; directions = v.directions; changes = v.changes }) c.into_inner-conf.ensures ∙ c.edited.view_is in
     let room : HasPlaces e x = subst (λ n. HasPlaces n x) (sym c.self.view_is) (subst (HasPlaces c.args.self.now) (sym shown) c.requires.room) in
-    λ f t. subst (λ n. length (told_by_all (sends_for c.into_vec.result.items) f t) ≤ n) (sym (c.clear_down.ensures.spare f t)) (subst (λ l. length (told_by_all (sends_for l) f t) ≤ spare_at e.queues f t) (sym c.into_vec.ensures) (room f t))
+    λ f t. subst (λ n. length (told_by_all (sends_for c.into_vec.result.items) f t) ≤ n) (sym (c.clear_down.ensures.spare f t)) (subst (λ l. length (told_by_all (sends_for l) f t) ≤ spare_at e.queues f t) (sym c.into_vec.ensures) (room.places f t))
+
+pub place_changes-requires-clause-admitted : goal.place_changes-requires-clause-admitted
+place_changes-requires-clause-admitted g c =
+    let e : Engine = record { conf = c.self.inside.conf; tables = c.self.inside.tables; directions = c.self.inside.directions; queues = c.self.inside.queues } in
+    let x : Planned = record { conf = c.into_inner-conf.result.conf; directions = c.into_inner-conf.result.directions; changes = c.into_inner-conf.result.changes } in
+    let shown : x ≡ c.args.edited = ap (λ v. record { conf = v.conf; directions = v.directions; changes = v.changes }) c.into_inner-conf.ensures ∙ c.edited.view_is in
+    let room : HasPlaces e x = subst (λ n. HasPlaces n x) (sym c.self.view_is) (subst (HasPlaces c.args.self.now) (sym shown) c.requires.room) in
+    subst (λ a. AreAllAdmitted a c.into_vec.result.items) (sym c.clear_down.ensures.admitted) (subst (AreAllAdmitted e.queues.admitted) (sym c.into_vec.ensures) room.admitted)
 
 pub invariant_of-self : goal.invariant_of-self
 invariant_of-self g c =

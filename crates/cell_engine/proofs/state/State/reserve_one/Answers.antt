@@ -7,5 +7,12 @@ use Rattle.cell_engine.proofs.state.State.reserve_one.Goals as goal
 pub returns-clause-network : goal.returns-clause-network
 returns-clause-network g c =
     let e : Engine = record { conf = c.self.inside.conf; tables = c.self.inside.tables; directions = c.self.inside.directions; queues = c.self.inside.queues } in
-    network_same e c.reserve.new.self (queue_kept c.args.direction.from c.args.direction.to e.queues c.reserve.new.self c.reserve.ensures.others c.reserve.ensures.queue)
+    let d = c.args.direction in
+    let kept = queue_kept d.from d.to c.admit.new.queues c.reserve.new.self c.reserve.ensures.others c.reserve.ensures.queue in
+    network_same e c.reserve.new.self (λ f t. kept f t ∙ c.admit.ensures.queue f t)
     ∙ ap network c.self.view_is
+
+pub returns-in_err-admit-clause-network : goal.returns-in_err-admit-clause-network
+returns-in_err-admit-clause-network g c =
+    let e : Engine = record { conf = c.self.inside.conf; tables = c.self.inside.tables; directions = c.self.inside.directions; queues = c.self.inside.queues } in
+    network_same e c.admit.new.queues c.admit.ensures.queue ∙ ap network c.self.view_is

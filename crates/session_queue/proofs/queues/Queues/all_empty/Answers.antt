@@ -1,11 +1,8 @@
-use Rattle.std.proofs.Common.{sym, subst}
-use Rattle.std.proofs.lemmas.Bool.{eqb-true, eq-eqb}
-use Rattle.session_queue.specs.Waiting.{IsQuiet}
-use Rattle.session_queue.proofs.Tidiness.{quiet, count_of_quiet}
+use Rattle.session_queue.proofs.Shown.{empty_seen, empty_was}
 use Rattle.session_queue.proofs.queues.Queues.all_empty.Goals as goal
 
 pub returns : goal.returns
-returns c =
-    let full = c.self.inside.full in
-    let q = c.self.inside.queues.entries in
-    (λ none. subst IsQuiet c.self.view_is (quiet q full c.self.invariant (eqb-true full 0 none)), λ silent. eq-eqb full 0 (count_of_quiet q full c.self.invariant (subst IsQuiet (sym c.self.view_is) silent)))
+returns c = (
+  λ none from to. empty_seen c.self.inside.pool c.self.inside.queues c.self.inside.queues c.args.self.now c.self.view_is from to (c.all_empty.ensures.0 none from to),
+  λ quiet. c.all_empty.ensures.1 (λ from to. empty_was c.self.inside.pool c.self.inside.queues c.self.inside.queues c.args.self.now c.self.view_is from to (quiet from to)),
+)

@@ -1,22 +1,12 @@
-use Rattle.std.proofs.Common.{◌≡◌, rules, ap, ◌∙◌}
-use Rattle.std.specs.Option.{option_map}
-use Rattle.std.specs.List.{find}
-use Rattle.std.specs.BTreeMap.Range.{entries_between}
-use Rattle.std.specs.declared.ops.Bound.TheVariants.{Unbounded}
-use Rattle.session_queue.specs.Waiting.{direction_cmp}
-use Rattle.session_queue.specs.Tidy.{has_message}
-use Rattle.session_queue.proofs.Walk.{found_full, found_past, found_first, pair_of}
+use Rattle.std.proofs.lemmas.Option.{IfSome_then}
+use Rattle.session_queue.proofs.Shown.{skips_none, some_seen}
 use Rattle.session_queue.proofs.queues.Queues.next_full.Goals as goal
 
-pub returns : goal.returns
-returns c =
-    let q = c.args.self.now in
-    let pairs : c.map.result ≡ option_map pair_of c.first_full.result = search rules in
-    let start = ap (λ s. option_map pair_of (option_map (λ e. e.0) (find (λ e. has_message e.1) (entries_between direction_cmp s Unbounded q)))) c.start_past.ensures in
-    let is = pairs ∙ ap (option_map pair_of) c.first_full.ensures.first ∙ start in
-    let ordered = c.first_full.ensures.ordered in
-    record {
-      full = found_full q c.args.past ordered c.map.result is;
-      past = found_past q c.args.past ordered c.map.result is;
-      none_between = found_first q c.args.past ordered c.map.result is;
-    }
+pub returns-clause-full : goal.returns-clause-full
+returns-clause-full c =
+    IfSome_then c.next_full.result c.next_full.ensures.full
+    (λ found some. some_seen c.self.inside.pool c.self.inside.queues c.self.inside.queues c.args.self.now c.self.view_is found.0 found.1 some)
+
+pub returns-clause-none_between : goal.returns-clause-none_between
+returns-clause-none_between c =
+    skips_none c.self.inside.pool c.self.inside.queues c.self.inside.queues c.args.self.now c.self.view_is c.args.past c.next_full.result c.next_full.ensures.none_between

@@ -1,6 +1,6 @@
 use Rattle.std.proofs.Common.{◌≡◌, ◌<◌, true, sym, ap, subst, option_map, ◌∙◌}
 use Rattle.net_conf.specs.Configuration.{has_session}
-use Rattle.session_queue.specs.Waiting.{spare_at}
+use Rattle.session_queue.specs.Waiting.{spare_at, IsAdmitted}
 use Rattle.reference_machine.specs.Network.{with_message}
 use Rattle.reference_machine.specs.Machine.{with_sent, after_edit}
 use Rattle.cell_network.specs.Engine.{network}
@@ -57,6 +57,12 @@ push-requires-clause-room g c =
     let d = c.in-Some-pushed.direction in
     subst (λ n. 0 < spare_at n.queues d.from d.to) (sym c.self.view_is)
     (pushing c.args.self.now c.requires.event c.args.plan c.requires.is (d, c.in-Some-pushed.message) (sym (ap (λ p. p.pushed) c.plan.view_is) ∙ c.in-Some-pushed.is)).room
+
+pub push-requires-clause-admitted : goal.push-requires-clause-admitted
+push-requires-clause-admitted g c =
+    let d = c.in-Some-pushed.direction in
+    subst (λ n. IsAdmitted n.queues c.in-Some-pushed.message) (sym c.self.view_is)
+    (pushing c.args.self.now c.requires.event c.args.plan c.requires.is (d, c.in-Some-pushed.message) (sym (ap (λ p. p.pushed) c.plan.view_is) ∙ c.in-Some-pushed.is)).admitted
 
 pub returns-in-Some-pushed-clause-next : goal.returns-in-Some-pushed-clause-next
 returns-in-Some-pushed-clause-next g c = λ event is.

@@ -1,7 +1,7 @@
 use Rattle.std.proofs.Common.{◌≡◌}
 use Rattle.std.specs.List.{find}
 use Rattle.session_queue.specs.Tidy.{has_message}
-use Rattle.session_queue.proofs.queues.Queues.first_full.Given as goal
+use Rattle.session_queue.proofs.numbered_queues.NumberedQueues.first_full.Given as goal
 
 -- what is left has the same first direction with a message
 abbrev pub invariant-loop-direction : goal.invariant-loop-direction

@@ -2,7 +2,7 @@ use Rattle.std.proofs.Common.{◌≡◌}
 use Rattle.std.specs.List.{find, filter}
 use Rattle.session_queue.specs.Shards.{is_in_shard}
 use Rattle.session_queue.specs.Tidy.{has_message}
-use Rattle.session_queue.proofs.queues.Queues.first_in.Given as goal
+use Rattle.session_queue.proofs.numbered_queues.NumberedQueues.first_in.Given as goal
 
 -- what is left has the same first direction with a message of the shard
 abbrev pub invariant-loop-direction : goal.invariant-loop-direction

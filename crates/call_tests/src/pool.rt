@@ -1,0 +1,52 @@
+//! Attributes by number.
+
+use attr_pool::Pool;
+use net_prefix::Addr;
+use path_attr::{AsPath, Attr, Origin};
+use seq::SharedSeq;
+use std::process::Abort;
+
+/// How many different attributes are kept at once.
+const MANY: u32 = 100_000;
+
+/// Attributes that have this MULTI_EXIT_DISC.
+pub fn attr(med: u32) -> Attr {
+    Attr {
+        path: AsPath::empty(),
+        origin: Origin::Igp,
+        next: Addr(0x0700_0001),
+        med: Some(med),
+        pref: None,
+        oid: None,
+        clusters: SharedSeq::empty(),
+    }
+}
+
+/// The nth of numbers that are all different and in no order: the factor is odd.
+fn drawn(n: u32) -> u32 {
+    n.wrapping_mul(0x9E37_79B1)
+}
+
+#[test]
+fn equal_attributes_have_one_number(rt: HostRuntime) {
+    let mut pool = Pool::new(rt.alloc(), None);
+    let five = pool.intern(attr(5)).expect(&rt, "memory");
+    let six = pool.intern(attr(6)).expect(&rt, "memory");
+    assert_ne!(rt; five, six);
+    assert_eq!(rt; pool.intern(attr(5)).expect(&rt, "memory"), five);
+    assert_eq!(rt; pool.attr(six), Some(&attr(6)));
+}
+
+#[test]
+fn many_attributes_keep_their_numbers(rt: HostRuntime) {
+    let mut pool = Pool::new(rt.alloc(), None);
+    let mut numbers = Vec::new(rt.alloc());
+    for n in 0..MANY {
+        let number = pool.intern(attr(drawn(n))).expect(&rt, "memory");
+        numbers.push(number).expect(&rt, "memory");
+    }
+    for n in 0..MANY {
+        let again = pool.intern(attr(drawn(n))).expect(&rt, "memory");
+        assert_eq!(rt; numbers.get(n as usize), Some(&again));
+    }
+}

@@ -1,0 +1,20 @@
+-- What was admitted stays so while more is.
+use Rattle.std.proofs.Common.{List}
+use Rattle.std.proofs.lemmas.List.Elements.{All-weaker}
+use Rattle.net_prefix.specs.declared.addr.Addr.{Addr}
+use Rattle.session_queue.specs.declared.message.Message.{Message}
+use Rattle.session_queue.specs.declared.message.Message.TheVariants.{Update, Withdraw}
+use Rattle.session_queue.specs.Waiting.{WaitingByDirection, IsAdmitted, KeepsAdmitted}
+use Rattle.cell_network.specs.Changes.{Change}
+use Rattle.cell_engine.specs.Admitting.{AreAdmitted, AreAllAdmitted}
+
+module _ (q r : WaitingByDirection) (keeps : KeepsAdmitted q r) where
+  still_admitted : (m : Message) → IsAdmitted q m → IsAdmitted r m
+  still_admitted (Update p attr) is = keeps attr is
+  still_admitted (Withdraw p) is = tt
+
+  pub all_still_admitted : (sends : List (Addr × Message)) → AreAdmitted q.admitted sends → AreAdmitted r.admitted sends
+  all_still_admitted sends are = All-weaker _ _ (λ e is. still_admitted e.1 is) sends are
+
+  pub each_still_admitted : (xs : List Change) → AreAllAdmitted q.admitted xs → AreAllAdmitted r.admitted xs
+  each_still_admitted xs are = All-weaker _ _ (λ x is. all_still_admitted x.outcome.sends is) xs are
