@@ -10,7 +10,7 @@ use Rattle.sim_event.specs.declared.event.Event.TheVariants.{Edit as AnEdit, Fee
 use Rattle.sim_event.specs.declared.reply.Reply.{Reply}
 use Rattle.sim_event.specs.declared.reply.Reply.TheVariants.{Took}
 use Rattle.reference_machine.specs.Network.{Network}
-use Rattle.reference_machine.specs.Machine.{step, is_refusal}
+use Rattle.reference_machine.specs.Machine.{step, is_refusal, IsStep}
 use Rattle.cell_network.specs.Engine.{Engine}
 use Rattle.cell_network.specs.Decisions.{IsRefreshed}
 
@@ -50,3 +50,10 @@ CountsIf false s event n m = IsRaised s event n m
 
 abbrev pub Counts : Network → Event → Reply → ℕ → ℕ → Type 0
 Counts s event reply n m = CountsIf (is_refusal reply) s event n m
+
+-- a run of the machine that takes the count from n to m, event by event
+abbrev pub IsCountedRun : Network → ℕ → List Event → List Reply → Network → ℕ → Type 0
+IsCountedRun s n [] [] s' m = (s' ≡ s) × (m ≡ n)
+IsCountedRun s n (e ∷ es) (r ∷ rs) s' m = (mid : Network) × (k : ℕ) × IsStep s e r mid × Counts s e r n k × IsCountedRun mid k es rs s' m
+IsCountedRun s n [] (r ∷ rs) s' m = ⊥
+IsCountedRun s n (e ∷ es) [] s' m = ⊥

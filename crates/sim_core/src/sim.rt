@@ -1,11 +1,11 @@
 //! The simulator: a machine that takes events, and counts what it decides.
 
-ghost use Rattle.std.specs.Prelude.{◌≡◌, None, length, IfOk, IfErr, OnOk, OnErr, MatchResult};
+ghost use Rattle.std.specs.Prelude.{◌≡◌, None, length, IfOk, IfErr, OnOk, OnErr};
 ghost use Rattle.net_conf.specs.declared.refusal.Refusal.TheVariants.{Memory};
 ghost use Rattle.sim_event.specs.declared.event.Event.TheVariants.{Deliver};
 ghost use Rattle.reference_machine.specs.Machine.{nothing, step, delivery_refusal, IsStep, IsRun};
 ghost use Rattle.cell_network.specs.Engine.{network};
-ghost use Rattle.sim_core.specs.Counting.{raised, Counts};
+ghost use Rattle.sim_core.specs.Counting.{raised, Counts, IsCountedRun};
 ghost use Rattle.sim_core.specs.Installing.{IsOutcomeOfHead};
 ghost use Rattle.sim_core.specs.Plans.{IsPrepared, IsOfEvent, Prepares};
 
@@ -124,16 +124,18 @@ impl<S: Selector + Send + Sync + Drop, T: PrefixTable<Cell<S>> + Drop> Sim<S, T>
         }
     }
 
-    /// Takes the events in order, one reply an event. Where there is no memory for the replies, nothing has changed and
-    /// the refusal is `Memory`; a step's own want of memory is its reply.
+    /// Takes the events in order, one reply an event; each counts as it does in a step. Where there is no memory for the replies, nothing
+    /// has changed and the refusal is `Memory`; a step's own want of memory is its reply.
     pub fn run<R: Threads + Sync>(
         &mut self,
         rt: &R,
         events: &[Event],
     ) -> Result<Vec<Reply>, Refusal>
-        ensures { MatchResult result
-            (λ replies. IsRun (network self.old.engine) events.now replies.items (network self.new.engine))
-            (λ refusal. (refusal ≡ Memory) × (network self.new.engine ≡ network self.old.engine)) }
+        ensures run { IfOk result (λ replies. IsRun (network self.old.engine) events.now replies.items (network self.new.engine)) }
+        ensures counted { IfOk result (λ replies. IsCountedRun (network self.old.engine) self.old.decided events.now replies.items (network self.new.engine) self.new.decided) }
+        ensures memory { IfErr result (λ refusal. refusal ≡ Memory) }
+        ensures same { OnErr result (network self.new.engine ≡ network self.old.engine) }
+        ensures uncounted { OnErr result (self.new.decided ≡ self.old.decided) }
     {
         let Ok(mut replies) = Vec::with_capacity(self.alloc, events.len()) else {
             return Err(Refusal::Memory);
