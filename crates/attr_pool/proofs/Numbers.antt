@@ -1,8 +1,9 @@
 -- What becomes of a pool's numbers.
-use Rattle.std.proofs.Common.{◌≡◌, ◌≢◌, ◌<◌, ◌+◌, ℕ, Bool, true, false, List, [], ◌∷◌, ◌++◌, length, slice_get, Some, refl, sym, ◌∙◌, arith, length-append, ltb, ⊎_elim, if◌then◌else◌}
+use Rattle.std.proofs.Common.{◌≡◌, ◌≢◌, ◌<◌, ◌+◌, ℕ, Bool, true, false, List, [], ◌∷◌, ◌++◌, length, slice_get, Some, refl, sym, ◌∙◌, arith, length-append, ltb, ⊎_elim, ap, get_or, if◌then◌else◌}
 use Rattle.std.proofs.lemmas.Bool.{ltb-true, ltb-false}
 use Rattle.std.proofs.lemmas.Option.{slice_get_within, get_or_from_slice_get, slice_get_read}
 use Rattle.std.proofs.lemmas.List.{get_or_append_left}
+use Rattle.std.proofs.lemmas.List.Folds.{list_any_at}
 use Rattle.std.proofs.lemmas.Map.Made.{AllPairs-from_IsDistinct}
 use Rattle.std.proofs.lemmas.Bool.Decides.{eqb_tells}
 use Rattle.std.specs.List.{IsDistinct}
@@ -40,3 +41,12 @@ module _ (pool : List Attr) (distinct : IsDistinct same_attr pool) where
       ordered : m ≢ n → (b : Bool) → ltb m n ≡ b → m ≡ n
       ordered differ true e = apart m n attr here there (ltb-true m n e)
       ordered differ false e = sym (apart n m attr there here (omega (arith, ltb-false m n e, differ)))
+
+-- who has a number is in the pool
+pub has_of_number : (pool : List Attr) (n : ℕ) (attr : Attr) → slice_get pool n ≡ Some attr → has_attr pool attr ≡ true
+has_of_number pool n attr at =
+    list_any_at (same_attr attr) pool n attr (slice_get_within pool n attr at) ((attrs_exact attr (get_or pool n attr)).1 (sym (get_or_from_slice_get pool n attr attr at)))
+
+-- and is not put in once more
+pub with_present : (pool : List Attr) (n : ℕ) (attr : Attr) → slice_get pool n ≡ Some attr → pool ≡ with_attr pool attr
+with_present pool n attr at = ap (λ b. if b then pool else pool ++ attr ∷ []) (sym (has_of_number pool n attr at))

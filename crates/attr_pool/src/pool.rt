@@ -1,6 +1,6 @@
 //! Attributes by number.
 
-ghost use Rattle.std.specs.Prelude.{◌≡◌, false, [], length, Some, slice_get, option_copied, IfOk, IfErr, OnOk, OnErr};
+ghost use Rattle.std.specs.Prelude.{◌≡◌, false, [], length, Some, slice_get, option_copied, IfOk, IfErr, IfSome, OnOk, OnErr};
 ghost use Rattle.attr_pool.specs.Pooled.{has_attr, with_attr, KeepsNumbers, HaveOneNumber};
 
 use crate::attr_id::AttrId;
@@ -19,6 +19,8 @@ const MOST: usize = 0xFFFF_FFFF;
 #[derive(Debug, Drop)]
 pub struct Pool {
     attrs: IndexSet<Key, FirstHasher>,
+    /// The number that was asked for last: a router mostly sends one route to many.
+    last: Option<AttrId>,
 }
 
 impl Model for Pool {
@@ -42,12 +44,50 @@ impl Pool {
     {
         Pool {
             attrs: IndexSet::with_hasher(alloc, FirstHasher::keyed(keys)),
+            last: None,
         }
     }
 
     /// The number of these attributes, which are put into the pool where they are new. The error, for new ones alone, is want
     /// of memory or of numbers: it hands the attributes back, and changes nothing.
+    #[tactic(auto, using(crate::proofs::Numbers::has_of_number, crate::proofs::Numbers::with_present))]
     pub fn intern(&mut self, attr: Attr) -> Result<AttrId, Attr>
+        ensures numbered { IfOk result (λ id. slice_get self.new id ≡ Some attr) }
+        ensures pooled { OnOk result (self.new ≡ with_attr self.old attr) }
+        ensures keeps { KeepsNumbers self.old self.new }
+        ensures one_number { HaveOneNumber self.new }
+        ensures back { IfErr result (λ back. back ≡ attr) }
+        ensures absent { OnErr result (has_attr self.old attr ≡ false) }
+        ensures err { OnErr result (self.new ≡ self.old) }
+    {
+        self.facts();
+        match self.last_number(&attr) {
+            Some(id) => {
+                drop(attr);
+                Ok(id)
+            }
+            None => self.intern_hashed(attr),
+        }
+    }
+
+    /// A call gives the caller's proof what holds of every pool.
+    fn facts(&self)
+        ensures { HaveOneNumber self.now }
+    {
+        let _ = &self.attrs;
+    }
+
+    /// The number that was asked for last, where it is that of these attributes. Nothing is hashed.
+    fn last_number(&self, attr: &Attr) -> Option<AttrId>
+        ensures { IfSome result (λ id. slice_get self.now id ≡ Some attr.now) }
+    {
+        let id = self.last?;
+        let last = self.attr(id)?;
+        if last.is_same(attr) { Some(id) } else { None }
+    }
+
+    /// The same, by their hash.
+    fn intern_hashed(&mut self, attr: Attr) -> Result<AttrId, Attr>
         ensures numbered { IfOk result (λ id. slice_get self.new id ≡ Some attr) }
         ensures pooled { OnOk result (self.new ≡ with_attr self.old attr) }
         ensures keeps { KeepsNumbers self.old self.new }
@@ -61,7 +101,11 @@ impl Pool {
             return Err(key.into_attr());
         }
         match self.attrs.insert_full(key) {
-            Ok((place, _)) => return Ok(AttrId::at(place)),
+            Ok((place, _)) => {
+                let id = AttrId::at(place);
+                self.last = Some(id);
+                return Ok(id);
+            }
             Err(refused) => return Err(refused.value.into_attr()),
         }
     }
