@@ -59,6 +59,7 @@ pub struct Desk<S: Chosen, T: PrefixTable<Cell<S>>, L: Ledger> {
 }
 
 impl<S: Chosen, T: PrefixTable<Cell<S>>, L: Ledger> Model for Desk<S, T, L> {
+    ghost use Rattle.std.specs.Prelude.{◌≡◌};
     ghost use Rattle.desk.specs.Desks.{DeskBook, AreShards};
 
     ghost Value = { DeskBook };
@@ -102,43 +103,36 @@ impl<S: Chosen, T: PrefixTable<Cell<S>>, L: Ledger> Desk<S, T, L> {
         if shards < 1 || shards > MAX_SHARDS {
             return Err(OpenFault::Shards);
         }
-        let Ok((room, all)) = Room::new(alloc, keys, seats, blank) else {
+        let Ok(posts) = Posts::new(alloc, shards) else {
             return Err(OpenFault::Memory);
         };
-        match Desk::of(alloc, room, shards) {
-            Ok(desk) => Ok((desk, all)),
-            Err(_) => {
-                drop(all);
-                Err(OpenFault::Memory)
-            }
+        let Ok(bells) = Bells::new(alloc, shards) else {
+            return Err(OpenFault::Memory);
+        };
+        match Room::new(alloc, keys, seats, blank) {
+            Ok((room, all)) => Ok((Desk::of(alloc, room, shards, posts, bells), all)),
+            Err(_) => Err(OpenFault::Memory),
         }
     }
 
     /// The room, under a lock.
-    fn of(alloc: Global, room: Room<S, T, L>, shards: u64) -> Result<Self, AllocError>
-        requires { AreShards shards }
-        ensures { IfOk result (λ desk. desk.shards ≡ shards) }
+    fn of(alloc: Global, room: Room<S, T, L>, shards: u64, posts: Posts, bells: Bells) -> Self
+        requires shards { AreShards shards }
+        requires bells { bells ≡ shards }
+        ensures { result.shards ≡ shards }
     {
-        let Ok(posts) = Posts::new(alloc, shards) else {
-            drop(room);
-            return Err(AllocError);
-        };
-        let Ok(bells) = Bells::new(alloc, shards) else {
-            drop((room, posts));
-            return Err(AllocError);
-        };
         let table = Table {
             room,
             is_finished: false,
             workers: 0,
             posts,
         };
-        Ok(Desk {
+        Desk {
             alloc,
             table: Mutex::new(table),
             bells,
             shards,
-        })
+        }
     }
 
     /// How many shards there are: 1 to 64.
