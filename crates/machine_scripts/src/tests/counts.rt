@@ -127,15 +127,15 @@ fn counts_of_virtual_peers<M: Counting + Drop>(
 #[test]
 fn tries_count(rt: HostRuntime) {
     let alloc = rt.alloc();
-    counts_of_deliveries(&rt, alloc, TrieMachine::new(alloc));
-    counts_of_edits(&rt, alloc, TrieMachine::new(alloc));
-    counts_of_virtual_peers(&rt, alloc, TrieMachine::new(alloc));
+    counts_of_deliveries(&rt, alloc, TrieMachine::new(alloc, None));
+    counts_of_edits(&rt, alloc, TrieMachine::new(alloc, None));
+    counts_of_virtual_peers(&rt, alloc, TrieMachine::new(alloc, None));
 }
 
 #[test]
 fn sorted_tables_count(rt: HostRuntime) {
     let alloc = rt.alloc();
-    counts_of_deliveries(&rt, alloc, SortedMachine::new(alloc));
-    counts_of_edits(&rt, alloc, SortedMachine::new(alloc));
-    counts_of_virtual_peers(&rt, alloc, SortedMachine::new(alloc));
+    counts_of_deliveries(&rt, alloc, SortedMachine::new(alloc, None));
+    counts_of_edits(&rt, alloc, SortedMachine::new(alloc, None));
+    counts_of_virtual_peers(&rt, alloc, SortedMachine::new(alloc, None));
 }

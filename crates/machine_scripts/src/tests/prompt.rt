@@ -87,6 +87,6 @@ fn is_answered_at_once<M: Machine + Drop>(
 fn each_reply_is_shown_before_more_is_read(rt: HostRuntime) {
     let alloc = rt.alloc();
     is_answered_at_once(&rt, alloc, PlainMachine::new(alloc));
-    is_answered_at_once(&rt, alloc, SortedMachine::new(alloc));
-    is_answered_at_once(&rt, alloc, TrieMachine::new(alloc));
+    is_answered_at_once(&rt, alloc, SortedMachine::new(alloc, None));
+    is_answered_at_once(&rt, alloc, TrieMachine::new(alloc, None));
 }

@@ -49,10 +49,10 @@ fn runs<S: Selector + Send + Sync + Drop, T: PrefixTable<Cell<S>> + Drop>(
 
 #[test]
 fn tries_run_a_list(rt: HostRuntime) {
-    runs(&rt, &mut TrieMachine::new(rt.alloc()));
+    runs(&rt, &mut TrieMachine::new(rt.alloc(), None));
 }
 
 #[test]
 fn sorted_tables_run_a_list(rt: HostRuntime) {
-    runs(&rt, &mut SortedMachine::new(rt.alloc()));
+    runs(&rt, &mut SortedMachine::new(rt.alloc(), None));
 }
