@@ -119,8 +119,8 @@ fn a_reader_that_fails_at_each_read(rt: HostRuntime) {
     let alloc = rt.alloc();
     for reads in 0..8 {
         reader_fails(&rt, alloc, PlainMachine::new(alloc), reads);
-        reader_fails(&rt, alloc, SortedMachine::new(alloc), reads);
-        reader_fails(&rt, alloc, TrieMachine::new(alloc), reads);
+        reader_fails(&rt, alloc, SortedMachine::new(alloc, None), reads);
+        reader_fails(&rt, alloc, TrieMachine::new(alloc, None), reads);
     }
 }
 
@@ -166,7 +166,7 @@ fn a_writer_that_fails_at_each_write(rt: HostRuntime) {
     let alloc = rt.alloc();
     for writes in 0..10 {
         writer_fails(&rt, alloc, PlainMachine::new(alloc), writes);
-        writer_fails(&rt, alloc, SortedMachine::new(alloc), writes);
-        writer_fails(&rt, alloc, TrieMachine::new(alloc), writes);
+        writer_fails(&rt, alloc, SortedMachine::new(alloc, None), writes);
+        writer_fails(&rt, alloc, TrieMachine::new(alloc, None), writes);
     }
 }
