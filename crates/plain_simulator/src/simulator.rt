@@ -66,9 +66,9 @@ impl<S: Selector + Drop> Simulator<S> {
 impl<S: Selector + Drop> Machine for Simulator<S> {
     ghost network = { λ s. s };
 
-    // It starts no thread.
-    fn step<R: Threads + Sync>(&mut self, _rt: &R, event: &Event) -> Reply {
-        match self.state.try_step::<S>(self.alloc, event) {
+    // Its configuration alone starts threads.
+    fn step<R: Threads + Sync>(&mut self, rt: &R, event: &Event) -> Reply {
+        match self.state.try_step::<S, R>(rt, self.alloc, event) {
             Ok(reply) => reply,
             Err(_) => Reply::Refused(Refusal::Memory),
         }
