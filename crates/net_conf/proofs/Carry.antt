@@ -170,8 +170,8 @@ made_of_graph graph [] all = λ k d lt. absurd (omega (arith, lt))
 made_of_graph graph (x ∷ moved) all =
     let here : x.graph ≡ graph = All-head (λ (y : MovedTree). y.graph ≡ graph) x moved all in
     let is : tree_after x ≡ new_tree graph (source_of (tree_after x)) =
-        ap (λ (g : Topology). tree_of g.nodes g.edges (source_of x.tree)) here
-        ∙ ap (new_tree graph) (sym (source_after x.graph.nodes x.graph.edges (source_of x.tree))) in
+    ap (λ (g : Topology). tree_of g.nodes g.edges (source_of x.tree)) here
+    ∙ ap (new_tree graph) (sym (source_after x.graph.nodes x.graph.edges (source_of x.tree))) in
     All-cons (λ t. t ≡ new_tree graph (source_of t)) (tree_after x) (map tree_after moved) is (made_of_graph graph moved (All-tail (λ (y : MovedTree). y.graph ≡ graph) x moved all))
 
 module _ (graph : Topology) (es : List (Addr × Reached)) (moved : List MovedTree) (are : AreMoved graph es moved) (r : Addr) where

@@ -87,7 +87,8 @@ pub(crate) fn trees_after<R: Threads + Sync>(
     if moved.len().saturating_mul(nodes) < WORTH_THREADS {
         make_in_turn(alloc, moved)
     } else {
-        make_in_threads(rt, alloc, moved, LEAST_LABELS.checked_div(nodes).unwrap_or(1))
+        let least = LEAST_LABELS.checked_div(nodes).unwrap_or(1);
+        make_in_threads(rt, alloc, moved, least)
     }
 }
 
