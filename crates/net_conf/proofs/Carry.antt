@@ -1,5 +1,5 @@
 -- What the trees that move change of those that are carried over.
-use Rattle.std.proofs.Common.{◌≡◌, ℕ, ◌+◌, ◌<◌, Bool, true, false, cond, ◌||◌, List, [], ◌∷◌, ◌++◌, map, fold, take, length, get_or, Option, Some, None, option_map, is_some, All, refl, sym, ap, ◌∙◌, subst, arith}
+use Rattle.std.proofs.Common.{◌≡◌, ℕ, ◌+◌, ◌<◌, Bool, true, false, cond, ◌||◌, List, [], ◌∷◌, ◌++◌, map, fold, take, length, get_or, Option, Some, None, option_map, is_some, All, refl, sym, ap, ◌∙◌, arith}
 use Rattle.std.specs.List.{list_any}
 use Rattle.std.specs.Option.{option_or}
 use Rattle.std.specs.List.Sorted.{IsStrictlySortedBy}
@@ -18,7 +18,6 @@ use Rattle.net_prefix.specs.declared.addr.Addr.{Addr}
 use Rattle.net_prefix.specs.Address.{addr_cmp}
 use Rattle.net_prefix.specs.Orders.{addr_exact, addr_total}
 use Rattle.igp_cost.specs.declared.change.Change.{Change}
-use Rattle.igp_cost.specs.Stays.{IsTree}
 use Rattle.igp_cost.specs.Topology.{Topology}
 use Rattle.igp_cost.specs.Trees.{Reached, source_of, tree_of}
 use Rattle.igp_cost.specs.Walks.{Nodes, Edges}

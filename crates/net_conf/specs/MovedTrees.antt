@@ -1,5 +1,5 @@
 -- The trees that a change of the edges may move, and what becomes of them. No public contract cites this file.
-use Rattle.std.specs.Prelude.{◌≡◌, true, false, List, map, fold, All, option_map, is_some, IsTrue}
+use Rattle.std.specs.Prelude.{◌≡◌, true, false, List, map, All, option_map, is_some, IsTrue}
 use Rattle.std.specs.Map.{lookup}
 use Rattle.std.specs.BTreeMap.{insert_entry, is_at}
 use Rattle.std.specs.BTreeSet.{insert_key}

@@ -1,9 +1,7 @@
-use Rattle.std.proofs.Common.{◌≡◌, ◌∙◌, [], List, fold, map, sym, ap, subst}
+use Rattle.std.proofs.Common.{◌∙◌, [], fold, map, sym, ap, subst}
 use Rattle.std.specs.Map.{lookup}
 use Rattle.std.specs.BTreeMap.{is_at}
-use Rattle.net_prefix.specs.declared.addr.Addr.{Addr}
 use Rattle.net_prefix.specs.Address.{addr_cmp}
-use Rattle.igp_cost.specs.Trees.{Reached}
 use Rattle.net_conf.specs.Concerned.{is_among}
 use Rattle.net_conf.specs.Kept.{WereTrees}
 use Rattle.net_conf.specs.MovedTrees.{AreMoved, tree_after, with_tree, with_source}
