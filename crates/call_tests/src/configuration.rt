@@ -5,6 +5,7 @@ use net_conf::{Conf, Edit, Kind, Metric, Refusal};
 use net_prefix::Addr;
 use std::alloc::Global;
 use std::process::Abort;
+use std::thread::Threads;
 
 const ROUTER: Addr = Addr(0x0100_0001);
 
@@ -13,7 +14,7 @@ const PEER: Addr = Addr(0x0200_0001);
 const NOBODY: Addr = Addr(0x0300_0001);
 
 /// A router that has a session with a virtual peer over a link.
-fn peered(rt: &impl Abort, alloc: Global) -> Conf {
+fn peered(rt: &(impl Abort + Threads + Sync), alloc: Global) -> Conf {
     let cost = Metric::new(10).expect(rt, "a metric");
     let edits = [
         Edit::Router(ROUTER, asn(rt, 1)),
@@ -23,7 +24,7 @@ fn peered(rt: &impl Abort, alloc: Global) -> Conf {
     ];
     let mut conf = Conf::new(alloc);
     for edit in &edits {
-        conf.edit(alloc, edit).expect(rt, "no edit is refused");
+        conf.edit(rt, alloc, edit).expect(rt, "no edit is refused");
     }
     conf
 }

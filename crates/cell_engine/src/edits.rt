@@ -250,7 +250,7 @@ impl<S: Selector + Send + Sync + Drop, T: PrefixTable<Cell<S>> + Drop> State<S, 
         ensures { IfOk result (λ edited. edited ≡ planned self.now edit.now) }
     {
         self.facts();
-        let Ok(made) = self.conf.edited(self.alloc, edit) else {
+        let Ok(made) = self.conf.edited(rt, self.alloc, edit) else {
             return Err(AllocError);
         };
         let Ok(changes) = self.changes_by(rt, edit.scope(), &made) else {

@@ -20,3 +20,4 @@ pub mod SameSites
 pub mod SameKeys
 pub mod LinkTurns
 pub mod DownSessions
+pub mod InThreads

@@ -1,5 +1,5 @@
 -- What is kept beside the tables, and what holds of every configuration that edits lead to. No public contract cites this file.
-use Rattle.std.specs.Prelude.{◌≡◌, ◌≤◌, ℕ, Bool, true, false, cond, ◌==◌, List, length, map, Option, Some, None, option_map, IsTrue, All, if◌then◌else◌}
+use Rattle.std.specs.Prelude.{◌≡◌, ◌≤◌, ℕ, Bool, true, false, ◌==◌, List, length, map, Option, Some, None, option_map, IsTrue, All, if◌then◌else◌}
 use Rattle.std.specs.Map.{keys_of, values_of, lookup}
 use Rattle.std.specs.BTreeMap.{is_at}
 use Rattle.net_prefix.specs.declared.addr.Addr.{Addr}
@@ -56,10 +56,6 @@ pub record WasTreeOf (change : Change) (nodes : Nodes) (edges : Edges) (r : Addr
 -- each tree is that of the node at its key from before the change
 abbrev pub WereTrees : Change → Nodes → Edges → List (Addr × Reached) → Type 0
 WereTrees change nodes edges trees = (r : Addr) (t : Reached) → lookup (is_at (addr_cmp r)) trees ≡ Some t → WasTreeOf change nodes edges r t
-
--- the tree there is the old one, if there is one, or the new one
-abbrev pub IsOldOrNew : Option Reached → Reached → Option Reached → Type 0
-IsOldOrNew old new there = (carried : Bool) × (there ≡ cond carried (Some new) old)
 
 -- THE SESSIONS THAT ARE DOWN
 

@@ -11,3 +11,4 @@ pub mod Concerned
 pub mod Kept
 pub mod Facts
 pub mod FactLaws
+pub mod MovedTrees

@@ -22,6 +22,7 @@ use net_prefix::Addr;
 use shared_map::SharedSet;
 use std::alloc::{AllocError, Global};
 use std::collections::BTreeSet;
+use std::thread::Threads;
 
 /// What an edit makes, and whom it concerns.
 #[derive(Drop)]
@@ -41,14 +42,19 @@ struct Turned {
 
 impl ConfSessions {
     /// What is configured after an edit that is not refused, and whom the edit concerns.
-    pub(crate) fn made(&self, alloc: Global, edit: &Edit) -> Result<MadeSessions, AllocError>
+    pub(crate) fn made<R: Threads + Sync>(
+        &self,
+        rt: &R,
+        alloc: Global,
+        edit: &Edit,
+    ) -> Result<MadeSessions, AllocError>
         requires { refusal_of self.now edit.now ≡ None }
         ensures conf { IfOk result (λ made. made.conf ≡ edited self.now edit.now) }
         ensures alone { IfOk result (λ made. ConcernsAlone self.now made.conf made.concerned.keys) }
         ensures ends { IfOk result (λ made. EndsStayBut self.now made.conf made.concerned.keys) }
         ensures sessions { IfOk result (λ made. SessionsStayBut self.now made.conf made.turned.keys) }
     {
-        let Made { conf: trees, moved } = self.trees.made(alloc, edit)?;
+        let Made { conf: trees, moved } = self.trees.made(rt, alloc, edit)?;
         let Ok(Turned { down, turned }) = self.turned(alloc, edit, &trees, &moved) else {
             drop((trees, moved));
             return Err(AllocError);

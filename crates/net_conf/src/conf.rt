@@ -22,6 +22,7 @@ use std::alloc::{AllocError, Global};
 use std::collections::BTreeSet;
 use std::marker::Model;
 use std::mem::replace;
+use std::thread::Threads;
 
 /// What is configured, with the interior costs and the sites of those who have a session, and the sessions that are down.
 #[derive(Drop)]
@@ -76,10 +77,15 @@ impl Conf {
     }
 
     /// Makes the edit, unless it is refused. A refusal, or want of memory, changes nothing.
-    pub fn edit(&mut self, alloc: Global, edit: &Edit) -> Result<(), Refusal>
+    pub fn edit<R: Threads + Sync>(
+        &mut self,
+        rt: &R,
+        alloc: Global,
+        edit: &Edit,
+    ) -> Result<(), Refusal>
         ensures { IsEdit self.old edit.now result self.new }
     {
-        let made = self.edited(alloc, edit)?;
+        let made = self.edited(rt, alloc, edit)?;
         drop(replace(self, made.conf));
         Ok(())
     }
@@ -174,16 +180,26 @@ impl Conf {
 
     /// The configuration after the edit, made beside this one, and whom the edit concerns: of all others nothing is changed. It is refused
     /// as the edit is, and for want of memory.
-    pub fn edited(&self, alloc: Global, edit: &Edit) -> Result<EditedConf, Refusal>
+    pub fn edited<R: Threads + Sync>(
+        &self,
+        rt: &R,
+        alloc: Global,
+        edit: &Edit,
+    ) -> Result<EditedConf, Refusal>
         ensures edited { MatchResult result (λ made. IsEdited self.now edit.now (Ok made.conf)) (λ refusal. IsEdited self.now edit.now (Err refusal)) }
         ensures concerned { IfOk result (λ made. ConcernsAlone self.now made.conf made.concerned.keys) }
     {
         self.check(edit)?;
-        self.made(alloc, edit).map_err(|_| Refusal::Memory)
+        self.made(rt, alloc, edit).map_err(|_| Refusal::Memory)
     }
 
     /// The configuration after an edit that is not refused, and whom the edit concerns.
-    fn made(&self, alloc: Global, edit: &Edit) -> Result<EditedConf, AllocError>
+    fn made<R: Threads + Sync>(
+        &self,
+        rt: &R,
+        alloc: Global,
+        edit: &Edit,
+    ) -> Result<EditedConf, AllocError>
         requires { refusal_of self.now edit.now ≡ None }
         ensures conf { IfOk result (λ made. made.conf ≡ edited self.now edit.now) }
         ensures concerned { IfOk result (λ made. ConcernsAlone self.now made.conf made.concerned.keys) }
@@ -192,7 +208,7 @@ impl Conf {
             conf: sessions,
             concerned,
             turned,
-        } = self.sessions.made(alloc, edit)?;
+        } = self.sessions.made(rt, alloc, edit)?;
         // (an implicit drop of a whole configuration is written out at each early end: minutes of the prover)
         let Ok(sites) = self.sites_after(alloc, edit, &sessions, &concerned, &turned) else {
             drop((sessions, concerned, turned));

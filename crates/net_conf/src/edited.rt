@@ -20,6 +20,7 @@ use seq::Copied;
 use shared_map::SharedMap;
 use std::alloc::{AllocError, Global};
 use std::collections::BTreeSet;
+use std::thread::Threads;
 
 /// What an edit makes, and whose trees have moved.
 #[derive(Drop)]
@@ -30,7 +31,12 @@ pub(crate) struct Made {
 
 impl ConfTrees {
     /// What is configured after an edit that is not refused.
-    pub(crate) fn made(&self, alloc: Global, edit: &Edit) -> Result<Made, AllocError>
+    pub(crate) fn made<R: Threads + Sync>(
+        &self,
+        rt: &R,
+        alloc: Global,
+        edit: &Edit,
+    ) -> Result<Made, AllocError>
         requires { refusal_of self.now edit.now ≡ None }
         ensures conf { IfOk result (λ made. made.conf ≡ edited self.now edit.now) }
         ensures moved { IfOk result (λ made. CostsStayBut self.now made.conf made.moved.keys) }
@@ -41,7 +47,7 @@ impl ConfTrees {
             drop(tables);
             return Err(AllocError);
         };
-        let Ok(Carried { trees, moved }) = self.trees_after(alloc, edit, &tables) else {
+        let Ok(Carried { trees, moved }) = self.trees_after(rt, alloc, edit, &tables) else {
             drop(tables);
             return Err(AllocError);
         };
@@ -50,8 +56,9 @@ impl ConfTrees {
     }
 
     /// The trees of the tables that the edit makes of these.
-    fn trees_after(
+    fn trees_after<R: Threads + Sync>(
         &self,
+        rt: &R,
         alloc: Global,
         edit: &Edit,
         tables: &ConfTables,
@@ -63,7 +70,7 @@ impl ConfTrees {
         ensures moved { IfOk result (λ made. CostsStayBut self.now tables.now made.moved.keys) }
     {
         match edit.link() {
-            Some((one, other)) => self.trees_with_link(alloc, tables, one, other),
+            Some((one, other)) => self.trees_with_link(rt, alloc, tables, one, other),
             None => self.trees_without_link(alloc, edit, tables),
         }
     }
@@ -93,8 +100,9 @@ impl ConfTrees {
     }
 
     /// The trees, where the edit makes or changes the link of the two.
-    fn trees_with_link(
+    fn trees_with_link<R: Threads + Sync>(
         &self,
+        rt: &R,
         alloc: Global,
         tables: &ConfTables,
         one: Addr,
@@ -116,7 +124,8 @@ impl ConfTrees {
         match self.tables.change_to(tables, one, other) {
             Some(change) => {
                 let graph = tables.graph(alloc)?;
-                let carried = carry_trees(alloc, &graph, &change, &self.trees)?;
+                let nodes = tables.node_count();
+                let carried = carry_trees(rt, alloc, &graph, nodes, &change, &self.trees)?;
                 Ok(carried)
             }
             None => {

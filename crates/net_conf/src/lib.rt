@@ -16,6 +16,7 @@ mod edited;
 mod kept_sites;
 mod laws;
 mod limits;
+mod moved_trees;
 mod refusal;
 mod same_facts;
 mod shared_site;

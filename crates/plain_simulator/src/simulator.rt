@@ -7,7 +7,7 @@ ghost use Rattle.reference_machine.specs.Machine.{nothing, IsStep, IsRun};
 use crate::state::State;
 use net_conf::Refusal;
 use reference_machine::Machine;
-use route_select::Selector;
+use route_select::{FilterCell, GroupCell, Selector};
 use sim_event::{Event, Reply};
 use std::alloc::Global;
 use std::marker::{Model, PhantomData};
@@ -41,6 +41,17 @@ impl<S: Selector + Drop> Simulator<S> {
         }
     }
 
+    /// Takes the event, which is the machine's own step, or is refused for want of memory and does nothing. Its configuration alone may
+    /// start threads.
+    pub fn step<R: Threads + Sync>(&mut self, rt: &R, event: &Event) -> Reply
+        ensures { IsStep self.old event.now result self.new }
+    {
+        match self.state.try_step::<S, R>(rt, self.alloc, event) {
+            Ok(reply) => reply,
+            Err(_) => Reply::Refused(Refusal::Memory),
+        }
+    }
+
     /// Takes the events in order, one reply an event. Where there is no memory for the replies, nothing has changed and
     /// the refusal is `Memory`; a step's own want of memory is its reply.
     pub fn run<R: Threads + Sync>(
@@ -63,14 +74,19 @@ impl<S: Selector + Drop> Simulator<S> {
     }
 }
 
-impl<S: Selector + Drop> Machine for Simulator<S> {
+// For each selector: what a method of a trait sends to threads may not rest on a bound of its impl.
+impl Machine for Simulator<FilterCell> {
     ghost network = { λ s. s };
 
-    // It starts no thread.
-    fn step<R: Threads + Sync>(&mut self, _rt: &R, event: &Event) -> Reply {
-        match self.state.try_step::<S>(self.alloc, event) {
-            Ok(reply) => reply,
-            Err(_) => Reply::Refused(Refusal::Memory),
-        }
+    fn step<R: Threads + Sync>(&mut self, rt: &R, event: &Event) -> Reply {
+        Simulator::step(self, rt, event)
+    }
+}
+
+impl Machine for Simulator<GroupCell> {
+    ghost network = { λ s. s };
+
+    fn step<R: Threads + Sync>(&mut self, rt: &R, event: &Event) -> Reply {
+        Simulator::step(self, rt, event)
     }
 }

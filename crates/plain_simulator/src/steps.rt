@@ -19,11 +19,13 @@ use sim_event::{Ask, Event, Feed, Reply};
 use std::alloc::{AllocError, Global};
 use std::collections::BTreeMap;
 use std::mem::replace;
+use std::thread::Threads;
 
 impl State {
     /// Takes an event. Where memory is wanted, nothing has changed.
-    pub fn try_step<S: Selector + Drop>(
+    pub fn try_step<S: Selector + Drop, R: Threads + Sync>(
         &mut self,
+        rt: &R,
         alloc: Global,
         event: &Event,
     ) -> Result<Reply, AllocError>
@@ -31,7 +33,7 @@ impl State {
         ensures quiet { OnErr result (asks_quiet event.now ≡ false) }
     {
         match event {
-            Event::Edit(edit) => self.edit::<S>(alloc, edit),
+            Event::Edit(edit) => self.edit::<S, R>(rt, alloc, edit),
             Event::Feed(feed) => self.feed(alloc, feed),
             Event::Deliver(from, to) => self.deliver::<S>(
                 alloc,
@@ -45,13 +47,18 @@ impl State {
     }
 
     #[tactic(auto, unfolding(reference_machine::specs::Machine::edit_step))]
-    fn edit<S: Selector + Drop>(&mut self, alloc: Global, edit: &Edit) -> Result<Reply, AllocError>
+    fn edit<S: Selector + Drop, R: Threads + Sync>(
+        &mut self,
+        rt: &R,
+        alloc: Global,
+        edit: &Edit,
+    ) -> Result<Reply, AllocError>
         ensures { Tries (edit_step self.old edit.now) self.old result self.new }
     {
         if let Err(refusal) = self.conf.check(edit) {
             return Ok(Reply::Refused(refusal));
         }
-        let later = after_edit(alloc, self, edit)?;
+        let later = after_edit(rt, alloc, self, edit)?;
         let after = with_sent::<S>(alloc, self, later)?;
         drop(replace(self, after));
         Ok(Reply::Done)
@@ -110,12 +117,17 @@ impl State {
 }
 
 /// The state after the edit, before anything is sent. The edit is one that is not refused.
-fn after_edit(alloc: Global, state: &State, edit: &Edit) -> Result<State, AllocError>
+fn after_edit<R: Threads + Sync>(
+    rt: &R,
+    alloc: Global,
+    state: &State,
+    edit: &Edit,
+) -> Result<State, AllocError>
     requires { refusal_of state.now.conf edit.now ≡ None }
     ensures { IfOk result (λ later. later ≡ after_edit state.now edit.now) }
 {
     let mut conf = state.conf.copy(alloc)?;
-    if conf.edit(alloc, edit).is_err() {
+    if conf.edit(rt, alloc, edit).is_err() {
         drop(conf);
         return Err(AllocError);
     }

@@ -1,0 +1,126 @@
+//! Trees that a change of the edges may move, and what they become.
+
+ghost use Rattle.std.specs.Prelude.{◌≡◌, map, IfOk};
+ghost use Rattle.std.specs.List.Sorted.{IsStrictlySortedBy};
+ghost use Rattle.std.specs.Map.{keys_of};
+ghost use Rattle.net_prefix.specs.Address.{addr_cmp};
+ghost use Rattle.net_conf.specs.Kept.{WereTrees};
+ghost use Rattle.net_conf.specs.MovedTrees.{tree_after, AreMoved};
+
+use igp_cost::{Change, Graph, Tree};
+use net_prefix::Addr;
+use rayon::prelude::*;
+use std::alloc::{AllocError, Global};
+use std::marker::Model;
+use std::thread::Threads;
+
+/// From how many labels on threads make the trees: fewer are made sooner than threads start.
+const WORTH_THREADS: usize = 100_000;
+
+/// The fewest labels that one thread makes.
+const LEAST_LABELS: usize = 25_000;
+
+/// A tree from before a change, which may not be the one after it.
+#[derive(Drop)]
+pub(crate) struct MovedTree<'a> {
+    graph: &'a Graph,
+    change: &'a Change,
+    tree: &'a Tree,
+}
+
+impl<'a> Model for MovedTree<'a> {
+    ghost use Rattle.net_conf.specs.MovedTrees as trees;
+
+    ghost Value = { trees.MovedTree };
+
+    ghost view = { λ x. record { graph = x.graph.now; change = x.change.now; tree = x.tree.now } };
+
+    ghost invariant = { λ x. trees.IsFromBefore (record { graph = x.graph.now; change = x.change.now; tree = x.tree.now }) };
+}
+
+impl<'a> MovedTree<'a> {
+    /// The tree of the same node after the change: mended, where that does, and else made afresh.
+    fn after(&self, alloc: Global) -> Result<Tree, AllocError>
+        ensures { IfOk result (λ tree. tree ≡ tree_after self.now) }
+    {
+        match self.graph.mended(alloc, self.tree, self.change)? {
+            Some(tree) => Ok(tree),
+            None => self.graph.tree(alloc, self.tree.source()),
+        }
+    }
+}
+
+/// Those of the trees from before the change that are not seen to stay.
+pub(crate) fn moved_trees<'a>(
+    alloc: Global,
+    graph: &'a Graph,
+    change: &'a Change,
+    old: &'a [(Addr, Tree)],
+) -> Result<Vec<MovedTree<'a>>, AllocError>
+    requires were { WereTrees change.now graph.now.nodes graph.now.edges old.now }
+    requires ordered { IsStrictlySortedBy addr_cmp (keys_of old.now) }
+    ensures { IfOk result (λ moved. AreMoved graph.now old.now moved.items) }
+{
+    let mut moved = Vec::new(alloc);
+    for entry in old {
+        let tree = &entry.1;
+        if !graph.keeps(tree, change) {
+            moved.push(MovedTree {
+                graph,
+                change,
+                tree,
+            })?;
+        }
+    }
+    Ok(moved)
+}
+
+/// The trees after the change, in order. Many are shared among threads, in any number: the list is the same.
+pub(crate) fn trees_after<R: Threads + Sync>(
+    rt: &R,
+    alloc: Global,
+    moved: &[MovedTree<'_>],
+    nodes: usize,
+) -> Result<Vec<Tree>, AllocError>
+    ensures { IfOk result (λ trees. trees.items ≡ map tree_after moved.now) }
+{
+    if moved.len().saturating_mul(nodes) < WORTH_THREADS {
+        make_in_turn(alloc, moved)
+    } else {
+        let least = LEAST_LABELS.checked_div(nodes).unwrap_or(1);
+        make_in_threads(rt, alloc, moved, least)
+    }
+}
+
+/// The trees after the change, made by this thread, one after another.
+fn make_in_turn(alloc: Global, moved: &[MovedTree<'_>]) -> Result<Vec<Tree>, AllocError>
+    ensures { IfOk result (λ trees. trees.items ≡ map tree_after moved.now) }
+{
+    let mut trees = Vec::new(alloc);
+    for tree in moved {
+        trees.push(tree.after(alloc)?)?;
+    }
+    Ok(trees)
+}
+
+/// The trees after the change, made by as many threads as there are processors, at least so many a piece. One that finds no memory
+/// leaves nothing.
+fn make_in_threads<R: Threads + Sync>(
+    rt: &R,
+    alloc: Global,
+    moved: &[MovedTree<'_>],
+    least: usize,
+) -> Result<Vec<Tree>, AllocError>
+    ensures { IfOk result (λ trees. trees.items ≡ map tree_after moved.now) }
+{
+    let made: Result<Vec<Tree>, AllocError> = moved
+        .par_iter()
+        .with_min_len(least)
+        .map(
+            |tree: &MovedTree<'_>| -> Result<Tree, AllocError>
+                ensures { IfOk result (λ made. made ≡ tree_after tree.now) }
+            { tree.after(alloc) },
+        )
+        .collect(rt, alloc)?;
+    made
+}
