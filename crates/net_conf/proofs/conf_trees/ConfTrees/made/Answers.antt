@@ -5,14 +5,14 @@ use Rattle.net_conf.proofs.Soundness.{sound_after}
 use Rattle.net_conf.proofs.conf_trees.ConfTrees.made.Goals as goal
 
 pub trees_after-requires-clause-sound : goal.trees_after-requires-clause-sound
-trees_after-requires-clause-sound c =
+trees_after-requires-clause-sound g c =
     let s = c.self.inside.tables in
     let e = c.args.edit.now in
     let none : refusal_of s e ≡ None = ap (λ x. refusal_of x e) c.self.view_is ∙ c.requires in
     subst IsSound (sym (c.in-Ok.ensures.ok ∙ ap (λ x. edited x e) c.in_ok-tables.ensures)) (sound_after s e c.self.invariant.0 c.knows_metric.ensures none)
 
 pub invariant_of-conf : goal.invariant_of-conf
-invariant_of-conf c =
+invariant_of-conf g c =
     let s = c.self.inside.tables in
     let e = c.args.edit.now in
     let none : refusal_of s e ≡ None = ap (λ x. refusal_of x e) c.self.view_is ∙ c.requires in

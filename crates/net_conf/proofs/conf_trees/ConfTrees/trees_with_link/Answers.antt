@@ -11,7 +11,7 @@ use Rattle.net_conf.proofs.TreesAfter.{kept_still, stay_with_link, kept_with_lin
 use Rattle.net_conf.proofs.conf_trees.ConfTrees.trees_with_link.Goals as goal
 
 pub carry_trees-requires : goal.carry_trees-requires
-carry_trees-requires c =
+carry_trees-requires g c =
     let s = c.self.inside.tables in
     let d = c.args.tables.now in
     let a = c.args.one in
@@ -24,7 +24,7 @@ carry_trees-requires c =
     (were_trees s d a b c.self.inside.trees change c.tree_of_is_a_tree.ensures c.self.invariant.0 c.orders.ensures.nodes linked c.self.invariant.1 changes)
 
 pub returns-in_ok-carried-in-Some-clause-trees : goal.returns-in_ok-carried-in-Some-clause-trees
-returns-in_ok-carried-in-Some-clause-trees c r =
+returns-in_ok-carried-in-Some-clause-trees g c r =
     let s = c.self.inside.tables in
     let d = c.args.tables.now in
     let linked = subst (λ x. IsLinked x d c.args.one c.args.other) (sym c.self.view_is) c.requires.linked in
@@ -34,7 +34,7 @@ returns-in_ok-carried-in-Some-clause-trees c r =
     ∙ kept_with_link s d c.args.one c.args.other linked r
 
 pub returns-in_ok-carried-in-Some-clause-moved : goal.returns-in_ok-carried-in-Some-clause-moved
-returns-in_ok-carried-in-Some-clause-moved c r out ends =
+returns-in_ok-carried-in-Some-clause-moved g c r out ends =
     let s = c.self.inside.tables in
     let d = c.args.tables.now in
     let linked = subst (λ x. IsLinked x d c.args.one c.args.other) (sym c.self.view_is) c.requires.linked in
@@ -47,7 +47,7 @@ returns-in_ok-carried-in-Some-clause-moved c r out ends =
     ∙ ap (λ x. costs_of x r) c.self.view_is
 
 pub returns-in_ok-trees-in-None-clause-trees : goal.returns-in_ok-trees-in-None-clause-trees
-returns-in_ok-trees-in-None-clause-trees c r =
+returns-in_ok-trees-in-None-clause-trees g c r =
     let s = c.self.inside.tables in
     let d = c.args.tables.now in
     let a = c.args.one in
@@ -59,7 +59,7 @@ returns-in_ok-trees-in-None-clause-trees c r =
     ap (lookup (is_at (addr_cmp r))) same ∙ kept_still s d c.self.inside.trees (stay_with_link s d a b linked edges) c.self.invariant.1 r
 
 pub returns-in_ok-trees-in-None-clause-moved : goal.returns-in_ok-trees-in-None-clause-moved
-returns-in_ok-trees-in-None-clause-moved c r out ends =
+returns-in_ok-trees-in-None-clause-moved g c r out ends =
     let s = c.self.inside.tables in
     let d = c.args.tables.now in
     let a = c.args.one in
