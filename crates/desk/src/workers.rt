@@ -18,7 +18,7 @@ use std::thread;
 use std::thread::{Promise, Threads};
 
 /// How many turns a worker makes at once at most.
-const TURNS_AT_ONCE: u64 = 16;
+const TURNS_AT_ONCE: u64 = 64;
 
 /// What is told of the workers' jobs. The n-th of a worker has the number n, from 1 on.
 pub trait Gate {
@@ -30,9 +30,10 @@ pub trait Gate {
 }
 
 /// A thread for each seat: the worker of place i serves the shard i modulo the shards. A turn takes a job, works it without the lock, and
-/// brings the outcome back; want of memory ends the turn, and so does an outcome that came too late. Up to sixteen turns are made at once, where
+/// brings the outcome back; want of memory ends the turn, and so does an outcome that came too late. Up to sixty-four turns are made at once, where
 /// as many deliveries wait of which none changes what another depends on: their jobs are taken together, worked one after another, and brought
-/// back together. Where there is no job the worker waits.
+/// back together. A worker begins with one turn at once, may make twice as many after turns whose outcomes were all put in, and one after others.
+/// Where there is no job the worker waits.
 /// It ends after so many turns, or once `finish_calls` was called and no message waits, or none that a worker who is left could bring.
 /// A thread that cannot be started is left out, with its seat as it was.
 pub fn run_workers<
@@ -142,22 +143,24 @@ impl<'a, S: Selector + Drop, T: PrefixTable<Cell<S>> + Drop, L: Ledger, G: Gate,
         seat
     }
 
-    /// All turns of a worker.
+    /// All turns of a worker: one at first, then as many at once as `most_after` tells.
     fn make_turns(&self, worker: usize, seat: &mut Seat<L>)
         ensures { GoesOn seat.old seat.new }
     {
         let shard = worker as u64 % self.desk.shards();
         let mut turns = 0;
         let mut jobs_before = 0;
+        let mut most = 1;
         for _ in 0..self.turns {
             if turns >= self.turns {
                 return;
             }
-            let most = (self.turns - turns).min(TURNS_AT_ONCE) as usize;
-            match self.desk.next_turn(self.rt, shard, most) {
+            let at_once = most.min(self.turns - turns) as usize;
+            match self.desk.next_turn(self.rt, shard, at_once) {
                 Turn::Jobs(jobs) => {
                     let count = jobs.len() as u64;
-                    self.do_jobs(worker, jobs_before, jobs, seat);
+                    let put_in = self.do_jobs(worker, jobs_before, jobs, seat);
+                    most = most_after(most, count, put_in);
                     jobs_before = count.saturating_add(jobs_before);
                     turns = count.saturating_add(turns);
                 }
@@ -167,12 +170,14 @@ impl<'a, S: Selector + Drop, T: PrefixTable<Cell<S>> + Drop, L: Ledger, G: Gate,
         }
     }
 
-    /// Works jobs one after another, of which the first is one more than so many, and brings their outcomes back.
-    fn do_jobs(&self, worker: usize, jobs_before: u64, jobs: Jobs<S>, seat: &mut Seat<L>)
+    /// Works jobs one after another, of which the first is one more than so many, and brings their outcomes back. How many were put in.
+    fn do_jobs(&self, worker: usize, jobs_before: u64, jobs: Jobs<S>, seat: &mut Seat<L>) -> u64
         ensures { GoesOn seat.old seat.new }
     {
         let outcomes = self.outcomes_of(worker, jobs_before, jobs);
+        let calls_before = seat.count();
         self.desk.commit_all(self.rt, seat, outcomes);
+        seat.count().saturating_sub(calls_before)
     }
 
     /// The outcomes of jobs.
@@ -196,5 +201,14 @@ impl<'a, S: Selector + Drop, T: PrefixTable<Cell<S>> + Drop, L: Ledger, G: Gate,
         };
         self.gate.worked(worker, n);
         drop(outcomes.push(done));
+    }
+}
+
+/// How many turns a worker makes at once at most, after turns of so many jobs, of which so many outcomes were put in.
+fn most_after(most: u64, jobs: u64, put_in: u64) -> u64 {
+    if put_in < jobs {
+        1
+    } else {
+        most.saturating_mul(2).min(TURNS_AT_ONCE)
     }
 }

@@ -2,7 +2,7 @@
 
 ghost use Rattle.std.specs.Prelude.{◌≡◌, ◌<◌};
 
-use crate::common::{Asked, GroupDesk, are_answered, opened};
+use crate::common::{Asked, GroupDesk, are_answered, is_answered, opened};
 use desk::{Committed, Done, Newer, Seat};
 use net_prefix::Addr;
 use path_attr::{Attr, Origin};
@@ -39,6 +39,20 @@ const FED: [Asked<'static>; 11] = [
 const HEARD: [Asked<'static>; 2] = [
     ("feed 2.0.0.1 9.0.0.1 update 10.0.0.0/8 2 igp 0", "ok\n"),
     ("deliver 2.0.0.1 9.0.0.1", "took 10.0.0.0/8 update\n"),
+];
+
+/// Ten edits of one of the router's links, each of which makes another configuration.
+const METRICS: [Asked<'static>; 10] = [
+    ("metric 9.0.0.1 2.0.0.1 1", "ok\n"),
+    ("metric 9.0.0.1 2.0.0.1 2", "ok\n"),
+    ("metric 9.0.0.1 2.0.0.1 3", "ok\n"),
+    ("metric 9.0.0.1 2.0.0.1 4", "ok\n"),
+    ("metric 9.0.0.1 2.0.0.1 5", "ok\n"),
+    ("metric 9.0.0.1 2.0.0.1 6", "ok\n"),
+    ("metric 9.0.0.1 2.0.0.1 7", "ok\n"),
+    ("metric 9.0.0.1 2.0.0.1 8", "ok\n"),
+    ("metric 9.0.0.1 2.0.0.1 9", "ok\n"),
+    ("metric 9.0.0.1 2.0.0.1 10", "ok\n"),
 ];
 
 #[test]
@@ -117,6 +131,59 @@ fn is_fed(attr: &Attr) -> bool {
         && attr.next == OTHER
         && attr.med == Some(0)
         && attr.path.length() == 1
+}
+
+#[test]
+fn of_ten_versions_the_last_is_put_in(rt: HostRuntime) {
+    ten_versions::<Brand, _>(&rt, rt.alloc(), Blank::new(256));
+}
+
+fn ten_versions<L: Ledger, R: Threads + Wait + Abort + Sync>(rt: &R, alloc: Global, blank: Blank)
+    requires name { blank.name ≡ L.name }
+    requires ledger { blank.parts ≡ L.parts }
+    requires parts { blank.parts ≡ 256 }
+{
+    let (desk, mut seats) = opened::<L, R>(rt, alloc, 2, 1, blank);
+    let mut worker = seats.pop().expect(rt, "a seat");
+    let mut engineer = seats.pop().expect(rt, "another seat");
+    assert!(rt; are_answered(rt, alloc, &desk, &mut engineer, &FED));
+    let mut outcomes = worked_after_each(rt, alloc, &desk, &mut engineer);
+    let last = outcomes.pop().expect(rt, "ten outcomes");
+    let mut edits_since: u64 = 10;
+    for done in outcomes {
+        edits_since = edits_since.saturating_sub(1);
+        let committed = desk.commit(rt, &mut worker, done).ok();
+        assert!(rt; committed.is_some_and(|committed| is_older_by(&committed, edits_since)));
+    }
+    let committed = desk.commit(rt, &mut worker, last);
+    assert!(rt; matches!(committed, Ok(Committed::Delivered(_))));
+    assert_eq!(rt; worker.count(), 1);
+}
+
+/// The outcomes of jobs of which one is taken after each edit.
+fn worked_after_each<L: Ledger, R: Threads + Wait + Abort + Sync>(
+    rt: &R,
+    alloc: Global,
+    desk: &GroupDesk<L>,
+    engineer: &mut Seat<L>,
+) -> Vec<Done<GroupCell>>
+    requires { 0 < desk.now.shards }
+{
+    let mut outcomes = Vec::new(alloc);
+    for edit in &METRICS {
+        assert!(rt; is_answered(rt, alloc, desk, engineer, edit.0, edit.1));
+        let done = worked(rt, desk).expect(rt, "a job");
+        outcomes.push(done).ok().expect(rt, "memory for ten outcomes");
+    }
+    outcomes
+}
+
+/// Whether the outcome is stale since so many edits were made.
+fn is_older_by(committed: &Committed, edits: u64) -> bool {
+    match committed {
+        Committed::Stale(Newer::ConfMoved { had, now }) => had.checked_add(edits) == Some(*now),
+        _ => false,
+    }
 }
 
 /// Takes a job, and works it.
