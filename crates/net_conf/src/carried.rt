@@ -35,7 +35,7 @@ pub(crate) fn carry_trees<R: Threads + Sync>(
     change: &Change,
     old: &SharedMap<Addr, Tree>,
 ) -> Result<Carried, AllocError>
-    requires { WereTrees change.now graph.now.nodes graph.now.edges old.now }
+    requires were { WereTrees change.now graph.now.nodes graph.now.edges old.now }
     ensures trees { IfOk result (λ made. (r : Addr) → lookup (is_at (addr_cmp r)) made.trees ≡ option_map (λ t. tree_of graph.now.nodes graph.now.edges r) (lookup (is_at (addr_cmp r)) old.now)) }
     ensures moved { IfOk result (λ made. (r : Addr) → is_among r made.moved.keys ≡ false → lookup (is_at (addr_cmp r)) made.trees ≡ lookup (is_at (addr_cmp r)) old.now) }
 {

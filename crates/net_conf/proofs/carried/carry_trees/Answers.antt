@@ -9,7 +9,7 @@ use Rattle.net_conf.proofs.Carry.{all_carried, others_carried}
 use Rattle.net_conf.proofs.carried.carry_trees.Goals as goal
 
 pub moved_trees-requires-clause-were : goal.moved_trees-requires-clause-were
-moved_trees-requires-clause-were g c = subst (λ es. WereTrees c.args.change.now c.args.graph.now.nodes c.args.graph.now.edges es) (sym c.as_slice.ensures.value) c.requires
+moved_trees-requires-clause-were g c = subst (λ es. WereTrees c.args.change.now c.args.graph.now.nodes c.args.graph.now.edges es) (sym c.as_slice.ensures.value) c.requires.were
 
 pub returns-clause-trees : goal.returns-clause-trees
 returns-clause-trees g c r =

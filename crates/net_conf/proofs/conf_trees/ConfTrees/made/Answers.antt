@@ -5,7 +5,7 @@ use Rattle.net_conf.proofs.Soundness.{sound_after}
 use Rattle.net_conf.proofs.conf_trees.ConfTrees.made.Goals as goal
 
 pub trees_after-requires-clause-sound : goal.trees_after-requires-clause-sound
-trees_after-requires-clause-sound g c =
+trees_after-requires-clause-sound g c _ _ =
     let s = c.self.inside.tables in
     let e = c.args.edit.now in
     let none : refusal_of s e ≡ None = ap (λ x. refusal_of x e) c.self.view_is ∙ c.requires in

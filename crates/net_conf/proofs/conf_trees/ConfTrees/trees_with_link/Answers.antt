@@ -10,8 +10,8 @@ use Rattle.net_conf.proofs.EdgeChange.{changed_by, edges_same, were_trees}
 use Rattle.net_conf.proofs.TreesAfter.{kept_still, stay_with_link, kept_with_link, costs_from_kept}
 use Rattle.net_conf.proofs.conf_trees.ConfTrees.trees_with_link.Goals as goal
 
-pub carry_trees-requires : goal.carry_trees-requires
-carry_trees-requires g c =
+pub carry_trees-requires-clause-were : goal.carry_trees-requires-clause-were
+carry_trees-requires-clause-were g c _ _ =
     let s = c.self.inside.tables in
     let d = c.args.tables.now in
     let a = c.args.one in
