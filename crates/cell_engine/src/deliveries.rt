@@ -1,7 +1,8 @@
 //! What the engine does with a message at the head of a queue.
 
-ghost use Rattle.std.specs.Prelude.{◌≡◌, ◌≤◌, ◌+◌, ◌++◌, length, true, is_some, IfOk, OnOk, OnErr};
+ghost use Rattle.std.specs.Prelude.{◌≡◌, ◌≤◌, ◌+◌, ◌++◌, length, true, false, is_some, IfOk, OnOk, OnErr};
 ghost use Rattle.net_conf.specs.Costs.{is_up};
+ghost use Rattle.session_queue.specs.Telling.{prefix_of};
 ghost use Rattle.session_queue.specs.Waiting.{queue_at, spare_at};
 ghost use Rattle.router_tables.specs.RouterTables.{value_at, with_value};
 ghost use Rattle.route_cell.specs.Cells.{nothing_heard};
@@ -86,38 +87,63 @@ pub(crate) fn push_all(queues: &mut Queues, router: Addr, sends: Vec<(Addr, Mess
 
 impl<S: Selector + Drop, T: PrefixTable<Cell<S>> + Drop> State<S, T> {
     /// What the receiver makes of the message (RFC 4271, 9): its cell of the prefix, and what it sends. A router decides by its own
-    /// site, a virtual peer keeps what it receives. The state stays as it is. Want of memory is the only error.
-    pub fn outcome(&self, direction: Direction, message: &Message) -> Result<Outcome<S>, AllocError>
-        ensures { IfOk result (λ outcome. outcome ≡ outcome_at self.now direction message.now) }
+    /// site, a virtual peer keeps what it receives. What it takes to put that in is there afterwards: a cell, the attributes that are
+    /// sent, and a place for each message. The network stays as it is, also at an error, which is want of memory.
+    pub fn outcome(
+        &mut self,
+        direction: Direction,
+        message: &Message,
+    ) -> Result<Outcome<S>, AllocError>
+        ensures same { KeepsSame self.old self.new }
+        ensures network { network self.new ≡ network self.old }
+        ensures outcome { IfOk result (λ outcome. outcome ≡ outcome_at self.old direction message.now) }
+        ensures room { IfOk result (λ outcome. HasRoom self.new direction.to (prefix_of message.now) outcome.sends) }
+    {
+        self.facts();
+        let (outcome, has_cell) = self.worked(direction, message)?;
+        self.make_room(direction.to, message.prefix(), has_cell, &outcome)?;
+        Ok(outcome)
+    }
+
+    /// What the receiver makes of the message, and whether it has a cell of the prefix. Want of memory is the only error.
+    fn worked(
+        &self,
+        direction: Direction,
+        message: &Message,
+    ) -> Result<(Outcome<S>, bool), AllocError>
+        ensures outcome { IfOk result (λ worked. worked.0 ≡ outcome_at self.now direction message.now) }
+        ensures cell { IfOk result (λ worked. worked.1 ≡ is_some (value_at direction.to (prefix_of message.now) self.now.tables)) }
     {
         self.facts();
         let made = self.made_site(direction.to)?;
         let nothing = Cell::new(self.alloc);
-        let cell = self
-            .cell(direction.to, message.prefix())
-            .unwrap_or(&nothing);
+        let found = self.cell(direction.to, message.prefix());
+        let has_cell = found.is_some();
+        let cell = found.unwrap_or(&nothing);
         let outcome = match self.site(direction.to, &made) {
             Some(site) => deliver(self.alloc, site, cell, direction.from, message),
             None => store(self.alloc, cell, direction.from, message),
         };
         drop(made);
-        outcome
+        Ok((outcome?, has_cell))
     }
 
-    /// Sees to it that what the outcome needs is there: a cell, the attributes that are sent, and a place for each message. The network
-    /// stays as it is, also at an error, which is want of memory.
-    pub fn make_room(
+    /// Sees to it that what the outcome needs is there: a cell, which the router has or not, the attributes that are sent, and a place
+    /// for each message. The network stays as it is, also at an error, which is want of memory.
+    fn make_room(
         &mut self,
         router: Addr,
         prefix: Prefix,
+        has_cell: bool,
         outcome: &Outcome<S>,
     ) -> Result<(), AllocError>
-        requires { (t : Addr) → length (told t outcome.now.sends) ≤ 1 }
+        requires one { (t : Addr) → length (told t outcome.now.sends) ≤ 1 }
+        requires cell { has_cell ≡ is_some (value_at router prefix self.old.tables) }
         ensures same { KeepsSame self.old self.new }
         ensures network { network self.new ≡ network self.old }
         ensures room { OnOk result (HasRoom self.new router prefix outcome.now.sends) }
     {
-        self.make_cell(router, prefix)?;
+        self.grow_unless(has_cell, router, prefix)?;
         make_ready(&mut self.queues, router, &outcome.sends)
     }
 
@@ -127,9 +153,35 @@ impl<S: Selector + Drop, T: PrefixTable<Cell<S>> + Drop> State<S, T> {
         ensures queues { self.new.queues ≡ self.old.queues }
         ensures there { OnOk result (is_some (value_at router prefix self.new.tables) ≡ true) }
     {
-        if self.cell(router, prefix).is_some() {
+        let has_cell = self.cell(router, prefix).is_some();
+        self.grow_unless(has_cell, router, prefix)
+    }
+
+    /// Gives the router a cell of the prefix, unless it has one.
+    fn grow_unless(
+        &mut self,
+        has_cell: bool,
+        router: Addr,
+        prefix: Prefix,
+    ) -> Result<(), AllocError>
+        requires { has_cell ≡ is_some (value_at router prefix self.old.tables) }
+        ensures same { KeepsSame self.old self.new }
+        ensures queues { self.new.queues ≡ self.old.queues }
+        ensures there { OnOk result (is_some (value_at router prefix self.new.tables) ≡ true) }
+    {
+        if has_cell {
             return Ok(());
         }
+        self.grow_cell(router, prefix)
+    }
+
+    /// Gives the router, which has none, a cell of the prefix.
+    fn grow_cell(&mut self, router: Addr, prefix: Prefix) -> Result<(), AllocError>
+        requires { is_some (value_at router prefix self.old.tables) ≡ false }
+        ensures same { KeepsSame self.old self.new }
+        ensures queues { self.new.queues ≡ self.old.queues }
+        ensures there { OnOk result (is_some (value_at router prefix self.new.tables) ≡ true) }
+    {
         // The length tells that the prefix is one, which holds of all that have a cell.
         let _ = prefix.len();
         add_cell(self.alloc, &mut self.tables, router, prefix)

@@ -1,13 +1,14 @@
-use Rattle.std.proofs.Common.{ap, subst}
+use Rattle.std.proofs.Common.{is_some, ap, subst, ◌∙◌}
+use Rattle.router_tables.specs.RouterTables.{value_at}
 use Rattle.cell_network.specs.Engine.{Engine}
 use Rattle.cell_engine.specs.Deliveries.{KeepsSame}
-use Rattle.cell_engine.proofs.Growth.{grown_sound, grown_prefixes, grown_same, grown_there, ups_kept, not_found}
-use Rattle.cell_engine.proofs.state.State.make_cell.Goals as goal
+use Rattle.cell_engine.proofs.Growth.{grown_sound, grown_prefixes, grown_same, grown_there, ups_kept}
+use Rattle.cell_engine.proofs.state.State.grow_cell.Goals as goal
 
 pub invariant_of-self : goal.invariant_of-self
 invariant_of-self g c =
     let e : Engine = record { conf = c.self.inside.conf; tables = c.self.inside.tables; directions = c.self.inside.directions; queues = c.self.inside.queues } in
-    let absent = not_found c.args.router c.args.prefix e.tables c.args.self.now.tables c.cell.result c.is_some.result (ap (λ n. n.tables) c.self.view_is) c.cell.ensures c.is_some.ensures c.if-is_some.false in
+    let absent = ap (λ n. is_some (value_at c.args.router c.args.prefix n.tables)) c.self.view_is ∙ c.requires in
     let same = grown_same e c.args.router c.args.prefix c.add_cell.new.tables c.add_cell.result c.add_cell.ensures.ok c.add_cell.ensures.err c.self.invariant.0 absent in (
       grown_sound e c.args.router c.args.prefix c.add_cell.new.tables c.add_cell.result c.add_cell.ensures.ok c.add_cell.ensures.err c.self.invariant.0 absent,
       grown_prefixes e c.args.router c.args.prefix c.add_cell.new.tables c.add_cell.result c.add_cell.ensures.ok c.add_cell.ensures.err c.len.ensures.block c.self.invariant.1,
@@ -17,7 +18,7 @@ invariant_of-self g c =
 pub returns-clause-same : goal.returns-clause-same
 returns-clause-same g c =
     let e : Engine = record { conf = c.self.inside.conf; tables = c.self.inside.tables; directions = c.self.inside.directions; queues = c.self.inside.queues } in
-    let absent = not_found c.args.router c.args.prefix e.tables c.args.self.now.tables c.cell.result c.is_some.result (ap (λ n. n.tables) c.self.view_is) c.cell.ensures c.is_some.ensures c.if-is_some.false in
+    let absent = ap (λ n. is_some (value_at c.args.router c.args.prefix n.tables)) c.self.view_is ∙ c.requires in
     subst (λ n. KeepsSame n (record e { tables = c.add_cell.new.tables })) c.self.view_is
     (grown_same e c.args.router c.args.prefix c.add_cell.new.tables c.add_cell.result c.add_cell.ensures.ok c.add_cell.ensures.err c.self.invariant.0 absent)
 
