@@ -5,3 +5,5 @@ pub mod Answered
 pub mod Refusals
 pub mod Runs
 pub mod Installed
+pub mod Delivering
+pub mod Feeding

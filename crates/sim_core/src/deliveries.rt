@@ -1,15 +1,16 @@
 //! Deliveries.
 
-ghost use Rattle.std.specs.Prelude.{◌≡◌, true, Some, None, slice_get, IfOk};
+ghost use Rattle.std.specs.Prelude.{◌≡◌, ℕ, true, Some, None, length, slice_get, if◌then◌else◌, IfOk, IfErr, OnOk};
+ghost use Rattle.net_prefix.specs.Block.{Block};
 ghost use Rattle.net_conf.specs.Costs.{is_up};
 ghost use Rattle.session_queue.specs.Waiting.{queue_at};
 ghost use Rattle.sim_event.specs.declared.event.Event.TheVariants.{Deliver};
 ghost use Rattle.reference_machine.specs.Network.{messages_in};
-ghost use Rattle.reference_machine.specs.Machine.{delivery_refusal, head_step};
+ghost use Rattle.reference_machine.specs.Machine.{delivery_refusal, head_step, is_refusal, IsStep};
 ghost use Rattle.cell_network.specs.Engine.{network};
 ghost use Rattle.cell_engine.specs.Deliveries.{IsOfHead, HasRoom};
-ghost use Rattle.sim_core.specs.Counting.{decided_at};
-ghost use Rattle.sim_core.specs.Plans.{IsPrepared, Prepares};
+ghost use Rattle.sim_core.specs.Counting.{decided_at, raised, Counts};
+ghost use Rattle.sim_core.specs.Plans.{IsPrepared, IsRefused, Prepares};
 
 use crate::event_machine::EventMachine;
 use crate::plan::{Plan, Taken};
@@ -24,10 +25,42 @@ use sim_event::Reply;
 use std::alloc::AllocError;
 
 impl<S: Selector + Drop, T: PrefixTable<Cell<S>> + Drop> EventMachine<S, T> {
+    /// Takes the message at the head of the direction's queue: the machine's own step, without a plan. The refusal is the machine's own, or
+    /// want of memory.
+    pub(crate) fn deliver(&mut self, direction: Direction) -> Reply
+        ensures step { IsStep (network self.old) (Deliver direction.from direction.to) result (network self.new) }
+        ensures counts { (n more : ℕ) → ((p : Block) → more ≡ length (decided_at self.old.conf direction.to p)) → Counts (network self.old) (Deliver direction.from direction.to) result n (if is_refusal result then n else raised n more) }
+    {
+        self.state.facts();
+        let message = match self.head(direction) {
+            Ok(message) => message,
+            Err(refusal) => return Reply::Refused(refusal),
+        };
+        let Ok(outcome) = self.state.outcome(direction, &message) else {
+            return Reply::Refused(Refusal::Memory);
+        };
+        self.state.take(direction, message.prefix(), outcome);
+        Reply::Took(message.prefix(), message.kind())
+    }
+
     /// Makes a delivery ready.
     pub(crate) fn prepare_delivery(&mut self, direction: Direction) -> Result<Plan<S>, Refusal>
         ensures network { network self.new ≡ network self.old }
         ensures prepares { Prepares self.new (Deliver direction.from direction.to) result }
+    {
+        self.state.facts();
+        let message = self.head(direction)?;
+        match self.taking(direction, &message) {
+            Ok(plan) => Ok(plan),
+            Err(_) => Err(Refusal::Memory),
+        }
+    }
+
+    /// The message at the head of the direction's queue, where the machine takes it. The refusal is the machine's own, or want of memory.
+    fn head(&self, direction: Direction) -> Result<Message, Refusal>
+        ensures allowed { OnOk result (delivery_refusal self.now.conf direction ≡ None) }
+        ensures head { IfOk result (λ message. slice_get (queue_at self.now.queues direction.from direction.to) 0 ≡ Some message) }
+        ensures refused { IfErr result (IsRefused self.now (Deliver direction.from direction.to)) }
     {
         self.state.facts();
         if let Some(refusal) = delivery_refusal(self.state.conf(), direction) {
@@ -36,11 +69,8 @@ impl<S: Selector + Drop, T: PrefixTable<Cell<S>> + Drop> EventMachine<S, T> {
         let Some(head) = self.state.queues().head(direction.from, direction.to) else {
             return Err(Refusal::QueueEmpty);
         };
-        let Ok(message) = head.to_message() else {
-            return Err(Refusal::Memory);
-        };
-        match self.taking(direction, &message) {
-            Ok(plan) => Ok(plan),
+        match head.to_message() {
+            Ok(message) => Ok(message),
             Err(_) => Err(Refusal::Memory),
         }
     }
@@ -55,7 +85,6 @@ impl<S: Selector + Drop, T: PrefixTable<Cell<S>> + Drop> EventMachine<S, T> {
         self.state.facts();
         let prefix = message.prefix();
         let outcome = self.state.outcome(direction, message)?;
-        self.state.make_room(direction.to, prefix, &outcome)?;
         let refreshed = self.decided_at(direction.to, prefix)?;
         let taken = Taken {
             direction,

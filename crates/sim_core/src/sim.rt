@@ -1,9 +1,9 @@
 //! The simulator: a machine that takes events, and counts what it decides.
 
-ghost use Rattle.std.specs.Prelude.{◌≡◌, None, length, IfOk, IfErr, OnOk, OnErr};
+ghost use Rattle.std.specs.Prelude.{◌≡◌, None, length, if◌then◌else◌, IfOk, IfErr, OnOk, OnErr};
 ghost use Rattle.net_conf.specs.declared.refusal.Refusal.TheVariants.{Memory};
-ghost use Rattle.sim_event.specs.declared.event.Event.TheVariants.{Deliver};
-ghost use Rattle.reference_machine.specs.Machine.{nothing, step, delivery_refusal, IsStep, IsRun};
+ghost use Rattle.sim_event.specs.declared.event.Event.TheVariants.{Feed as AFeed, Deliver, Ask as AnAsk};
+ghost use Rattle.reference_machine.specs.Machine.{nothing, step, delivery_refusal, is_refusal, IsStep, IsRun};
 ghost use Rattle.cell_network.specs.Engine.{network};
 ghost use Rattle.sim_core.specs.Counting.{raised, Counts, IsCountedRun};
 ghost use Rattle.sim_core.specs.Installing.{IsOutcomeOfHead};
@@ -17,7 +17,7 @@ use prefix_table::{PrefixTable, SortedTable, TrieTable};
 use reference_machine::Machine;
 use route_select::{Chosen, FilterCell, GroupCell, Selector};
 use session_queue::Direction;
-use sim_event::{Event, Reply};
+use sim_event::{Ask, Event, Feed, Reply};
 use std::alloc::Global;
 use std::hash::RandomState;
 use std::marker::Model;
@@ -114,10 +114,22 @@ impl<S: Selector + Send + Sync + Drop, T: PrefixTable<Cell<S>> + Drop> Sim<S, T>
         ensures step { IsStep (network self.old.engine) event.now result (network self.new.engine) }
         ensures decided { Counts (network self.old.engine) event.now result self.old.decided self.new.decided }
     {
-        if let Event::Ask(question) = event {
-            raised_by_none(self.decided);
-            return self.machine.answer(question);
+        match event {
+            Event::Edit(_) => self.step_by_plan(rt, event),
+            Event::Feed(feed) => self.feed(feed),
+            Event::Deliver(from, to) => self.deliver(Direction {
+                from: *from,
+                to: *to,
+            }),
+            Event::Ask(question) => self.answer(question),
         }
+    }
+
+    /// Takes the event by a plan.
+    fn step_by_plan<R: Threads + Sync>(&mut self, rt: &R, event: &Event) -> Reply
+        ensures step { IsStep (network self.old.engine) event.now result (network self.new.engine) }
+        ensures decided { Counts (network self.old.engine) event.now result self.old.decided self.new.decided }
+    {
         match self.prepare(rt, event) {
             Ok(plan) => self.apply(plan),
             Err(refusal) => Reply::Refused(refusal),
@@ -161,6 +173,37 @@ impl<S: Selector + Drop, T: PrefixTable<Cell<S>> + Drop> Sim<S, T> {
     }
 }
 
+impl<S: Selector + Drop, T: PrefixTable<Cell<S>> + Drop> Sim<S, T> {
+    /// Takes the message at the head of the direction's queue.
+    fn deliver(&mut self, direction: Direction) -> Reply
+        ensures step { IsStep (network self.old.engine) (Deliver direction.from direction.to) result (network self.new.engine) }
+        ensures decided { Counts (network self.old.engine) (Deliver direction.from direction.to) result self.old.decided self.new.decided }
+    {
+        let more = self.machine.decisions_at(direction.to);
+        let reply = self.machine.deliver(direction);
+        self.decided = raised_unless_refused(self.decided, more, &reply);
+        reply
+    }
+
+    /// Puts what is fed on its way. It decides nothing.
+    fn feed(&mut self, feed: &Feed) -> Reply
+        ensures step { IsStep (network self.old.engine) (AFeed feed.now) result (network self.new.engine) }
+        ensures decided { Counts (network self.old.engine) (AFeed feed.now) result self.old.decided self.new.decided }
+    {
+        raised_by_none(self.decided);
+        self.machine.feed(feed)
+    }
+
+    /// Answers the question. It changes and decides nothing.
+    fn answer(&self, question: &Ask) -> Reply
+        ensures step { IsStep (network self.now.engine) (AnAsk question.now) result (network self.now.engine) }
+        ensures decided { Counts (network self.now.engine) (AnAsk question.now) result self.now.decided self.now.decided }
+    {
+        raised_by_none(self.decided);
+        self.machine.answer(question)
+    }
+}
+
 // At each pair of types: what a method of a trait sends to threads may not rest on a bound of its impl.
 impl Machine for Sim<GroupCell, TrieTable<Cell<GroupCell>>> {
     ghost use Rattle.cell_network.specs.Engine as engine;
@@ -191,6 +234,16 @@ fn raised(count: u64, more: usize) -> u64
         u64::MAX
     } else {
         count + more
+    }
+}
+
+/// The count, raised by this many where the reply is no refusal.
+fn raised_unless_refused(count: u64, more: usize, reply: &Reply) -> u64
+    ensures { result ≡ if is_refusal reply.now then count else raised count more }
+{
+    match reply {
+        Reply::Refused(_) => count,
+        _ => raised(count, more),
     }
 }
 

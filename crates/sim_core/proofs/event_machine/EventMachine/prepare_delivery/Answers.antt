@@ -1,37 +1,8 @@
-use Rattle.std.proofs.Common.{slice_get, refl, sym, ap, subst, option_map, ◌∙◌}
-use Rattle.session_queue.specs.Telling.{message_of}
-use Rattle.session_queue.specs.Waiting.{queue_at}
-use Rattle.reference_machine.specs.Machine.{delivery_refusal}
+use Rattle.std.proofs.Common.{subst}
 use Rattle.cell_network.specs.Engine.{IsSound}
-use Rattle.sim_core.proofs.Refusals.{delivery_denied, delivery_denied_empty, delivery_wants}
+use Rattle.sim_core.proofs.Refusals.{delivery_wants}
 use Rattle.sim_core.proofs.event_machine.EventMachine.prepare_delivery.Goals as goal
-
-pub returns-in-Some-clause-prepares : goal.returns-in-Some-clause-prepares
-returns-in-Some-clause-prepares g c =
-    let d = c.args.direction in
-    let confs = c.conf.ensures ∙ ap (λ n. n.conf) c.self.view_is in
-    delivery_denied c.args.self.now d c.in-Some.refusal (sym (ap (λ k. delivery_refusal k d) confs) ∙ sym c.delivery_refusal.ensures ∙ c.in-Some.is)
-
-pub returns-in_default-head-clause-prepares : goal.returns-in_default-head-clause-prepares
-returns-in_default-head-clause-prepares g c =
-    let d = c.args.direction in
-    let confs = c.conf.ensures ∙ ap (λ n. n.conf) c.self.view_is in
-    let queues = c.queues.ensures ∙ ap (λ n. n.queues) c.self.view_is in
-    delivery_denied_empty c.args.self.now (subst IsSound c.self.view_is c.facts.ensures.sound) d (sym (ap (λ k. delivery_refusal k d) confs) ∙ sym c.delivery_refusal.ensures ∙ c.in_default.is)
-    (sym (ap (λ q. slice_get (queue_at q d.from d.to) 0) queues) ∙ sym c.head.ensures ∙ ap (option_map message_of) c.in_default-head.is)
-
-pub returns-in_default-to_message-clause-prepares : goal.returns-in_default-to_message-clause-prepares
-returns-in_default-to_message-clause-prepares g c =
-    let d = c.args.direction in
-    let confs = c.conf.ensures ∙ ap (λ n. n.conf) c.self.view_is in
-    let queues = c.queues.ensures ∙ ap (λ n. n.queues) c.self.view_is in
-    delivery_wants c.args.self.now c.args.self.now refl (subst IsSound c.self.view_is c.facts.ensures.sound) d (message_of c.in-Some-head.head) (sym (ap (λ k. delivery_refusal k d) confs) ∙ sym c.delivery_refusal.ensures ∙ c.in_default.is)
-    (sym (ap (λ q. slice_get (queue_at q d.from d.to) 0) queues) ∙ sym c.head.ensures ∙ ap (option_map message_of) c.in-Some-head.is)
 
 pub returns-clause-prepares : goal.returns-clause-prepares
 returns-clause-prepares g c =
-    let d = c.args.direction in
-    let confs = c.conf.ensures ∙ ap (λ n. n.conf) c.self.view_is in
-    let queues = c.queues.ensures ∙ ap (λ n. n.queues) c.self.view_is in
-    delivery_wants c.args.self.now c.taking.new.self c.taking.ensures.network (subst IsSound c.self.view_is c.facts.ensures.sound) d (message_of c.in-Some-head.head) (sym (ap (λ k. delivery_refusal k d) confs) ∙ sym c.delivery_refusal.ensures ∙ c.in_default.is)
-    (sym (ap (λ q. slice_get (queue_at q d.from d.to) 0) queues) ∙ sym c.head.ensures ∙ ap (option_map message_of) c.in-Some-head.is)
+    delivery_wants c.args.self.now c.taking.new.self c.taking.ensures.network (subst IsSound c.self.view_is c.facts.ensures.sound) c.args.direction c.in_ok-message.message c.in_ok-message.ensures.allowed c.in_ok-message.ensures.head

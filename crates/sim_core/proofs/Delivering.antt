@@ -1,0 +1,56 @@
+-- A delivery without a plan: the head is taken, after the state has grown.
+use Rattle.std.proofs.Common.{◌≡◌, true, ℕ, slice_get, length, Some, None, inl, sym, ap, subst, ◌∙◌}
+use Rattle.net_prefix.specs.Block.{Block}
+use Rattle.net_conf.specs.Costs.{is_up}
+use Rattle.net_conf.specs.declared.refusal.Refusal.TheVariants.{Memory}
+use Rattle.session_queue.specs.declared.direction.Direction.{Direction}
+use Rattle.session_queue.specs.declared.message.Message.{Message}
+use Rattle.session_queue.specs.Telling.{prefix_of, kind_of}
+use Rattle.session_queue.specs.Waiting.{queue_at}
+use Rattle.sim_event.specs.declared.event.Event.TheVariants.{Deliver}
+use Rattle.sim_event.specs.declared.reply.Reply.{Reply}
+use Rattle.sim_event.specs.declared.reply.Reply.TheVariants.{Took, Refused}
+use Rattle.reference_machine.specs.Network.{Network, messages_in}
+use Rattle.reference_machine.specs.Machine.{head_step, delivery_refusal, IsStep}
+use Rattle.route_cell.specs.Cells.{Outcome}
+use Rattle.cell_network.specs.Engine.{Engine, IsSound, network}
+use Rattle.cell_engine.specs.Deliveries.{IsOfHead, outcome_at, KeepsSame}
+use Rattle.cell_engine.proofs.Growth.{network_kept, head_of, head_kept}
+use Rattle.sim_core.specs.Counting.{decided_at, raised, Counts}
+use Rattle.sim_core.proofs.Accepted.{delivery_takes, delivery_is, delivery_up}
+use Rattle.sim_core.proofs.Answered.{denied_by}
+use Rattle.sim_core.proofs.Refusals.{delivery_wants}
+
+module _ (e : Engine) (sound : IsSound e) (d : Direction) (none : delivery_refusal e.conf d ≡ None) (m : Message) (first : slice_get (queue_at e.queues d.from d.to) 0 ≡ Some m) where
+  took_prefix : Block → Reply → Block
+  took_prefix p (Took q k) = q
+  took_prefix p _ = p
+
+  -- it is counted as one decision of a router
+  pub counts : (n more : ℕ) → ((p : Block) → more ≡ length (decided_at e.conf d.to p)) → Counts (network e) (Deliver d.from d.to) (Took (prefix_of m) (kind_of m)) n (raised n more)
+  unfolding network took_prefix
+  counts n more many =
+      let p = prefix_of m in
+      record {
+        cells = decided_at e.conf d.to p;
+        refreshes = λ q k took. ap (decided_at e.conf d.to) (ap (took_prefix p) (sym (delivery_takes e sound d none m first) ∙ took));
+        is = ap (raised n) (many p);
+      }
+
+  module _ (e' : Engine) (same : KeepsSame e e') where
+    pub up_still : is_up e'.conf d.from d.to ≡ true
+    up_still = delivery_up e'.conf d (ap (λ c. delivery_refusal c d) same.conf ∙ none)
+
+    pub head_still : (o : Outcome) → o ≡ outcome_at e d m → IsOfHead e' d (prefix_of m) o
+    head_still o is = head_kept e e' same d (prefix_of m) o (head_of e d m o first is)
+
+    pub takes : (s : Network) → s ≡ (head_step (network e') d (messages_in (network e').queues d)).next → IsStep (network e) (Deliver d.from d.to) (Took (prefix_of m) (kind_of m)) s
+    unfolding network
+    takes s next = inl (
+        sym (delivery_takes e sound d none m first),
+        next ∙ ap (λ n. (head_step n d (messages_in n.queues d)).next) (network_kept e e' same) ∙ sym (ap (λ o. o.next) (delivery_is (network e) d none)),
+      )
+
+    pub wants : IsStep (network e) (Deliver d.from d.to) (Refused Memory) (network e')
+    wants = subst (λ n. IsStep n (Deliver d.from d.to) (Refused Memory) (network e')) (network_kept e e' same)
+        (denied_by e' (Deliver d.from d.to) Memory (delivery_wants e e' (network_kept e e' same) sound d m none first))
