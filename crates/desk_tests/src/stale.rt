@@ -173,7 +173,10 @@ fn worked_after_each<L: Ledger, R: Threads + Wait + Abort + Sync>(
     for edit in &METRICS {
         assert!(rt; is_answered(rt, alloc, desk, engineer, edit.0, edit.1));
         let done = worked(rt, desk).expect(rt, "a job");
-        outcomes.push(done).ok().expect(rt, "memory for ten outcomes");
+        outcomes
+            .push(done)
+            .ok()
+            .expect(rt, "memory for ten outcomes");
     }
     outcomes
 }

@@ -47,9 +47,9 @@ module _ (e : Engine) (sound : IsSound e) (d : Direction) (none : delivery_refus
     pub takes : (s : Network) → s ≡ (head_step (network e') d (messages_in (network e').queues d)).next → IsStep (network e) (Deliver d.from d.to) (Took (prefix_of m) (kind_of m)) s
     unfolding network
     takes s next = inl (
-        sym (delivery_takes e sound d none m first),
-        next ∙ ap (λ n. (head_step n d (messages_in n.queues d)).next) (network_kept e e' same) ∙ sym (ap (λ o. o.next) (delivery_is (network e) d none)),
-      )
+      sym (delivery_takes e sound d none m first),
+      next ∙ ap (λ n. (head_step n d (messages_in n.queues d)).next) (network_kept e e' same) ∙ sym (ap (λ o. o.next) (delivery_is (network e) d none)),
+    )
 
     pub wants : IsStep (network e) (Deliver d.from d.to) (Refused Memory) (network e')
     wants = subst (λ n. IsStep n (Deliver d.from d.to) (Refused Memory) (network e')) (network_kept e e' same)

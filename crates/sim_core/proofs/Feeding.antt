@@ -28,9 +28,9 @@ module _ (e : Engine) (f : Feed) (none : feed_refusal e.conf f ≡ None) (e' : E
   pub feeds : (m : Message) → m ≡ fed_message f.from f.news → (s : Network) → s ≡ record (network e') { queues = with_message (fed_in f) m (network e').queues } → IsStep (network e) (AFeed f) Done s
   unfolding network
   feeds m is s next = inl (
-      sym (ap (λ o. o.reply) (feed_done (network e) f none)),
-      next ∙ (λ i. record (network_kept e e' same i) { queues = with_message (fed_in f) (is i) (network_kept e e' same i).queues }) ∙ sym (ap (λ o. o.next) (feed_done (network e) f none)),
-    )
+    sym (ap (λ o. o.reply) (feed_done (network e) f none)),
+    next ∙ (λ i. record (network_kept e e' same i) { queues = with_message (fed_in f) (is i) (network_kept e e' same i).queues }) ∙ sym (ap (λ o. o.next) (feed_done (network e) f none)),
+  )
 
   pub wants : IsStep (network e) (AFeed f) (Refused Memory) (network e')
   wants = subst (λ n. IsStep n (AFeed f) (Refused Memory) (network e')) (network_kept e e' same)
