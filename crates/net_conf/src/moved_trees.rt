@@ -14,8 +14,9 @@ use std::alloc::{AllocError, Global};
 use std::marker::Model;
 use std::thread::Threads;
 
-/// From how many labels on threads make the trees: fewer are made sooner than threads start.
-const WORTH_THREADS: usize = 100_000;
+/// From how many labels on threads make the trees. Where each tree changes at one label alone, these take some three milliseconds; with fewer,
+/// threads cost more than they bring.
+const WORTH_THREADS: usize = 700_000;
 
 /// The fewest labels that one thread makes.
 const LEAST_LABELS: usize = 25_000;

@@ -1,10 +1,10 @@
 #!/usr/bin/env python3
-"""A ring of 320 routers, each with two sessions, so that a change of one link moves 320 trees: costs before and after, by the two ways round.
+"""A ring of 840 routers, each with two sessions, so that a change of one link moves 840 trees: costs before and after, by the two ways round.
 ROUTERS= is another number of them, for a ring that the model can check."""
 import os
 import sys
 
-ROUTERS = int(os.environ.get("ROUTERS", 320))
+ROUTERS = int(os.environ.get("ROUTERS", 840))
 METRIC = 10
 # From whom to whom, as places in the ring; no two ways are as long as each other.
 ASKED = [(0, 1), (1, 0), (0, 2), (2, 0), (0, ROUTERS - 1), (5, ROUTERS - 4), (ROUTERS - 4, 5), (ROUTERS // 4, 3), (3, ROUTERS // 4), (1, ROUTERS // 2 - 3)]
