@@ -18,7 +18,7 @@ use std::thread;
 use std::thread::{Promise, Threads};
 
 /// How many turns a worker makes at once at most.
-const TURNS_AT_ONCE: u64 = 64;
+const TURNS_AT_ONCE: u64 = 16;
 
 /// What is told of the workers' jobs. The n-th of a worker has the number n, from 1 on.
 pub trait Gate {
@@ -30,7 +30,7 @@ pub trait Gate {
 }
 
 /// A thread for each seat: the worker of place i serves the shard i modulo the shards. A turn takes a job, works it without the lock, and
-/// brings the outcome back; want of memory ends the turn, and so does an outcome that came too late. Up to sixty-four turns are made at once, where
+/// brings the outcome back; want of memory ends the turn, and so does an outcome that came too late. Up to sixteen turns are made at once, where
 /// as many deliveries wait of which none changes what another depends on: their jobs are taken together, worked one after another, and brought
 /// back together. A worker begins with one turn at once, may make twice as many after turns whose outcomes were all put in, and one after others.
 /// Where there is no job the worker waits.
