@@ -4,3 +4,4 @@ pub mod Coding
 pub mod Counts
 pub mod Deliveries
 pub mod Edits
+pub mod Sharing

@@ -93,7 +93,7 @@ impl<S: Selector, T: PrefixTable<Cell<S>>> State<S, T> {
         if !concerned.contains(&router) {
             return Ok(());
         }
-        edits.push(RouterEdit::of(self.alloc, &self.conf, conf, router)?)
+        edits.push(RouterEdit::of(self.alloc, self.conf.get(), conf, router)?)
     }
 
     /// The routers that the edit concerns, of those that have cells, by address.
@@ -161,7 +161,7 @@ impl<S: Selector + Drop, T: PrefixTable<Cell<S>> + Drop> State<S, T> {
         let Some(cell) = self.cell(router, prefix) else {
             return Ok(Seq::new(self.alloc));
         };
-        let edit = RouterEdit::of(self.alloc, &self.conf, conf, router)?;
+        let edit = RouterEdit::of(self.alloc, self.conf.get(), conf, router)?;
         let becoming = edit.becoming();
         let mut moved = Seq::new(self.alloc);
         let Ok(()) = becoming.add_cell(&mut moved, prefix, cell) else {
@@ -218,7 +218,7 @@ impl<S: Selector + Send + Sync + Drop, T: PrefixTable<Cell<S>> + Drop> State<S, 
             return Ok(Seq::new(self.alloc));
         };
         let mut edits = Seq::new(self.alloc);
-        edits.push(RouterEdit::of(self.alloc, &self.conf, conf, router)?)?;
+        edits.push(RouterEdit::of(self.alloc, self.conf.get(), conf, router)?)?;
         self.changes_of(rt, edits.as_slice())
     }
 }

@@ -32,6 +32,7 @@ use seq::Seq;
 use session_queue::{Direction, Queues};
 use std::alloc::{AllocError, Global};
 use std::marker::Model;
+use std::sync::Arc;
 use std::thread::Threads;
 
 /// What an edit will do: the configuration that it makes, the directions for that, and the cells that are decided anew, with what
@@ -44,12 +45,13 @@ pub struct Edited<S: Selector> {
 /// The parts of what an edit will do.
 #[derive(Drop)]
 struct Parts<S: Selector> {
-    conf: Conf,
+    conf: Arc<Conf>,
     directions: Seq<Direction>,
     changes: Seq<Change<S>>,
 }
 
 impl<S: Selector> Model for Edited<S> {
+    ghost use Rattle.std.specs.Arc.{arc_value};
     ghost use Rattle.std.specs.Coded.{codes};
     ghost use Rattle.cell_engine.specs.Coding.{coded_change};
     ghost use Rattle.cell_engine.specs.Edits.{Planned};
@@ -58,7 +60,7 @@ impl<S: Selector> Model for Edited<S> {
 
     ghost coded = { Prim.hlevel (codes, coded_change) };
 
-    ghost view = { λ x. record { conf = x.parts.value.conf; directions = x.parts.value.directions; changes = x.parts.value.changes } };
+    ghost view = { λ x. record { conf = arc_value x.parts.value.conf; directions = x.parts.value.directions; changes = x.parts.value.changes } };
 }
 
 impl<S: Selector> Edited<S> {
@@ -209,7 +211,7 @@ fn clear_both(queues: &mut Queues, session: Ends)
     queues.clear(session.high, session.low);
 }
 
-/// Sees to it that what an edit will do stands behind one pointer.
+/// Sees to it that the configuration may be shared, and that what an edit will do stands behind one pointer.
 fn boxed<S: Selector + Drop>(
     alloc: Global,
     made: EditedConf,
@@ -218,8 +220,14 @@ fn boxed<S: Selector + Drop>(
 ) -> Result<Edited<S>, AllocError>
     ensures { IfOk result (λ edited. edited ≡ record { conf = made.conf; directions = directions; changes = changes }) }
 {
+    let EditedConf { conf, concerned } = made;
+    drop(concerned);
+    let Ok(conf) = Arc::new(alloc, conf) else {
+        drop((directions, changes));
+        return Err(AllocError);
+    };
     let parts = Parts {
-        conf: made.conf,
+        conf,
         directions,
         changes,
     };
@@ -250,7 +258,7 @@ impl<S: Selector + Send + Sync + Drop, T: PrefixTable<Cell<S>> + Drop> State<S, 
         ensures { IfOk result (λ edited. edited ≡ planned self.now edit.now) }
     {
         self.facts();
-        let Ok(made) = self.conf.edited(rt, self.alloc, edit) else {
+        let Ok(made) = self.conf().edited(rt, self.alloc, edit) else {
             return Err(AllocError);
         };
         let Ok(changes) = self.changes_by(rt, edit.scope(), &made) else {
@@ -325,7 +333,7 @@ impl<S: Selector + Drop, T: PrefixTable<Cell<S>> + Drop> State<S, T> {
         } = Box::into_inner(edited.parts);
         conf.facts();
         clear_down(&mut self.queues, &conf);
-        self.conf = conf;
+        self.conf.set(conf);
         self.directions = directions;
         place_changes(&mut self.tables, &mut self.queues, changes.into_vec());
     }

@@ -7,6 +7,7 @@ mod changes;
 mod deliveries;
 mod edits;
 mod feeds;
+mod held_conf;
 mod installs;
 mod moved_cells;
 mod places;

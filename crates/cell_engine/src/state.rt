@@ -11,8 +11,10 @@ ghost use Rattle.net_prefix.specs.Address.{addr_cmp};
 ghost use Rattle.cell_network.specs.Engine.{network, IsSound};
 ghost use Rattle.cell_network.specs.Reporting.{AreOfPrefixes};
 ghost use Rattle.cell_network.specs.Changes.{AreOverSessionsUp};
+ghost use Rattle.cell_engine.specs.Sharing.{conf_shown};
 
 use crate::edits::is_router;
+use crate::held_conf::HeldConf;
 use net_conf::{Conf, SiteConf};
 use net_prefix::{Addr, Prefix};
 use prefix_table::PrefixTable;
@@ -24,12 +26,13 @@ use session_queue::{Direction, Queues};
 use std::alloc::{AllocError, Global};
 use std::hash::RandomState;
 use std::marker::Model;
+use std::sync::Arc;
 
 /// What is configured, what was received, by router and prefix with the choice among it, and what is on its way.
 #[derive(Drop)]
 pub struct State<S: Chosen, T: PrefixTable<Cell<S>>> {
     pub(crate) alloc: Global,
-    pub(crate) conf: Conf,
+    pub(crate) conf: HeldConf,
     pub(crate) tables: RouterTables<Cell<S>, T>,
     /// Those of all sessions.
     pub(crate) directions: Seq<Direction>,
@@ -61,7 +64,7 @@ impl<S: Chosen, T: PrefixTable<Cell<S>>> State<S, T> {
     {
         State {
             alloc,
-            conf: Conf::new(alloc),
+            conf: HeldConf::new(alloc),
             tables: RouterTables::new(alloc),
             directions: Seq::new(alloc),
             queues: Queues::new(alloc, keys),
@@ -82,7 +85,15 @@ impl<S: Chosen, T: PrefixTable<Cell<S>>> State<S, T> {
     pub fn conf(&self) -> &Conf
         ensures { result.now ≡ self.now.conf }
     {
-        &self.conf
+        self.conf.get()
+    }
+
+    /// What is configured, to be kept while the state goes on: one owner more, and no copy. None until an edit was accepted. The error is
+    /// that 2^63 owners share it.
+    pub fn share(&self) -> Result<Option<Arc<Conf>>, AllocError>
+        ensures { IfOk result (λ share. conf_shown share ≡ self.now.conf) }
+    {
+        self.conf.share()
     }
 
     /// What is on its way.
@@ -96,7 +107,7 @@ impl<S: Chosen, T: PrefixTable<Cell<S>>> State<S, T> {
     pub fn made_site(&self, router: Addr) -> Result<Option<SiteConf>, AllocError>
         ensures { IfOk result (λ made. made ≡ site_made self.now.conf router) }
     {
-        self.conf.made_site(self.alloc, router)
+        self.conf().made_site(self.alloc, router)
     }
 
     /// The router's site: what `made_site` made, or the one that is kept. None where a virtual peer stands, or nobody.
@@ -104,14 +115,14 @@ impl<S: Chosen, T: PrefixTable<Cell<S>>> State<S, T> {
         requires { made.now ≡ site_made self.now.conf router }
         ensures { option_copied result ≡ router_site self.now.conf router }
     {
-        self.conf.site_in(made, router)
+        self.conf().site_in(made, router)
     }
 
     /// Whether a router stands at the address.
     pub fn has_router(&self, address: Addr) -> bool
         ensures { result ≡ is_some (router_site self.now.conf address) }
     {
-        is_router(&self.conf, address)
+        is_router(self.conf(), address)
     }
 
     /// The cells of the router, by prefix. None where it has none.

@@ -15,7 +15,7 @@ returns g c =
     let r = c.args.router in
     let p = c.args.prefix in
     let h : Heard = c.in-Some.cell.now in
-    let own : c.self.inside.conf ≡ before = ap (λ e. e.conf) c.self.view_is in
+    let own : c.get.result.now ≡ before = c.get.ensures ∙ ap (λ e. e.conf) c.self.view_is in
     let moved = c.as_slice.ensures ∙ c.in-Ok.ensures ∙ ap (λ l. l ++ moved_cell c.becoming-becoming.result p h) c.new-moved.ensures ∙ ap (λ (b : Becoming). moved_cell b p h) (c.becoming-becoming.ensures ∙ ap edit_becoming c.in_ok-edit.ensures ∙ ap (λ (k : Configuration). becoming_of k after r) own) in
     subst (λ l. IfOk c.decide_in_turn-changes.result (λ changes. changes ≡ l))
     (ap (map change_at) moved
