@@ -4,7 +4,8 @@ use Rattle.std.proofs.lemmas.Option.{none-some, same_Some}
 use Rattle.net_prefix.specs.declared.addr.Addr.{Addr}
 use Rattle.net_prefix.specs.Block.{Block}
 use Rattle.net_conf.specs.declared.site.SiteConf.{SiteConf}
-use Rattle.net_conf.specs.Configuration.{Configuration}
+use Rattle.net_conf.specs.Configuration.{Configuration, unconfigured}
+use Rattle.net_conf.specs.Sites.{site_of}
 use Rattle.net_conf.specs.Configured.{IsConfigured}
 use Rattle.net_conf.specs.RouterSites.{router_site}
 use Rattle.net_conf.proofs.RouterLaws.{site_of_router, site_sessions_in_order}
@@ -37,6 +38,11 @@ can_decide e sound configured x site heard = record {
   decided = heard ∙ heard_decided e sound x.direction.to (prefix_of x.head) ∙ (λ i. decided (sym site i) (prefix_of x.head) (sym heard i).received);
   peers = subst ArePeersInOrder (sym site) (peers_by e.conf configured x.direction.to (router_site e.conf x.direction.to) refl);
 }
+
+-- where nothing is configured nobody has a site
+pub no_site : (r : Addr) → router_site unconfigured r ≡ None
+unfolding site_of
+no_site r = refl
 
 -- the route that the network has is that of the cell
 pub route_in_network : (e : Engine) → IsSound e → (r : Addr) (p : Block) (u : Addr) → route_from (network e).received r p u ≡ route_of (heard_at r p e.tables).received u

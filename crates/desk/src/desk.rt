@@ -5,6 +5,7 @@ ghost use Rattle.session_queue.specs.Shards.{shard_of};
 ghost use Rattle.desk.specs.Books.{blank_seats, is_memory, noted};
 ghost use Rattle.desk.specs.Desks.{AreSeats, AreShards, GoesOn, IsOpenFault, IsReplied, IsTaken, IsNoted, IsSeatAfter};
 
+use crate::crowd::{Crowd, Resting};
 use crate::posts::{Bells, Concerned, Posts};
 use crate::room::{Audit, CommitFault, Committed, Done, Job, Jobs, Outcomes, Progress, Room, Seat};
 use cell_engine::Cell;
@@ -16,7 +17,7 @@ use std::alloc::{AllocError, Global};
 use std::hash::RandomState;
 use std::marker::Model;
 use std::sync::ledger::{Blank, Ledger};
-use std::sync::{Mutex, Wait};
+use std::sync::{Condvar, Mutex, MutexGuard, Wait};
 use std::thread::Threads;
 
 /// The most seats of a desk.
@@ -45,6 +46,7 @@ struct Table<S: Chosen, T: PrefixTable<Cell<S>>, L: Ledger> {
     /// How many workers are at the desk.
     workers: u64,
     posts: Posts,
+    resting: Resting,
 }
 
 /// A room under one lock, at which several work: engineers make calls, and workers take jobs, each of the receivers of one shard. Contracts
@@ -55,6 +57,8 @@ pub struct Desk<S: Chosen, T: PrefixTable<Cell<S>>, L: Ledger> {
     table: Mutex<Table<S, T, L>>,
     /// Wakes the workers who wait, where a message may wait for them, or where they may end.
     bells: Bells,
+    /// Wakes a worker who rests.
+    floor: Condvar,
     shards: u64,
 }
 
@@ -126,11 +130,13 @@ impl<S: Chosen, T: PrefixTable<Cell<S>>, L: Ledger> Desk<S, T, L> {
             is_finished: false,
             workers: 0,
             posts,
+            resting: Resting::new(),
         };
         Desk {
             alloc,
             table: Mutex::new(table),
             bells,
+            floor: Condvar::new(),
             shards,
         }
     }
@@ -183,6 +189,43 @@ impl<S: Chosen, T: PrefixTable<Cell<S>>, L: Ledger> Desk<S, T, L> {
         let mut table = self.table.lock(rt);
         table.workers = table.workers.wrapping_sub(1);
         self.bells.ring_all(&mut table.posts);
+        self.call_up(&mut table.resting);
+    }
+
+    /// What lies under the lock, and in the worker's mind whether it was taken.
+    fn sit_down<R: Wait>(&self, rt: &R, crowd: &mut Crowd) -> MutexGuard<'_, Table<S, T, L>> {
+        if let Some(table) = self.table.try_lock() {
+            crowd.note(false);
+            return table;
+        }
+        crowd.note(true);
+        self.table.lock(rt)
+    }
+
+    /// A worker makes way for the others till it is called, unless no other is at work.
+    pub(crate) fn rest<R: Wait>(&self, rt: &R) {
+        let mut table = self.table.lock(rt);
+        if table.at_work() < 2 {
+            return;
+        }
+        table.resting.add();
+        let mut table = self
+            .floor
+            .wait_while(rt, table, |now| now.resting.is_none_called());
+        table.resting.get_up();
+    }
+
+    /// Calls a worker who rests, if one does.
+    pub(crate) fn call_one<R: Wait>(&self, rt: &R) {
+        let mut table = self.table.lock(rt);
+        self.call_up(&mut table.resting);
+    }
+
+    /// The same, under the lock.
+    fn call_up(&self, resting: &mut Resting) {
+        if resting.call() {
+            self.floor.notify_one();
+        }
     }
 
     /// Wakes those whom a call concerns: nobody, while no message waits.
@@ -274,10 +317,16 @@ impl<S: Chosen + Drop, T: PrefixTable<Cell<S>> + Drop, L: Ledger> Desk<S, T, L> 
     }
 
     /// Puts in each outcome in turn, as `commit` does. Those that came too late are let go, and so are those for which there is no memory.
-    pub(crate) fn commit_all<R: Wait>(&self, rt: &R, seat: &mut Seat<L>, outcomes: Outcomes<S>)
+    pub(crate) fn commit_all<R: Wait>(
+        &self,
+        rt: &R,
+        seat: &mut Seat<L>,
+        outcomes: Outcomes<S>,
+        crowd: &mut Crowd,
+    )
         ensures { GoesOn seat.old seat.new }
     {
-        let mut table = self.table.lock(rt);
+        let mut table = self.sit_down(rt, crowd);
         self.tell_all_sends(&mut table.posts, &outcomes);
         table.room.commit_all(seat, outcomes);
         self.tell_end(&mut table);
@@ -295,11 +344,18 @@ impl<S: Selector + Drop, T: PrefixTable<Cell<S>> + Drop, L: Ledger> Desk<S, T, L
     }
 
     /// What a worker of the shard does next, so many jobs at most. It waits, without looking again and again, until there is something.
-    pub(crate) fn next_turn<R: Wait>(&self, rt: &R, shard: u64, most: usize) -> Turn<S>
+    /// Where it finds no job it calls one who rests.
+    pub(crate) fn next_turn<R: Wait>(
+        &self,
+        rt: &R,
+        shard: u64,
+        most: usize,
+        crowd: &mut Crowd,
+    ) -> Turn<S>
         requires { shard < self.now.shards }
     {
         let bell = self.bells.of(shard);
-        let mut table = self.table.lock(rt);
+        let mut table = self.sit_down(rt, crowd);
         for _ in rt.forever() {
             let Ok(jobs) = table.room.jobs(shard, self.shards, most) else {
                 return Turn::Nothing;
@@ -309,6 +365,7 @@ impl<S: Selector + Drop, T: PrefixTable<Cell<S>> + Drop, L: Ledger> Desk<S, T, L
             }
             drop(jobs);
             let seen = table.posts.rest(shard);
+            self.call_up(&mut table.resting);
             if table.is_over() {
                 return Turn::End;
             }
@@ -334,6 +391,13 @@ impl<S: Chosen, T: PrefixTable<Cell<S>>, L: Ledger> Table<S, T, L> {
     /// Whether the engineers have finished, and no message waits, or no worker has found a job since the last change.
     fn is_over(&self) -> bool {
         self.is_finished && (self.room.is_quiet() || self.posts.idle() >= self.workers)
+    }
+
+    /// How many workers neither wait for a message nor rest.
+    fn at_work(&self) -> u64 {
+        self.workers
+            .saturating_sub(self.posts.idle())
+            .saturating_sub(self.resting.count())
     }
 }
 

@@ -1,6 +1,7 @@
 //! One machine for several who work on it at once, and a history of their calls that is proved legal.
 #![tactic(auto)]
 
+mod crowd;
 mod desk;
 mod posts;
 mod room;

@@ -5,6 +5,7 @@ ghost use Rattle.desk.specs.Books.{RoomBook};
 ghost use Rattle.desk.specs.Jobs.{IsSeenIn};
 ghost use Rattle.desk.specs.Desks.{GoesOn, AllGoOn};
 
+use crate::crowd::{Between, Crowd};
 use crate::desk::{Desk, Turn};
 use crate::room::{Done, Job, Jobs, Outcomes, Seat};
 use cell_engine::Cell;
@@ -27,13 +28,20 @@ pub trait Gate {
 
     /// A worker has the outcome of its job.
     fn worked(&self, worker: usize, n: u64);
+
+    /// Whether it may hold one worker until another has moved. Where it does not, a worker who finds the lock taken too often may rest,
+    /// and leave it to others for a while.
+    fn may_hold(&self) -> bool {
+        true
+    }
 }
 
 /// A thread for each seat: the worker of place i serves the shard i modulo the shards. A turn takes a job, works it without the lock, and
 /// brings the outcome back; want of memory ends the turn, and so does an outcome that came too late. Up to sixteen turns are made at once, where
 /// as many deliveries wait of which none changes what another depends on: their jobs are taken together, worked one after another, and brought
 /// back together. A worker begins with one turn at once, may make twice as many after turns whose outcomes were all put in, and one after others.
-/// Where there is no job the worker waits.
+/// Where there is no job the worker waits. Where the gate holds nobody, a worker who finds the lock taken again and again rests while another is at
+/// work: so of deliveries that are little work one worker makes as many as it can, and then another.
 /// It ends after so many turns, or once `finish_calls` was called and no message waits, or none that a worker who is left could bring.
 /// A thread that cannot be started is left out, with its seat as it was.
 pub fn run_workers<
@@ -151,18 +159,20 @@ impl<'a, S: Selector + Drop, T: PrefixTable<Cell<S>> + Drop, L: Ledger, G: Gate,
         let mut turns = 0;
         let mut jobs_before = 0;
         let mut most = 1;
+        let mut crowd = Crowd::new();
         for _ in 0..self.turns {
             if turns >= self.turns {
                 return;
             }
             let at_once = most.min(self.turns - turns) as usize;
-            match self.desk.next_turn(self.rt, shard, at_once) {
+            match self.desk.next_turn(self.rt, shard, at_once, &mut crowd) {
                 Turn::Jobs(jobs) => {
                     let count = jobs.len() as u64;
-                    let put_in = self.do_jobs(worker, jobs_before, jobs, seat);
+                    let put_in = self.do_jobs(worker, jobs_before, jobs, seat, &mut crowd);
                     most = most_after(most, count, put_in);
                     jobs_before = count.saturating_add(jobs_before);
                     turns = count.saturating_add(turns);
+                    self.make_way(&mut crowd);
                 }
                 Turn::Nothing => turns += 1,
                 Turn::End => return,
@@ -170,13 +180,32 @@ impl<'a, S: Selector + Drop, T: PrefixTable<Cell<S>> + Drop, L: Ledger, G: Gate,
         }
     }
 
+    /// Rests, or calls one who does, where the gate holds nobody.
+    fn make_way(&self, crowd: &mut Crowd) {
+        if self.gate.may_hold() {
+            return;
+        }
+        match crowd.after_turns() {
+            Between::GoOn => {}
+            Between::Rest => self.desk.rest(self.rt),
+            Between::CallOne => self.desk.call_one(self.rt),
+        }
+    }
+
     /// Works jobs one after another, of which the first is one more than so many, and brings their outcomes back. How many were put in.
-    fn do_jobs(&self, worker: usize, jobs_before: u64, jobs: Jobs<S>, seat: &mut Seat<L>) -> u64
+    fn do_jobs(
+        &self,
+        worker: usize,
+        jobs_before: u64,
+        jobs: Jobs<S>,
+        seat: &mut Seat<L>,
+        crowd: &mut Crowd,
+    ) -> u64
         ensures { GoesOn seat.old seat.new }
     {
         let outcomes = self.outcomes_of(worker, jobs_before, jobs);
         let calls_before = seat.count();
-        self.desk.commit_all(self.rt, seat, outcomes);
+        self.desk.commit_all(self.rt, seat, outcomes, crowd);
         seat.count().saturating_sub(calls_before)
     }
 

@@ -69,6 +69,10 @@ impl Gate for Open {
     fn taken(&self, _worker: usize, _n: u64) {}
 
     fn worked(&self, _worker: usize, _n: u64) {}
+
+    fn may_hold(&self) -> bool {
+        false
+    }
 }
 
 /// Makes the calls from the seat, one after another. Whether each gets its reply.

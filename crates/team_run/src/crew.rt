@@ -16,7 +16,7 @@ use std::sync::ledger::Ledger;
 use std::thread;
 use std::thread::Threads;
 
-/// After how many jobs it is told anew how far the team is.
+/// After how many jobs a worker tells anew how far the team is.
 const JOBS_BETWEEN: u64 = 1_000;
 
 /// Lets all workers pass, and where that is wanted tells how far the team is.
@@ -25,19 +25,21 @@ struct Teller<'a, 'e, S: Selector, T: PrefixTable<Cell<S>>, L: Ledger, E: Write,
     rt: &'a R,
     desk: &'a Desk<S, T, L>,
     told: &'a Told<'e, E>,
-    jobs: AtomicU64,
 }
 
 impl<'a, 'e, S: Selector, T: PrefixTable<Cell<S>>, L: Ledger, E: Write, R: Wait> Gate
     for Teller<'a, 'e, S, T, L, E, R> {
     fn taken(&self, _worker: usize, _n: u64) {}
 
-    fn worked(&self, _worker: usize, _n: u64) {
-        let before = self.jobs.fetch_add(1, Ordering::SeqCst);
-        if self.told.tells_progress() && before % JOBS_BETWEEN == 0 {
+    fn worked(&self, _worker: usize, n: u64) {
+        if n % JOBS_BETWEEN == 1 && self.told.tells_progress() {
             self.told
                 .tell_progress(self.rt, self.desk.progress(self.rt));
         }
+    }
+
+    fn may_hold(&self) -> bool {
+        false
     }
 }
 
@@ -114,7 +116,6 @@ impl<
             rt: self.rt,
             desk: self.desk,
             told: self.told,
-            jobs: AtomicU64::new(0),
         };
         run_workers(self.rt, self.desk, workers, &teller, self.turns)
     }

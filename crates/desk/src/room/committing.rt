@@ -39,23 +39,35 @@ impl<S: Chosen + Drop, T: PrefixTable<Cell<S>> + Drop, L: Ledger> Room<S, T, L> 
         ensures seats { OnErr result (self.new.seats ≡ self.old.seats) }
         ensures seat { OnErr result (seat.new ≡ seat.old) }
     {
-        let Done { job, outcome } = done;
-        match self.newer(&job, false) {
+        match self.newer(&done, false) {
             Ok(Some(newer)) => {
-                drop((job, outcome));
+                drop(done);
                 Ok(Committed::Stale(newer))
             }
-            Ok(None) => match self.deliver(seat, &job, outcome) {
-                Ok(reply) => {
-                    drop(job);
-                    Ok(Committed::Delivered(reply))
-                }
-                Err(outcome) => Err(CommitFault {
-                    done: Done { job, outcome },
-                }),
-            },
-            Err(_) => Err(CommitFault {
-                done: Done { job, outcome },
+            Ok(None) => self.put_in(seat, done),
+            Err(_) => Err(CommitFault { done }),
+        }
+    }
+
+    /// Puts in the outcome, all that its job held being as it was.
+    fn put_in(&mut self, seat: &mut Seat<L>, done: Done<S>) -> Result<Committed, CommitFault<S>>
+        requires { IsSeenIn self.old done }
+        ensures committed { IfOk result (λ committed. IsCommitted self.old seat.old done committed self.new seat.new) }
+        ensures conf { self.new.engine.conf ≡ self.old.engine.conf }
+        ensures back { IfErr result (λ fault. fault.done ≡ done) }
+        ensures network { OnErr result (network self.new.engine ≡ network self.old.engine) }
+        ensures history { OnErr result (self.new.history ≡ self.old.history) }
+        ensures seats { OnErr result (self.new.seats ≡ self.old.seats) }
+        ensures seat { OnErr result (seat.new ≡ seat.old) }
+    {
+        let Done { job, site, outcome } = done;
+        match self.deliver(seat, &job, outcome) {
+            Ok(reply) => {
+                drop((job, site));
+                Ok(Committed::Delivered(reply))
+            }
+            Err(outcome) => Err(CommitFault {
+                done: Done { job, site, outcome },
             }),
         }
     }
@@ -80,26 +92,25 @@ impl<S: Chosen + Drop, T: PrefixTable<Cell<S>> + Drop, L: Ledger> Room<S, T, L> 
         ensures seat { GoesOn seat.old seat.new }
         ensures site { result ≡ true → done.site ≡ site_in self.new done.direction }
     {
-        let Done { job, outcome } = done;
-        match self.newer(&job, is_site_known) {
+        match self.newer(&done, is_site_known) {
             Ok(None) => {
-                let delivered = self.deliver(seat, &job, outcome);
-                drop((job, delivered));
+                drop(self.put_in(seat, done));
                 true
             }
             newer => {
-                drop((job, outcome, newer));
+                drop((done, newer));
                 false
             }
         }
     }
 
     /// What has moved since the job was taken. The site is not compared where it is known to be the same.
-    fn newer(&self, job: &Job<S>, is_site_known: bool) -> Result<Option<Newer>, AllocError>
-        requires { is_site_known ≡ true → job.now.site ≡ site_in self.now job.now.direction }
-        ensures newer { IfOk result (λ found. IfSome found (IsNewer self.now job.now)) }
-        ensures none { IfOk result (λ found. found ≡ None → IsSeenIn self.now job.now) }
+    fn newer(&self, done: &Done<S>, is_site_known: bool) -> Result<Option<Newer>, AllocError>
+        requires { is_site_known ≡ true → done.now.site ≡ site_in self.now done.now.direction }
+        ensures newer { IfOk result (λ found. IfSome found (IsNewer self.now done.now)) }
+        ensures none { IfOk result (λ found. found ≡ None → IsSeenIn self.now done.now) }
     {
+        let job = &done.job;
         if job.version != self.version {
             return Ok(Some(Newer::ConfMoved {
                 had: job.version,
@@ -109,7 +120,7 @@ impl<S: Chosen + Drop, T: PrefixTable<Cell<S>> + Drop, L: Ledger> Room<S, T, L> 
         if is_site_known {
             return self.newer_delivery(job);
         }
-        if let Some(newer) = self.newer_site(job)? {
+        if let Some(newer) = self.newer_site(done)? {
             return Ok(Some(newer));
         }
         self.newer_delivery(job)
@@ -129,18 +140,18 @@ impl<S: Chosen + Drop, T: PrefixTable<Cell<S>> + Drop, L: Ledger> Room<S, T, L> 
     }
 
     /// Whether the receiver's site is another, where the version is as the job had it.
-    fn newer_site(&self, job: &Job<S>) -> Result<Option<Newer>, AllocError>
-        requires version { job.now.version ≡ version_of self.now.history }
-        ensures newer { IfOk result (λ found. IfSome found (IsNewer self.now job.now)) }
-        ensures none { IfOk result (λ found. found ≡ None → job.now.site ≡ site_in self.now job.now.direction) }
+    fn newer_site(&self, done: &Done<S>) -> Result<Option<Newer>, AllocError>
+        requires version { done.now.version ≡ version_of self.now.history }
+        ensures newer { IfOk result (λ found. IfSome found (IsNewer self.now done.now)) }
+        ensures none { IfOk result (λ found. found ≡ None → done.now.site ≡ site_in self.now done.now.direction) }
     {
         let conf = self.sim.state().conf();
-        let now = conf.shared_site(self.alloc, job.direction.to)?;
-        if is_same_site(&job.site, &now) {
+        let now = conf.shared_site(self.alloc, done.ends().1)?;
+        if is_same_site(&done.site, &now) {
             drop(now);
             return Ok(None);
         }
-        let Ok(had) = share_site(self.alloc, &job.site) else {
+        let Ok(had) = share_site(self.alloc, &done.site) else {
             drop(now);
             return Err(AllocError);
         };

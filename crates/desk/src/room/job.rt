@@ -5,44 +5,49 @@ ghost use Rattle.route_cell.specs.Senders.{AreInOrder};
 ghost use Rattle.desk.specs.Jobs.{CanDecide, outcome_of};
 
 use cell_engine::{Cell, Outcome, deliver, store};
-use net_conf::SharedSite;
+use net_conf::{Conf, SharedSite};
 use net_prefix::Addr;
 use path_attr::Attr;
 use route_select::{Chosen, Selector};
 use session_queue::{Direction, Message};
 use std::alloc::{AllocError, Global};
 use std::marker::Model;
+use std::sync::Arc;
 
-/// What a delivery depends on, taken away from the room: the version, the message at the head of the queue, the receiver's site, which is
-/// shared, and a copy of its cell of the message's prefix.
+/// What a delivery depends on, taken away from the room: the version, the message at the head of the queue, a share of the configuration,
+/// and a copy of the receiver's cell of the message's prefix. Contracts see the receiver's site in that configuration.
 #[derive(Drop)]
 pub struct Job<S: Chosen> {
     pub(super) alloc: Global,
     pub(super) direction: Direction,
     pub(super) version: u64,
     pub(super) head: Message,
-    pub(super) site: Option<SharedSite>,
+    /// None where nothing was configured.
+    pub(super) conf: Option<Arc<Conf>>,
     pub(super) cell: Cell<S>,
 }
 
 impl<S: Chosen> Model for Job<S> {
     ghost use Rattle.std.specs.Coded.{codes};
+    ghost use Rattle.net_conf.specs.RouterSites.{router_site};
     ghost use Rattle.route_cell.specs.Coding.{coded_heard};
+    ghost use Rattle.cell_engine.specs.Sharing.{conf_shown};
     ghost use Rattle.desk.specs.Jobs.{Seen, CanDecide};
 
     ghost Value = { Seen };
 
     ghost coded = { Prim.hlevel (codes, coded_heard) };
 
-    ghost view = { λ j. record { direction = j.direction; version = j.version; head = j.head; site = j.site; heard = j.cell } };
+    ghost view = { λ j. record { direction = j.direction; version = j.version; head = j.head; site = router_site (conf_shown j.conf) j.direction.to; heard = j.cell } };
 
-    ghost invariant = { λ j. CanDecide (record { direction = j.direction; version = j.version; head = j.head; site = j.site; heard = j.cell }) };
+    ghost invariant = { λ j. CanDecide (record { direction = j.direction; version = j.version; head = j.head; site = router_site (conf_shown j.conf) j.direction.to; heard = j.cell }) };
 }
 
-/// A job that is done: what it was made from, and the outcome.
+/// A job that is done: what it was made from, the receiver's site, and the outcome.
 #[derive(Drop)]
 pub struct Done<S: Chosen> {
     pub(super) job: Job<S>,
+    pub(super) site: Option<SharedSite>,
     pub(super) outcome: Outcome<S>,
 }
 
@@ -58,7 +63,7 @@ impl<S: Chosen> Model for Done<S> {
 
     ghost view = { λ d. d.job };
 
-    ghost invariant = { λ d. d.outcome ≡ outcome_of d.job };
+    ghost invariant = { λ d. (d.site ≡ d.job.site) × (d.outcome ≡ outcome_of d.job) };
 }
 
 impl<S: Chosen> Job<S> {
@@ -99,17 +104,38 @@ impl<S: Selector + Drop> Job<S> {
         ensures done { IfOk result (λ done. done ≡ self) }
         ensures back { IfErr result (λ job. job ≡ self) }
     {
-        match self.decide() {
-            Ok(outcome) => Ok(Done { job: self, outcome }),
-            Err(_) => Err(self),
+        let Ok(site) = self.site() else {
+            return Err(self);
+        };
+        match self.decide(&site) {
+            Ok(outcome) => Ok(Done {
+                job: self,
+                site,
+                outcome,
+            }),
+            Err(_) => {
+                drop(site);
+                Err(self)
+            }
+        }
+    }
+
+    /// The receiver's site. None where a virtual peer stands.
+    fn site(&self) -> Result<Option<SharedSite>, AllocError>
+        ensures { IfOk result (λ site. site ≡ self.now.site) }
+    {
+        match &self.conf {
+            Some(conf) => conf.shared_site(self.alloc, self.direction.to),
+            None => Ok(None),
         }
     }
 
     /// What the receiver makes of the message (RFC 4271, 9): a router decides by its site, a virtual peer keeps what it receives.
-    fn decide(&self) -> Result<Outcome<S>, AllocError>
+    fn decide(&self, site: &Option<SharedSite>) -> Result<Outcome<S>, AllocError>
+        requires { site.now ≡ self.now.site }
         ensures { IfOk result (λ outcome. outcome ≡ outcome_of self.now) }
     {
-        match &self.site {
+        match site {
             Some(site) => deliver(
                 self.alloc,
                 site.get(),

@@ -144,12 +144,12 @@ impl<S: Selector + Drop, T: PrefixTable<Cell<S>>, L: Ledger> Room<S, T, L> {
             unreachable!()
         };
         let cell = self.cell_of(direction.to, view.prefix())?;
-        let Ok(site) = state.conf().shared_site(self.alloc, direction.to) else {
+        let Ok(conf) = state.share() else {
             drop(cell);
             return Err(AllocError);
         };
         let Ok(head) = view.to_message() else {
-            drop((cell, site));
+            drop((cell, conf));
             return Err(AllocError);
         };
         Ok(Job {
@@ -157,7 +157,7 @@ impl<S: Selector + Drop, T: PrefixTable<Cell<S>>, L: Ledger> Room<S, T, L> {
             direction,
             version: self.version,
             head,
-            site,
+            conf,
             cell,
         })
     }
