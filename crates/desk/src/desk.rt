@@ -16,6 +16,7 @@ use sim_event::{Event, Reply};
 use std::alloc::{AllocError, Global};
 use std::hash::RandomState;
 use std::marker::Model;
+use std::sync::atomic::{AtomicU64, Ordering};
 use std::sync::ledger::{Blank, Ledger};
 use std::sync::{Condvar, Mutex, MutexGuard, Wait};
 use std::thread::Threads;
@@ -47,6 +48,8 @@ struct Table<S: Chosen, T: PrefixTable<Cell<S>>, L: Ledger> {
     workers: u64,
     posts: Posts,
     resting: Resting,
+    /// How many workers wait until no edit is asked for.
+    waiting_for_edits: u64,
 }
 
 /// A room under one lock, at which several work: engineers make calls, and workers take jobs, each of the receivers of one shard. Contracts
@@ -59,6 +62,10 @@ pub struct Desk<S: Chosen, T: PrefixTable<Cell<S>>, L: Ledger> {
     bells: Bells,
     /// Wakes a worker who rests.
     floor: Condvar,
+    /// How many edits are asked for, and not yet made.
+    edits: AtomicU64,
+    /// Wakes the workers who wait until no edit is asked for.
+    calm: Condvar,
     shards: u64,
 }
 
@@ -131,12 +138,15 @@ impl<S: Chosen, T: PrefixTable<Cell<S>>, L: Ledger> Desk<S, T, L> {
             workers: 0,
             posts,
             resting: Resting::new(),
+            waiting_for_edits: 0,
         };
         Desk {
             alloc,
             table: Mutex::new(table),
             bells,
             floor: Condvar::new(),
+            edits: AtomicU64::new(0),
+            calm: Condvar::new(),
             shards,
         }
     }
@@ -228,6 +238,43 @@ impl<S: Chosen, T: PrefixTable<Cell<S>>, L: Ledger> Desk<S, T, L> {
         }
     }
 
+    /// Somebody asks for the event. Whether it is an edit: from now on no worker begins a job, which the edit would make come too late.
+    fn begin_call(&self, event: &Event) -> bool {
+        let is_edit = matches!(event, Event::Edit(_));
+        if is_edit {
+            self.edits.fetch_add(1, Ordering::SeqCst);
+        }
+        is_edit
+    }
+
+    /// The call was made. After the last edit that was asked for the workers go on.
+    fn end_call(&self, table: &Table<S, T, L>, is_edit: bool) {
+        if is_edit
+            && self.edits.fetch_sub(1, Ordering::SeqCst) == 1
+            && table.waiting_for_edits > 0
+        {
+            self.calm.notify_all();
+        }
+    }
+
+    /// Waits until no edit is asked for.
+    fn when_calm<'a, R: Wait>(
+        &'a self,
+        rt: &R,
+        table: MutexGuard<'a, Table<S, T, L>>,
+    ) -> MutexGuard<'a, Table<S, T, L>> {
+        if self.edits.load(Ordering::SeqCst) == 0 {
+            return table;
+        }
+        let mut table = table;
+        table.waiting_for_edits = table.waiting_for_edits.wrapping_add(1);
+        let mut table = self
+            .calm
+            .wait_while(rt, table, |_| self.edits.load(Ordering::SeqCst) > 0);
+        table.waiting_for_edits = table.waiting_for_edits.wrapping_sub(1);
+        table
+    }
+
     /// Wakes those whom a call concerns: nobody, while no message waits.
     fn tell(&self, table: &mut Table<S, T, L>, concerned: Concerned) {
         if table.posts.idle() == 0 || table.room.is_quiet() {
@@ -288,8 +335,10 @@ impl<S: Selector + Send + Sync + Drop, T: PrefixTable<Cell<S>> + Drop, L: Ledger
         ensures reply { is_memory result ≡ false → IsReplied event result }
     {
         let concerned = Concerned::by(&event);
+        let is_edit = self.begin_call(&event);
         let mut table = self.table.lock(rt);
         let reply = table.call(rt, seat, event);
+        self.end_call(&table, is_edit);
         self.tell(&mut table, concerned);
         reply
     }
@@ -344,7 +393,7 @@ impl<S: Selector + Drop, T: PrefixTable<Cell<S>> + Drop, L: Ledger> Desk<S, T, L
     }
 
     /// What a worker of the shard does next, so many jobs at most. It waits, without looking again and again, until there is something.
-    /// Where it finds no job it calls one who rests.
+    /// Where it finds no job it calls one who rests. No job is taken while an edit is asked for.
     pub(crate) fn next_turn<R: Wait>(
         &self,
         rt: &R,
@@ -357,6 +406,7 @@ impl<S: Selector + Drop, T: PrefixTable<Cell<S>> + Drop, L: Ledger> Desk<S, T, L
         let bell = self.bells.of(shard);
         let mut table = self.sit_down(rt, crowd);
         for _ in rt.forever() {
+            table = self.when_calm(rt, table);
             let Ok(jobs) = table.room.jobs(shard, self.shards, most) else {
                 return Turn::Nothing;
             };
