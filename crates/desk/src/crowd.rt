@@ -4,7 +4,7 @@
 const TOO_OFTEN: u64 = 4;
 
 /// After how many turns at once a worker calls one who rests.
-const TURNS_TO_A_CALL: u64 = 64;
+const TURNS_TO_A_CALL: u64 = 128;
 
 /// What a worker does between two turns.
 #[derive(Clone, Copy, PartialEq, Eq)]
@@ -14,17 +14,22 @@ pub(crate) enum Between {
     CallOne,
 }
 
-/// How a worker has found the lock since it last rested.
+/// How a worker has found the lock since it last rested, and the version of the configuration that it has waited for.
 #[derive(Clone, Copy)]
 pub(crate) struct Crowd {
     /// How many more times taken than free.
     taken: u64,
     turns: u64,
+    version: u64,
 }
 
 impl Crowd {
     pub(crate) fn new() -> Self {
-        Crowd { taken: 0, turns: 0 }
+        Crowd {
+            taken: 0,
+            turns: 0,
+            version: 0,
+        }
     }
 
     /// The lock was taken by somebody else, or free.
@@ -36,10 +41,18 @@ impl Crowd {
         };
     }
 
+    /// Whether the version is another than that of the last look.
+    pub(crate) fn sees_edits(&mut self, version: u64) -> bool {
+        let is_new = version != self.version;
+        self.version = version;
+        is_new
+    }
+
     /// What the worker does after its turns at once. Where it is to rest it begins anew.
     pub(crate) fn after_turns(&mut self) -> Between {
         if self.taken >= TOO_OFTEN {
-            *self = Crowd::new();
+            self.taken = 0;
+            self.turns = 0;
             return Between::Rest;
         }
         self.turns = self.turns.wrapping_add(1);

@@ -19,6 +19,7 @@ use std::marker::Model;
 use std::sync::atomic::{AtomicU64, Ordering};
 use std::sync::ledger::{Blank, Ledger};
 use std::sync::{Condvar, Mutex, MutexGuard, Wait};
+use std::thread;
 use std::thread::Threads;
 
 /// The most seats of a desk.
@@ -26,6 +27,9 @@ pub const MAX_SEATS: u16 = 256;
 
 /// The most shards of a desk.
 pub const MAX_SHARDS: u64 = 64;
+
+/// How often a worker looks after an edit whether the next one is asked for, before it takes a job.
+const LOOKS_AFTER_EDITS: u64 = 64;
 
 /// Why a desk is not opened.
 #[derive(Clone, Copy, Debug, PartialEq, Eq)]
@@ -257,8 +261,27 @@ impl<S: Chosen, T: PrefixTable<Cell<S>>, L: Ledger> Desk<S, T, L> {
         }
     }
 
-    /// Waits until no edit is asked for.
+    /// Waits until no edit is asked for, and none has been for a little while.
     fn when_calm<'a, R: Wait>(
+        &'a self,
+        rt: &R,
+        table: MutexGuard<'a, Table<S, T, L>>,
+        crowd: &mut Crowd,
+    ) -> MutexGuard<'a, Table<S, T, L>> {
+        let mut table = self.when_none_is_asked_for(rt, table);
+        for _ in rt.forever() {
+            if !crowd.sees_edits(table.room.version()) {
+                return table;
+            }
+            drop(table);
+            self.pause();
+            table = self.when_none_is_asked_for(rt, self.table.lock(rt));
+        }
+        unreachable!()
+    }
+
+    /// Waits until no edit is asked for.
+    fn when_none_is_asked_for<'a, R: Wait>(
         &'a self,
         rt: &R,
         table: MutexGuard<'a, Table<S, T, L>>,
@@ -273,6 +296,16 @@ impl<S: Chosen, T: PrefixTable<Cell<S>>, L: Ledger> Desk<S, T, L> {
             .wait_while(rt, table, |_| self.edits.load(Ordering::SeqCst) > 0);
         table.waiting_for_edits = table.waiting_for_edits.wrapping_sub(1);
         table
+    }
+
+    /// A little while, in which whoever has edited may ask for the next edit.
+    fn pause(&self) {
+        for _ in 0..LOOKS_AFTER_EDITS {
+            if self.edits.load(Ordering::SeqCst) > 0 {
+                return;
+            }
+            thread::yield_now();
+        }
     }
 
     /// Wakes those whom a call concerns: nobody, while no message waits.
@@ -393,7 +426,7 @@ impl<S: Selector + Drop, T: PrefixTable<Cell<S>> + Drop, L: Ledger> Desk<S, T, L
     }
 
     /// What a worker of the shard does next, so many jobs at most. It waits, without looking again and again, until there is something.
-    /// Where it finds no job it calls one who rests. No job is taken while an edit is asked for.
+    /// Where it finds no job it calls one who rests. No job is taken while an edit is asked for, nor till a little while after.
     pub(crate) fn next_turn<R: Wait>(
         &self,
         rt: &R,
@@ -406,7 +439,7 @@ impl<S: Selector + Drop, T: PrefixTable<Cell<S>> + Drop, L: Ledger> Desk<S, T, L
         let bell = self.bells.of(shard);
         let mut table = self.sit_down(rt, crowd);
         for _ in rt.forever() {
-            table = self.when_calm(rt, table);
+            table = self.when_calm(rt, table, crowd);
             let Ok(jobs) = table.room.jobs(shard, self.shards, most) else {
                 return Turn::Nothing;
             };
