@@ -54,7 +54,7 @@ invariant_of-self g c =
     let sound = c.self.invariant.0 in
     let ups = c.self.invariant.2 in (
       subst (λ k. IsSound (record { conf = k; tables = c.place_changes.new.tables; directions = x.directions; queues = c.place_changes.new.queues })) (sym set)
-      (subst (λ ts. IsSound (record { conf = x.conf; tables = ts; directions = x.directions; queues = c.place_changes.new.queues })) (sym placed)
+          (subst (λ ts. IsSound (record { conf = x.conf; tables = ts; directions = x.directions; queues = c.place_changes.new.queues })) (sym placed)
           (plan_followed e sound configured ups edit x is (subst IsConfigured c.deref.ensures c.facts-2.ensures.configured) c.clear_down.new.queues c.place_changes.new.queues cleared pushed).0),
       subst AreOfPrefixes (sym placed) (plan_of_prefixes e sound configured ups edit x is c.self.invariant.1),
       subst (λ k. AreOverSessionsUp k c.place_changes.new.tables) (sym set) (subst (AreOverSessionsUp x.conf) (sym placed) (plan_over_sessions_up e sound configured ups edit x is)),
