@@ -4,9 +4,10 @@ use Rattle.session_queue.specs.declared.message.Message.{Message}
 use Rattle.sim_event.specs.declared.event.Event.{Event}
 use Rattle.sim_event.specs.declared.event.Event.TheVariants.{Deliver}
 use Rattle.sim_event.specs.declared.reply.Reply.{Reply}
+use Rattle.sim_event.specs.declared.reply.Reply.TheVariants.{Took}
 use Rattle.reference_machine.specs.Decision.{route_from}
 use Rattle.reference_machine.specs.Machine.{step}
-use Rattle.session_queue.specs.Telling.{prefix_of}
+use Rattle.session_queue.specs.Telling.{prefix_of, kind_of}
 use Rattle.route_cell.specs.Cells.{route_of}
 use Rattle.cell_network.specs.Engine.{network}
 use Rattle.desk.specs.declared.room.commit.Newer.{Newer}
@@ -19,6 +20,10 @@ use Rattle.desk.specs.Jobs.{Seen, head_in, site_in}
 -- the delivery that the job was for
 abbrev pub delivery_of : Seen → Event
 delivery_of x = Deliver x.direction.from x.direction.to
+
+-- and its reply
+abbrev pub took_of : Message → Reply
+took_of m = Took (prefix_of m) (kind_of m)
 
 abbrev pub head_seen : Seen → Option Message
 head_seen x = Option.Some x.head

@@ -1,10 +1,10 @@
 //! Workers who make way for one another at the lock.
 
-/// By how many more times a worker finds the lock taken than free until it rests.
-const TOO_OFTEN: u64 = 4;
+/// After how many turns at once of little work a worker calls one who rests.
+const TURNS_TO_A_CALL: u64 = 2_048;
 
-/// After how many turns at once a worker calls one who rests.
-const TURNS_TO_A_CALL: u64 = 128;
+/// To how many turns at once of little work a worker may find the lock taken once.
+const TURNS_TO_A_WAIT: u64 = 8;
 
 /// What a worker does between two turns.
 #[derive(Clone, Copy, PartialEq, Eq)]
@@ -14,12 +14,15 @@ pub(crate) enum Between {
     CallOne,
 }
 
-/// How a worker has found the lock since it last rested, and the version of the configuration that it has waited for.
+/// How a worker has found the lock since it last waited for a message or rested, what work its last jobs were, and the version of the
+/// configuration that it has waited for.
 #[derive(Clone, Copy)]
 pub(crate) struct Crowd {
-    /// How many more times taken than free.
+    /// How often somebody else had it.
     taken: u64,
+    /// How many turns at once the worker has made.
     turns: u64,
+    is_much_work: bool,
     version: u64,
 }
 
@@ -28,17 +31,27 @@ impl Crowd {
         Crowd {
             taken: 0,
             turns: 0,
+            is_much_work: false,
             version: 0,
         }
     }
 
+    /// The worker begins anew, after it has waited or rested.
+    pub(crate) fn begin_anew(&mut self) {
+        self.taken = 0;
+        self.turns = 0;
+    }
+
     /// The lock was taken by somebody else, or free.
     pub(crate) fn note(&mut self, is_taken: bool) {
-        self.taken = if is_taken {
-            self.taken.saturating_add(1)
-        } else {
-            self.taken.saturating_sub(1)
-        };
+        if is_taken {
+            self.taken = self.taken.saturating_add(1);
+        }
+    }
+
+    /// The jobs were much work, or little.
+    pub(crate) fn note_work(&mut self, is_much_work: bool) {
+        self.is_much_work = is_much_work;
     }
 
     /// Whether the version is another than that of the last look.
@@ -48,14 +61,17 @@ impl Crowd {
         is_new
     }
 
-    /// What the worker does after its turns at once. Where it is to rest it begins anew.
+    /// What the worker does after its turns at once. After much work it calls whoever rests. After little it rests where it has found the
+    /// lock taken often for the turns that it made: so who has just come makes way for who has long been at work.
     pub(crate) fn after_turns(&mut self) -> Between {
-        if self.taken >= TOO_OFTEN {
-            self.taken = 0;
-            self.turns = 0;
+        self.turns = self.turns.saturating_add(1);
+        if self.is_much_work {
+            return Between::CallOne;
+        }
+        if self.taken.saturating_mul(TURNS_TO_A_WAIT) > self.turns {
+            self.begin_anew();
             return Between::Rest;
         }
-        self.turns = self.turns.wrapping_add(1);
         if self.turns % TURNS_TO_A_CALL == 0 {
             Between::CallOne
         } else {

@@ -5,8 +5,9 @@ ghost use Rattle.session_queue.specs.Shards.{shard_of};
 ghost use Rattle.desk.specs.Books.{blank_seats, is_memory, noted};
 ghost use Rattle.desk.specs.Desks.{AreSeats, AreShards, GoesOn, IsOpenFault, IsReplied, IsTaken, IsNoted, IsSeatAfter};
 
-use crate::crowd::{Crowd, Resting};
-use crate::posts::{Bells, Concerned, Posts};
+use crate::crowd::Crowd;
+use crate::order::{Attendance, Order};
+use crate::posts::Concerned;
 use crate::room::{Audit, CommitFault, Committed, Done, Job, Jobs, Outcomes, Progress, Room, Seat};
 use cell_engine::Cell;
 use net_prefix::Addr;
@@ -16,10 +17,8 @@ use sim_event::{Event, Reply};
 use std::alloc::{AllocError, Global};
 use std::hash::RandomState;
 use std::marker::Model;
-use std::sync::atomic::{AtomicU64, Ordering};
 use std::sync::ledger::{Blank, Ledger};
-use std::sync::{Condvar, Mutex, MutexGuard, Wait};
-use std::thread;
+use std::sync::{Mutex, MutexGuard, Wait};
 use std::thread::Threads;
 
 /// The most seats of a desk.
@@ -27,9 +26,6 @@ pub const MAX_SEATS: u16 = 256;
 
 /// The most shards of a desk.
 pub const MAX_SHARDS: u64 = 64;
-
-/// How often a worker looks after an edit whether the next one is asked for, before it takes a job.
-const LOOKS_AFTER_EDITS: u64 = 64;
 
 /// Why a desk is not opened.
 #[derive(Clone, Copy, Debug, PartialEq, Eq)]
@@ -46,14 +42,7 @@ pub enum OpenFault {
 #[derive(Drop)]
 struct Table<S: Chosen, T: PrefixTable<Cell<S>>, L: Ledger> {
     room: Room<S, T, L>,
-    /// Whether the engineers make no more calls.
-    is_finished: bool,
-    /// How many workers are at the desk.
-    workers: u64,
-    posts: Posts,
-    resting: Resting,
-    /// How many workers wait until no edit is asked for.
-    waiting_for_edits: u64,
+    at: Attendance,
 }
 
 /// A room under one lock, at which several work: engineers make calls, and workers take jobs, each of the receivers of one shard. Contracts
@@ -62,26 +51,15 @@ struct Table<S: Chosen, T: PrefixTable<Cell<S>>, L: Ledger> {
 pub struct Desk<S: Chosen, T: PrefixTable<Cell<S>>, L: Ledger> {
     alloc: Global,
     table: Mutex<Table<S, T, L>>,
-    /// Wakes the workers who wait, where a message may wait for them, or where they may end.
-    bells: Bells,
-    /// Wakes a worker who rests.
-    floor: Condvar,
-    /// How many edits are asked for, and not yet made.
-    edits: AtomicU64,
-    /// Wakes the workers who wait until no edit is asked for.
-    calm: Condvar,
-    shards: u64,
+    order: Order,
 }
 
 impl<S: Chosen, T: PrefixTable<Cell<S>>, L: Ledger> Model for Desk<S, T, L> {
-    ghost use Rattle.std.specs.Prelude.{◌≡◌};
-    ghost use Rattle.desk.specs.Desks.{DeskBook, AreShards};
+    ghost use Rattle.desk.specs.Desks.{DeskBook};
 
     ghost Value = { DeskBook };
 
-    ghost view = { λ d. record { shards = d.shards } };
-
-    ghost invariant = { λ d. AreShards d.shards × (d.bells ≡ d.shards) };
+    ghost view = { λ d. record { shards = d.order } };
 }
 
 /// What a worker finds at the desk.
@@ -118,40 +96,25 @@ impl<S: Chosen, T: PrefixTable<Cell<S>>, L: Ledger> Desk<S, T, L> {
         if shards < 1 || shards > MAX_SHARDS {
             return Err(OpenFault::Shards);
         }
-        let Ok(posts) = Posts::new(alloc, shards) else {
+        let Ok(at) = Attendance::new(alloc, shards) else {
             return Err(OpenFault::Memory);
         };
-        let Ok(bells) = Bells::new(alloc, shards) else {
+        let Ok(order) = Order::new(alloc, shards) else {
             return Err(OpenFault::Memory);
         };
         match Room::new(alloc, keys, seats, blank) {
-            Ok((room, all)) => Ok((Desk::of(alloc, room, shards, posts, bells), all)),
+            Ok((room, all)) => {
+                let table = Mutex::new(Table { room, at });
+                Ok((
+                    Desk {
+                        alloc,
+                        table,
+                        order,
+                    },
+                    all,
+                ))
+            }
             Err(_) => Err(OpenFault::Memory),
-        }
-    }
-
-    /// The room, under a lock.
-    fn of(alloc: Global, room: Room<S, T, L>, shards: u64, posts: Posts, bells: Bells) -> Self
-        requires shards { AreShards shards }
-        requires bells { bells ≡ shards }
-        ensures { result.shards ≡ shards }
-    {
-        let table = Table {
-            room,
-            is_finished: false,
-            workers: 0,
-            posts,
-            resting: Resting::new(),
-            waiting_for_edits: 0,
-        };
-        Desk {
-            alloc,
-            table: Mutex::new(table),
-            bells,
-            floor: Condvar::new(),
-            edits: AtomicU64::new(0),
-            calm: Condvar::new(),
-            shards,
         }
     }
 
@@ -160,7 +123,7 @@ impl<S: Chosen, T: PrefixTable<Cell<S>>, L: Ledger> Desk<S, T, L> {
         ensures shards { result ≡ self.now.shards }
         ensures allowed { AreShards result }
     {
-        self.shards
+        self.order.shards()
     }
 
     /// Where memory comes from.
@@ -183,8 +146,7 @@ impl<S: Chosen, T: PrefixTable<Cell<S>>, L: Ledger> Desk<S, T, L> {
     /// Tells the workers that no more calls come: they end once no message waits.
     pub fn finish_calls<R: Wait>(&self, rt: &R) {
         let mut table = self.table.lock(rt);
-        table.is_finished = true;
-        self.bells.ring_all(&mut table.posts);
+        self.order.finish(&mut table.at);
     }
 
     /// The room, once nobody is at the desk.
@@ -195,15 +157,13 @@ impl<S: Chosen, T: PrefixTable<Cell<S>>, L: Ledger> Desk<S, T, L> {
     /// So many workers come. Each leaves once.
     pub(crate) fn enter<R: Wait>(&self, rt: &R, workers: usize) {
         let mut table = self.table.lock(rt);
-        table.workers = table.workers.wrapping_add(workers as u64);
+        table.at.enter(workers);
     }
 
     /// A worker leaves.
     pub(crate) fn leave<R: Wait>(&self, rt: &R) {
         let mut table = self.table.lock(rt);
-        table.workers = table.workers.wrapping_sub(1);
-        self.bells.ring_all(&mut table.posts);
-        self.call_up(&mut table.resting);
+        self.order.leave(&mut table.at);
     }
 
     /// What lies under the lock, and in the worker's mind whether it was taken.
@@ -219,46 +179,21 @@ impl<S: Chosen, T: PrefixTable<Cell<S>>, L: Ledger> Desk<S, T, L> {
     /// A worker makes way for the others till it is called, unless no other is at work.
     pub(crate) fn rest<R: Wait>(&self, rt: &R) {
         let mut table = self.table.lock(rt);
-        if table.at_work() < 2 {
+        if table.at.at_work() < 2 {
             return;
         }
-        table.resting.add();
+        table.at.rest();
         let mut table = self
-            .floor
-            .wait_while(rt, table, |now| now.resting.is_none_called());
-        table.resting.get_up();
+            .order
+            .floor()
+            .wait_while(rt, table, |now| now.at.is_none_called());
+        table.at.get_up();
     }
 
     /// Calls a worker who rests, if one does.
     pub(crate) fn call_one<R: Wait>(&self, rt: &R) {
         let mut table = self.table.lock(rt);
-        self.call_up(&mut table.resting);
-    }
-
-    /// The same, under the lock.
-    fn call_up(&self, resting: &mut Resting) {
-        if resting.call() {
-            self.floor.notify_one();
-        }
-    }
-
-    /// Somebody asks for the event. Whether it is an edit: from now on no worker begins a job, which the edit would make come too late.
-    fn begin_call(&self, event: &Event) -> bool {
-        let is_edit = matches!(event, Event::Edit(_));
-        if is_edit {
-            self.edits.fetch_add(1, Ordering::SeqCst);
-        }
-        is_edit
-    }
-
-    /// The call was made. After the last edit that was asked for the workers go on.
-    fn end_call(&self, table: &Table<S, T, L>, is_edit: bool) {
-        if is_edit
-            && self.edits.fetch_sub(1, Ordering::SeqCst) == 1
-            && table.waiting_for_edits > 0
-        {
-            self.calm.notify_all();
-        }
+        self.order.call_one(&mut table.at);
     }
 
     /// Waits until no edit is asked for, and none has been for a little while.
@@ -274,7 +209,7 @@ impl<S: Chosen, T: PrefixTable<Cell<S>>, L: Ledger> Desk<S, T, L> {
                 return table;
             }
             drop(table);
-            self.pause();
+            self.order.pause();
             table = self.when_none_is_asked_for(rt, self.table.lock(rt));
         }
         unreachable!()
@@ -286,44 +221,30 @@ impl<S: Chosen, T: PrefixTable<Cell<S>>, L: Ledger> Desk<S, T, L> {
         rt: &R,
         table: MutexGuard<'a, Table<S, T, L>>,
     ) -> MutexGuard<'a, Table<S, T, L>> {
-        if self.edits.load(Ordering::SeqCst) == 0 {
+        if !self.order.is_edit_asked_for() {
             return table;
         }
         let mut table = table;
-        table.waiting_for_edits = table.waiting_for_edits.wrapping_add(1);
+        table.at.begin_to_wait_for_edits();
         let mut table = self
-            .calm
-            .wait_while(rt, table, |_| self.edits.load(Ordering::SeqCst) > 0);
-        table.waiting_for_edits = table.waiting_for_edits.wrapping_sub(1);
+            .order
+            .calm()
+            .wait_while(rt, table, |_| self.order.is_edit_asked_for());
+        table.at.end_to_wait_for_edits();
         table
-    }
-
-    /// A little while, in which whoever has edited may ask for the next edit.
-    fn pause(&self) {
-        for _ in 0..LOOKS_AFTER_EDITS {
-            if self.edits.load(Ordering::SeqCst) > 0 {
-                return;
-            }
-            thread::yield_now();
-        }
     }
 
     /// Wakes those whom a call concerns: nobody, while no message waits.
     fn tell(&self, table: &mut Table<S, T, L>, concerned: Concerned) {
-        if table.posts.idle() == 0 || table.room.is_quiet() {
+        if !table.at.is_somebody_idle() || table.room.is_quiet() {
             return;
         }
         match concerned {
             Concerned::Nobody => {}
-            Concerned::Receiver(receiver) => self.tell_receiver(&mut table.posts, receiver),
+            Concerned::Receiver(receiver) => self.order.tell_receiver(&mut table.at, receiver),
             Concerned::ReceiversFrom(sender) => self.tell_receivers(table, sender),
-            Concerned::Everybody => self.bells.ring_all(&mut table.posts),
+            Concerned::Everybody => self.order.tell_everybody(&mut table.at),
         }
-    }
-
-    /// A message may wait for the receiver.
-    fn tell_receiver(&self, posts: &mut Posts, receiver: Addr) {
-        self.bells.ring(posts, u64::from(receiver.0) % self.shards);
     }
 
     /// Wakes those for whose receivers a message waits from the sender.
@@ -333,29 +254,29 @@ impl<S: Chosen, T: PrefixTable<Cell<S>>, L: Ledger> Desk<S, T, L> {
             let Some(receiver) = next else {
                 return;
             };
-            self.tell_receiver(&mut table.posts, receiver);
+            self.order.tell_receiver(&mut table.at, receiver);
             next = table.room.next_receiver(sender, receiver);
         }
     }
 
     /// Wakes those for whose receivers a message is sent where the outcome is put in.
-    fn tell_sends(&self, posts: &mut Posts, done: &Done<S>) {
+    fn tell_sends(&self, at: &mut Attendance, done: &Done<S>) {
         for (receiver, _) in &done.outcome().sends {
-            self.tell_receiver(posts, *receiver);
+            self.order.tell_receiver(at, *receiver);
         }
     }
 
     /// The same of several outcomes.
-    fn tell_all_sends(&self, posts: &mut Posts, outcomes: &Outcomes<S>) {
+    fn tell_all_sends(&self, at: &mut Attendance, outcomes: &Outcomes<S>) {
         for done in outcomes.as_slice() {
-            self.tell_sends(posts, done);
+            self.tell_sends(at, done);
         }
     }
 
     /// Wakes all once they may end: no calls come, and no message waits.
     fn tell_end(&self, table: &mut Table<S, T, L>) {
-        if table.is_finished && table.room.is_quiet() {
-            self.bells.ring_all(&mut table.posts);
+        if table.at.is_finished() && table.room.is_quiet() {
+            self.order.tell_everybody(&mut table.at);
         }
     }
 }
@@ -368,10 +289,10 @@ impl<S: Selector + Send + Sync + Drop, T: PrefixTable<Cell<S>> + Drop, L: Ledger
         ensures reply { is_memory result ≡ false → IsReplied event result }
     {
         let concerned = Concerned::by(&event);
-        let is_edit = self.begin_call(&event);
+        let is_edit = self.order.begin_call(&event);
         let mut table = self.table.lock(rt);
         let reply = table.call(rt, seat, event);
-        self.end_call(&table, is_edit);
+        self.order.end_call(&table.at, is_edit);
         self.tell(&mut table, concerned);
         reply
     }
@@ -392,7 +313,7 @@ impl<S: Chosen + Drop, T: PrefixTable<Cell<S>> + Drop, L: Ledger> Desk<S, T, L> 
         ensures seat { OnErr result (seat.new ≡ seat.old) }
     {
         let mut table = self.table.lock(rt);
-        self.tell_sends(&mut table.posts, &done);
+        self.tell_sends(&mut table.at, &done);
         let committed = table.commit(seat, done);
         self.tell_end(&mut table);
         committed
@@ -409,7 +330,7 @@ impl<S: Chosen + Drop, T: PrefixTable<Cell<S>> + Drop, L: Ledger> Desk<S, T, L> 
         ensures { GoesOn seat.old seat.new }
     {
         let mut table = self.sit_down(rt, crowd);
-        self.tell_all_sends(&mut table.posts, &outcomes);
+        self.tell_all_sends(&mut table.at, &outcomes);
         table.room.commit_all(seat, outcomes);
         self.tell_end(&mut table);
     }
@@ -422,7 +343,7 @@ impl<S: Selector + Drop, T: PrefixTable<Cell<S>> + Drop, L: Ledger> Desk<S, T, L
         ensures taken { IfOk result (λ found. IfSome found IsTaken) }
         ensures shard { IfOk result (λ found. IfSome found (λ job. shard_of job.direction.to self.now.shards ≡ shard)) }
     {
-        self.table.lock(rt).take(shard, self.shards)
+        self.table.lock(rt).take(shard, self.order.shards())
     }
 
     /// What a worker of the shard does next, so many jobs at most. It waits, without looking again and again, until there is something.
@@ -436,24 +357,26 @@ impl<S: Selector + Drop, T: PrefixTable<Cell<S>> + Drop, L: Ledger> Desk<S, T, L
     ) -> Turn<S>
         requires { shard < self.now.shards }
     {
-        let bell = self.bells.of(shard);
+        let bell = self.order.bell(shard);
+        let shards = self.order.shards();
         let mut table = self.sit_down(rt, crowd);
         for _ in rt.forever() {
             table = self.when_calm(rt, table, crowd);
-            let Ok(jobs) = table.room.jobs(shard, self.shards, most) else {
+            let Ok(jobs) = table.room.jobs(shard, shards, most) else {
                 return Turn::Nothing;
             };
             if !jobs.is_empty() {
                 return Turn::Jobs(jobs);
             }
             drop(jobs);
-            let seen = table.posts.rest(shard);
-            self.call_up(&mut table.resting);
-            if table.is_over() {
+            let seen = table.at.wait_for_change(shard);
+            self.order.call_one(&mut table.at);
+            if table.at.is_over(table.room.is_quiet()) {
                 return Turn::End;
             }
-            let is_finished = table.is_finished;
-            table = bell.wait_while(rt, table, |now| now.posts.changes(shard) == seen);
+            let is_finished = table.at.is_finished();
+            crowd.begin_anew();
+            table = bell.wait_while(rt, table, |now| now.at.changes(shard) == seen);
             if is_finished {
                 return Turn::Nothing;
             }
@@ -469,18 +392,6 @@ impl<S: Chosen, T: PrefixTable<Cell<S>>, L: Ledger> Table<S, T, L> {
     {
         self.room.facts();
         self.room.audit(seat)
-    }
-
-    /// Whether the engineers have finished, and no message waits, or no worker has found a job since the last change.
-    fn is_over(&self) -> bool {
-        self.is_finished && (self.room.is_quiet() || self.posts.idle() >= self.workers)
-    }
-
-    /// How many workers neither wait for a message nor rest.
-    fn at_work(&self) -> u64 {
-        self.workers
-            .saturating_sub(self.posts.idle())
-            .saturating_sub(self.resting.count())
     }
 }
 

@@ -3,6 +3,7 @@
 
 mod crowd;
 mod desk;
+mod order;
 mod posts;
 mod room;
 mod workers;

@@ -21,7 +21,7 @@ mod seat;
 mod taking;
 mod together;
 
-use crate::room::notes::{Draft, agrees};
+use crate::room::notes::{Draft, agrees, makes_room, write};
 use crate::room::record::{all_agree, is_each_once};
 use cell_engine::Cell;
 pub use commit::{CommitFault, Committed, Newer};
@@ -235,7 +235,7 @@ impl<S: Selector + Drop, T: PrefixTable<Cell<S>> + Drop, L: Ledger> Room<S, T, L
         ensures same { OnErr result (self.new ≡ self.old) }
         ensures left { OnErr result (seat.new ≡ seat.old) }
     {
-        if self.history.reserve(1).is_err() || seat.notes.reserve(1).is_err() {
+        if !makes_room(&mut self.history, &mut seat.notes) {
             drop((event, plan));
             return Err(AllocError);
         }
@@ -244,11 +244,9 @@ impl<S: Selector + Drop, T: PrefixTable<Cell<S>> + Drop, L: Ledger> Room<S, T, L
             drop(plan);
             return Err(AllocError);
         };
-        let Draft { entry, call } = draft;
         let reply = self.sim.apply(plan);
         self.version += edits;
-        self.history.push_reserved(entry);
-        seat.notes.push_reserved(call);
+        write(&mut self.history, &mut seat.notes, draft);
         self.book.add(&mut seat.share, 1);
         seat.count += 1;
         Ok(reply)
@@ -270,7 +268,7 @@ impl<S: Selector + Drop, T: PrefixTable<Cell<S>> + Drop, L: Ledger> Room<S, T, L
         ensures same { OnErr result (self.new ≡ self.old) }
         ensures left { OnErr result (seat.new ≡ seat.old) }
     {
-        if self.history.reserve(1).is_err() || seat.notes.reserve(1).is_err() {
+        if !makes_room(&mut self.history, &mut seat.notes) {
             drop(event);
             return Err(AllocError);
         }
@@ -279,9 +277,7 @@ impl<S: Selector + Drop, T: PrefixTable<Cell<S>> + Drop, L: Ledger> Room<S, T, L
             drop(reply);
             return Err(AllocError);
         };
-        let Draft { entry, call } = draft;
-        self.history.push_reserved(entry);
-        seat.notes.push_reserved(call);
+        write(&mut self.history, &mut seat.notes, draft);
         self.book.add(&mut seat.share, 1);
         seat.count += 1;
         Ok(reply)

@@ -29,8 +29,8 @@ pub trait Gate {
     /// A worker has the outcome of its job.
     fn worked(&self, worker: usize, n: u64);
 
-    /// Whether it may hold one worker until another has moved. Where it does not, a worker who finds the lock taken too often may rest,
-    /// and leave it to others for a while.
+    /// Whether it may hold one worker until another has moved. Where it does not, a worker who finds the lock taken may rest, and leave it
+    /// to others for a while.
     fn may_hold(&self) -> bool {
         true
     }
@@ -40,8 +40,8 @@ pub trait Gate {
 /// brings the outcome back; want of memory ends the turn, and so does an outcome that came too late. Up to sixteen turns are made at once, where
 /// as many deliveries wait of which none changes what another depends on: their jobs are taken together, worked one after another, and brought
 /// back together. A worker begins with one turn at once, may make twice as many after turns whose outcomes were all put in, and one after others.
-/// Where there is no job the worker waits. Where the gate holds nobody, a worker who finds the lock taken again and again rests while another is at
-/// work: so of deliveries that are little work one worker makes as many as it can, and then another.
+/// Where there is no job the worker waits. Where the gate holds nobody, a worker who often finds the lock taken after deliveries that are little work
+/// rests while another is at work: so of such deliveries one worker makes as many as it can, and then another.
 /// It ends after so many turns, or once `finish_calls` was called and no message waits, or none that a worker who is left could bring.
 /// A thread that cannot be started is left out, with its seat as it was.
 pub fn run_workers<
@@ -204,6 +204,7 @@ impl<'a, S: Selector + Drop, T: PrefixTable<Cell<S>> + Drop, L: Ledger, G: Gate,
         ensures { GoesOn seat.old seat.new }
     {
         let outcomes = self.outcomes_of(worker, jobs_before, jobs);
+        crowd.note_work(outcomes.is_much_work());
         let calls_before = seat.count();
         self.desk.commit_all(self.rt, seat, outcomes, crowd);
         seat.count().saturating_sub(calls_before)

@@ -71,22 +71,9 @@ fn twice<L: Ledger, R: Threads + Wait + Abort + Sync>(rt: &R, alloc: Global, bla
     assert!(rt; are_answered(rt, alloc, &desk, &mut engineer, &FED));
     let first = worked(rt, &desk).expect(rt, "a job");
     let second = worked(rt, &desk).expect(rt, "the same job");
-    assert!(rt;
-        matches!(
-            desk.commit(rt, &mut worker, first),
-            Ok(Committed::Delivered(_))
-        )
-    );
-    let stale = desk.commit(rt, &mut worker, second);
-    assert!(rt;
-        matches!(
-            stale,
-            Ok(Committed::Stale(Newer::HeadMoved {
-                had: Some(_),
-                now: None
-            }))
-        )
-    );
+    assert!(rt; is_put_in(rt, &desk, &mut worker, first));
+    let committed = desk.commit(rt, &mut worker, second).ok();
+    assert!(rt; committed.is_some_and(|committed| is_without_head(&committed)));
     assert_eq!(rt; worker.count(), 1);
 }
 
@@ -155,8 +142,7 @@ fn ten_versions<L: Ledger, R: Threads + Wait + Abort + Sync>(rt: &R, alloc: Glob
         let committed = desk.commit(rt, &mut worker, done).ok();
         assert!(rt; committed.is_some_and(|committed| is_older_by(&committed, edits_since)));
     }
-    let committed = desk.commit(rt, &mut worker, last);
-    assert!(rt; matches!(committed, Ok(Committed::Delivered(_))));
+    assert!(rt; is_put_in(rt, &desk, &mut worker, last));
     assert_eq!(rt; worker.count(), 1);
 }
 
@@ -196,6 +182,33 @@ fn worked<L: Ledger, R: Wait>(rt: &R, desk: &GroupDesk<L>) -> Option<Done<GroupC
     desk.take(rt, 0).ok()??.work().ok()
 }
 
+/// Brings the outcome back. Whether it was put in.
+fn is_put_in<L: Ledger, R: Wait>(
+    rt: &R,
+    desk: &GroupDesk<L>,
+    worker: &mut Seat<L>,
+    done: Done<GroupCell>,
+) -> bool {
+    let committed = desk.commit(rt, worker, done).ok();
+    committed.is_some_and(|committed| is_delivery(&committed))
+}
+
+/// Whether the outcome was put in.
+fn is_delivery(committed: &Committed) -> bool {
+    matches!(committed, Committed::Delivered(_))
+}
+
+/// Whether the outcome is stale since no message is left where one was.
+fn is_without_head(committed: &Committed) -> bool {
+    matches!(
+        committed,
+        Committed::Stale(Newer::HeadMoved {
+            had: Some(_),
+            now: None
+        })
+    )
+}
+
 /// Takes and works jobs until one is the router's. Whether all are delivered.
 fn is_delivered<L: Ledger, R: Wait>(rt: &R, desk: &GroupDesk<L>, worker: &mut Seat<L>) -> bool
     requires { 0 < desk.now.shards }
@@ -205,8 +218,7 @@ fn is_delivered<L: Ledger, R: Wait>(rt: &R, desk: &GroupDesk<L>, worker: &mut Se
             return false;
         };
         let (_, receiver) = done.ends();
-        let committed = desk.commit(rt, worker, done);
-        if !matches!(committed, Ok(Committed::Delivered(_))) {
+        if !is_put_in(rt, desk, worker, done) {
             return false;
         }
         if receiver == MIDDLE {

@@ -11,7 +11,7 @@ ghost use Rattle.desk.specs.Desks.{GoesOn};
 use crate::room::Room;
 use crate::room::commit::{CommitFault, Committed, Newer};
 use crate::room::job::{Done, Job};
-use crate::room::notes::Draft;
+use crate::room::notes::{Draft, makes_room, write};
 use crate::room::received::first_difference;
 use crate::room::seat::Seat;
 use crate::room::together::Outcomes;
@@ -23,7 +23,7 @@ use prefix_table::PrefixTable;
 use route_select::Chosen;
 use seq::Copied;
 use session_queue::Message;
-use sim_event::{Event, Reply};
+use sim_event::Reply;
 use std::alloc::{AllocError, Global};
 use std::sync::ledger::Ledger;
 
@@ -240,17 +240,13 @@ impl<S: Chosen + Drop, T: PrefixTable<Cell<S>> + Drop, L: Ledger> Room<S, T, L> 
         ensures seat { OnErr result (seat.new ≡ seat.old) }
     {
         self.engine_facts();
-        if self.history.reserve(1).is_err() || seat.notes.reserve(1).is_err() {
+        if !makes_room(&mut self.history, &mut seat.notes) {
             return Err(outcome);
         }
         let direction = job.direction();
-        let event = Event::Deliver(direction.from, direction.to);
-        let took = Reply::Took(job.head().prefix(), job.head().kind());
-        let Ok(draft) = Draft::of(self.alloc, seat.number, event, &took) else {
-            drop(took);
+        let Ok(draft) = Draft::of_delivery(self.alloc, seat.number, direction, job.head()) else {
             return Err(outcome);
         };
-        drop(took);
         let reply = match self.sim.install(direction, outcome) {
             Ok(reply) => reply,
             Err(outcome) => {
@@ -258,9 +254,7 @@ impl<S: Chosen + Drop, T: PrefixTable<Cell<S>> + Drop, L: Ledger> Room<S, T, L> 
                 return Err(outcome);
             }
         };
-        let Draft { entry, call } = draft;
-        self.history.push_reserved(entry);
-        seat.notes.push_reserved(call);
+        write(&mut self.history, &mut seat.notes, draft);
         self.book.add(&mut seat.share, 1);
         seat.count += 1;
         Ok(reply)

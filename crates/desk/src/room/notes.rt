@@ -1,19 +1,19 @@
 //! What is written down of a call.
 
-ghost use Rattle.std.specs.Prelude.{◌≡◌, ◌+◌, ◌<◌, ◌∷◌, ◌++◌, ◌↔◌, ◌^◌, [], length, vec_len, IsTrue, OnOk, OnErr, IfOk};
+ghost use Rattle.std.specs.Prelude.{◌≡◌, ◌<◌, ◌∷◌, ◌++◌, ◌↔◌, [], true, vec_len, vec_capacity, IsTrue, IfOk};
 ghost use Rattle.reference_machine.specs.Histories.{calls_of};
+ghost use Rattle.desk.specs.Commits.{took_of};
 
-use crate::room::seat::Seat;
 use seq::Copied;
+use session_queue::{Direction, Message};
 use sim_event::{Call, Entry, Event, Reply, Same};
 use std::alloc::{AllocError, Global};
-use std::sync::ledger::{Book, Ledger};
 
 /// What is written down of a call, once in the history and once in the seat's notes, made before the call is.
 #[derive(Drop)]
 pub(super) struct Draft {
-    pub(super) entry: Entry,
-    pub(super) call: Call,
+    entry: Entry,
+    call: Call,
 }
 
 impl Draft {
@@ -42,6 +42,48 @@ impl Draft {
         };
         Ok(Draft { entry, call })
     }
+
+    /// Of the delivery of this message.
+    pub(super) fn of_delivery(
+        alloc: Global,
+        number: u8,
+        direction: Direction,
+        head: &Message,
+    ) -> Result<Draft, AllocError>
+        ensures entry { IfOk result (λ draft. draft.entry ≡ record { seat = number; event = Event.Deliver direction.from direction.to; reply = took_of head.now }) }
+        ensures call { IfOk result (λ draft. draft.call ≡ record { event = Event.Deliver direction.from direction.to; reply = took_of head.now }) }
+    {
+        let event = Event::Deliver(direction.from, direction.to);
+        let took = Reply::Took(head.prefix(), head.kind());
+        let Ok(draft) = Draft::of(alloc, number, event, &took) else {
+            drop(took);
+            return Err(AllocError);
+        };
+        drop(took);
+        Ok(draft)
+    }
+}
+
+/// Makes room for one call more in the history and in the notes. False where there is no memory.
+pub(super) fn makes_room(history: &mut Vec<Entry>, notes: &mut Vec<Call>) -> bool
+    ensures history { history.new.items ≡ history.old.items }
+    ensures notes { notes.new.items ≡ notes.old.items }
+    ensures in_history { result ≡ true → vec_len history.new < vec_capacity history.new }
+    ensures in_notes { result ≡ true → vec_len notes.new < vec_capacity notes.new }
+{
+    history.reserve(1).is_ok() && notes.reserve(1).is_ok()
+}
+
+/// Writes the call down in the history and in the notes, where there is room.
+pub(super) fn write(history: &mut Vec<Entry>, notes: &mut Vec<Call>, draft: Draft)
+    requires in_history { vec_len history.old < vec_capacity history.old }
+    requires in_notes { vec_len notes.old < vec_capacity notes.old }
+    ensures history { history.new.items ≡ history.old.items ++ draft.entry ∷ [] }
+    ensures notes { notes.new.items ≡ notes.old.items ++ draft.call ∷ [] }
+{
+    let Draft { entry, call } = draft;
+    history.push_reserved(entry);
+    notes.push_reserved(call);
 }
 
 /// A call of this event with this reply.

@@ -121,13 +121,13 @@ impl<S: Selector + Drop, T: PrefixTable<Cell<S>>, L: Ledger> Room<S, T, L> {
         ensures { IfSome result (λ next. 0 < length (queue_at self.now.engine.queues next.from next.to)) }
     {
         let queues = self.sim.state().queues();
-        let mut past = (past.from, past.to);
+        let mut past = (past.from, last_before(past.to, shard, shards));
         for _ in 0..u64::MAX {
             let (from, to) = queues.next_full(Some(past))?;
             if u64::from(to.0) % shards == shard {
                 return Some(Direction { from, to });
             }
-            past = (from, to);
+            past = (from, last_before(to, shard, shards));
         }
         None
     }
@@ -171,6 +171,20 @@ impl<S: Selector + Drop, T: PrefixTable<Cell<S>>, L: Ledger> Room<S, T, L> {
             None => Ok(Cell::new(self.alloc)),
         }
     }
+}
+
+/// The last address before the next one of the shard: from this address on to there none is of the shard, but this may be.
+fn last_before(address: Addr, shard: u64, shards: u64) -> Addr
+    requires { shard < shards }
+{
+    let own = u64::from(address.0) % shards;
+    let steps = if own < shard {
+        shard - own
+    } else {
+        (shards - own).saturating_add(shard)
+    };
+    let last = u64::from(address.0).saturating_add(steps).saturating_sub(1);
+    Addr(last.min(u64::from(u32::MAX)) as u32)
 }
 
 /// Whether one of the jobs is of the receiver and prefix.

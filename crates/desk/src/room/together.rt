@@ -92,6 +92,11 @@ impl<S: Chosen> Outcomes<S> {
         &self.outcomes
     }
 
+    /// Whether one of the deliveries is much work.
+    pub(crate) fn is_much_work(&self) -> bool {
+        self.outcomes.iter().any(|done| done.is_much_work())
+    }
+
     /// The outcomes, one by one.
     pub(super) fn into_vec(self) -> Vec<Done<S>>
         ensures outcomes { result.items ≡ self }

@@ -14,10 +14,10 @@ invariant_of-self-2 g c =
     let event = c.args.event in
     let reply = c.args.plan.reply in
     let x : Entry = record { seat = c.seat.inside.number; event = event; reply = reply } in
-    let now : c.push_reserved.new.self.items ≡ es ++ x ∷ [] = search rules in
+    let now : c.write.new.history.items ≡ es ++ x ∷ [] = search rules in
     let state : c.self.inside.sim.engine ≡ c.args.self.now.engine = ap (λ r. r.engine) c.self.view_is in
     let one : c.edits_in-edits.result ≡ cond (is_accepted_edit x) 1 0 = c.edits_in-edits.ensures ∙ sym (accepted_one (is_edit event) reply c.requires.accepted) in (
-      kept_push es c.push_reserved.new.self.items c.self.inside.sim.engine c.apply-reply.new.self.engine c.self.inside.seats c.self.inside.seats c.seat.inside.number event reply i.0 now
+      kept_push es c.write.new.history.items c.self.inside.sim.engine c.apply-reply.new.self.engine c.self.inside.seats c.self.inside.seats c.seat.inside.number event reply i.0 now
           (c.requires.reply ∙ ap (λ n. (step (network n) event).reply) (sym state))
           (c.apply-reply.ensures.next event (subst (λ n. IsPrepared n event c.args.plan) (sym state) c.requires)),
       ap (λ k. k + c.edits_in-edits.result) i.1 ∙ ap (λ k. version_of es + k) one ∙ sym (version_push es x) ∙ ap version_of (sym now),

@@ -39,9 +39,9 @@ invariant_of-self-2 g c =
     let took = Took (prefix_of x.head) (kind_of x.head) in
     let entry : Entry = record { seat = c.seat.inside.number; event = delivery_of x; reply = took } in
     let zero : version_of es ≡ version_of es + 0 = omega arith in
-    let now : c.push_reserved.new.self.items ≡ es ++ entry ∷ [] = search rules in
+    let now : c.write.new.history.items ≡ es ++ entry ∷ [] = search rules in
     let moved : network c.install.new.self.engine ≡ (step (network e) (delivery_of x)).next = search rules in (
-      kept_push es c.push_reserved.new.self.items e c.install.new.self.engine c.self.inside.seats c.self.inside.seats c.seat.inside.number (delivery_of x) took i.0 now
+      kept_push es c.write.new.history.items e c.install.new.self.engine c.self.inside.seats c.self.inside.seats c.seat.inside.number (delivery_of x) took i.0 now
           (sym (seen_took room kept c.engine_facts.ensures.sound x c.requires.seen) ∙ ap (λ n. (step (network n) (delivery_of x)).reply) (sym state))
           moved,
       i.1 ∙ zero ∙ sym (version_push es entry) ∙ ap version_of (sym now),

@@ -15,10 +15,10 @@ invariant_of-self-2 g c =
     let e = c.self.inside.sim.engine in
     let x : Entry = record { seat = c.seat.inside.number; event = event; reply = Refused c.args.refusal } in
     let zero : version_of es ≡ version_of es + 0 = omega arith in
-    let now : c.push_reserved.new.self.items ≡ es ++ x ∷ [] = search rules in
+    let now : c.write.new.history.items ≡ es ++ x ∷ [] = search rules in
     let state : e ≡ c.args.self.now.engine = ap (λ r. r.engine) c.self.view_is in
     let refuses = ap (λ n. step (network n) event) state ∙ c.requires in (
-      kept_push es c.push_reserved.new.self.items e e c.self.inside.seats c.self.inside.seats c.seat.inside.number event (Refused c.args.refusal) i.0 now
+      kept_push es c.write.new.history.items e e c.self.inside.seats c.self.inside.seats c.seat.inside.number event (Refused c.args.refusal) i.0 now
           (sym (ap (λ o. o.reply) refuses))
           (ap network state ∙ sym (ap (λ o. o.next) refuses)),
       i.1 ∙ zero ∙ sym (version_push es x ∙ ap (λ k. version_of es + k) (refused_none (is_edit event))) ∙ ap version_of (sym now),
