@@ -1,7 +1,9 @@
 //! Workers who make way for one another at the lock.
 
-/// After how many turns at once of little work a worker calls one who rests.
-const TURNS_TO_A_CALL: u64 = 2_048;
+/// After how many turns at once of little work a worker calls another, at first and at most: twice as many after each one who rests.
+const FIRST_TURNS_TO_A_CALL: u64 = 128;
+
+const MOST_TURNS_TO_A_CALL: u64 = 2_048;
 
 /// To how many turns at once of little work a worker may find the lock taken once.
 const TURNS_TO_A_WAIT: u64 = 8;
@@ -14,8 +16,8 @@ pub(crate) enum Between {
     CallOne,
 }
 
-/// How a worker has found the lock since it last waited for a message or rested, what work its last jobs were, and the version of the
-/// configuration that it has waited for.
+/// How a worker has found the lock since it last waited for a message or rested, what work its last jobs were, after how many turns at once it
+/// calls another, and the version of the configuration that it has waited for.
 #[derive(Clone, Copy)]
 pub(crate) struct Crowd {
     /// How often somebody else had it.
@@ -23,6 +25,7 @@ pub(crate) struct Crowd {
     /// How many turns at once the worker has made.
     turns: u64,
     is_much_work: bool,
+    turns_to_a_call: u64,
     version: u64,
 }
 
@@ -32,6 +35,7 @@ impl Crowd {
             taken: 0,
             turns: 0,
             is_much_work: false,
+            turns_to_a_call: FIRST_TURNS_TO_A_CALL,
             version: 0,
         }
     }
@@ -49,9 +53,10 @@ impl Crowd {
         }
     }
 
-    /// The jobs were much work, or little.
-    pub(crate) fn note_work(&mut self, is_much_work: bool) {
+    /// The jobs were much work, or little, and so many turns at once of little work are made to a call.
+    pub(crate) fn note_work(&mut self, is_much_work: bool, turns_to_a_call: u64) {
         self.is_much_work = is_much_work;
+        self.turns_to_a_call = turns_to_a_call;
     }
 
     /// Whether the version is another than that of the last look.
@@ -61,8 +66,8 @@ impl Crowd {
         is_new
     }
 
-    /// What the worker does after its turns at once. After much work it calls whoever rests. After little it rests where it has found the
-    /// lock taken often for the turns that it made: so who has just come makes way for who has long been at work.
+    /// What the worker does after its turns at once. After much work it calls another. After little it rests where it has found the lock taken
+    /// often for the turns that it made: so who has just come makes way for who has long been at work.
     pub(crate) fn after_turns(&mut self) -> Between {
         self.turns = self.turns.saturating_add(1);
         if self.is_much_work {
@@ -72,7 +77,7 @@ impl Crowd {
             self.begin_anew();
             return Between::Rest;
         }
-        if self.turns % TURNS_TO_A_CALL == 0 {
+        if self.turns.is_multiple_of(self.turns_to_a_call) {
             Between::CallOne
         } else {
             Between::GoOn
@@ -87,6 +92,7 @@ pub(crate) struct Resting {
     resting: u64,
     /// How many were called, and are not up yet.
     called: u64,
+    turns_to_a_call: u64,
 }
 
 impl Resting {
@@ -95,7 +101,13 @@ impl Resting {
         Resting {
             resting: 0,
             called: 0,
+            turns_to_a_call: FIRST_TURNS_TO_A_CALL,
         }
+    }
+
+    /// After how many turns at once of little work a worker calls another.
+    pub(crate) fn turns_to_a_call(&self) -> u64 {
+        self.turns_to_a_call
     }
 
     /// How many workers rest, and are not called.
@@ -103,9 +115,13 @@ impl Resting {
         self.resting
     }
 
-    /// One more rests.
+    /// One more rests: it was called too early.
     pub(crate) fn add(&mut self) {
         self.resting = self.resting.wrapping_add(1);
+        self.turns_to_a_call = self
+            .turns_to_a_call
+            .saturating_mul(2)
+            .min(MOST_TURNS_TO_A_CALL);
     }
 
     /// Calls one who rests. Whether there is one.
@@ -116,6 +132,12 @@ impl Resting {
         self.resting -= 1;
         self.called = self.called.wrapping_add(1);
         true
+    }
+
+    /// Calls all who rest.
+    pub(crate) fn call_all(&mut self) {
+        self.called = self.called.wrapping_add(self.resting);
+        self.resting = 0;
     }
 
     /// Whether nobody is called who is not up yet.

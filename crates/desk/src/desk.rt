@@ -147,6 +147,7 @@ impl<S: Chosen, T: PrefixTable<Cell<S>>, L: Ledger> Desk<S, T, L> {
     pub fn finish_calls<R: Wait>(&self, rt: &R) {
         let mut table = self.table.lock(rt);
         self.order.finish(&mut table.at);
+        self.tell_end(&mut table);
     }
 
     /// The room, once nobody is at the desk.
@@ -154,10 +155,10 @@ impl<S: Chosen, T: PrefixTable<Cell<S>>, L: Ledger> Desk<S, T, L> {
         self.table.into_inner().room
     }
 
-    /// So many workers come. Each leaves once.
-    pub(crate) fn enter<R: Wait>(&self, rt: &R, workers: usize) {
+    /// So many workers come. Each leaves once. Whether their gate may hold one of them until another has moved.
+    pub(crate) fn enter<R: Wait>(&self, rt: &R, workers: usize, may_hold: bool) {
         let mut table = self.table.lock(rt);
-        table.at.enter(workers);
+        table.at.enter(workers, may_hold);
     }
 
     /// A worker leaves.
@@ -190,7 +191,7 @@ impl<S: Chosen, T: PrefixTable<Cell<S>>, L: Ledger> Desk<S, T, L> {
         table.at.get_up();
     }
 
-    /// Calls a worker who rests, if one does.
+    /// Calls the workers of one shard for whom a message may wait, or else a worker who rests, if there are any.
     pub(crate) fn call_one<R: Wait>(&self, rt: &R) {
         let mut table = self.table.lock(rt);
         self.order.call_one(&mut table.at);
@@ -234,7 +235,7 @@ impl<S: Chosen, T: PrefixTable<Cell<S>>, L: Ledger> Desk<S, T, L> {
         table
     }
 
-    /// Wakes those whom a call concerns: nobody, while no message waits.
+    /// Tells those whom a call concerns: nobody, while no message waits.
     fn tell(&self, table: &mut Table<S, T, L>, concerned: Concerned) {
         if !table.at.is_somebody_idle() || table.room.is_quiet() {
             return;
@@ -243,11 +244,11 @@ impl<S: Chosen, T: PrefixTable<Cell<S>>, L: Ledger> Desk<S, T, L> {
             Concerned::Nobody => {}
             Concerned::Receiver(receiver) => self.order.tell_receiver(&mut table.at, receiver),
             Concerned::ReceiversFrom(sender) => self.tell_receivers(table, sender),
-            Concerned::Everybody => self.order.tell_everybody(&mut table.at),
+            Concerned::Everybody => self.order.tell_all_shards(&mut table.at),
         }
     }
 
-    /// Wakes those for whose receivers a message waits from the sender.
+    /// Tells those for whose receivers a message waits from the sender.
     fn tell_receivers(&self, table: &mut Table<S, T, L>, sender: Addr) {
         let mut next = table.room.first_receiver(sender);
         for _ in 0..u64::MAX {
@@ -259,7 +260,7 @@ impl<S: Chosen, T: PrefixTable<Cell<S>>, L: Ledger> Desk<S, T, L> {
         }
     }
 
-    /// Wakes those for whose receivers a message is sent where the outcome is put in.
+    /// Tells those for whose receivers a message is sent where the outcome is put in.
     fn tell_sends(&self, at: &mut Attendance, done: &Done<S>) {
         for (receiver, _) in &done.outcome().sends {
             self.order.tell_receiver(at, *receiver);
@@ -273,10 +274,10 @@ impl<S: Chosen, T: PrefixTable<Cell<S>>, L: Ledger> Desk<S, T, L> {
         }
     }
 
-    /// Wakes all once they may end: no calls come, and no message waits.
+    /// Calls all once they may end: no calls come, and no message waits.
     fn tell_end(&self, table: &mut Table<S, T, L>) {
         if table.at.is_finished() && table.room.is_quiet() {
-            self.order.tell_everybody(&mut table.at);
+            self.order.tell_end(&mut table.at);
         }
     }
 }
@@ -329,7 +330,10 @@ impl<S: Chosen + Drop, T: PrefixTable<Cell<S>> + Drop, L: Ledger> Desk<S, T, L> 
     )
         ensures { GoesOn seat.old seat.new }
     {
+        let is_much_work = outcomes.is_much_work();
         let mut table = self.sit_down(rt, crowd);
+        crowd.note_work(is_much_work, table.at.turns_to_a_call());
+        table.at.note_work(is_much_work);
         self.tell_all_sends(&mut table.at, &outcomes);
         table.room.commit_all(seat, outcomes);
         self.tell_end(&mut table);
@@ -347,7 +351,7 @@ impl<S: Selector + Drop, T: PrefixTable<Cell<S>> + Drop, L: Ledger> Desk<S, T, L
     }
 
     /// What a worker of the shard does next, so many jobs at most. It waits, without looking again and again, until there is something.
-    /// Where it finds no job it calls one who rests. No job is taken while an edit is asked for, nor till a little while after.
+    /// Where it finds no job it calls another. No job is taken while an edit is asked for, nor till a little while after.
     pub(crate) fn next_turn<R: Wait>(
         &self,
         rt: &R,
@@ -369,14 +373,16 @@ impl<S: Selector + Drop, T: PrefixTable<Cell<S>> + Drop, L: Ledger> Desk<S, T, L
                 return Turn::Jobs(jobs);
             }
             drop(jobs);
-            let seen = table.at.wait_for_change(shard);
+            table.at.find_nothing(shard);
             self.order.call_one(&mut table.at);
             if table.at.is_over(table.room.is_quiet()) {
+                table.at.end_idle(shard);
                 return Turn::End;
             }
             let is_finished = table.at.is_finished();
             crowd.begin_anew();
-            table = bell.wait_while(rt, table, |now| now.at.changes(shard) == seen);
+            table = bell.wait_while(rt, table, |now| now.at.is_none_of_shard_called(shard));
+            table.at.end_to_wait(shard);
             if is_finished {
                 return Turn::Nothing;
             }

@@ -27,6 +27,10 @@ pub(crate) struct Attendance {
     resting: Resting,
     /// How many workers wait until no edit is asked for.
     waiting_for_edits: u64,
+    /// Whether a gate may hold one worker until another has moved.
+    may_be_held: bool,
+    /// Whether the last outcomes were much work.
+    is_much_work: bool,
 }
 
 impl Attendance {
@@ -38,12 +42,15 @@ impl Attendance {
             posts: Posts::new(alloc, shards)?,
             resting: Resting::new(),
             waiting_for_edits: 0,
+            may_be_held: false,
+            is_much_work: false,
         })
     }
 
-    /// So many workers come. Each leaves once.
-    pub(crate) fn enter(&mut self, workers: usize) {
+    /// So many workers come. Each leaves once. Whether their gate may hold one of them until another has moved.
+    pub(crate) fn enter(&mut self, workers: usize, may_hold: bool) {
         self.workers = self.workers.wrapping_add(workers as u64);
+        self.may_be_held = self.may_be_held || may_hold;
     }
 
     /// Whether the engineers make no more calls.
@@ -61,21 +68,47 @@ impl Attendance {
         self.posts.idle() > 0
     }
 
-    /// How many changes concerned the shard.
-    pub(crate) fn changes(&self, shard: u64) -> u64 {
-        self.posts.changes(shard)
+    /// A worker of the shard has found no job.
+    pub(crate) fn find_nothing(&mut self, shard: u64) {
+        self.posts.add_idle(shard);
     }
 
-    /// A worker of the shard has found no job. How many changes concerned it until now.
-    pub(crate) fn wait_for_change(&mut self, shard: u64) -> u64 {
-        self.posts.rest(shard)
+    /// A worker of the shard who has found no job ends.
+    pub(crate) fn end_idle(&mut self, shard: u64) {
+        self.posts.remove_idle(shard);
+    }
+
+    /// Whether no worker of the shard who waits for a message is called.
+    pub(crate) fn is_none_of_shard_called(&self, shard: u64) -> bool {
+        self.posts.is_none_called(shard)
+    }
+
+    /// A worker of the shard who waited for a message, and was called, is up.
+    pub(crate) fn end_to_wait(&mut self, shard: u64) {
+        self.posts.get_up(shard);
     }
 
     /// How many workers neither wait for a message nor rest.
     pub(crate) fn at_work(&self) -> u64 {
         self.workers
             .saturating_sub(self.posts.idle())
+            .saturating_sub(self.posts.told())
             .saturating_sub(self.resting.count())
+    }
+
+    /// Whether a worker for whom a message may wait is called at once, and not when another finds no job, or after many turns of another.
+    fn calls_at_once(&self) -> bool {
+        self.may_be_held || self.is_much_work || self.at_work() == 0
+    }
+
+    /// The last outcomes were much work, or little.
+    pub(crate) fn note_work(&mut self, is_much_work: bool) {
+        self.is_much_work = is_much_work;
+    }
+
+    /// After how many turns at once of little work a worker calls another.
+    pub(crate) fn turns_to_a_call(&self) -> u64 {
+        self.resting.turns_to_a_call()
     }
 
     /// One more worker rests.
@@ -170,35 +203,51 @@ impl Order {
         &self.calm
     }
 
-    /// The engineers make no more calls: the workers end once no message waits.
+    /// The engineers make no more calls: the workers end once no message waits, or none that one of them could bring.
     pub(crate) fn finish(&self, at: &mut Attendance) {
         at.is_finished = true;
-        self.tell_everybody(at);
+        self.tell_all_shards(at);
     }
 
     /// A worker leaves.
     pub(crate) fn leave(&self, at: &mut Attendance) {
         at.workers = at.workers.wrapping_sub(1);
-        self.tell_everybody(at);
+        self.bells.ring_all(&mut at.posts);
         self.call_one(at);
     }
 
-    /// Calls a worker who rests, if one does.
+    /// Calls the workers of one shard for whom a message may wait, or else a worker who rests, if there are any.
     pub(crate) fn call_one(&self, at: &mut Attendance) {
-        if at.resting.call() {
+        if !self.bells.ring_one(&mut at.posts) && at.resting.call() {
             self.floor.notify_one();
         }
     }
 
     /// A message may wait for the receiver.
     pub(crate) fn tell_receiver(&self, at: &mut Attendance, receiver: Addr) {
-        self.bells
-            .ring(&mut at.posts, u64::from(receiver.0) % self.shards);
+        self.tell_shard(at, u64::from(receiver.0) % self.shards);
     }
 
-    /// Messages may wait for all, or they may end.
-    pub(crate) fn tell_everybody(&self, at: &mut Attendance) {
+    /// Messages may wait for receivers of all shards, or the workers may end.
+    pub(crate) fn tell_all_shards(&self, at: &mut Attendance) {
+        for shard in 0..self.shards {
+            self.tell_shard(at, shard);
+        }
+    }
+
+    /// A message may wait for a receiver of the shard: its workers who are idle are told, and called at once or later.
+    fn tell_shard(&self, at: &mut Attendance, shard: u64) {
+        at.posts.tell(shard);
+        if at.calls_at_once() {
+            self.bells.ring(&mut at.posts, shard);
+        }
+    }
+
+    /// No calls come and no message waits: all are called, and end.
+    pub(crate) fn tell_end(&self, at: &mut Attendance) {
         self.bells.ring_all(&mut at.posts);
+        at.resting.call_all();
+        self.floor.notify_all();
     }
 
     /// Somebody asks for the event. Whether it is an edit: from now on no worker begins a job, which the edit would make come too late.

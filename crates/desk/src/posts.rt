@@ -44,8 +44,10 @@ impl Concerned {
 struct Post {
     /// How many of them have looked for a job since the last change that concerned them, and found none.
     idle: u64,
-    /// How many changes concerned them. It wraps.
-    changes: u64,
+    /// How many of them were told of a change since, and were not called yet.
+    told: u64,
+    /// How many of them were called, and are not up yet.
+    called: u64,
 }
 
 /// What the workers of each shard wait by. It lies under the lock.
@@ -54,6 +56,8 @@ pub(crate) struct Posts {
     posts: Vec<Post>,
     /// How many workers have found no job since the last change that concerned them.
     idle: u64,
+    /// How many workers were told of a change, and were not called yet.
+    told: u64,
 }
 
 impl Posts {
@@ -63,10 +67,15 @@ impl Posts {
         for _ in 0..shards {
             posts.push(Post {
                 idle: 0,
-                changes: 0,
+                told: 0,
+                called: 0,
             })?;
         }
-        Ok(Posts { posts, idle: 0 })
+        Ok(Posts {
+            posts,
+            idle: 0,
+            told: 0,
+        })
     }
 
     /// How many workers have found no job since the last change that concerned them.
@@ -74,34 +83,72 @@ impl Posts {
         self.idle
     }
 
-    /// How many changes concerned the shard.
-    pub(crate) fn changes(&self, shard: u64) -> u64 {
-        match self.posts.get(shard as usize) {
-            Some(post) => post.changes,
-            None => 0,
+    /// How many workers were told of a change, and were not called yet.
+    pub(crate) fn told(&self) -> u64 {
+        self.told
+    }
+
+    /// A worker of the shard has found no job.
+    pub(crate) fn add_idle(&mut self, shard: u64) {
+        if let Some(post) = self.posts.get_mut(shard as usize) {
+            post.idle = post.idle.wrapping_add(1);
+            self.idle = self.idle.wrapping_add(1);
         }
     }
 
-    /// A worker of the shard has found no job. How many changes concerned it until now.
-    pub(crate) fn rest(&mut self, shard: u64) -> u64 {
-        let Some(post) = self.posts.get_mut(shard as usize) else {
-            return 0;
-        };
-        post.idle = post.idle.wrapping_add(1);
-        self.idle = self.idle.wrapping_add(1);
-        post.changes
+    /// A worker of the shard who has found no job does not wait for one.
+    pub(crate) fn remove_idle(&mut self, shard: u64) {
+        if let Some(post) = self.posts.get_mut(shard as usize) {
+            post.idle = post.idle.wrapping_sub(1);
+            self.idle = self.idle.wrapping_sub(1);
+        }
     }
 
-    /// A change concerns the shard. Whether one of its workers waits.
-    fn note(&mut self, shard: u64) -> bool {
+    /// Whether no worker of the shard is called who is not up yet.
+    pub(crate) fn is_none_called(&self, shard: u64) -> bool {
+        match self.posts.get(shard as usize) {
+            Some(post) => post.called == 0,
+            None => false,
+        }
+    }
+
+    /// A worker of the shard who was called is up.
+    pub(crate) fn get_up(&mut self, shard: u64) {
+        if let Some(post) = self.posts.get_mut(shard as usize) {
+            post.called = post.called.wrapping_sub(1);
+        }
+    }
+
+    /// A change concerns the shard: its workers who are idle are told.
+    pub(crate) fn tell(&mut self, shard: u64) {
+        if let Some(post) = self.posts.get_mut(shard as usize) {
+            let idle = post.idle;
+            post.idle = 0;
+            post.told = post.told.wrapping_add(idle);
+            self.idle = self.idle.wrapping_sub(idle);
+            self.told = self.told.wrapping_add(idle);
+        }
+    }
+
+    /// Calls the workers of the shard who were told. Whether there are any.
+    fn call(&mut self, shard: u64) -> bool {
         let Some(post) = self.posts.get_mut(shard as usize) else {
             return false;
         };
-        let idle = post.idle;
-        post.idle = 0;
-        post.changes = post.changes.wrapping_add(1);
-        self.idle = self.idle.wrapping_sub(idle);
-        idle > 0
+        let told = post.told;
+        post.told = 0;
+        post.called = post.called.wrapping_add(told);
+        self.told = self.told.wrapping_sub(told);
+        told > 0
+    }
+
+    /// The first shard whose workers were told, and not called yet.
+    fn first_told(&self) -> Option<u64> {
+        if self.told == 0 {
+            return None;
+        }
+        let place = self.posts.iter().position(|post| post.told > 0)?;
+        Some(place as u64)
     }
 }
 
@@ -138,18 +185,30 @@ impl Bells {
         &self.bells[shard as usize]
     }
 
-    /// A change concerns this shard: its workers who wait are woken.
+    /// Wakes the workers of the shard who were told of a change.
     pub(crate) fn ring(&self, posts: &mut Posts, shard: u64) {
-        if posts.note(shard)
+        if posts.call(shard)
             && let Some(bell) = self.bells.get(shard as usize)
         {
             bell.notify_all();
         }
     }
 
-    /// A change concerns all.
+    /// Wakes the workers of one shard who were told of a change. Whether there are any.
+    pub(crate) fn ring_one(&self, posts: &mut Posts) -> bool {
+        match posts.first_told() {
+            None => false,
+            Some(shard) => {
+                self.ring(posts, shard);
+                true
+            }
+        }
+    }
+
+    /// Tells all workers who are idle, and wakes them.
     pub(crate) fn ring_all(&self, posts: &mut Posts) {
         for shard in 0..self.bells.len() as u64 {
+            posts.tell(shard);
             self.ring(posts, shard);
         }
     }

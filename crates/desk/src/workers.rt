@@ -53,7 +53,7 @@ pub fn run_workers<
 >(rt: &R, desk: &Desk<S, T, L>, seats: Vec<Seat<L>>, gate: &G, turns: u64) -> Vec<Seat<L>>
     ensures { AllGoOn seats.items result.items }
 {
-    desk.enter(rt, seats.len());
+    desk.enter(rt, seats.len(), gate.may_hold());
     let crew = Crew {
         rt,
         desk,
@@ -204,7 +204,6 @@ impl<'a, S: Selector + Drop, T: PrefixTable<Cell<S>> + Drop, L: Ledger, G: Gate,
         ensures { GoesOn seat.old seat.new }
     {
         let outcomes = self.outcomes_of(worker, jobs_before, jobs);
-        crowd.note_work(outcomes.is_much_work());
         let calls_before = seat.count();
         self.desk.commit_all(self.rt, seat, outcomes, crowd);
         seat.count().saturating_sub(calls_before)
