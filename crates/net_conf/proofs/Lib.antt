@@ -21,3 +21,4 @@ pub mod SameKeys
 pub mod LinkTurns
 pub mod DownSessions
 pub mod InThreads
+pub mod SiteSettings

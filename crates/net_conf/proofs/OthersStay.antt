@@ -34,7 +34,7 @@ use Rattle.net_conf.proofs.Unseen.{any_with, any_without, filter_with, filter_wi
 use Rattle.net_conf.proofs.RouterLaws.{origin_listed}
 use Rattle.net_conf.proofs.Soundness.{all_fail, both_there}
 
-end_exact : CmpEqualImpliesEq end_cmp
+pub end_exact : CmpEqualImpliesEq end_cmp
 end_exact x y same =
     let made : Addr × Addr → End = λ parts. end_of parts.0 parts.1 in
     ap made (exact_pairs addr_cmp addr_cmp addr_exact addr_exact (x.router, x.peer) (y.router, y.peer) same)
@@ -62,6 +62,12 @@ record SeesSame (c d : Configuration) (r : Addr) : Type 0 where
 each_same : {X Y : Type 0} (f g : X → Y) → ((x : X) → f x ≡ g x) → (xs : List X) → map f xs ≡ map g xs
 each_same f g same [] = refl
 each_same f g same (x ∷ xs) = ap (λ y. y ∷ map f xs) (same x) ∙ ap (λ ys. g x ∷ ys) (each_same f g same xs)
+
+-- what is made at once is what is made in two steps
+pub mapped : {X Y Z : Type 0} (f : X → Y) (g : Y → Z) (h : X → Z) → ((x : X) → h x ≡ g (f x)) → (virtual : Bool) (o : Option X) → (if virtual then None else option_map h o) ≡ option_map {T = Y} g (if virtual then None else option_map f o)
+mapped f g h same true o = refl
+mapped f g h same false None = refl
+mapped f g h same false (Some x) = ap Some (same x)
 
 module _ (c : Configuration) (clients own_next : List End) (imports exports : List (End × List Rule)) (clusters : List (Addr × Addr)) (origins : List Origination) where
   -- with other settings, and other originations
@@ -279,12 +285,6 @@ router_after c e one is none = router_there (edited c e) one (stands_after c e o
 module _ (c : Configuration) (a : Addr) (origins : List Origination) where
   abbrev with_origins : Configuration
   with_origins = record c { origins = origins }
-
-  -- what is made at once is what is made in two steps
-  mapped : {X Y Z : Type 0} (f : X → Y) (g : Y → Z) (h : X → Z) → ((x : X) → h x ≡ g (f x)) → (virtual : Bool) (o : Option X) → (if virtual then None else option_map h o) ≡ option_map {T = Y} g (if virtual then None else option_map f o)
-  mapped f g h same true o = refl
-  mapped f g h same false None = refl
-  mapped f g h same false (Some x) = ap Some (same x)
 
   -- other originations change a site in what it originates alone
   other_origins_alone : router_site with_origins a ≡ option_map (λ (site : SiteConf). record site { origins = origins_of with_origins a }) (router_site c a)

@@ -17,10 +17,11 @@ use Rattle.net_conf.specs.declared.site.SiteSession.{SiteSession}
 use Rattle.net_conf.specs.declared.tables.Ends.{Ends}
 use Rattle.net_conf.specs.declared.tables.Link.{Link as TheLink}
 use Rattle.net_conf.specs.declared.edit.Edit.{Edit}
-use Rattle.net_conf.specs.declared.edit.Edit.TheVariants.{Router, Virtual, Link, Metric, Fail, Mend, Join, Stop, Start, Origin, NoOrigin}
-use Rattle.net_conf.specs.Configuration.{Configuration, ends_of, ends_session, link_between, origins_of}
+use Rattle.net_conf.specs.declared.edit.Edit.TheVariants.{Router, Virtual, Link, Metric, Fail, Mend, Join, Stop, Start, Client, OwnNext, Cluster, Rule, Clear, Origin, NoOrigin}
+use Rattle.net_conf.specs.Configuration.{Configuration, ends_of, ends_session, link_between, is_reflector, cluster_id, origins_of}
 use Rattle.net_conf.specs.Edits.{with_link, with_session}
 use Rattle.net_conf.specs.Costs.{costs_of, is_up, down_sessions}
+use Rattle.net_conf.specs.Sites.{session_of}
 use Rattle.net_conf.specs.RouterSites.{router_site, site_kept}
 use Rattle.net_conf.specs.Concerned.{is_among, StaysAt}
 use Rattle.net_conf.specs.Configured.{AreApart, HasEnds}
@@ -109,6 +110,28 @@ pub record IsReoriginated (c d : Configuration) (r : Addr) : Type 0 where
   pub site : router_site d r ≡ option_map (reoriginated d r) (router_site c r)
   pub ends : ends_session d r ≡ ends_session c r
 
+-- the router's session, by the configuration where it is with this peer
+abbrev pub settled : Configuration → Addr → Addr → SiteSession → SiteSession
+settled d r u x = if x.peer.0 == u.0 then session_of d r u else x
+
+-- the site, with the session with the peer by the configuration; and so whether it is a reflector, where its clients change
+abbrev pub resettled : Configuration → Addr → Addr → Bool → SiteConf → SiteConf
+resettled d r u clients s = record s { reflector = if clients then is_reflector d r else s.reflector; sessions = map (settled d r u) s.sessions }
+
+-- of the router's part its session with the peer differs alone, and whether it is a reflector, where its clients change
+pub record IsResettled (c d : Configuration) (r u : Addr) (clients : Bool) : Type 0 where
+  pub site : router_site d r ≡ option_map (resettled d r u clients) (router_site c r)
+  pub ends : ends_session d r ≡ ends_session c r
+
+-- the site, with the CLUSTER_ID by the configuration
+abbrev pub reclustered : Configuration → Addr → SiteConf → SiteConf
+reclustered d r s = record s { cluster = cluster_id d r }
+
+-- of the router's part its CLUSTER_ID differs alone
+pub record IsReclustered (c d : Configuration) (r : Addr) : Type 0 where
+  pub site : router_site d r ≡ option_map (reclustered d r) (router_site c r)
+  pub ends : ends_session d r ≡ ends_session c r
+
 -- WHAT AN EDIT TOUCHES
 
 -- the metric of a new link, or the new one of a link, is one
@@ -143,6 +166,34 @@ abbrev pub origin_in : Edit → Option Addr
 origin_in (Origin a p) = Some a
 origin_in (NoOrigin a p) = Some a
 origin_in _ = None
+
+-- the router whose CLUSTER_ID it sets
+abbrev pub cluster_in : Edit → Option Addr
+cluster_in (Cluster a id) = Some a
+cluster_in _ = None
+
+-- it makes a client of a peer, or takes it for one no more
+abbrev pub sets_client : Edit → Bool
+sets_client (Client a b on) = true
+sets_client _ = false
+
+-- the second, where the router is the first
+abbrev pub second_of : Addr → Addr → Addr → Option Addr
+second_of r a b = if r.0 == a.0 then Some b else None
+
+-- the other of the two, where the router is one of them
+abbrev pub other_of : Addr → Addr → Addr → Option Addr
+other_of r a b = if r.0 == a.0 then Some b else second_of r b a
+
+-- the peer of the router's session that it changes alone: a setting of it, or whether it is enabled
+abbrev pub touched_peer : Edit → Addr → Option Addr
+touched_peer (Stop a b) r = other_of r a b
+touched_peer (Start a b) r = other_of r a b
+touched_peer (Client a b on) r = second_of r a b
+touched_peer (OwnNext a b on) r = second_of r a b
+touched_peer (Rule a b side rule) r = second_of r a b
+touched_peer (Clear a b side) r = second_of r a b
+touched_peer _ r = None
 
 -- the one makes the other with a link of the two
 pub record IsLinked (c d : Configuration) (a b : Addr) : Type 0 where

@@ -2,7 +2,7 @@
 
 ghost use Rattle.std.specs.Prelude.{◌≡◌};
 ghost use Rattle.net_conf.specs.Scopes.{scope, router_in};
-ghost use Rattle.net_conf.specs.Kept.{HasMetric, node_in, link_in, session_in, origin_in};
+ghost use Rattle.net_conf.specs.Kept.{HasMetric, node_in, link_in, session_in, origin_in, cluster_in, sets_client, touched_peer, second_of, other_of};
 
 use crate::tables::PolicySide;
 use igp_cost::Metric;
@@ -127,6 +127,38 @@ impl Edit {
         }
     }
 
+    /// The router whose CLUSTER_ID it sets.
+    pub(crate) fn cluster(&self) -> Option<Addr>
+        ensures { result ≡ cluster_in self.now }
+    {
+        match self {
+            Edit::Cluster(router, _) => Some(*router),
+            _ => None,
+        }
+    }
+
+    /// Whether it makes a client of a peer, or takes it for one no more.
+    pub(crate) fn sets_client(&self) -> bool
+        ensures { result ≡ sets_client self.now }
+    {
+        matches!(self, Edit::Client(_, _, _))
+    }
+
+    /// The peer of the router's session that it changes alone: a setting of it, or whether it is enabled.
+    pub(crate) fn touched_peer(&self, router: Addr) -> Option<Addr>
+        ensures { result ≡ touched_peer self.now router }
+    {
+        match self {
+            Edit::Stop(one, other) | Edit::Start(one, other) => other_of(router, *one, *other),
+            Edit::Client(one, peer, _) | Edit::OwnNext(one, peer, _) => {
+                second_of(router, *one, *peer)
+            }
+            Edit::Rule(one, peer, _, _) => second_of(router, *one, *peer),
+            Edit::Clear(one, peer, _) => second_of(router, *one, *peer),
+            _ => None,
+        }
+    }
+
     /// A call gives the caller's proof that the metric which the edit names is one.
     pub(crate) fn knows_metric(&self)
         ensures { HasMetric self.now }
@@ -137,5 +169,23 @@ impl Edit {
             }
             _ => {}
         }
+    }
+}
+
+/// The second, where the router is the first.
+fn second_of(router: Addr, first: Addr, second: Addr) -> Option<Addr>
+    ensures { result ≡ second_of router first second }
+{
+    if router == first { Some(second) } else { None }
+}
+
+/// The other of the two, where the router is one of them.
+fn other_of(router: Addr, one: Addr, other: Addr) -> Option<Addr>
+    ensures { result ≡ other_of router one other }
+{
+    if router == one {
+        Some(other)
+    } else {
+        second_of(router, other, one)
     }
 }

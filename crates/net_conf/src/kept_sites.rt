@@ -194,12 +194,53 @@ impl Conf {
         after: &ConfSessions,
         router: Addr,
     ) -> Result<Option<SiteConf>, AllocError>
+        requires passes { refusal_of self.now edit.now ≡ None }
         requires made { after.now ≡ edited self.now edit.now }
         requires ends { ends_session after.now router ≡ true }
         ensures { IfOk result (λ site. site ≡ router_site after.now router) }
     {
         match edit.origin() {
             Some(one) if one == router => self.site_reoriginated(alloc, after, router),
+            _ => self.site_touched(alloc, edit, after, router),
+        }
+    }
+
+    /// The site after an edit of one of the router's sessions, or of another part of it.
+    fn site_touched(
+        &self,
+        alloc: Global,
+        edit: &Edit,
+        after: &ConfSessions,
+        router: Addr,
+    ) -> Result<Option<SiteConf>, AllocError>
+        requires passes { refusal_of self.now edit.now ≡ None }
+        requires made { after.now ≡ edited self.now edit.now }
+        requires ends { ends_session after.now router ≡ true }
+        ensures { IfOk result (λ site. site ≡ router_site after.now router) }
+    {
+        match edit.touched_peer(router) {
+            Some(peer) => {
+                self.facts();
+                self.site_resettled(alloc, edit, after, router, peer)
+            }
+            None => self.site_of_settings(alloc, edit, after, router),
+        }
+    }
+
+    /// The site after an edit of none of the router's sessions alone.
+    fn site_of_settings(
+        &self,
+        alloc: Global,
+        edit: &Edit,
+        after: &ConfSessions,
+        router: Addr,
+    ) -> Result<Option<SiteConf>, AllocError>
+        requires made { after.now ≡ edited self.now edit.now }
+        requires ends { ends_session after.now router ≡ true }
+        ensures { IfOk result (λ site. site ≡ router_site after.now router) }
+    {
+        match edit.cluster() {
+            Some(one) if one == router => self.site_reclustered(alloc, after, router),
             _ => after.router_site(alloc, router),
         }
     }

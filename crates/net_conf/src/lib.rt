@@ -18,6 +18,7 @@ mod laws;
 mod limits;
 mod moved_trees;
 mod refusal;
+mod resettled;
 mod same_facts;
 mod shared_site;
 mod site;

@@ -183,7 +183,12 @@ impl ConfSessions {
     }
 
     /// The router's session with the peer.
-    fn session_of(&self, alloc: Global, router: Addr, peer: Addr) -> Result<SiteSession, AllocError>
+    pub(crate) fn session_of(
+        &self,
+        alloc: Global,
+        router: Addr,
+        peer: Addr,
+    ) -> Result<SiteSession, AllocError>
         ensures { IfOk result (λ session. session ≡ session_of self.now router peer) }
     {
         Ok(SiteSession {
