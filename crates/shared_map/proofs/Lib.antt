@@ -1,2 +1,3 @@
 pub mod Halving
 pub mod InOrder
+pub mod Splits

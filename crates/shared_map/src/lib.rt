@@ -2,11 +2,15 @@
 //! change is made in a copy of plain memory, and no other owner sees it.
 #![tactic(auto)]
 
+mod chunked;
+mod chunks;
 mod entries;
 mod keys;
 mod map;
 mod place;
+mod same_keys;
 mod set;
 
+pub use chunked::ChunkedSet;
 pub use map::SharedMap;
 pub use set::SharedSet;
