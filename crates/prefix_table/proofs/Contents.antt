@@ -21,20 +21,20 @@ use Rattle.prefix_table.specs.Trie.{whole, IsUnder, child_of, prefix_at, value_a
 use Rattle.prefix_table.proofs.Blocks.{covers_trans, block_at_covers, lower_lengths}
 use Rattle.prefix_table.proofs.Entries.{first, second, less_of}
 
-equal_keys : (p q : Block) → eq_by_cmp block_cmp p q ≡ true → p ≡ q
+pub equal_keys : (p q : Block) → eq_by_cmp block_cmp p q ≡ true → p ≡ q
 equal_keys p q e = elim (block_cmp p q) as (λ o. block_cmp p q ≡ o → is_eq o ≡ true → p ≡ q) [
   | Less ↦ λ _ h. cc
   | Equal ↦ λ same _. block_exact p q same
   | Greater ↦ λ _ h. cc
 ] refl e
 
-other_keys : (p q : Block) → (p ≡ q → ⊥) → eq_by_cmp block_cmp p q ≡ false
+pub other_keys : (p q : Block) → (p ≡ q → ⊥) → eq_by_cmp block_cmp p q ≡ false
 other_keys p q other = elim (eq_by_cmp block_cmp p q) as (λ b. eq_by_cmp block_cmp p q ≡ b → b ≡ false) [
   | true ↦ λ e. absurd (other (equal_keys p q e))
   | false ↦ λ e. refl
 ] refl
 
-same_key : (p q : Block) → p ≡ q → eq_by_cmp block_cmp p q ≡ true
+pub same_key : (p q : Block) → p ≡ q → eq_by_cmp block_cmp p q ≡ true
 same_key p q e = ap (eq_by_cmp block_cmp p) (sym e) ∙ ap is_eq (tied_itself block_total p)
 
 shadowed : {A : Type 0} (b : Bool) (x y z : A) → cond b x z ≡ cond b x (cond b y z)

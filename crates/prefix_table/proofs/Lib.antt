@@ -7,3 +7,4 @@ pub mod Lengths
 pub mod Linking
 pub mod Paths
 pub mod Splicing
+pub mod Halves

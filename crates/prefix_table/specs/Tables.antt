@@ -1,10 +1,10 @@
 -- Tables from prefixes to values: finite maps in the order of the prefixes, and what is looked up in them.
-use Rattle.std.specs.Prelude.{◌≡◌, ℕ, ◌≤◌, Bool, true, Option, Some, None, IsTrue, is_some, refl}
+use Rattle.std.specs.Prelude.{◌≡◌, ℕ, ◌≤◌, Bool, true, List, map, Option, Some, None, IsTrue, is_some, refl}
 use Rattle.std.specs.Option.{option_map}
 use Rattle.std.specs.List.{find}
 use Rattle.std.specs.Borrow.{Bor}
 use Rattle.std.specs.Coded.{Coded, code_by, coded×, coded_ℕ}
-use Rattle.std.specs.FinMap as map
+use Rattle.std.specs.FinMap as fin
 use Rattle.std.specs.Ordering.{is_lt}
 use Rattle.net_prefix.specs.declared.addr.Addr.{Addr}
 use Rattle.net_prefix.specs.Block.{Block, IsBlock, Contains, block_cmp}
@@ -12,11 +12,15 @@ use Rattle.net_prefix.specs.LongestMatch.{IsLongest, HasNone}
 
 -- values by prefix, in the order of address, then length
 abbrev pub Table : Type 0 → Type 0
-Table V = map.FinMap block_cmp V
+Table V = fin.FinMap block_cmp V
 
 -- an entry, with the value that its reference shows
 abbrev pub seen : {V : Type 0} → Option (Block × Bor V) → Option (Block × V)
 seen found = option_map (λ e. (e.0, e.1.now)) found
+
+-- entries, each with the value that its reference shows
+abbrev pub all_seen : {V : Type 0} → List (Block × Bor V) → List (Block × V)
+all_seen entries = map (λ e. (e.0, e.1.now)) entries
 
 -- a prefix of at most this length that contains the address
 abbrev pub Matches : Addr → ℕ → Block → Type 0
@@ -24,7 +28,7 @@ Matches a most p = IsBlock p.addr p.len × (p.len ≤ most) × Contains p a
 
 -- the prefix has a value
 abbrev pub IsKey : {V : Type 0} → Table V → Block → Type 0
-IsKey t p = IsTrue (is_some (map.get t p))
+IsKey t p = IsTrue (is_some (fin.get t p))
 
 -- a key that matches
 abbrev pub IsMatch : {V : Type 0} → Table V → Addr → ℕ → Block → Type 0
@@ -33,7 +37,7 @@ IsMatch t a most p = Matches a most p × IsKey t p
 -- the prefix is the longest key that matches, and has this value
 pub record IsLongestMatch {V : Type 0} (t : Table V) (a : Addr) (most : ℕ) (p : Block) (v : V) : Type 0 where
   pub match : IsLongest (IsMatch t a most) p
-  pub value : map.get t p ≡ Some v
+  pub value : fin.get t p ≡ Some v
 
 -- no key matches
 abbrev pub HasNoMatch : {V : Type 0} → Table V → Addr → ℕ → Type 0
@@ -46,7 +50,7 @@ is_after (Some p) q = is_lt (block_cmp p q)
 
 -- the first entry whose prefix comes after this one, or with none the first of all
 abbrev pub first_after : {V : Type 0} → Table V → Option Block → Option (Block × V)
-first_after t after = find (λ e. is_after after e.0) (map.entries t)
+first_after t after = find (λ e. is_after after e.0) (fin.entries t)
 
 -- the pair of a prefix's numbers, from which the prover knows it again (the table's Model asks for it)
 abbrev pub coded_block : Coded Block

@@ -1,11 +1,12 @@
 -- No public contract cites this file.
 -- A binary trie in a list of nodes: what its nodes say of one another.
-use Rattle.std.specs.Prelude.{◌≡◌, ℕ, zero, suc, ◌-◌, ◌/◌, ◌%◌, ◌^◌, ◌<◌, ◌≤◌, ◌==◌, Bool, true, false, cond, List, [], ◌∷◌, length, map, Option, Some, None, IsTrue, is_some}
+use Rattle.std.specs.Prelude.{◌≡◌, ℕ, zero, suc, ◌-◌, ◌/◌, ◌%◌, ◌^◌, ◌<◌, ◌≤◌, ◌==◌, ◌&&◌, leb, Bool, true, false, cond, List, [], ◌∷◌, length, map, Option, Some, None, IsTrue, is_some}
 use Rattle.std.proofs.Common.{get_or}
 use Rattle.std.specs.Ordering.{is_lt, eq_by_cmp}
-use Rattle.std.specs.FinMap.Entries.{find}
+use Rattle.std.specs.FinMap as fin
+use Rattle.std.specs.FinMap.Entries.{find, where_key}
 use Rattle.net_prefix.specs.declared.addr.Addr.{Addr}
-use Rattle.net_prefix.specs.Block.{Block, IsBlock, Covers, block_cmp}
+use Rattle.net_prefix.specs.Block.{Block, IsBlock, Covers, block_cmp, first_bits}
 use Rattle.prefix_table.specs.declared.node.Node.{Node}
 use Rattle.prefix_table.specs.declared.node.NodeId.{NodeId}
 use Rattle.prefix_table.specs.Tables.{is_after}
@@ -60,6 +61,23 @@ entry_or_not p (Some v) es = (p, v) ∷ es
 abbrev pub node_entries : {V : Type 0} → List (Node V) → List (Block × V)
 node_entries [] = []
 node_entries (n ∷ ns) = entry_or_not n.prefix n.value (node_entries ns)
+
+-- whether p covers q
+abbrev pub covers : Block → Block → Bool
+covers p q = leb p.len q.len && first_bits p.len q.addr == first_bits p.len p.addr
+
+-- whether a node covers q, if there is that node
+abbrev pub is_in : {V : Type 0} → List (Node V) → Option NodeId → Block → Bool
+is_in ns None q = false
+is_in ns (Some at) q = covers (prefix_at ns at.0) q
+
+-- the entries of all nodes, in the order of their prefixes
+abbrev pub entries_in : {V : Type 0} → List (Node V) → List (Block × V)
+entries_in ns = fin.entries (fin.from_entries {R = block_cmp} (node_entries ns))
+
+-- those of the nodes that a node covers
+abbrev pub entries_below : {V : Type 0} → List (Node V) → Option NodeId → List (Block × V)
+entries_below ns at = where_key block_cmp (is_in ns at) (entries_in ns)
 
 -- a node nearer to q: it covers q, and its prefix is longer
 pub record IsNearer {V : Type 0} (ns : List (Node V)) (q : Block) (from place : ℕ) : Type 0 where

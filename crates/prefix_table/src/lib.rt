@@ -3,11 +3,13 @@
 
 mod cut;
 mod descent;
+mod gather;
 mod growth;
 mod node;
 mod sorted;
 mod table;
 mod trie;
+mod walk;
 
 pub use sorted::SortedTable;
 pub use table::PrefixTable;

@@ -6,13 +6,14 @@ ghost use Rattle.std.specs.FinMap as map;
 ghost use Rattle.std.specs.FinMap.Entries.{find, put, is_sorted};
 ghost use Rattle.std.specs.List as list;
 ghost use Rattle.net_prefix.specs.Block.{block_cmp};
-ghost use Rattle.prefix_table.specs.Tables.{seen, is_after};
+ghost use Rattle.prefix_table.specs.Tables.{seen, all_seen, is_after};
 ghost use Rattle.prefix_table.specs.Places.{IsAt, IsFor};
 
 use crate::cut::{comes_after, cut};
+use crate::gather::add;
 use crate::table::PrefixTable;
 use net_prefix::{Addr, MAX_LEN, Prefix};
-use std::alloc::Global;
+use std::alloc::{AllocError, Global};
 use std::marker::Model;
 
 /// A table in a sorted vector.
@@ -70,6 +71,17 @@ fn next_in<V>(entries: &[(Prefix, V)], after: Option<Prefix>) -> Option<(Prefix,
         Some(entry) => Some((entry.0, &entry.1)),
         None => None,
     }
+}
+
+/// References to all entries.
+fn refer_to<V>(alloc: Global, entries: &[(Prefix, V)]) -> Result<Vec<(Prefix, &V)>, AllocError>
+    ensures { IfOk result (λ found. all_seen found.items ≡ entries.now) }
+{
+    let mut found = Vec::with_capacity(alloc, entries.len())?;
+    for entry in entries {
+        add(&mut found, (entry.0, &entry.1))?;
+    }
+    Ok(found)
 }
 
 /// Gives the prefix this value.
@@ -146,5 +158,9 @@ impl<V: Drop> PrefixTable<V> for SortedTable<V> {
 
     fn next_after(&self, after: Option<Prefix>) -> Option<(Prefix, &V)> {
         next_in(&self.entries, after)
+    }
+
+    fn entries(&self, alloc: Global) -> Result<Vec<(Prefix, &V)>, AllocError> {
+        refer_to(alloc, &self.entries)
     }
 }

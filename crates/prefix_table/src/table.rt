@@ -3,10 +3,10 @@
 ghost use Rattle.std.specs.Prelude.{◌≡◌, IfOk, IfErr, Some, None};
 ghost use Rattle.std.specs.Option.{option_copied, IfSome, IfNone};
 ghost use Rattle.std.specs.FinMap as map;
-ghost use Rattle.prefix_table.specs.Tables.{Table, seen, IsLongestMatch, HasNoMatch, first_after};
+ghost use Rattle.prefix_table.specs.Tables.{Table, seen, all_seen, IsLongestMatch, HasNoMatch, first_after};
 
 use net_prefix::{Addr, Prefix};
-use std::alloc::Global;
+use std::alloc::{AllocError, Global};
 
 /// A finite map from prefixes to values, in the order of address, then length.
 pub trait PrefixTable<V> {
@@ -47,4 +47,8 @@ pub trait PrefixTable<V> {
     /// The first prefix after this one, or the first of all, that has a value.
     fn next_after(&self, after: Option<Prefix>) -> Option<(Prefix, &V)>
         ensures { seen result ≡ first_after (table self.now) after };
+
+    /// All entries, in order: one walk of the whole table, in the time of its size. It can want memory.
+    fn entries(&self, alloc: Global) -> Result<Vec<(Prefix, &V)>, AllocError>
+        ensures { IfOk result (λ entries. all_seen entries.items ≡ map.entries (table self.now)) };
 }

@@ -13,8 +13,9 @@ use crate::descent::{deepest, find_node, first_later};
 use crate::growth::node_for;
 use crate::node::{Node, NodeId, has_value};
 use crate::table::PrefixTable;
+use crate::walk::{entry_in, refer_to};
 use net_prefix::{Addr, MAX_LEN, Prefix};
-use std::alloc::Global;
+use std::alloc::{AllocError, Global};
 use std::marker::Model;
 
 /// A table in a binary trie. Nodes are made only at prefixes with a value and where two of them part.
@@ -44,18 +45,6 @@ fn value_in<V>(nodes: &[Node<V>], at: NodeId) -> Option<&V>
 {
     let node = &nodes[at.0];
     node.value.as_ref()
-}
-
-/// The prefix and the value of a node.
-fn entry_in<V>(nodes: &[Node<V>], at: NodeId) -> Option<(Prefix, &V)>
-    requires { at.0 < length nodes.now }
-    ensures { seen result ≡ option_map (λ v. (prefix_at nodes.now at.0, v)) (value_at nodes.now at.0) }
-{
-    let node = &nodes[at.0];
-    match &node.value {
-        Some(value) => Some((node.prefix, value)),
-        None => None,
-    }
 }
 
 /// Gives a node this value, and hands back the one that it had.
@@ -173,5 +162,9 @@ impl<V: Drop> PrefixTable<V> for TrieTable<V> {
 
     fn next_after(&self, after: Option<Prefix>) -> Option<(Prefix, &V)> {
         next_in(&self.nodes, after)
+    }
+
+    fn entries(&self, alloc: Global) -> Result<Vec<(Prefix, &V)>, AllocError> {
+        refer_to(alloc, &self.nodes)
     }
 }
