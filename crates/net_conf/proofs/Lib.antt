@@ -22,3 +22,4 @@ pub mod LinkTurns
 pub mod DownSessions
 pub mod InThreads
 pub mod SiteSettings
+pub mod SiteJoins

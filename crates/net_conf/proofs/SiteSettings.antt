@@ -156,7 +156,7 @@ ends_second r v u same = by (nat_le r.0 v.0) (nat_le r.0 u.0) same
     by false true is = ap (λ (e : Ends). e.low) is ∙ ap (λ (e : Ends). e.high) is
     by false false is = ap (λ (e : Ends). e.low) is
 
-module _ (c : Configuration) (r u : Addr) (on : Bool) (there : has_session c r u ≡ true) where
+module _ (c : Configuration) (r u : Addr) (on : Bool) where
   other_ends : (v : Addr) → (v.0 == u.0) ≡ false → is_at (ends_cmp (ends_of r v)) (ends_of r u) ≡ false
   other_ends v other = by (is_at (ends_cmp (ends_of r v)) (ends_of r u)) refl
     where
@@ -167,25 +167,24 @@ module _ (c : Configuration) (r u : Addr) (on : Bool) (there : has_session c r u
       by true is = absurd (true≢false (sym (itself (ends_second r v u (same_ends (ends_of r v) (ends_of r u) is))) ∙ other))
       by false is = refl
 
-  by_session : IsStrictlySortedBy ends_cmp (keys_of c.sessions) → IsResettled c (with_session c r u on) r u false
+  pub other_session : (v : Addr) → (v.0 == u.0) ≡ false → session_of (with_session c r u on) r v ≡ session_of c r v
   unfolding session_up
-  by_session sorted =
+  other_session v other = ap (λ (x : Option Bool). record (session_of c r v) { up = up_with x }) (lookup_with ends_cmp ends_exact (is_at (ends_cmp (ends_of r v))) (ends_of r u) (other_ends v other) on c.sessions)
+    where
+      up_with : Option Bool → Bool
+      up_with x = unwrap_or (option_map (λ enabled. enabled && is_connected c r v) x) false
+
+  by_session : IsStrictlySortedBy ends_cmp (keys_of c.sessions) → has_session c r u ≡ true → IsResettled c (with_session c r u on) r u false
+  by_session sorted there =
       let d : Configuration = with_session c r u on in
       let keys : keys_of d.sessions ≡ keys_of c.sessions = keys_split (ends_of r u) on (session_between c r u) c.sessions d.sessions there (split ends_cmp ends_exact (ends_of r u) on ends_total c.sessions sorted) in
       let seen : SeesOthersSame c d r u = record {
         peers = peers_by_keys r d.sessions ∙ ap (λ ks. map (peer_in r) (filter (is_end r) ks)) keys ∙ sym (peers_by_keys r c.sessions);
-        others = λ v other. ap (λ (x : Option Bool). record (session_of c r v) { up = up_with v x }) (lookup_with ends_cmp ends_exact (is_at (ends_cmp (ends_of r v))) (ends_of r u) (other_ends v other) on c.sessions);
+        others = other_session;
       } in
-      record {
-        site = settled_site c d.sessions c.clients c.own_next c.imports c.exports r u seen false refl;
-        ends = ends_joined c d r u (record { enabled = on; is = refl }) r ∙ ap (λ t. (is_at (addr_cmp r) r || is_at (addr_cmp r) u) || t) ends ∙ or_right (is_at (addr_cmp r) r || is_at (addr_cmp r) u) refl ∙ sym ends;
-      }
-    where
-      ends : ends_session c r ≡ true
-      ends = session_ends c r u there
-
-      up_with : Addr → Option Bool → Bool
-      up_with v x = unwrap_or (option_map (λ enabled. enabled && is_connected c r v) x) false
+      let was : ends_session c r ≡ true = session_ends c r u there in
+      let ends : ends_session d r ≡ true = ends_joined c d r u (record { enabled = on; is = refl }) r ∙ or_right (is_at (addr_cmp r) r || is_at (addr_cmp r) u) was in
+      record { site = settled_site c d.sessions c.clients c.own_next c.imports c.exports r u seen false refl; ends = ends ∙ sym was }
 
 -- EDITS
 
@@ -197,7 +196,7 @@ second_is r a b u is = by (r.0 == a.0) refl is
     by false at found = absurd (none-some u found)
 
 -- the ends are those of the router and its peer
-other_is : (r a b u : Addr) → other_of r a b ≡ Some u → ends_of a b ≡ ends_of r u
+pub other_is : (r a b u : Addr) → other_of r a b ≡ Some u → ends_of a b ≡ ends_of r u
 other_is r a b u is = by (r.0 == a.0) refl is
   where
     by : (t : Bool) → (r.0 == a.0) ≡ t → (if t then Some b else second_of r b a) ≡ Some u → ends_of a b ≡ ends_of r u
@@ -213,7 +212,7 @@ enabled_after : (c : Configuration) (a b r u : Addr) (on : Bool) → IsStrictlyS
 enabled_after c a b r u on sorted there found =
     let is = other_is r a b u found in
     let there' : has_session c r u ≡ true = subst (λ e. is_some (lookup (is_at (ends_cmp e)) c.sessions) ≡ true) is there in
-    subst (λ e. IsResettled c (record c { sessions = insert_entry ends_cmp c.sessions e on }) r u false) (sym is) (by_session c r u on there' sorted)
+    subst (λ e. IsResettled c (record c { sessions = insert_entry ends_cmp c.sessions e on }) r u false) (sym is) (by_session c r u on sorted there')
 
 resettled_by : (c : Configuration) (e : Edit) (r u : Addr) → IsStrictlySortedBy ends_cmp (keys_of c.sessions) → lacks_session c e ≡ false → touched_peer e r ≡ Some u → IsResettled c (edited c e) r u (sets_client e)
 resettled_by c (Stop a b) r u sorted lacks is = enabled_after c a b r u false sorted (not-false (has_session c a b) lacks) is

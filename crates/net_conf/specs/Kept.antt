@@ -1,5 +1,5 @@
 -- What is kept beside the tables, and what holds of every configuration that edits lead to. No public contract cites this file.
-use Rattle.std.specs.Prelude.{◌≡◌, ◌≤◌, ℕ, Bool, true, false, ◌==◌, List, length, map, Option, Some, None, option_map, IsTrue, All, if◌then◌else◌}
+use Rattle.std.specs.Prelude.{◌≡◌, ◌≤◌, ℕ, Bool, true, false, ◌==◌, nat_lt, List, ◌∷◌, ◌++◌, length, map, filter, Option, Some, None, option_map, IsTrue, All, if◌then◌else◌}
 use Rattle.std.specs.Map.{keys_of, values_of, lookup}
 use Rattle.std.specs.BTreeMap.{is_at}
 use Rattle.net_prefix.specs.declared.addr.Addr.{Addr}
@@ -123,6 +123,25 @@ pub record IsResettled (c d : Configuration) (r u : Addr) (clients : Bool) : Typ
   pub site : router_site d r ≡ option_map (resettled d r u clients) (router_site c r)
   pub ends : ends_session d r ≡ ends_session c r
 
+-- the session is with a peer below this one, or above it
+abbrev pub is_below : Addr → SiteSession → Bool
+is_below u x = nat_lt x.peer.0 u.0
+
+abbrev pub is_above : Addr → SiteSession → Bool
+is_above u x = nat_lt u.0 x.peer.0
+
+-- the sessions, with this one in its place
+abbrev pub sessions_with : SiteSession → List SiteSession → List SiteSession
+sessions_with x xs = filter (is_below x.peer) xs ++ x ∷ filter (is_above x.peer) xs
+
+-- the site, with a session with the peer by the configuration more
+abbrev pub extended : Configuration → Addr → Addr → SiteConf → SiteConf
+extended d r u s = record s { sessions = sessions_with (session_of d r u) s.sessions }
+
+-- the router's part has a session with the peer more, and differs in that alone
+abbrev pub IsExtended : Configuration → Configuration → Addr → Addr → Type 0
+IsExtended c d r u = router_site d r ≡ option_map (extended d r u) (router_site c r)
+
 -- the site, with the CLUSTER_ID by the configuration
 abbrev pub reclustered : Configuration → Addr → SiteConf → SiteConf
 reclustered d r s = record s { cluster = cluster_id d r }
@@ -184,6 +203,11 @@ second_of r a b = if r.0 == a.0 then Some b else None
 -- the other of the two, where the router is one of them
 abbrev pub other_of : Addr → Addr → Addr → Option Addr
 other_of r a b = if r.0 == a.0 then Some b else second_of r b a
+
+-- the peer of the session that the router has more by it
+abbrev pub joined_peer : Edit → Addr → Option Addr
+joined_peer (Join a b) r = other_of r a b
+joined_peer _ r = None
 
 -- the peer of the router's session that it changes alone: a setting of it, or whether it is enabled
 abbrev pub touched_peer : Edit → Addr → Option Addr

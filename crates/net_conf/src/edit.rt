@@ -2,7 +2,7 @@
 
 ghost use Rattle.std.specs.Prelude.{◌≡◌};
 ghost use Rattle.net_conf.specs.Scopes.{scope, router_in};
-ghost use Rattle.net_conf.specs.Kept.{HasMetric, node_in, link_in, session_in, origin_in, cluster_in, sets_client, touched_peer, second_of, other_of};
+ghost use Rattle.net_conf.specs.Kept.{HasMetric, node_in, link_in, session_in, origin_in, cluster_in, sets_client, joined_peer, touched_peer, second_of, other_of};
 
 use crate::tables::PolicySide;
 use igp_cost::Metric;
@@ -142,6 +142,16 @@ impl Edit {
         ensures { result ≡ sets_client self.now }
     {
         matches!(self, Edit::Client(_, _, _))
+    }
+
+    /// The peer of the session that the router has more by it.
+    pub(crate) fn joined_peer(&self, router: Addr) -> Option<Addr>
+        ensures { result ≡ joined_peer self.now router }
+    {
+        match self {
+            Edit::Join(one, other) => other_of(router, *one, *other),
+            _ => None,
+        }
     }
 
     /// The peer of the router's session that it changes alone: a setting of it, or whether it is enabled.

@@ -223,11 +223,34 @@ impl Conf {
                 self.facts();
                 self.site_resettled(alloc, edit, after, router, peer)
             }
+            None => self.site_with_more(alloc, edit, after, router),
+        }
+    }
+
+    /// The site after an edit that changes none of the router's sessions.
+    fn site_with_more(
+        &self,
+        alloc: Global,
+        edit: &Edit,
+        after: &ConfSessions,
+        router: Addr,
+    ) -> Result<Option<SiteConf>, AllocError>
+        requires passes { refusal_of self.now edit.now ≡ None }
+        requires made { after.now ≡ edited self.now edit.now }
+        requires ends { ends_session after.now router ≡ true }
+        ensures { IfOk result (λ site. site ≡ router_site after.now router) }
+    {
+        match edit.joined_peer(router) {
+            Some(peer) => {
+                self.facts();
+                after.facts();
+                self.site_extended(alloc, after, router, peer)
+            }
             None => self.site_of_settings(alloc, edit, after, router),
         }
     }
 
-    /// The site after an edit of none of the router's sessions alone.
+    /// The site after an edit of none of the router's sessions.
     fn site_of_settings(
         &self,
         alloc: Global,

@@ -13,6 +13,7 @@ mod conf_trees;
 mod down_after;
 mod edit;
 mod edited;
+mod extended;
 mod kept_sites;
 mod laws;
 mod limits;
