@@ -12,7 +12,8 @@ use Rattle.sim_text.specs.Serving.{IsAnswer, AreAnswers, AreFit, Served, IsServi
 use Rattle.sim_text.specs.Next.{IsUnfit}
 use Rattle.sim_text.specs.Progress.{SoFar, Reached, Ends}
 use Rattle.sim_text.specs.declared.fault.ServeFault.{ServeFault}
-use Rattle.sim_text.proofs.LineLemmas.{is_line_feed, Whole, cut_at, line_feeds_line, line_feeds_none}
+use Rattle.line_buffer.specs.LineFeeds.{is_line_feed, Whole, cut_at}
+use Rattle.sim_text.proofs.LineLemmas.{line_feeds_line, line_feeds_none}
 
 -- one more line
 pub are_answers_push : (s mid s' : Network) (done : List (List ℕ)) (line text answer : List ℕ) → AreAnswers s done text mid → IsAnswer mid line answer s' → AreAnswers s (done ++ line ∷ []) (text ++ answer) s'

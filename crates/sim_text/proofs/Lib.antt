@@ -1,4 +1,3 @@
 mod AnswerLemmas
-mod BufferLemmas
 mod LineLemmas
 mod ReadLemmas

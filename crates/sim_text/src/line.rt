@@ -4,7 +4,8 @@ ghost use Rattle.std.specs.Prelude.{◌≡◌};
 ghost use Rattle.std.specs.Str.Lines.{strip_carriage_return};
 ghost use Rattle.sim_text.specs.Next.{IsNext};
 
-use crate::buffer::{CAPACITY, LineBuffer};
+use crate::buffer::CAPACITY;
+use line_buffer::LineBuffer;
 
 /// The most bytes of a line, its end not counted.
 pub(crate) const MOST_BYTES: usize = 65_536;
@@ -34,7 +35,7 @@ pub(crate) fn without_carriage_return(line: &[u8]) -> &[u8]
 }
 
 /// What stands at the head of the bytes that are left, after so many lines.
-pub(crate) fn next_line(pending: &LineBuffer, answered: u64) -> Next
+pub(crate) fn next_line(pending: &LineBuffer<CAPACITY>, answered: u64) -> Next
     ensures { IsNext pending.now answered result }
 {
     let bytes = pending.as_slice();

@@ -10,8 +10,9 @@ ghost use Rattle.sim_text.specs.declared.line.Next.TheVariants.{Line, Part};
 
 use crate::ServeFault;
 use crate::answer::answer_line;
-use crate::buffer::LineBuffer;
+use crate::buffer::{CAPACITY, read_more};
 use crate::line::{MOST_BYTES, Next, next_line, without_carriage_return};
+use line_buffer::LineBuffer;
 use reference_machine::Machine;
 use std::alloc::Global;
 use std::io::{Read, Write};
@@ -20,7 +21,7 @@ use watched::{Input, Output};
 
 #[derive(Drop)]
 pub(crate) struct Script {
-    pub(crate) pending: LineBuffer,
+    pub(crate) pending: LineBuffer<CAPACITY>,
     pub(crate) answered: u64,
     ghost few: { answered ≤ 1000000 },
 }
@@ -168,7 +169,7 @@ fn read_on<R: Read, W: Write, M: Machine>(
 {
     flush(script.answered, output)?;
     let next = script.answered + 1;
-    let more = match script.pending.read_more(input, output) {
+    let more = match read_more(&mut script.pending, input, output) {
         Ok(more) => more,
         Err(_) => return Err(ServeFault::Read { line: next }),
     };

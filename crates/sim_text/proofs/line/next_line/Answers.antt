@@ -3,7 +3,8 @@ use Rattle.std.specs.Str.Lines.{strip_carriage_return}
 use Rattle.std.proofs.lemmas.Bool.{eqb-false}
 use Rattle.std.proofs.lemmas.List.{length-append}
 use Rattle.sim_text.specs.Serving.{most_bytes}
-use Rattle.sim_text.proofs.LineLemmas.{lines_begin, lines_first, lines_long, no_cut}
+use Rattle.line_buffer.specs.LineFeeds.{no_cut}
+use Rattle.sim_text.proofs.LineLemmas.{lines_begin, lines_first, lines_long}
 use Rattle.sim_text.proofs.line.next_line.Goals as goal
 
 pub returns-then-not-is_empty : goal.returns-then-not-is_empty
