@@ -10,6 +10,7 @@ pub mod Picked
 pub mod Peers
 pub mod RouterLaws
 pub mod OthersStay
+pub mod Originated
 pub mod Concerns
 pub mod NodeConcerns
 pub mod SessionConcerns

@@ -27,7 +27,6 @@ use Rattle.net_conf.specs.Costs.{costs_of, session_up, is_up}
 use Rattle.net_conf.specs.Sites.{session_of, sessions_of, peers_of, site_of}
 use Rattle.net_conf.specs.RouterSites.{router_site}
 use Rattle.net_conf.specs.Edits.{edited, refusal_of, tests_of, lacks_node, lacks_either, has_bad_end, switched, with_rule, without_rules}
-use Rattle.net_conf.specs.Kept.{IsReoriginated, origin_in}
 use Rattle.net_conf.specs.Scopes.{scope, router_in, SitesOfOthersStay, SessionsStay, AreRoutersBefore, AreRoutersAfter, OriginsAloneChange, OtherOriginsStay}
 use Rattle.net_conf.proofs.Nodes.{some_mapped}
 use Rattle.net_conf.proofs.Unseen.{any_with, any_without, filter_with, filter_without, lookup_with, lookup_without}
@@ -39,10 +38,10 @@ end_exact x y same =
     let made : Addr × Addr → End = λ parts. end_of parts.0 parts.1 in
     ap made (exact_pairs addr_cmp addr_cmp addr_exact addr_exact (x.router, x.peer) (y.router, y.peer) same)
 
-abbrev origination : Addr → Block → Origination
+abbrev pub origination : Addr → Block → Origination
 origination r p = record { router = r; prefix = p }
 
-origination_exact : CmpEqualImpliesEq origination_cmp
+pub origination_exact : CmpEqualImpliesEq origination_cmp
 origination_exact x y same =
     let made : Addr × Block → Origination = λ parts. origination parts.0 parts.1 in
     ap made (exact_pairs addr_cmp block_cmp addr_exact block_exact (x.router, x.prefix) (y.router, y.prefix) same)
@@ -300,12 +299,6 @@ pub origins_alone : OriginsAloneChange
 origins_alone c (Origin a p) one q is = other_origins_alone c one _
 origins_alone c (NoOrigin a p) one q is = other_origins_alone c one _
 origins_alone c _ one q is = absurd (none-some q (ap prefix_in is))
-
--- so of the router in whose originations the edit is
-pub reoriginated_after : (c : Configuration) (e : Edit) (a : Addr) → origin_in e ≡ Some a → IsReoriginated c (edited c e) a
-reoriginated_after c (Origin b p) a is = record { site = other_origins_alone c a _; ends = refl }
-reoriginated_after c (NoOrigin b p) a is = record { site = other_origins_alone c a _; ends = refl }
-reoriginated_after c _ a is = absurd (none-some a is)
 
 origination_apart : (one a : Addr) (q p : Block) → same_block q p ≡ false → is_at (origination_cmp (origination one q)) (origination a p) ≡ false
 origination_apart one a q p other =

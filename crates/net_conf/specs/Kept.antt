@@ -1,9 +1,12 @@
 -- What is kept beside the tables, and what holds of every configuration that edits lead to. No public contract cites this file.
 use Rattle.std.specs.Prelude.{◌≡◌, ◌≤◌, ℕ, Bool, true, false, ◌==◌, nat_lt, List, ◌∷◌, ◌++◌, length, map, filter, Option, Some, None, option_map, IsTrue, All, if◌then◌else◌}
 use Rattle.std.specs.Map.{keys_of, values_of, lookup}
+use Rattle.std.specs.Set.{remove_key}
 use Rattle.std.specs.BTreeMap.{is_at}
+use Rattle.std.specs.BTreeSet.{insert_key}
 use Rattle.net_prefix.specs.declared.addr.Addr.{Addr}
 use Rattle.net_prefix.specs.Address.{addr_cmp}
+use Rattle.net_prefix.specs.Block.{Block, block_cmp}
 use Rattle.igp_cost.specs.Metric.{IsMetric}
 use Rattle.igp_cost.specs.Walks.{Nodes, Edges}
 use Rattle.igp_cost.specs.Topology.{is_node}
@@ -18,7 +21,7 @@ use Rattle.net_conf.specs.declared.tables.Ends.{Ends}
 use Rattle.net_conf.specs.declared.tables.Link.{Link as TheLink}
 use Rattle.net_conf.specs.declared.edit.Edit.{Edit}
 use Rattle.net_conf.specs.declared.edit.Edit.TheVariants.{Router, Virtual, Link, Metric, Fail, Mend, Join, Stop, Start, Client, OwnNext, Cluster, Rule, Clear, Origin, NoOrigin}
-use Rattle.net_conf.specs.Configuration.{Configuration, ends_of, ends_session, link_between, is_reflector, cluster_id, origins_of}
+use Rattle.net_conf.specs.Configuration.{Configuration, ends_of, ends_session, link_between, is_reflector, cluster_id}
 use Rattle.net_conf.specs.Edits.{with_link, with_session}
 use Rattle.net_conf.specs.Costs.{costs_of, is_up, down_sessions}
 use Rattle.net_conf.specs.Sites.{session_of}
@@ -101,14 +104,15 @@ asked d r x = record x { up = is_up d r x.peer }
 abbrev pub relinked : Configuration → Addr → SiteConf → SiteConf
 relinked d r s = record s { sessions = map (asked d r) s.sessions; costs = costs_of d r }
 
--- the site, with the prefixes that the router originates by the configuration
-abbrev pub reoriginated : Configuration → Addr → SiteConf → SiteConf
-reoriginated d r s = record s { origins = origins_of d r }
+-- what a router originates, after an edit of that
+abbrev pub origins_after : Edit → List Block → List Block
+origins_after (Origin a p) ps = insert_key block_cmp ps p
+origins_after (NoOrigin a p) ps = remove_key (is_at (block_cmp p)) ps
+origins_after _ ps = ps
 
--- of the router's part what it originates differs alone
-pub record IsReoriginated (c d : Configuration) (r : Addr) : Type 0 where
-  pub site : router_site d r ≡ option_map (reoriginated d r) (router_site c r)
-  pub ends : ends_session d r ≡ ends_session c r
+-- the site of the router whose originations the edit changes
+abbrev pub reoriginated : Edit → SiteConf → SiteConf
+reoriginated e s = record s { origins = origins_after e s.origins }
 
 -- the router's session, by the configuration where it is with this peer
 abbrev pub settled : Configuration → Addr → Addr → SiteSession → SiteSession

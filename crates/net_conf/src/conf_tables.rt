@@ -12,7 +12,7 @@ use net_prefix::{Addr, Prefix};
 use path_attr::Asn;
 use route_policy::{Policy, Rule};
 use seq::Copied;
-use shared_map::{SharedMap, SharedSet};
+use shared_map::{ChunkedSet, SharedMap, SharedSet};
 use std::alloc::{AllocError, Global};
 use std::marker::Model;
 
@@ -28,7 +28,7 @@ pub struct ConfTables {
     pub(crate) imports: SharedMap<End, Policy>,
     pub(crate) exports: SharedMap<End, Policy>,
     pub(crate) clusters: SharedMap<Addr, Addr>,
-    pub(crate) origins: SharedSet<Origination>,
+    pub(crate) origins: ChunkedSet<Origination>,
 }
 
 impl Model for ConfTables {
@@ -63,7 +63,7 @@ impl ConfTables {
             imports: SharedMap::new(),
             exports: SharedMap::new(),
             clusters: SharedMap::new(),
-            origins: SharedSet::new(),
+            origins: ChunkedSet::new(),
         }
     }
 
@@ -79,7 +79,7 @@ impl ConfTables {
         let _ = self.imports.as_slice();
         let _ = self.exports.as_slice();
         let _ = self.clusters.as_slice();
-        let _ = self.origins.as_slice();
+        self.origins.order();
     }
 
     /// The router or virtual peer at the address.
@@ -213,12 +213,25 @@ impl ConfTables {
     pub fn origins_of(&self, alloc: Global, router: Addr) -> Result<Vec<Prefix>, AllocError>
         ensures { IfOk result (λ v. v.items ≡ origins_of self.now router) }
     {
-        self.origins
-            .as_slice()
+        let origins = self.origins.keys(alloc)?;
+        origins
             .iter()
             .filter(|o| o.router == router)
             .map(|o| o.prefix)
             .collect(alloc)
+    }
+
+    /// The same, as a set to share.
+    pub(crate) fn shared_origins(
+        &self,
+        alloc: Global,
+        router: Addr,
+    ) -> Result<ChunkedSet<Prefix>, AllocError>
+        ensures { IfOk result (λ set. set ≡ origins_of self.now router) }
+    {
+        self.orders();
+        let origins = self.origins_of(alloc, router)?;
+        ChunkedSet::of(alloc, origins)
     }
 
     /// The router's policy for what comes in from the peer.
@@ -274,7 +287,7 @@ type Sessions = (SharedMap<Ends, bool>, SharedSet<End>, SharedSet<End>);
 type Policies = (
     SharedMap<End, Policy>,
     SharedMap<End, Policy>,
-    SharedSet<Origination>,
+    ChunkedSet<Origination>,
 );
 
 impl ConfTables {

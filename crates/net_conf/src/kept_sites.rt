@@ -1,6 +1,6 @@
 //! The sites of the routers that have a session, kept beside the configuration and shared by those that edits make of it.
 
-ghost use Rattle.std.specs.Prelude.{◌≡◌, true, false, cond, map, None, IfOk, OnOk, option_copied};
+ghost use Rattle.std.specs.Prelude.{◌≡◌, true, false, cond, map, Some, None, IfOk, OnOk, option_copied};
 ghost use Rattle.std.specs.Map.{lookup};
 ghost use Rattle.std.specs.BTreeMap.{is_at};
 ghost use Rattle.net_prefix.specs.declared.addr.Addr.{Addr};
@@ -8,7 +8,7 @@ ghost use Rattle.net_prefix.specs.Address.{addr_cmp};
 ghost use Rattle.net_conf.specs.Configuration.{ends_session};
 ghost use Rattle.net_conf.specs.Concerned.{is_among, ConcernsAlone};
 ghost use Rattle.net_conf.specs.Edits.{refusal_of, edited};
-ghost use Rattle.net_conf.specs.Kept.{AreSitesKept, EndsStayBut, SessionsStayBut, IsRelinked, IsReoriginated, asked, relinked, reoriginated};
+ghost use Rattle.net_conf.specs.Kept.{AreSitesKept, EndsStayBut, SessionsStayBut, IsRelinked, asked, relinked, origin_in, origins_after, reoriginated};
 ghost use Rattle.net_conf.specs.RouterSites.{router_site, site_kept, site_made};
 
 use crate::concerned::listed;
@@ -17,9 +17,9 @@ use crate::conf_sessions::ConfSessions;
 use crate::edit::Edit;
 use crate::shared_site::SharedSite;
 use crate::site::{SiteConf, SiteSession};
-use net_prefix::Addr;
+use net_prefix::{Addr, Prefix};
 use seq::{Copied, SharedSeq};
-use shared_map::SharedMap;
+use shared_map::{ChunkedSet, SharedMap};
 use std::alloc::{AllocError, Global};
 use std::collections::BTreeSet;
 
@@ -200,7 +200,7 @@ impl Conf {
         ensures { IfOk result (λ site. site ≡ router_site after.now router) }
     {
         match edit.origin() {
-            Some(one) if one == router => self.site_reoriginated(alloc, after, router),
+            Some(one) if one == router => self.site_reoriginated(alloc, edit, router),
             _ => self.site_touched(alloc, edit, after, router),
         }
     }
@@ -272,17 +272,18 @@ impl Conf {
     fn site_reoriginated(
         &self,
         alloc: Global,
-        after: &ConfSessions,
+        edit: &Edit,
         router: Addr,
     ) -> Result<Option<SiteConf>, AllocError>
-        requires reoriginated { IsReoriginated self.now after.now router }
-        requires ends { ends_session after.now router ≡ true }
-        ensures { IfOk result (λ site. site ≡ router_site after.now router) }
+        requires origin { origin_in edit.now ≡ Some router }
+        requires ends { ends_session (edited self.now edit.now) router ≡ true }
+        ensures { IfOk result (λ site. site ≡ router_site (edited self.now edit.now) router) }
     {
+        self.facts();
         match self.kept_site(router) {
             None => Ok(None),
             Some(old) => {
-                let site = after.reoriginated(alloc, router, old)?;
+                let site = reoriginated(alloc, edit, old)?;
                 Ok(Some(site))
             }
         }
@@ -312,26 +313,6 @@ impl Conf {
 }
 
 impl ConfSessions {
-    /// The old site, with the prefixes that the router originates by this configuration.
-    fn reoriginated(
-        &self,
-        alloc: Global,
-        router: Addr,
-        old: &SiteConf,
-    ) -> Result<SiteConf, AllocError>
-        ensures { IfOk result (λ site. site ≡ reoriginated self.now router old.now) }
-    {
-        Ok(SiteConf {
-            me: old.me,
-            asn: old.asn,
-            cluster: old.cluster,
-            reflector: old.reflector,
-            origins: SharedSeq::of(alloc, self.tables().origins_of(alloc, router)?)?,
-            sessions: old.sessions.share()?,
-            costs: old.costs.copy(alloc)?,
-        })
-    }
-
     /// The old site, with its costs and the state of its sessions by this configuration.
     fn relinked(
         &self,
@@ -410,4 +391,36 @@ impl ConfSessions {
             policy_out: session.policy_out.copy(alloc)?,
         })
     }
+}
+
+/// The old site, with what the edit changes of the prefixes that the router originates.
+fn reoriginated(alloc: Global, edit: &Edit, old: &SiteConf) -> Result<SiteConf, AllocError>
+    ensures { IfOk result (λ site. site ≡ reoriginated edit.now old.now) }
+{
+    Ok(SiteConf {
+        me: old.me,
+        asn: old.asn,
+        cluster: old.cluster,
+        reflector: old.reflector,
+        origins: origins_after(alloc, edit, &old.origins)?,
+        sessions: old.sessions.share()?,
+        costs: old.costs.copy(alloc)?,
+    })
+}
+
+/// The prefixes that a router originates, after an edit of what it does.
+fn origins_after(
+    alloc: Global,
+    edit: &Edit,
+    old: &ChunkedSet<Prefix>,
+) -> Result<ChunkedSet<Prefix>, AllocError>
+    ensures { IfOk result (λ new. new ≡ origins_after edit.now old.now) }
+{
+    let mut origins = old.share()?;
+    match edit {
+        Edit::Origin(_, prefix) => origins.insert(alloc, *prefix)?,
+        Edit::NoOrigin(_, prefix) => origins.remove(alloc, prefix)?,
+        _ => {}
+    }
+    Ok(origins)
 }

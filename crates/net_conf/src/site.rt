@@ -13,6 +13,7 @@ use net_prefix::{Addr, Prefix};
 use path_attr::Asn;
 use route_policy::Policy;
 use seq::{Copied, SharedSeq};
+use shared_map::ChunkedSet;
 use std::alloc::{AllocError, Global};
 use std::collections::BTreeMap;
 
@@ -28,7 +29,7 @@ pub struct SiteConf {
     /// Whether it has a client (RFC 4456, 6).
     pub reflector: bool,
     /// The prefixes that it originates, in order.
-    pub origins: SharedSeq<Prefix>,
+    pub origins: ChunkedSet<Prefix>,
     /// Its sessions, up or down, by the address of the peer.
     pub sessions: SharedSeq<SiteSession>,
     /// Its costs and first hops.
@@ -161,7 +162,7 @@ impl ConfSessions {
             asn: node.asn,
             cluster: self.tables().cluster_id(router),
             reflector: self.tables().is_reflector(router),
-            origins: SharedSeq::of(alloc, self.tables().origins_of(alloc, router)?)?,
+            origins: self.tables().shared_origins(alloc, router)?,
             sessions: SharedSeq::of(alloc, self.sessions_of(alloc, router)?)?,
             costs: self.costs(alloc, router)?,
         }))
