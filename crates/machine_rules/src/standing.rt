@@ -43,7 +43,7 @@ pub fn own_candidate(router: Addr) -> Candidate
 pub fn is_originated(site: &SiteConf, prefix: Prefix) -> bool
     ensures { result ≡ is_originated site.now prefix }
 {
-    site.origins.as_slice().iter().any(|p| prefix == *p)
+    site.origins.contains(&prefix)
 }
 
 /// Whether the router is a reflector, and the route has been in its cluster (RFC 4456, 8).
