@@ -1,5 +1,5 @@
 -- Cells that can change, one after another.
-use Rattle.std.proofs.Common.{◌≡◌, Bool, true, false, cond, List, [], ◌∷◌, ◌++◌, map, filter, Option, Some, None, option_map, option_copied, unwrap_or, refl, sym, ap, ◌∙◌, append_assoc}
+use Rattle.std.proofs.Common.{◌≡◌, List, [], ◌++◌, Option, Some, None, option_map, option_copied, unwrap_or, refl, sym, ap, ◌∙◌, append_assoc}
 use Rattle.std.proofs.lemmas.List.{append-nil}
 use Rattle.std.specs.Borrow.{Bor}
 use Rattle.std.specs.FinMap as finite
@@ -12,8 +12,6 @@ use Rattle.prefix_table.specs.Tables.{Table}
 use Rattle.route_cell.specs.Cells.{Heard, Outcome, decided, refreshed}
 use Rattle.cell_network.specs.Keeping.{kept_from, kept_cell}
 use Rattle.cell_network.specs.Editing.{sends_between}
-use Rattle.cell_network.specs.Moves.{is_moved_by}
-use Rattle.cell_engine.specs.Changes.{Becoming, MovedCell, moved_cell, moved_cells}
 use Rattle.cell_network.proofs.Sites.{refreshed_is_kept}
 
 -- ONE CELL
@@ -36,20 +34,6 @@ table_or table None other = refl
 table_or table (Some x) other = refl
 
 -- IN A WALK
-
--- a cell, if it can change, and those of the cells after it that can
-pub one_more : (b : Becoming) (p : Block) (h : Heard) (later : List (Block × Heard)) → moved_cell b p h ++ moved_cells b later ≡ moved_cells b ((p, h) ∷ later)
-one_more b p h later = by (is_moved_by b.old b.new b.conf b.address p h)
-  where
-    those : List (Block × Heard)
-    those = filter (λ e. is_moved_by b.old b.new b.conf b.address e.0 e.1) later
-
-    of_cell : Block × Heard → MovedCell
-    of_cell e = record { becoming = b; prefix = e.0; heard = e.1 }
-
-    by : (moved : Bool) → map of_cell (cond moved ((p, h) ∷ []) []) ++ map of_cell those ≡ map of_cell (cond moved ((p, h) ∷ those) those)
-    by true = refl
-    by false = refl
 
 -- what is gathered, with what comes next, and what is left
 pub gathered_more : {A : Type 0} (made more rest left all next : List A) → more ++ rest ≡ left → made ++ left ≡ all → next ≡ made ++ more → next ++ rest ≡ all

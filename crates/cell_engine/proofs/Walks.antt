@@ -9,9 +9,8 @@ use Rattle.std.specs.FinMap as finite
 use Rattle.std.specs.FinMap.Entries as entries
 use Rattle.net_prefix.specs.declared.addr.Addr.{Addr}
 use Rattle.net_prefix.specs.Address.{addr_cmp}
-use Rattle.net_prefix.specs.Block.{Block}
-use Rattle.net_prefix.specs.Orders.{addr_total, block_total}
-use Rattle.prefix_table.specs.Tables.{Table, is_after, first_after}
+use Rattle.net_prefix.specs.Orders.{addr_total}
+use Rattle.prefix_table.specs.Tables.{Table}
 use Rattle.router_tables.specs.RouterTables.{table_at, is_past, next_of}
 
 less_of : (o : Ordering) → T (is_lt o) → o ≡ Less
@@ -125,24 +124,9 @@ module _ {K : Type 0} {R : K → K → Ordering} (total : IsTotalOrder R) (past 
     walk_start [] = refl
     walk_start (e ∷ es) = ap (λ b. cond b (e ∷ rest None es) (rest None es)) (from_none e.0) ∙ ap (λ l. e ∷ l) (walk_start es)
 
--- CELLS OF A TABLE
+-- TABLES OF ALL ROUTERS
 
 module _ {V : Type 0} where
-  -- the cells that are left
-  abbrev pub cells_past : Option Block → Table V → List (Block × V)
-  cells_past o t = filter (λ e. is_after o e.0) (finite.entries t)
-
-  pub cells_start : (t : Table V) → cells_past None t ≡ finite.entries t
-  cells_start t = walk_start block_total is_after (λ k. refl) (λ a k. refl) (finite.entries t)
-
-  pub cells_step : (t : Table V) (o : Option Block) (f : Block × V) → first_after t o ≡ Some f → cells_past o t ≡ f ∷ cells_past (Some f.0) t
-  cells_step t o f is = walk_step block_total is_after (λ k. refl) (λ a k. refl) o (finite.entries t) f (finite.entries_sorted t) is
-
-  pub cells_end : (t : Table V) (o : Option Block) → first_after t o ≡ None → cells_past o t ≡ []
-  cells_end t o is = walk_end block_total is_after (λ k. refl) (λ a k. refl) o (finite.entries t) is
-
-  -- TABLES OF ALL ROUTERS
-
   -- the tables that are left
   abbrev pub tables_past : Option Addr → List (Addr × Table V) → List (Addr × Table V)
   tables_past o ts = filter (λ t. is_past o t.0) ts

@@ -149,6 +149,7 @@ impl<'a> Becoming<'a> {
     /// Adds the cells of the table that can change, by prefix.
     pub fn add_table<'b, S: Selector, T: PrefixTable<Cell<S>>>(
         &'b self,
+        alloc: Global,
         moved: &mut Seq<MovedCell<'b, S>>,
         table: &'b T,
     ) -> Result<(), AllocError>
@@ -156,15 +157,10 @@ impl<'a> Becoming<'a> {
         'a: 'b,
         ensures { OnOk result (moved.new ≡ moved.old ++ moved_cells self.now (finite.entries (T.table table.now))) }
     {
-        let mut after = None;
-        'walk: loop {
-            match table.next_after(after) {
-                None => return Ok(()),
-                Some(entry) => {
-                    self.add_cell(moved, entry.0, entry.1)?;
-                    after = Some(entry.0);
-                }
-            }
+        let entries = table.entries(alloc)?;
+        for entry in &entries {
+            self.add_cell(moved, entry.0, entry.1)?;
         }
+        Ok(())
     }
 }

@@ -129,7 +129,7 @@ impl<S: Selector, T: PrefixTable<Cell<S>>> State<S, T> {
     {
         match self.table(becoming.address()) {
             None => Ok(()),
-            Some(table) => becoming.add_table(moved, table),
+            Some(table) => becoming.add_table(self.alloc, moved, table),
         }
     }
 
