@@ -97,3 +97,18 @@ pub fn keys<V, T: PrefixTable<V>>(alloc: Global, table: &T) -> Result<Vec<Prefix
         }
     }
 }
+
+/// The keys, in order: one walk of the whole table.
+pub fn keys_at_once<V, T: PrefixTable<V>>(
+    alloc: Global,
+    table: &T,
+) -> Result<Vec<Prefix>, AllocError>
+    ensures { IfOk result (λ keys. keys.items ≡ keys_of (T.table table.now)) }
+{
+    let entries = table.entries(alloc)?;
+    let mut keys = Vec::with_capacity(alloc, entries.len())?;
+    for entry in &entries {
+        keys.push(entry.0)?;
+    }
+    Ok(keys)
+}
