@@ -1,9 +1,9 @@
 //! Workers who make way for one another at the lock.
 
 /// After how many turns at once of little work a worker calls another, at first and at most: twice as many after each one who rests.
-const FIRST_TURNS_TO_A_CALL: u64 = 128;
+const FIRST_TURNS_TO_A_CALL: u64 = 1_024;
 
-const MOST_TURNS_TO_A_CALL: u64 = 2_048;
+const MOST_TURNS_TO_A_CALL: u64 = 8_192;
 
 /// To how many turns at once of little work a worker may find the lock taken once.
 const TURNS_TO_A_WAIT: u64 = 8;

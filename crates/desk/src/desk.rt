@@ -269,6 +269,9 @@ impl<S: Chosen, T: PrefixTable<Cell<S>>, L: Ledger> Desk<S, T, L> {
 
     /// The same of several outcomes.
     fn tell_all_sends(&self, at: &mut Attendance, outcomes: &Outcomes<S>) {
+        if !at.can_be_told() {
+            return;
+        }
         for done in outcomes.as_slice() {
             self.tell_sends(at, done);
         }

@@ -68,6 +68,11 @@ impl Attendance {
         self.posts.idle() > 0
     }
 
+    /// Whether telling of a message changes anything: somebody is idle, or was told of one before and is to be called at once.
+    pub(crate) fn can_be_told(&self) -> bool {
+        self.posts.idle() > 0 || (self.posts.told() > 0 && self.calls_at_once())
+    }
+
     /// A worker of the shard has found no job.
     pub(crate) fn find_nothing(&mut self, shard: u64) {
         self.posts.add_idle(shard);

@@ -156,11 +156,34 @@ impl<S: Chosen, T: PrefixTable<Cell<S>>, L: Ledger> Room<S, T, L> {
 
 impl<S: Chosen + Drop, T: PrefixTable<Cell<S>> + Drop, L: Ledger> Room<S, T, L> {
     /// Ends the room. The history is complete where all its seats come back, each once, and their notes are their calls in it; else room
-    /// and seats are handed back.
+    /// and seats are handed back. The machine is let go.
     pub fn close(self, seats: Vec<Seat<L>>) -> Result<Record, CloseFault<S, T, L>>
         ensures each_once { OnOk result (IsEachOnce self.seats seats.items) }
         ensures agree { OnOk result (AllAgree self.history seats.items) }
         ensures entries { IfOk result (λ kept. kept ≡ self.history) }
+        ensures counted { OnOk result (length self.history ≡ counted seats.items) }
+        ensures fault { IfErr result (λ e. IsFault self.seats self.history seats.items e.fault) }
+        ensures room { IfErr result (λ e. e.room ≡ self) }
+        ensures seats { IfErr result (λ e. e.seats.items ≡ seats.items) }
+    {
+        match self.close_with_machine(seats) {
+            Ok((record, machine)) => {
+                drop(machine);
+                Ok(record)
+            }
+            Err(fault) => Err(fault),
+        }
+    }
+
+    /// Ends the room as `close` does, and gives the machine too, as the history leaves it.
+    pub fn close_with_machine(
+        self,
+        seats: Vec<Seat<L>>,
+    ) -> Result<(Record, Sim<S, T>), CloseFault<S, T, L>>
+        ensures each_once { OnOk result (IsEachOnce self.seats seats.items) }
+        ensures agree { OnOk result (AllAgree self.history seats.items) }
+        ensures entries { IfOk result (λ made. made.0 ≡ self.history) }
+        ensures machine { IfOk result (λ made. network made.1.engine ≡ state_after self.history) }
         ensures counted { OnOk result (length self.history ≡ counted seats.items) }
         ensures fault { IfErr result (λ e. IsFault self.seats self.history seats.items e.fault) }
         ensures room { IfErr result (λ e. e.room ≡ self) }
@@ -189,10 +212,9 @@ impl<S: Chosen + Drop, T: PrefixTable<Cell<S>> + Drop, L: Ledger> Room<S, T, L> 
             rest,
             seats: _,
         } = self;
-        drop(sim);
         let mut all = seat::together(rest, seats);
         book.audit(&mut all);
-        Ok(Record::of(history))
+        Ok((Record::of(history), sim))
     }
 }
 

@@ -20,6 +20,7 @@ use sim_event::Entry;
 use std::alloc::{AllocError, Global};
 use std::hash::RandomState;
 use std::io::{Read, Write};
+use std::mem::forget;
 use std::sync::Wait;
 use std::sync::atomic::AtomicU64;
 use std::sync::ledger::{Blank, Ledger};
@@ -221,8 +222,12 @@ fn closed<S: Selector + Drop, T: PrefixTable<Cell<S>> + Drop, L: Ledger, R: Wait
     {
         return Err(TeamFault::BookDiffers);
     }
-    match desk.end().close(seats) {
-        Ok(record) => Ok(record),
+    match desk.end().close_with_machine(seats) {
+        Ok((record, machine)) => {
+            // Nothing of it is needed any more, and the process ends: to free its cells one by one would only take time.
+            forget(machine);
+            Ok(record)
+        }
         Err(_) => Err(TeamFault::BookDiffers),
     }
 }

@@ -57,9 +57,12 @@ impl<S: Selector + Drop, T: PrefixTable<Cell<S>>, L: Ledger> Room<S, T, L> {
         ensures seen { IfOk result (λ jobs. All (IsSeenIn self.now) jobs.items) }
         ensures none { IfOk result (λ jobs. jobs.items ≡ [] → (from to : address.Addr) → shard_of to shards ≡ shard → queue_at self.now.engine.queues from to ≡ []) }
     {
-        let mut jobs = Vec::new(self.alloc);
         let Some(first) = self.job(shard, shards)? else {
-            return Ok(jobs);
+            return Ok(Vec::new(self.alloc));
+        };
+        let Ok(mut jobs) = Vec::with_capacity(self.alloc, most) else {
+            drop(first);
+            return Err(AllocError);
         };
         let past = first.direction();
         if jobs.push(first).is_err() {
