@@ -4,7 +4,9 @@ use net_prefix::{Addr, Prefix};
 use prefix_table::{PrefixTable, SortedTable, TrieTable};
 use std::alloc::AllocError;
 use std::process::Abort;
-use table_use::{keys, longest_of_both, put_and_get, put_and_get_other, put_and_match};
+use table_use::{
+    keys, keys_at_once, longest_of_both, put_and_get, put_and_get_other, put_and_match,
+};
 
 fn prefix(rt: &impl Abort, addr: u32, len: u8) -> Prefix {
     Prefix::new(Addr(addr), len).expect(rt, "a prefix")
@@ -31,6 +33,14 @@ fn callers_use_either_table(rt: HostRuntime) -> Result<(), AllocError> {
     let walk = [all, ten, part];
     assert_eq!(rt; keys(rt.alloc(), &plain)?.as_slice(), walk.as_slice());
     assert_eq!(rt; keys(rt.alloc(), &trie)?.as_slice(), walk.as_slice());
+    assert_eq!(rt;
+        keys_at_once(rt.alloc(), &plain)?.as_slice(),
+        walk.as_slice()
+    );
+    assert_eq!(rt;
+        keys_at_once(rt.alloc(), &trie)?.as_slice(),
+        walk.as_slice()
+    );
     let both = longest_of_both(&plain, &trie, Addr(0x0a00_0501), 15);
     assert_eq!(rt; both, (Some((ten, 2)), Some((ten, 2))));
     Ok(())

@@ -2,6 +2,7 @@
 
 use net_prefix::{Addr, Prefix};
 use prefix_table::{PrefixTable, SortedTable, TrieTable};
+use std::alloc::{AllocError, Global};
 use std::process::Abort;
 
 fn address(first: u8, second: u8, third: u8, fourth: u8) -> Addr {
@@ -73,6 +74,59 @@ fn ends<T: PrefixTable<u32> + Drop>(rt: &impl Abort, mut table: T) {
     assert_eq!(rt; longest(&table, addr, 0), Some((all, 1)));
     assert_eq!(rt; next(&table, Some(upper)), Some((last, 3)));
     assert_eq!(rt; next(&table, Some(last)), None);
+}
+
+fn listed<T: PrefixTable<u32>>(alloc: Global, table: &T) -> Result<Vec<(Prefix, u32)>, AllocError> {
+    let entries = table.entries(alloc)?;
+    let mut listed = Vec::new(alloc);
+    for entry in &entries {
+        listed.push((entry.0, *entry.1))?;
+    }
+    Ok(listed)
+}
+
+// By address, then by length. The last two part below a prefix that has no value.
+fn entries_in_order<T: PrefixTable<u32> + Drop>(
+    rt: &impl Abort,
+    alloc: Global,
+    mut table: T,
+) -> Result<(), AllocError> {
+    let all = prefix(rt, address(0, 0, 0, 0), 0);
+    let ten = prefix(rt, address(10, 0, 0, 0), 8);
+    let lower = prefix(rt, address(10, 0, 0, 0), 9);
+    let one = prefix(rt, address(10, 0, 0, 0), 32);
+    let upper = prefix(rt, address(10, 128, 0, 0), 9);
+    let left = prefix(rt, address(192, 0, 2, 0), 25);
+    let right = prefix(rt, address(192, 0, 2, 128), 25);
+    assert!(rt; listed(alloc, &table)?.is_empty());
+    put(rt, &mut table, right, 7);
+    put(rt, &mut table, upper, 5);
+    put(rt, &mut table, one, 4);
+    put(rt, &mut table, ten, 2);
+    put(rt, &mut table, left, 6);
+    put(rt, &mut table, lower, 3);
+    put(rt, &mut table, all, 1);
+    let order = [
+        (all, 1),
+        (ten, 2),
+        (lower, 3),
+        (one, 4),
+        (upper, 5),
+        (left, 6),
+        (right, 7),
+    ];
+    assert_eq!(rt; listed(alloc, &table)?.as_slice(), order.as_slice());
+    Ok(())
+}
+
+#[test]
+fn entries_of_a_sorted_table_are_in_order(rt: HostRuntime) -> Result<(), AllocError> {
+    entries_in_order(&rt, rt.alloc(), SortedTable::new(rt.alloc()))
+}
+
+#[test]
+fn entries_of_a_trie_are_in_order(rt: HostRuntime) -> Result<(), AllocError> {
+    entries_in_order(&rt, rt.alloc(), TrieTable::new(rt.alloc()))
 }
 
 #[test]
