@@ -1,6 +1,7 @@
 -- Cells that can change, one after another.
 use Rattle.std.proofs.Common.{◌≡◌, List, [], ◌++◌, Option, Some, None, option_map, option_copied, unwrap_or, refl, sym, ap, ◌∙◌, append_assoc}
 use Rattle.std.proofs.lemmas.List.{append-nil}
+use Rattle.std.proofs.lemmas.Option.{none-some, same_Some}
 use Rattle.std.specs.Borrow.{Bor}
 use Rattle.std.specs.FinMap as finite
 use Rattle.net_prefix.specs.declared.addr.Addr.{Addr}
@@ -10,9 +11,11 @@ use Rattle.net_conf.specs.RouterSites.{router_site}
 use Rattle.net_conf.specs.declared.site.SiteConf.{SiteConf}
 use Rattle.prefix_table.specs.Tables.{Table}
 use Rattle.route_cell.specs.Cells.{Heard, Outcome, decided, refreshed}
+use Rattle.route_cell.specs.Moves.{SitePair}
 use Rattle.cell_network.specs.Keeping.{kept_from, kept_cell}
 use Rattle.cell_network.specs.Editing.{sends_between}
 use Rattle.cell_network.proofs.Sites.{refreshed_is_kept}
+use Rattle.cell_engine.specs.Changes.{pair_of}
 
 -- ONE CELL
 
@@ -23,6 +26,24 @@ remade c old new r p h = record { heard = kept_cell c r p h; sends = sends_betwe
 -- at a router
 pub remade_by_router : (c : Configuration) (old : Option SiteConf) (site : SiteConf) (r : Addr) (p : Block) (h : Heard) → router_site c r ≡ Some site → refreshed (unwrap_or old site) site p h ≡ remade c old (Some site) r p h
 remade_by_router c old site r p h is = λ i. record { heard = refreshed_is_kept c r (unwrap_or old site) site p h is i; sends = (refreshed (unwrap_or old site) site p h).sends }
+
+-- at one that was there before
+pub remade_by_pair : (c : Configuration) (s : SitePair) (r : Addr) (p : Block) (h : Heard) → router_site c r ≡ Some s.new → refreshed s.old s.new p h ≡ remade c (Some s.old) (Some s.new) r p h
+remade_by_pair c s r p h is = remade_by_router c (Some s.old) s.new r p h is
+
+-- where both parts are compared, these are they
+pub pair_some : (old new : Option SiteConf) (s : SitePair) → Some s ≡ pair_of old new → (old ≡ Some s.old) × (new ≡ Some s.new)
+pair_some (Some a) (Some b) s is =
+    let same = sym (same_Some s (record { old = a; new = b }) is) in
+    (ap (λ x. Some x.old) same, ap (λ x. Some x.new) same)
+pair_some (Some a) None s is = absurd (none-some s (sym is))
+pair_some None (Some b) s is = absurd (none-some s (sym is))
+pair_some None None s is = absurd (none-some s (sym is))
+
+-- and where they are not, a router that is there is new
+pub pair_none : (old : Option SiteConf) (new : SiteConf) → None ≡ pair_of old (Some new) → old ≡ None
+pair_none None new is = refl
+pair_none (Some a) new is = absurd (none-some (record { old = a; new = new }) is)
 
 -- at a virtual peer, or where nobody is
 pub remade_by_peer : (c : Configuration) (r : Addr) (p : Block) (h : Heard) → router_site c r ≡ None → ◌≡◌ {A = Heard} (record { received = kept_from c r h.received; standings = finite.empty }) (kept_cell c r p h)

@@ -14,7 +14,7 @@ use crate::moved_cells::MovedCell;
 use net_conf::{Conf, SiteConf};
 use net_prefix::{Addr, Prefix};
 use prefix_table::PrefixTable;
-use route_cell::{Cell, Outcome, SiteChange, keep, refresh};
+use route_cell::{Cell, Outcome, SiteChange, keep, refresh, refresh_compared};
 use route_select::Selector;
 use seq::Seq;
 use std::alloc::{AllocError, Global};
@@ -74,6 +74,16 @@ impl<'a> Becoming<'a> {
         }
     }
 
+    /// The two parts of the configuration, compared, where a router stands before and after.
+    fn change_again(&self) -> Option<SiteChange<'a>>
+        ensures { result ≡ pair_of self.now.old self.now.new }
+    {
+        match &self.change {
+            Some(change) => Some(change.again()),
+            None => None,
+        }
+    }
+
     /// Whose cells they are.
     pub fn address(&self) -> Addr
         ensures { result ≡ self.now.address }
@@ -81,11 +91,18 @@ impl<'a> Becoming<'a> {
         self.address
     }
 
-    /// Whether the cell of the prefix can change.
-    fn moves<S: Selector>(&self, prefix: Prefix, cell: &Cell<S>) -> bool
-        ensures { result ≡ is_moved_by self.now.old self.now.new self.now.conf self.now.address prefix cell.now }
+    /// Whether the cell of the prefix can change. The change is that of the router's part of the configuration.
+    fn moves<S: Selector>(
+        &self,
+        change: &mut Option<SiteChange<'a>>,
+        prefix: Prefix,
+        cell: &Cell<S>,
+    ) -> bool
+        requires { change.old ≡ pair_of self.now.old self.now.new }
+        ensures moves { result ≡ is_moved_by self.now.old self.now.new self.now.conf self.now.address prefix cell.now }
+        ensures stays { change.new ≡ change.old }
     {
-        match (&self.change, self.old, self.new) {
+        match (change, self.old, self.new) {
             (Some(change), _, _) => cell.is_moved(change, prefix),
             (None, None, Some(site)) => cell.has_route(site, prefix),
             (None, None, None) => cell.loses_route(self.conf, self.address),
@@ -94,7 +111,7 @@ impl<'a> Becoming<'a> {
     }
 
     /// The cell decided anew, and what is sent for that. A router decides by its new part of the configuration, and sends what
-    /// changed against its old one; a virtual peer keeps what came over sessions that are up.
+    /// changed against its old one, or where it is new all that it chose; a virtual peer keeps what came over sessions that are up.
     fn remade_cell<S: Selector + Drop>(
         &self,
         alloc: Global,
@@ -103,9 +120,11 @@ impl<'a> Becoming<'a> {
     ) -> Result<Outcome<S>, AllocError>
         ensures { IfOk result (λ made. made ≡ record { heard = kept_cell self.now.conf self.now.address prefix cell.now; sends = sends_between self.now.old self.now.new prefix cell.now }) }
     {
-        match self.new {
-            Some(site) => refresh(alloc, self.old.unwrap_or(site), site, prefix, cell),
-            None => Ok(Outcome {
+        self.conf.facts();
+        match (&self.change, self.new) {
+            (Some(change), _) => refresh_compared(alloc, change, prefix, cell),
+            (None, Some(site)) => refresh(alloc, site, site, prefix, cell),
+            (None, None) => Ok(Outcome {
                 cell: keep(alloc, self.conf, self.address, cell)?,
                 sends: Vec::new(alloc),
             }),
@@ -140,7 +159,25 @@ impl<'a> Becoming<'a> {
         'a: 'b,
         ensures { OnOk result (moved.new ≡ moved.old ++ moved_cell self.now prefix cell.now) }
     {
-        if !self.moves(prefix, cell) {
+        let mut change = self.change_again();
+        self.add_moved(moved, &mut change, prefix, cell)
+    }
+
+    /// Adds the cell of the prefix, if it can change, by the change of the router's part of the configuration.
+    fn add_moved<'b, S: Selector>(
+        &'b self,
+        moved: &mut Seq<MovedCell<'b, S>>,
+        change: &mut Option<SiteChange<'a>>,
+        prefix: Prefix,
+        cell: &'b Cell<S>,
+    ) -> Result<(), AllocError>
+    where
+        'a: 'b,
+        requires { change.old ≡ pair_of self.now.old self.now.new }
+        ensures moved { OnOk result (moved.new ≡ moved.old ++ moved_cell self.now prefix cell.now) }
+        ensures stays { change.new ≡ change.old }
+    {
+        if !self.moves(change, prefix, cell) {
             return Ok(());
         }
         moved.push(MovedCell::of(self, prefix, cell))
@@ -158,8 +195,9 @@ impl<'a> Becoming<'a> {
         ensures { OnOk result (moved.new ≡ moved.old ++ moved_cells self.now (finite.entries (T.table table.now))) }
     {
         let entries = table.entries(alloc)?;
+        let mut change = self.change_again();
         for entry in &entries {
-            self.add_cell(moved, entry.0, entry.1)?;
+            self.add_moved(moved, &mut change, entry.0, entry.1)?;
         }
         Ok(())
     }

@@ -194,7 +194,7 @@ impl<S: Chosen, T: PrefixTable<Cell<S>>, L: Ledger> Desk<S, T, L> {
     /// Calls the workers of one shard for whom a message may wait, or else a worker who rests, if there are any.
     pub(crate) fn call_one<R: Wait>(&self, rt: &R) {
         let mut table = self.table.lock(rt);
-        self.order.call_one(&mut table.at);
+        self.call_next(&mut table);
     }
 
     /// Waits until no edit is asked for, and none has been for a little while.
@@ -244,7 +244,35 @@ impl<S: Chosen, T: PrefixTable<Cell<S>>, L: Ledger> Desk<S, T, L> {
             Concerned::Nobody => {}
             Concerned::Receiver(receiver) => self.order.tell_receiver(&mut table.at, receiver),
             Concerned::ReceiversFrom(sender) => self.tell_receivers(table, sender),
-            Concerned::Everybody => self.order.tell_all_shards(&mut table.at),
+            Concerned::Everybody => self.tell_all(table),
+        }
+    }
+
+    /// Tells all. Where nobody is at work, one for whom a message waits is called.
+    fn tell_all(&self, table: &mut Table<S, T, L>) {
+        self.order.tell_all_shards(&mut table.at);
+        if table.at.at_work() == 0 {
+            self.call_next(table);
+        }
+    }
+
+    /// Calls the workers of one shard who were told, and for whom a message waits, or else a worker who rests, if there are any.
+    fn call_next(&self, table: &mut Table<S, T, L>) {
+        self.take_back(table);
+        self.order.call_one(&mut table.at);
+    }
+
+    /// Up to the first shard that was told and for which a message waits, those who were told are idle again.
+    fn take_back(&self, table: &mut Table<S, T, L>) {
+        let shards = self.order.shards();
+        for shard in 0..shards {
+            if !table.at.is_told(shard) {
+                continue;
+            }
+            if table.room.has_message(shard, shards) {
+                return;
+            }
+            table.at.take_back(shard);
         }
     }
 
@@ -377,7 +405,7 @@ impl<S: Selector + Drop, T: PrefixTable<Cell<S>> + Drop, L: Ledger> Desk<S, T, L
             }
             drop(jobs);
             table.at.find_nothing(shard);
-            self.order.call_one(&mut table.at);
+            self.call_next(&mut table);
             if table.at.is_over(table.room.is_quiet()) {
                 table.at.end_idle(shard);
                 return Turn::End;

@@ -78,6 +78,16 @@ impl Attendance {
         self.posts.add_idle(shard);
     }
 
+    /// Whether workers of the shard were told of a change, and not called yet.
+    pub(crate) fn is_told(&self, shard: u64) -> bool {
+        self.posts.is_told(shard)
+    }
+
+    /// No message waits for the shard: its workers who were told are idle again.
+    pub(crate) fn take_back(&mut self, shard: u64) {
+        self.posts.take_back(shard);
+    }
+
     /// A worker of the shard who has found no job ends.
     pub(crate) fn end_idle(&mut self, shard: u64) {
         self.posts.remove_idle(shard);
@@ -101,9 +111,14 @@ impl Attendance {
             .saturating_sub(self.resting.count())
     }
 
+    /// Whether each worker for whom a message may wait is called at once, whoever is at work.
+    fn calls_each(&self) -> bool {
+        self.may_be_held || self.is_much_work
+    }
+
     /// Whether a worker for whom a message may wait is called at once, and not when another finds no job, or after many turns of another.
     fn calls_at_once(&self) -> bool {
-        self.may_be_held || self.is_much_work || self.at_work() == 0
+        self.calls_each() || self.at_work() == 0
     }
 
     /// The last outcomes were much work, or little.
@@ -211,7 +226,7 @@ impl Order {
     /// The engineers make no more calls: the workers end once no message waits, or none that one of them could bring.
     pub(crate) fn finish(&self, at: &mut Attendance) {
         at.is_finished = true;
-        self.tell_all_shards(at);
+        self.bells.ring_all(&mut at.posts);
     }
 
     /// A worker leaves.
@@ -233,10 +248,13 @@ impl Order {
         self.tell_shard(at, u64::from(receiver.0) % self.shards);
     }
 
-    /// Messages may wait for receivers of all shards, or the workers may end.
+    /// Messages may wait for receivers of all shards: their workers who are idle are told. They are called at once where each is.
     pub(crate) fn tell_all_shards(&self, at: &mut Attendance) {
         for shard in 0..self.shards {
-            self.tell_shard(at, shard);
+            at.posts.tell(shard);
+            if at.calls_each() {
+                self.bells.ring(&mut at.posts, shard);
+            }
         }
     }
 

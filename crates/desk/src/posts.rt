@@ -130,6 +130,25 @@ impl Posts {
         }
     }
 
+    /// Whether workers of the shard were told of a change, and not called yet.
+    pub(crate) fn is_told(&self, shard: u64) -> bool {
+        match self.posts.get(shard as usize) {
+            Some(post) => post.told > 0,
+            None => false,
+        }
+    }
+
+    /// The shard was told in vain: its workers who were told are idle again.
+    pub(crate) fn take_back(&mut self, shard: u64) {
+        if let Some(post) = self.posts.get_mut(shard as usize) {
+            let told = post.told;
+            post.told = 0;
+            post.idle = post.idle.wrapping_add(told);
+            self.told = self.told.wrapping_sub(told);
+            self.idle = self.idle.wrapping_add(told);
+        }
+    }
+
     /// Calls the workers of the shard who were told. Whether there are any.
     fn call(&mut self, shard: u64) -> bool {
         let Some(post) = self.posts.get_mut(shard as usize) else {

@@ -1,3 +1,4 @@
+mod Costless
 pub mod Entries
 mod Lists
 pub mod Outcomes

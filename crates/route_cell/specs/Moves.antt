@@ -33,9 +33,13 @@ is_about_cost _ = false
 abbrev pub counts_cost : SiteConf → Block → Attr → SiteSession → Bool
 counts_cost site p attr from = from.up && is_about_cost (exclusion site (judged from.policy_in p attr) attr)
 
--- the cost to the NEXT_HOP of these attributes becomes another, or comes, or goes
+-- the cost to an address becomes another, or comes, or goes
+abbrev pub moves_cost_to : SitePair → Addr → Bool
+moves_cost_to s to = not (same_number (cost_in s.old.costs to) (cost_in s.new.costs to))
+
+-- the cost to the NEXT_HOP of these attributes does
 abbrev pub is_cost_moved : SitePair → Attr → Bool
-is_cost_moved s attr = not (same_number (cost_in s.old.costs attr.next) (cost_in s.new.costs attr.next))
+is_cost_moved s attr = moves_cost_to s attr.next
 
 -- so does one that counts for the peer's route
 abbrev pub is_route_moved : SitePair → Block → Addr × Attr → Bool

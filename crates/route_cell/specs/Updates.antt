@@ -1,5 +1,5 @@
 -- No public contract cites this file. What a message does to standings that are kept, and what is sent over one session.
-use Rattle.std.specs.Prelude.{Option, Some, None, if◌then◌else◌}
+use Rattle.std.specs.Prelude.{Option, Some, None, option_map, if◌then◌else◌}
 use Rattle.std.specs.Option.{option_map_or, option_to_list}
 use Rattle.std.specs.FinMap as finite
 use Rattle.net_prefix.specs.declared.addr.Addr.{Addr}
@@ -23,3 +23,10 @@ standings_after site u (Withdraw p) m = finite.remove m (FromPeer u)
 -- what is sent over the session: nothing while it is down
 abbrev pub send_if_up : SiteConf → SiteConf → Block → Option Candidate → Option Candidate → SiteSession → Option (Addr × Message)
 send_if_up old new p had has to = if to.up then send_over old new p had has to else None
+
+-- the route, whatever its cost
+abbrev pub without_cost : Candidate → Candidate
+without_cost c = record c { cost = 0 }
+
+abbrev pub costless : Option Candidate → Option Candidate
+costless chosen = option_map without_cost chosen

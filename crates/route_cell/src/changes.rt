@@ -7,8 +7,9 @@ ghost use Rattle.session_queue.specs.Telling.{prefix_of};
 ghost use Rattle.route_cell.specs.Cells.{IsDecided, delivered, stored, refreshed};
 
 use crate::cell::Cell;
+use crate::moves::SiteChange;
 use crate::outcome::Outcome;
-use crate::sends::{sends_at, sends_of};
+use crate::sends::{sends_at, sends_compared, sends_of};
 use crate::standings::{decide, take};
 use net_conf::SiteConf;
 use net_prefix::{Addr, Prefix};
@@ -62,6 +63,27 @@ pub fn refresh<S: Selector + Drop>(
     let received = cell.received.kept_at(alloc, new)?;
     let chosen: S = decide(alloc, new, prefix, &received)?;
     let sends = sends_of(alloc, old, new, prefix, cell.chosen.best(), chosen.best())?;
+    Ok(Outcome {
+        cell: Cell { received, chosen },
+        sends,
+    })
+}
+
+/// What a router does when its site becomes another, and both were compared. Where settings and sessions stay, and the best routes differ in
+/// their costs alone, no advert is made: a cost is advertised to nobody.
+#[tactic(auto, unfolding(crate::specs::Cells::refreshed))]
+pub fn refresh_compared<S: Selector + Drop>(
+    alloc: Global,
+    change: &SiteChange<'_>,
+    prefix: Prefix,
+    cell: &Cell<S>,
+) -> Result<Outcome<S>, AllocError>
+    requires peers { IsStrictlySortedBy addr_cmp (map (λ x. x.peer) change.now.new.sessions) }
+    ensures { IfOk result (λ outcome. outcome ≡ refreshed change.now.old change.now.new prefix cell.now) }
+{
+    let received = cell.received.kept_at(alloc, change.new)?;
+    let chosen: S = decide(alloc, change.new, prefix, &received)?;
+    let sends = sends_compared(alloc, change, prefix, cell.chosen.best(), chosen.best())?;
     Ok(Outcome {
         cell: Cell { received, chosen },
         sends,

@@ -11,7 +11,7 @@ mod sends;
 mod standings;
 
 pub use cell::Cell;
-pub use changes::{deliver, refresh, store};
+pub use changes::{deliver, refresh, refresh_compared, store};
 pub use keeping::keep;
 pub use moves::SiteChange;
 pub use outcome::Outcome;

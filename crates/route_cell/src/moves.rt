@@ -3,7 +3,7 @@
 ghost use Rattle.std.specs.Prelude.{◌≡◌, not};
 ghost use Rattle.std.specs.List.{list_any};
 ghost use Rattle.net_conf.specs.Costs.{is_up};
-ghost use Rattle.route_cell.specs.Moves.{is_about_cost, counts_cost, is_cost_moved, is_route_moved, is_own_moved, has_route, is_moved};
+ghost use Rattle.route_cell.specs.Moves.{is_about_cost, counts_cost, moves_cost_to, is_route_moved, is_own_moved, has_route, is_moved};
 
 use crate::cell::Cell;
 use machine_rules::{exclusion, is_originated};
@@ -14,26 +14,36 @@ use route_policy::judge;
 use route_select::{Reason, Selector};
 use std::marker::Model;
 
-/// A router's part of the configuration before an edit and after it, compared once for all of its cells.
+/// Whether the cost to an address becomes another, or comes, or goes.
+#[derive(Clone, Copy)]
+struct Look {
+    to: Addr,
+    moves: bool,
+}
+
+/// A router's part of the configuration before an edit and after it, compared once for all of its cells. It remembers the NEXT_HOP that was
+/// looked up last: most routes of a router have the same one.
 #[derive(Drop)]
 pub struct SiteChange<'a> {
-    old: &'a SiteConf,
-    new: &'a SiteConf,
-    has_same_facts: bool,
+    pub(crate) old: &'a SiteConf,
+    pub(crate) new: &'a SiteConf,
+    pub(crate) has_same_facts: bool,
     has_same_origins: bool,
+    last: Option<Look>,
 }
 
 impl<'a> Model for SiteChange<'a> {
-    ghost use Rattle.std.specs.Prelude.{◌≡◌};
+    ghost use Rattle.std.specs.Prelude.{◌≡◌, IfSome};
     ghost use Rattle.net_conf.specs.Facts.{same_facts};
-    ghost use Rattle.route_cell.specs.Moves.{SitePair};
+    ghost use Rattle.route_cell.specs.Moves.{SitePair, moves_cost_to};
     ghost use Rattle.route_cell.specs.MoveTests.{same_origins};
 
     ghost Value = { SitePair };
 
     ghost view = { λ x. record { old = x.old.now; new = x.new.now } };
 
-    ghost invariant = { λ x. (x.has_same_facts ≡ same_facts x.old.now x.new.now) × (x.has_same_origins ≡ same_origins x.old.now x.new.now) };
+    ghost invariant = { λ x. (x.has_same_facts ≡ same_facts x.old.now x.new.now) × (x.has_same_origins ≡ same_origins x.old.now x.new.now)
+        × IfSome x.last (λ look. look.moves ≡ moves_cost_to (record { old = x.old.now; new = x.new.now }) look.to) };
 }
 
 impl<'a> SiteChange<'a> {
@@ -46,6 +56,20 @@ impl<'a> SiteChange<'a> {
             new,
             has_same_facts: old.has_same_facts(new),
             has_same_origins: old.origins == new.origins,
+            last: None,
+        }
+    }
+
+    /// The same once more, of which no NEXT_HOP was looked up.
+    pub fn again(&self) -> Self
+        ensures { result ≡ self.now }
+    {
+        SiteChange {
+            old: self.old,
+            new: self.new,
+            has_same_facts: self.has_same_facts,
+            has_same_origins: self.has_same_origins,
+            last: None,
         }
     }
 
@@ -60,18 +84,27 @@ impl<'a> SiteChange<'a> {
         is_originated(self.old, prefix) != is_originated(self.new, prefix)
     }
 
-    /// Whether the cost to the NEXT_HOP becomes another, or comes, or goes.
-    fn moves_cost(&self, attr: &Attr) -> bool
-        ensures { result ≡ is_cost_moved self.now attr.now }
+    /// Whether the cost to the address becomes another, or comes, or goes.
+    fn moves_cost_to(&mut self, to: Addr) -> bool
+        ensures moves { result ≡ moves_cost_to self.entry.now to }
+        ensures stays { self.exit.now ≡ self.entry.now }
     {
-        self.old.costs.cost(attr.next) != self.new.costs.cost(attr.next)
+        if let Some(look) = self.last {
+            if look.to == to {
+                return look.moves;
+            }
+        }
+        let moves = self.old.costs.cost(to) != self.new.costs.cost(to);
+        self.last = Some(Look { to, moves });
+        moves
     }
 
-    /// Whether a cost that counts for the peer's route does.
-    fn moves_route(&self, prefix: Prefix, from: Addr, attr: &Attr) -> bool
-        ensures { result ≡ is_route_moved self.now prefix (from, attr.now) }
+    /// Whether a cost that counts for the peer's route becomes another.
+    fn moves_route(&mut self, prefix: Prefix, from: Addr, attr: &Attr) -> bool
+        ensures moves { result ≡ is_route_moved self.entry.now prefix (from, attr.now) }
+        ensures stays { self.exit.now ≡ self.entry.now }
     {
-        self.moves_cost(attr)
+        self.moves_cost_to(attr.next)
             && self
                 .old
                 .session(from)
@@ -79,12 +112,16 @@ impl<'a> SiteChange<'a> {
     }
 
     /// Whether one of these routes moves.
-    fn moves_any(&self, prefix: Prefix, routes: &[(Addr, Attr)]) -> bool
-        ensures { result ≡ list_any (is_route_moved self.now prefix) routes.now }
+    fn moves_any(&mut self, prefix: Prefix, routes: &[(Addr, Attr)]) -> bool
+        ensures moves { result ≡ list_any (is_route_moved self.entry.now prefix) routes.now }
+        ensures stays { self.exit.now ≡ self.entry.now }
     {
-        routes
-            .iter()
-            .any(|route| self.moves_route(prefix, route.0, &route.1))
+        for route in routes {
+            if self.moves_route(prefix, route.0, &route.1) {
+                return true;
+            }
+        }
+        false
     }
 }
 
@@ -104,8 +141,9 @@ fn counts_cost(site: &SiteConf, prefix: Prefix, attr: &Attr, from: &SiteSession)
 
 impl<S: Selector> Cell<S> {
     /// Whether the router's cell of the prefix can change. Where it says no, `refresh` gives the cell again, and sends nothing.
-    pub fn is_moved(&self, change: &SiteChange<'_>, prefix: Prefix) -> bool
-        ensures { result ≡ is_moved change.now prefix self.now.received }
+    pub fn is_moved(&self, change: &mut SiteChange<'_>, prefix: Prefix) -> bool
+        ensures moved { result ≡ is_moved change.entry.now prefix self.now.received }
+        ensures stays { change.exit.now ≡ change.entry.now }
     {
         let routes = self.received.routes();
         if change.has_same_facts {

@@ -1,7 +1,7 @@
 //! The routes that were received for one prefix, in a vector in the order of their senders. A cell has one to four of them,
 //! for which a B-tree map is too large.
 
-ghost use Rattle.std.specs.Prelude.{◌≡◌, ◌++◌, [], filter, IfOk, OnOk};
+ghost use Rattle.std.specs.Prelude.{◌≡◌, ◌∷◌, ◌++◌, [], filter, IfOk, OnOk};
 ghost use Rattle.std.specs.Option.{option_copied};
 ghost use Rattle.std.specs.Ordering.{is_gt, is_lt};
 ghost use Rattle.std.specs.Map.{remove_entry};
@@ -200,6 +200,22 @@ fn without_sender(
     Ok(less)
 }
 
+/// Adds a copy of the route to those that are kept, of which there will be so many at most.
+fn add_kept(
+    alloc: Global,
+    kept: &mut Vec<(Addr, Attr)>,
+    route: &(Addr, Attr),
+    most: usize,
+) -> Result<(), AllocError>
+    ensures { OnOk result (kept.new.items ≡ kept.old.items ++ (route.now ∷ [])) }
+{
+    if kept.is_empty() {
+        kept.reserve_exact(most)?;
+    }
+    kept.push((route.0, route.1.copy(alloc)?))?;
+    Ok(())
+}
+
 /// The routes that came over sessions that are up.
 fn kept_routes(
     alloc: Global,
@@ -211,7 +227,7 @@ fn kept_routes(
     let mut kept = Vec::new(alloc);
     for route in routes {
         if is_up_in(site, route.0) {
-            kept.push((route.0, route.1.copy(alloc)?))?;
+            add_kept(alloc, &mut kept, route, routes.len())?;
         }
     }
     Ok(kept)
@@ -229,7 +245,7 @@ fn routes_over(
     let mut kept = Vec::new(alloc);
     for route in routes {
         if conf.is_up(route.0, to) {
-            kept.push((route.0, route.1.copy(alloc)?))?;
+            add_kept(alloc, &mut kept, route, routes.len())?;
         }
     }
     Ok(kept)

@@ -1,13 +1,15 @@
 //! What is sent when a choice or a site changes.
 
 ghost use Rattle.std.specs.Prelude.{◌≡◌, ◌↔◌, map, IsTrue, IfOk};
+ghost use Rattle.std.specs.Bool.{OnTrue};
 ghost use Rattle.std.specs.List.{filter_map};
 ghost use Rattle.std.specs.List.Sorted.{IsStrictlySortedBy};
 ghost use Rattle.net_prefix.specs.Address.{addr_cmp};
 ghost use Rattle.std.specs.Option.{option_copied};
 ghost use Rattle.route_cell.specs.Cells.{is_up_in, send_to, send_over, sends_of};
-ghost use Rattle.route_cell.specs.Updates.{send_if_up};
+ghost use Rattle.route_cell.specs.Updates.{send_if_up, without_cost, costless};
 
+use crate::moves::SiteChange;
 use machine_rules::{advert_of, change_of};
 use net_conf::{SiteConf, SiteSession};
 use net_prefix::{Addr, Prefix};
@@ -125,6 +127,36 @@ pub(crate) fn sends_at(
     }
 }
 
+/// What is sent where both sites were compared: no advert is made where settings and sessions stay, and the best routes differ in their costs
+/// alone.
+pub(crate) fn sends_compared(
+    alloc: Global,
+    change: &SiteChange<'_>,
+    prefix: Prefix,
+    had: Option<&Candidate>,
+    has: Option<&Candidate>,
+) -> Result<Vec<(Addr, Message)>, AllocError>
+    requires { IsStrictlySortedBy addr_cmp (map (λ x. x.peer) change.now.new.sessions) }
+    ensures { IfOk result (λ sends. sends.items ≡ sends_of change.now.old change.now.new prefix (option_copied had.entry) (option_copied has.entry)) }
+{
+    if change.has_same_facts && is_same_choice_but_for_cost(had, has) {
+        Ok(Vec::new(alloc))
+    } else {
+        sends_of(alloc, change.old, change.new, prefix, had, has)
+    }
+}
+
+/// Whether both are the same route but for its cost, or none.
+fn is_same_choice_but_for_cost(one: Option<&Candidate>, other: Option<&Candidate>) -> bool
+    ensures { OnTrue result (costless (option_copied one.entry) ≡ costless (option_copied other.entry)) }
+{
+    match (one, other) {
+        (None, None) => true,
+        (Some(one), Some(other)) => is_same_but_for_cost(one, other),
+        _ => false,
+    }
+}
+
 /// Whether both are the same route, or none.
 fn is_same_choice(one: Option<&Candidate>, other: Option<&Candidate>) -> bool
     ensures { IsTrue result ↔ (option_copied one.entry ≡ option_copied other.entry) }
@@ -140,10 +172,16 @@ fn is_same_choice(one: Option<&Candidate>, other: Option<&Candidate>) -> bool
 fn is_same(one: &Candidate, other: &Candidate) -> bool
     ensures { IsTrue result ↔ (one.now ≡ other.now) }
 {
+    one.cost == other.cost && is_same_but_for_cost(one, other)
+}
+
+/// Whether both are the same route but for its cost.
+fn is_same_but_for_cost(one: &Candidate, other: &Candidate) -> bool
+    ensures { IsTrue result ↔ (without_cost one.now ≡ without_cost other.now) }
+{
     one.source == other.source
         && one.pref == other.pref
         && one.external == other.external
-        && one.cost == other.cost
         && one.ident == other.ident
         && one.attr.is_same(&other.attr)
 }

@@ -1,6 +1,6 @@
 //! Jobs are taken.
 
-ghost use Rattle.std.specs.Prelude.{◌≡◌, ◌<◌, ◌≤◌, [], None, length, All, IfOk, IfSome};
+ghost use Rattle.std.specs.Prelude.{◌≡◌, ◌<◌, ◌≤◌, ◌↔◌, false, [], None, length, All, IfOk, IfSome};
 ghost use Rattle.net_prefix.specs.declared.addr.Addr as address;
 ghost use Rattle.session_queue.specs.Shards.{shard_of};
 ghost use Rattle.session_queue.specs.Waiting.{queue_at};
@@ -18,6 +18,16 @@ use seq::Copied;
 use session_queue::Direction;
 use std::alloc::AllocError;
 use std::sync::ledger::Ledger;
+
+impl<S: Chosen, T: PrefixTable<Cell<S>>, L: Ledger> Room<S, T, L> {
+    /// Whether a message waits for a receiver of the shard.
+    pub(crate) fn has_message(&self, shard: u64, shards: u64) -> bool
+        requires { shard < shards }
+        ensures { (result ≡ false) ↔ ((from to : address.Addr) → shard_of to shards ≡ shard → queue_at self.now.engine.queues from to ≡ []) }
+    {
+        self.sim.state().queues().next_in(shard, shards).is_some()
+    }
+}
 
 impl<S: Selector + Drop, T: PrefixTable<Cell<S>>, L: Ledger> Room<S, T, L> {
     /// A job of the shard: what the delivery of a message that waits depends on, as it is now. None where no message waits for a receiver
