@@ -27,10 +27,6 @@ remade c old new r p h = record { heard = kept_cell c r p h; sends = sends_betwe
 pub remade_by_router : (c : Configuration) (old : Option SiteConf) (site : SiteConf) (r : Addr) (p : Block) (h : Heard) → router_site c r ≡ Some site → refreshed (unwrap_or old site) site p h ≡ remade c old (Some site) r p h
 remade_by_router c old site r p h is = λ i. record { heard = refreshed_is_kept c r (unwrap_or old site) site p h is i; sends = (refreshed (unwrap_or old site) site p h).sends }
 
--- at one that was there before
-pub remade_by_pair : (c : Configuration) (s : SitePair) (r : Addr) (p : Block) (h : Heard) → router_site c r ≡ Some s.new → refreshed s.old s.new p h ≡ remade c (Some s.old) (Some s.new) r p h
-remade_by_pair c s r p h is = remade_by_router c (Some s.old) s.new r p h is
-
 -- where both parts are compared, these are they
 pub pair_some : (old new : Option SiteConf) (s : SitePair) → Some s ≡ pair_of old new → (old ≡ Some s.old) × (new ≡ Some s.new)
 pair_some (Some a) (Some b) s is =

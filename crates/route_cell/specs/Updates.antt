@@ -24,7 +24,7 @@ standings_after site u (Withdraw p) m = finite.remove m (FromPeer u)
 abbrev pub send_if_up : SiteConf → SiteConf → Block → Option Candidate → Option Candidate → SiteSession → Option (Addr × Message)
 send_if_up old new p had has to = if to.up then send_over old new p had has to else None
 
--- the route, whatever its cost
+-- the route, whatever its cost: no path attribute holds it (RFC 4271, 5)
 abbrev pub without_cost : Candidate → Candidate
 without_cost c = record c { cost = 0 }
 

@@ -11,7 +11,7 @@ use seq::SharedSeq;
 use std::alloc::{AllocError, Global};
 
 /// The most keys of a chunk.
-pub(crate) const CHUNK: usize = 128;
+pub(crate) const CHUNK: usize = 256;
 
 /// The chunk in which a key can stand alone, with those before it and those after it.
 #[derive(Drop)]

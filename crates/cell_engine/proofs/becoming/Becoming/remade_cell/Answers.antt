@@ -4,7 +4,7 @@ use Rattle.net_conf.specs.declared.site.SiteConf.{SiteConf}
 use Rattle.net_conf.proofs.RouterLaws.{site_of_router, site_sessions_in_order}
 use Rattle.router_tables.proofs.Seen.{when_ok}
 use Rattle.cell_engine.specs.Changes.{Becoming, pair_of}
-use Rattle.cell_engine.proofs.Remade.{remade, remade_by_router, remade_by_pair, pair_some, pair_none}
+use Rattle.cell_engine.proofs.Remade.{remade, remade_by_router, pair_some, pair_none}
 use Rattle.cell_engine.proofs.becoming.Becoming.remade_cell.Goals as goal
 
 pub refresh_compared-requires : goal.refresh_compared-requires
@@ -28,7 +28,7 @@ returns-in-Some-default g c =
     let at : router_site conf r ≡ Some sites.new = sym c.self.invariant.0 ∙ both.1 in
     subst (λ (b : Becoming). IfOk c.refresh_compared.result (λ made. made ≡ remade b.conf b.old b.new b.address p h)) c.self.view_is (when_ok c.refresh_compared.result _ _ (λ made is.
     is
-    ∙ remade_by_pair conf sites r p h at
+    ∙ remade_by_router conf (Some sites.old) sites.new r p h at
     ∙ (λ i. remade conf (sym both.0 i) (sym both.1 i) r p h)
     ) c.refresh_compared.ensures)
 
