@@ -1,18 +1,17 @@
 -- What a caller at a desk knows of its own seat, and why a desk is not opened.
 use Rattle.std.specs.Prelude.{◌≡◌, ◌≤◌, ℕ, List, [], ◌∷◌}
-use mathlib.Core.List.{IsPrefix}
 use Rattle.sim_event.specs.declared.entry.Entry.{Entry}
 use Rattle.sim_event.specs.declared.event.Event.{Event}
 use Rattle.sim_event.specs.declared.reply.Reply.{Reply}
 use Rattle.reference_machine.specs.Machine.{step}
 use Rattle.reference_machine.specs.Histories.{IsLegal, state_after, calls_of}
-use Rattle.desk.specs.declared.room.commit.Committed.{Committed}
-use Rattle.desk.specs.declared.room.commit.Committed.TheVariants.{Delivered, Stale}
+use Rattle.room.specs.declared.room.commit.Committed.{Committed}
+use Rattle.room.specs.declared.room.commit.Committed.TheVariants.{Delivered, Stale}
 use Rattle.desk.specs.declared.desk.OpenFault.{OpenFault}
 use Rattle.desk.specs.declared.desk.OpenFault.TheVariants.{Seats, Shards, Memory}
-use Rattle.desk.specs.Books.{RoomBook, SeatBook, IsKept, with_call}
-use Rattle.desk.specs.Jobs.{Seen, IsSeenIn}
-use Rattle.desk.specs.Commits.{delivery_of}
+use Rattle.room.specs.Books.{RoomBook, SeatBook, IsKept, GoesOn, with_call}
+use Rattle.room.specs.Jobs.{Seen, IsSeenIn}
+use Rattle.room.specs.Commits.{delivery_of}
 
 -- a desk: how many shards it has
 pub record DeskBook : Type 0 where
@@ -54,11 +53,6 @@ pub record IsNoted (seat : SeatBook) : Type 0 where
 abbrev pub IsSeatAfter : SeatBook → Seen → Committed → SeatBook → Type 0
 IsSeatAfter seat x (Delivered reply) new = (new ≡ with_call seat (delivery_of x) reply) × IsReplied (delivery_of x) reply
 IsSeatAfter seat x (Stale newer) new = new ≡ seat
-
--- the seat is the same, and its notes go on from what they were
-pub record GoesOn (old new : SeatBook) : Type 0 where
-  pub same : new.number ≡ old.number
-  pub goes_on : IsPrefix old.notes new.notes
 
 -- each seat goes on from the one at its place
 abbrev pub AllGoOn : List SeatBook → List SeatBook → Type 0

@@ -1,6 +1,1 @@
-pub mod Books
-pub mod Closing
-pub mod Jobs
-pub mod Commits
-pub mod Differences
 pub mod Desks

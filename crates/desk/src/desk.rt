@@ -2,16 +2,16 @@
 
 ghost use Rattle.std.specs.Prelude.{◌≡◌, ◌<◌, ◌≤◌, false, IfOk, IfErr, IfSome, OnOk, OnErr};
 ghost use Rattle.session_queue.specs.Shards.{shard_of};
-ghost use Rattle.desk.specs.Books.{blank_seats, is_memory, noted};
-ghost use Rattle.desk.specs.Desks.{AreSeats, AreShards, GoesOn, IsOpenFault, IsReplied, IsTaken, IsNoted, IsSeatAfter};
+ghost use Rattle.room.specs.Books.{GoesOn, blank_seats, is_memory, noted};
+ghost use Rattle.desk.specs.Desks.{AreSeats, AreShards, IsOpenFault, IsReplied, IsTaken, IsNoted, IsSeatAfter};
 
 use crate::crowd::Crowd;
 use crate::order::{Attendance, Order};
 use crate::posts::Concerned;
-use crate::room::{Audit, CommitFault, Committed, Done, Job, Jobs, Outcomes, Progress, Room, Seat};
 use cell_engine::Cell;
 use net_prefix::Addr;
 use prefix_table::PrefixTable;
+use room::{Audit, CommitFault, Committed, Done, Job, Jobs, Outcomes, Progress, Room, Seat};
 use route_select::{Chosen, Selector};
 use sim_event::{Event, Reply};
 use std::alloc::{AllocError, Global};

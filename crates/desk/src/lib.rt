@@ -5,7 +5,6 @@ mod crowd;
 mod desk;
 mod order;
 mod posts;
-mod room;
 mod workers;
 
 pub use desk::{Desk, MAX_SEATS, MAX_SHARDS, OpenFault};

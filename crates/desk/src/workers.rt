@@ -1,15 +1,15 @@
 //! Worker threads at a desk.
 
 ghost use Rattle.std.specs.Prelude.{◌≡◌, ◌<◌, All, vec_len, vec_capacity};
-ghost use Rattle.desk.specs.Books.{RoomBook};
-ghost use Rattle.desk.specs.Jobs.{IsSeenIn};
-ghost use Rattle.desk.specs.Desks.{GoesOn, AllGoOn};
+ghost use Rattle.room.specs.Books.{GoesOn, RoomBook};
+ghost use Rattle.room.specs.Jobs.{IsSeenIn};
+ghost use Rattle.desk.specs.Desks.{AllGoOn};
 
 use crate::crowd::{Between, Crowd};
 use crate::desk::{Desk, Turn};
-use crate::room::{Done, Job, Jobs, Outcomes, Seat};
 use cell_engine::Cell;
 use prefix_table::PrefixTable;
+use room::{Done, Job, Jobs, Outcomes, Seat};
 use route_select::Selector;
 use std::snapshot::Snapshot;
 use std::sync::Wait;
@@ -77,7 +77,7 @@ struct Crew<'a, S: Selector, T: PrefixTable<Cell<S>>, L: Ledger, G: Gate, R: Wai
 struct SeatGoesOn<L: Ledger>(Snapshot<Seat<L>>);
 
 impl<L: Ledger> Promise<Seat<L>> for SeatGoesOn<L> {
-    ghost use Rattle.desk.specs.Desks.{GoesOn};
+    ghost use Rattle.room.specs.Books.{GoesOn};
 
     ghost kept_by = { λ promise seat. GoesOn promise.0.value seat };
 }

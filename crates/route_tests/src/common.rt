@@ -4,33 +4,36 @@ use net_prefix::{Prefix, read_prefix};
 use path_attr::{AsPath, Asn, Segment};
 use seq::{Seq, SharedSeq};
 use std::alloc::Global;
-use std::test::Fail;
+use std::process::Abort;
 
 /// The prefix that the text spells.
-pub fn prefix(text: &str) -> Result<Prefix, Fail> {
-    Ok(read_prefix(text.as_bytes()).ok_or("the text spells a prefix")?)
+pub fn prefix(rt: &impl Abort, text: &str) -> Prefix {
+    read_prefix(text.as_bytes()).expect(rt, "the text spells a prefix")
 }
 
-pub fn asn(number: u32) -> Result<Asn, Fail> {
-    Ok(Asn::new(number).ok_or("an AS has a number")?)
+pub fn asn(rt: &impl Abort, number: u32) -> Asn {
+    Asn::new(number).expect(rt, "an AS has a number")
 }
 
-fn list(alloc: Global, numbers: &[u32]) -> Result<Seq<Asn>, Fail> {
+fn list(rt: &impl Abort, alloc: Global, numbers: &[u32]) -> Seq<Asn> {
     let mut list = Vec::new(alloc);
     for number in numbers {
-        list.push(asn(*number)?)?;
+        list.push(asn(rt, *number)).expect(rt, "memory");
     }
-    Ok(Seq::of(list))
+    Seq::of(list)
 }
 
 /// A path: a sequence and a set, either of which may be left out.
-pub fn path(alloc: Global, sequence: &[u32], set: &[u32]) -> Result<AsPath, Fail> {
+pub fn path(rt: &impl Abort, alloc: Global, sequence: &[u32], set: &[u32]) -> AsPath {
     let mut segments = Vec::new(alloc);
     if !sequence.is_empty() {
-        segments.push(Segment::Seq(list(alloc, sequence)?))?;
+        let first = Segment::Seq(list(rt, alloc, sequence));
+        segments.push(first).expect(rt, "memory");
     }
     if !set.is_empty() {
-        segments.push(Segment::Set(list(alloc, set)?))?;
+        let next = Segment::Set(list(rt, alloc, set));
+        segments.push(next).expect(rt, "memory");
     }
-    Ok(AsPath::new(SharedSeq::of(alloc, segments)?).ok_or("the path is well formed")?)
+    let segments = SharedSeq::of(alloc, segments).expect(rt, "memory");
+    AsPath::new(segments).expect(rt, "the path is well formed")
 }

@@ -3,36 +3,32 @@
 use crate::common::{asn, path};
 use path_attr::AsPath;
 use std::process::Abort;
-use std::test::Fail;
 
 #[test]
-fn begins_with_a_sequence(rt: HostRuntime) -> Result<(), Fail> {
+fn begins_with_a_sequence(rt: HostRuntime) {
     let alloc = rt.alloc();
-    let mut worked = path(alloc, &[7], &[1, 2, 3])?;
+    let mut worked = path(&rt, alloc, &[7], &[1, 2, 3]);
     assert_eq!(rt; worked.length(), 2);
-    assert_eq!(rt; worked.neighbour(), Some(asn(7)?));
-    assert!(rt; worked.holds(asn(2)?));
-    worked.prepend(alloc, asn(9)?)?;
-    assert_eq!(rt; worked, path(alloc, &[9, 7], &[1, 2, 3])?);
-    Ok(())
+    assert_eq!(rt; worked.neighbour(), Some(asn(&rt, 7)));
+    assert!(rt; worked.holds(asn(&rt, 2)));
+    worked.prepend(alloc, asn(&rt, 9)).expect(&rt, "memory");
+    assert_eq!(rt; worked, path(&rt, alloc, &[9, 7], &[1, 2, 3]));
 }
 
 #[test]
-fn begins_with_a_set(rt: HostRuntime) -> Result<(), Fail> {
+fn begins_with_a_set(rt: HostRuntime) {
     let alloc = rt.alloc();
-    let mut worked = path(alloc, &[], &[1, 2])?;
+    let mut worked = path(&rt, alloc, &[], &[1, 2]);
     assert_eq!(rt; worked.length(), 1);
     assert_eq!(rt; worked.neighbour(), None);
-    worked.prepend(alloc, asn(9)?)?;
-    assert_eq!(rt; worked, path(alloc, &[9], &[1, 2])?);
-    Ok(())
+    worked.prepend(alloc, asn(&rt, 9)).expect(&rt, "memory");
+    assert_eq!(rt; worked, path(&rt, alloc, &[9], &[1, 2]));
 }
 
 #[test]
-fn prepends_to_nothing(rt: HostRuntime) -> Result<(), Fail> {
+fn prepends_to_nothing(rt: HostRuntime) {
     let alloc = rt.alloc();
     let mut worked = AsPath::empty();
-    worked.prepend(alloc, asn(9)?)?;
-    assert_eq!(rt; worked, path(alloc, &[9], &[])?);
-    Ok(())
+    worked.prepend(alloc, asn(&rt, 9)).expect(&rt, "memory");
+    assert_eq!(rt; worked, path(&rt, alloc, &[9], &[]));
 }

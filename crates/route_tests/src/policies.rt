@@ -6,7 +6,6 @@ use path_attr::{AsPath, Attr, Origin};
 use route_policy::{Action, Match, Policy, Rule, judge};
 use seq::SharedSeq;
 use std::process::Abort;
-use std::test::Fail;
 
 const PREFER_FIVE: Action = Action::Permit {
     pref: Some(5),
@@ -20,10 +19,8 @@ const PLAIN: Action = Action::Permit {
     prepend: None,
 };
 
-/// The policy `under 10.0.0.0/8 deny`, `any permit pref=5`, and then none.
-#[test]
-fn judges_by_the_first_rule(rt: HostRuntime) -> Result<(), Fail> {
-    let route = Attr {
+fn route() -> Attr {
+    Attr {
         path: AsPath::empty(),
         origin: Origin::Igp,
         next: Addr(1),
@@ -31,19 +28,26 @@ fn judges_by_the_first_rule(rt: HostRuntime) -> Result<(), Fail> {
         pref: None,
         oid: None,
         clusters: SharedSeq::empty(),
-    };
-    let mut policy = Policy::new(rt.alloc());
-    let inside = Match::Under(prefix("10.0.0.0/8")?);
-    for (cond, act) in [(inside, Action::Deny), (Match::Any, PREFER_FIVE)] {
-        policy
-            .add(Rule { cond, act })
-            .map_err(|_| "no room for a rule")?;
     }
-    let part = prefix("10.1.0.0/16")?;
+}
+
+fn add(rt: &impl Abort, policy: &mut Policy, cond: Match, act: Action) {
+    let added = policy.add(Rule { cond, act });
+    assert!(rt; added.is_ok());
+}
+
+/// The policy `under 10.0.0.0/8 deny`, `any permit pref=5`, and then none.
+#[test]
+fn judges_by_the_first_rule(rt: HostRuntime) {
+    let route = route();
+    let mut policy = Policy::new(rt.alloc());
+    let inside = Match::Under(prefix(&rt, "10.0.0.0/8"));
+    add(&rt, &mut policy, inside, Action::Deny);
+    add(&rt, &mut policy, Match::Any, PREFER_FIVE);
+    let part = prefix(&rt, "10.1.0.0/16");
     assert_eq!(rt; judge(&policy, part, &route), Action::Deny);
-    let other = prefix("11.0.0.0/8")?;
+    let other = prefix(&rt, "11.0.0.0/8");
     assert_eq!(rt; judge(&policy, other, &route), PREFER_FIVE);
     policy.clear();
     assert_eq!(rt; judge(&policy, part, &route), PLAIN);
-    Ok(())
 }

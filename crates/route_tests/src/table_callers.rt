@@ -2,7 +2,7 @@
 
 use net_prefix::{Addr, Prefix};
 use prefix_table::{PrefixTable, SortedTable, TrieTable};
-use std::alloc::AllocError;
+use std::alloc::Global;
 use std::process::Abort;
 use table_use::{
     keys, keys_at_once, longest_of_both, put_and_get, put_and_get_other, put_and_match,
@@ -23,25 +23,24 @@ fn filled<T: PrefixTable<u8> + Drop>(rt: &impl Abort, mut table: T) -> T {
     table
 }
 
+/// The prefixes of a table that `filled` made, walked and listed at once.
+fn walks<T: PrefixTable<u8>>(rt: &impl Abort, alloc: Global, table: &T) {
+    let ten = prefix(rt, 0x0a00_0000, 8);
+    let part = prefix(rt, 0x0a00_0000, 16);
+    let walk = [prefix(rt, 0, 0), ten, part];
+    let walked = keys(alloc, table).expect(rt, "memory");
+    assert_eq!(rt; walked.as_slice(), walk.as_slice());
+    let listed = keys_at_once(alloc, table).expect(rt, "memory");
+    assert_eq!(rt; listed.as_slice(), walk.as_slice());
+}
+
 #[test]
-fn callers_use_either_table(rt: HostRuntime) -> Result<(), AllocError> {
+fn callers_use_either_table(rt: HostRuntime) {
     let plain = filled(&rt, SortedTable::new(rt.alloc()));
     let trie = filled(&rt, TrieTable::new(rt.alloc()));
+    walks(&rt, rt.alloc(), &plain);
+    walks(&rt, rt.alloc(), &trie);
     let ten = prefix(&rt, 0x0a00_0000, 8);
-    let part = prefix(&rt, 0x0a00_0000, 16);
-    let all = prefix(&rt, 0, 0);
-    let walk = [all, ten, part];
-    assert_eq!(rt; keys(rt.alloc(), &plain)?.as_slice(), walk.as_slice());
-    assert_eq!(rt; keys(rt.alloc(), &trie)?.as_slice(), walk.as_slice());
-    assert_eq!(rt;
-        keys_at_once(rt.alloc(), &plain)?.as_slice(),
-        walk.as_slice()
-    );
-    assert_eq!(rt;
-        keys_at_once(rt.alloc(), &trie)?.as_slice(),
-        walk.as_slice()
-    );
     let both = longest_of_both(&plain, &trie, Addr(0x0a00_0501), 15);
     assert_eq!(rt; both, (Some((ten, 2)), Some((ten, 2))));
-    Ok(())
 }

@@ -2,7 +2,7 @@
 
 use net_prefix::{Addr, Prefix};
 use prefix_table::{PrefixTable, SortedTable, TrieTable};
-use std::alloc::{AllocError, Global};
+use std::alloc::Global;
 use std::process::Abort;
 
 fn address(first: u8, second: u8, third: u8, fourth: u8) -> Addr {
@@ -76,21 +76,17 @@ fn ends<T: PrefixTable<u32> + Drop>(rt: &impl Abort, mut table: T) {
     assert_eq!(rt; next(&table, Some(last)), None);
 }
 
-fn listed<T: PrefixTable<u32>>(alloc: Global, table: &T) -> Result<Vec<(Prefix, u32)>, AllocError> {
-    let entries = table.entries(alloc)?;
+fn listed<T: PrefixTable<u32>>(rt: &impl Abort, alloc: Global, table: &T) -> Vec<(Prefix, u32)> {
+    let entries = table.entries(alloc).expect(rt, "memory");
     let mut listed = Vec::new(alloc);
     for entry in &entries {
-        listed.push((entry.0, *entry.1))?;
+        listed.push((entry.0, *entry.1)).expect(rt, "memory");
     }
-    Ok(listed)
+    listed
 }
 
 // By address, then by length. The last two part below a prefix that has no value.
-fn entries_in_order<T: PrefixTable<u32> + Drop>(
-    rt: &impl Abort,
-    alloc: Global,
-    mut table: T,
-) -> Result<(), AllocError> {
+fn entries_in_order<T: PrefixTable<u32> + Drop>(rt: &impl Abort, alloc: Global, mut table: T) {
     let all = prefix(rt, address(0, 0, 0, 0), 0);
     let ten = prefix(rt, address(10, 0, 0, 0), 8);
     let lower = prefix(rt, address(10, 0, 0, 0), 9);
@@ -98,7 +94,7 @@ fn entries_in_order<T: PrefixTable<u32> + Drop>(
     let upper = prefix(rt, address(10, 128, 0, 0), 9);
     let left = prefix(rt, address(192, 0, 2, 0), 25);
     let right = prefix(rt, address(192, 0, 2, 128), 25);
-    assert!(rt; listed(alloc, &table)?.is_empty());
+    assert!(rt; listed(rt, alloc, &table).is_empty());
     put(rt, &mut table, right, 7);
     put(rt, &mut table, upper, 5);
     put(rt, &mut table, one, 4);
@@ -115,18 +111,17 @@ fn entries_in_order<T: PrefixTable<u32> + Drop>(
         (left, 6),
         (right, 7),
     ];
-    assert_eq!(rt; listed(alloc, &table)?.as_slice(), order.as_slice());
-    Ok(())
+    assert_eq!(rt; listed(rt, alloc, &table).as_slice(), order.as_slice());
 }
 
 #[test]
-fn entries_of_a_sorted_table_are_in_order(rt: HostRuntime) -> Result<(), AllocError> {
-    entries_in_order(&rt, rt.alloc(), SortedTable::new(rt.alloc()))
+fn entries_of_a_sorted_table_are_in_order(rt: HostRuntime) {
+    entries_in_order(&rt, rt.alloc(), SortedTable::new(rt.alloc()));
 }
 
 #[test]
-fn entries_of_a_trie_are_in_order(rt: HostRuntime) -> Result<(), AllocError> {
-    entries_in_order(&rt, rt.alloc(), TrieTable::new(rt.alloc()))
+fn entries_of_a_trie_are_in_order(rt: HostRuntime) {
+    entries_in_order(&rt, rt.alloc(), TrieTable::new(rt.alloc()));
 }
 
 #[test]

@@ -1,7 +1,7 @@
 use Rattle.std.proofs.Common.{sym, subst}
 use Rattle.std.specs.Prelude.{is_ok}
-use Rattle.desk.specs.Jobs.{Seen, IsSeenIn}
-use Rattle.desk.proofs.Pushed.{all_pushed}
+use Rattle.room.specs.Jobs.{Seen, IsSeenIn}
+use Rattle.room.proofs.Pushed.{all_pushed}
 use Rattle.desk.proofs.workers.Crew.do_job.Goals as goal
 
 pub returns : goal.returns

@@ -1,4 +1,4 @@
-use Rattle.desk.specs.Desks.{GoesOn}
+use Rattle.room.specs.Books.{GoesOn}
 use Rattle.desk.proofs.workers.Crew.make_turns.Given as goal
 
 -- the seat goes on from what it was

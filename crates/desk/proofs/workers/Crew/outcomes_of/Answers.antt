@@ -1,6 +1,6 @@
 use Rattle.std.proofs.Common.{◌∷◌, All, subst}
 use Rattle.std.proofs.lemmas.List.Elements.{All-head, All-tail}
-use Rattle.desk.specs.Jobs.{IsSeenIn}
+use Rattle.room.specs.Jobs.{IsSeenIn}
 use Rattle.desk.proofs.workers.Crew.outcomes_of.Goals as goal
 
 pub loop-job-preserved : goal.loop-job-preserved

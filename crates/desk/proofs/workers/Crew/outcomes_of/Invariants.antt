@@ -1,6 +1,6 @@
 use Rattle.std.proofs.Common.{All}
-use Rattle.desk.specs.Books.{RoomBook}
-use Rattle.desk.specs.Jobs.{IsSeenIn}
+use Rattle.room.specs.Books.{RoomBook}
+use Rattle.room.specs.Jobs.{IsSeenIn}
 use Rattle.desk.proofs.workers.Crew.outcomes_of.Given as goal
 
 -- the jobs that are left and the outcomes were seen in one room

@@ -1,6 +1,0 @@
-use Rattle.std.proofs.Common.{◌≡◌, ◌+◌}
-use Rattle.desk.specs.Books.{blank_seats}
-use Rattle.desk.proofs.room.seat.all_of.Given as goal
-
-abbrev pub invariant-loop-number : goal.invariant-loop-number
-invariant-loop-number g l = (l.rest.parts + l.number ≡ 256) × (l.rest.amount ≡ 0) × (l.all.items ≡ blank_seats l.number)

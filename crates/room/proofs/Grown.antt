@@ -1,0 +1,75 @@
+-- A history that is one call longer.
+use Rattle.std.proofs.Common.{◌≡◌, ℕ, ◌+◌, ◌≤◌, Bool, true, false, not, ◌&&◌, cond, List, [], ◌∷◌, ◌++◌, length, fold, refl, sym, ap, ◌∙◌, subst, arith}
+use Rattle.sim_event.specs.declared.entry.Entry.{Entry}
+use Rattle.sim_event.specs.declared.event.Event.{Event}
+use Rattle.sim_event.specs.declared.reply.Reply.{Reply}
+use Rattle.reference_machine.specs.Network.{Network}
+use Rattle.reference_machine.specs.Machine.{nothing, step, is_refusal}
+use Rattle.reference_machine.specs.Histories.{after_calls, AreAnswered, IsLegal, state_after}
+use Rattle.cell_network.specs.Engine.{Engine, network}
+use Rattle.room.specs.Books.{IsKept, is_accepted_edit, version_of}
+
+state_push : (s : Network) (es : List Entry) (e : Entry) → after_calls s (es ++ e ∷ []) ≡ (step (after_calls s es) e.event).next
+state_push s [] e = refl
+state_push s (x ∷ es) e = state_push (step s x.event).next es e
+
+answered_push : (s : Network) (es : List Entry) (e : Entry) → AreAnswered s es → e.reply ≡ (step (after_calls s es) e.event).reply → AreAnswered s (es ++ e ∷ [])
+answered_push s [] e answered is = (is, tt)
+answered_push s (x ∷ es) e answered is = (answered.0, answered_push (step s x.event).next es e answered.1 is)
+
+fold_push : {A B : Type 0} (f : A → B → A) (a : A) (xs : List B) (x : B) → fold f a (xs ++ x ∷ []) ≡ f (fold f a xs) x
+fold_push f a [] x = refl
+fold_push f a (y ∷ xs) x = fold_push f (f a y) xs x
+
+-- the version after one call more
+pub version_push : (es : List Entry) (e : Entry) → version_of (es ++ e ∷ []) ≡ version_of es + cond (is_accepted_edit e) 1 0
+version_push es e = fold_push (λ a x. a + cond (is_accepted_edit x) 1 0) 0 es e
+
+one_at_most : (b : Bool) → cond b 1 0 ≤ 1
+one_at_most true = omega arith
+one_at_most false = omega arith
+
+count_most : (a : ℕ) (es : List Entry) → fold (λ n x. n + cond (is_accepted_edit x) 1 0) a es ≤ a + length es
+count_most a [] = omega arith
+count_most a (e ∷ es) =
+    let later = count_most (a + cond (is_accepted_edit e) 1 0) es in
+    let one = one_at_most (is_accepted_edit e) in
+    omega (arith, later, one)
+
+-- no more edits were accepted than calls were made
+pub version_most : (es : List Entry) → version_of es ≤ length es
+version_most es =
+    let most : version_of es ≤ 0 + length es = count_most 0 es in omega (arith, most)
+
+abbrev one_if : Bool → ℕ
+one_if b = cond b 1 0
+
+and_true : (b : Bool) → one_if (b && not false) ≡ one_if b
+and_true true = refl
+and_true false = refl
+
+-- an edit that is not refused is accepted
+pub accepted_one : (b : Bool) (reply : Reply) → is_refusal reply ≡ false → one_if (b && not (is_refusal reply)) ≡ one_if b
+accepted_one b reply h = ap (λ r. one_if (b && not r)) h ∙ and_true b
+
+-- one that is refused is not
+pub refused_none : (b : Bool) → one_if (b && not true) ≡ 0
+refused_none true = refl
+refused_none false = refl
+
+-- a room that was kept is kept after a call
+pub kept_push : (es now : List Entry) (e e' : Engine) (n m : ℕ) (number : ℕ) (event : Event) (reply : Reply) → IsKept (record { history = es; engine = e; seats = n })
+    → now ≡ es ++ record { seat = number; event = event; reply = reply } ∷ []
+    → reply ≡ (step (network e) event).reply
+    → network e' ≡ (step (network e) event).next
+    → IsKept (record { history = now; engine = e'; seats = m })
+kept_push es now e e' n m number event reply kept is same moved =
+    let x : Entry = record { seat = number; event = event; reply = reply } in
+    record {
+      legal = subst IsLegal (sym is) (answered_push nothing es x kept.legal (same ∙ ap (λ s. (step s event).reply) kept.state));
+      state = moved ∙ ap (λ s. (step s event).next) kept.state ∙ sym (state_push nothing es x) ∙ ap state_after (sym is);
+    }
+
+-- and where the network stays
+pub kept_still : (es : List Entry) (e e' : Engine) (n m : ℕ) → IsKept (record { history = es; engine = e; seats = n }) → network e' ≡ network e → IsKept (record { history = es; engine = e'; seats = m })
+kept_still es e e' n m kept same = record { legal = kept.legal; state = same ∙ kept.state }

@@ -1,0 +1,82 @@
+use Rattle.std.proofs.Common.{rules, ◌≡◌, ◌+◌, ◌∷◌, [], ◌++◌, length, sym, ap, subst, ◌∙◌, length-append, arith}
+use Rattle.session_queue.specs.Telling.{prefix_of, kind_of}
+use Rattle.sim_event.specs.declared.entry.Entry.{Entry}
+use Rattle.sim_event.specs.declared.event.Event.TheVariants.{Deliver}
+use Rattle.sim_event.specs.declared.reply.Reply.TheVariants.{Took}
+use Rattle.reference_machine.specs.Machine.{step, delivery_refusal}
+use Rattle.cell_network.specs.Engine.{Engine, network}
+use Rattle.sim_core.specs.Installing.{IsOutcomeOfHead}
+use Rattle.room.specs.Books.{IsKept, version_of}
+use Rattle.room.specs.Commits.{delivery_of}
+use Rattle.room.proofs.Grown.{version_push, kept_push}
+use Rattle.room.proofs.Known.{conf_after_delivery, conf_still}
+use Rattle.room.proofs.Taken.{seen_allowed, seen_outcome, seen_took}
+use Rattle.room.proofs.room.Room.deliver.Goals as goal
+
+pub install-requires-clause-allowed : goal.install-requires-clause-allowed
+install-requires-clause-allowed g c =
+    let room = c.args.self.now in
+    let kept : IsKept room = subst IsKept c.self.view_is c.self.invariant.0 in
+    (λ i. delivery_refusal (c.self.view_is i).engine.conf (c.direction-direction.ensures i))
+    ∙ seen_allowed room kept c.engine_facts.ensures.sound c.args.job.now c.requires.seen
+
+pub install-requires-clause-head : goal.install-requires-clause-head
+install-requires-clause-head g c =
+    let room = c.args.self.now in
+    let kept : IsKept room = subst IsKept c.self.view_is c.self.invariant.0 in
+    subst (λ (e : Engine). IsOutcomeOfHead e c.direction-direction.result c.args.outcome) (sym (ap (λ r. r.engine) c.self.view_is))
+    (subst (λ d. IsOutcomeOfHead room.engine d c.args.outcome) (sym c.direction-direction.ensures) (seen_outcome room kept c.engine_facts.ensures.sound c.args.job.now c.requires.seen c.args.outcome c.requires.outcome))
+
+pub invariant_of-self-2 : goal.invariant_of-self-2
+invariant_of-self-2 g c =
+    let i = c.self.invariant in
+    let room = c.args.self.now in
+    let kept : IsKept room = subst IsKept c.self.view_is i.0 in
+    let x = c.args.job.now in
+    let es = c.self.inside.history.entries in
+    let e = c.self.inside.sim.engine in
+    let state : e ≡ room.engine = ap (λ r. r.engine) c.self.view_is in
+    let took = Took (prefix_of x.head) (kind_of x.head) in
+    let entry : Entry = record { seat = c.seat.inside.number; event = delivery_of x; reply = took } in
+    let zero : version_of es ≡ version_of es + 0 = omega arith in
+    let now : c.write.new.self.entries ≡ es ++ entry ∷ [] = search rules in
+    let moved : network c.install.new.self.engine ≡ (step (network e) (delivery_of x)).next = search rules in (
+      kept_push es c.write.new.self.entries e c.install.new.self.engine c.self.inside.seats c.self.inside.seats c.seat.inside.number (delivery_of x) took i.0 now
+          (sym (seen_took room kept c.engine_facts.ensures.sound x c.requires.seen) ∙ ap (λ n. (step (network n) (delivery_of x)).reply) (sym state))
+          moved,
+      i.1 ∙ zero ∙ sym (version_push es entry) ∙ ap version_of (sym now),
+      c.add.ensures.total ∙ ap (λ k. k + 1) i.2 ∙ sym (ap length now ∙ length-append _ _),
+      i.3,
+      i.4,
+      i.5,
+    )
+
+pub returns-clause-delivered : goal.returns-clause-delivered
+returns-clause-delivered g c =
+    let room = c.args.self.now in
+    let kept : IsKept room = subst IsKept c.self.view_is c.self.invariant.0 in
+    let x = c.args.job.now in
+    let state : c.self.inside.sim.engine ≡ room.engine = ap (λ r. r.engine) c.self.view_is in
+    let dirs = c.direction-direction.ensures in
+    let replies : c.in-Ok-install.reply ≡ (step (network room.engine) (delivery_of x)).reply =
+    c.in-Ok-install.ensures.reply ∙ (λ i. (step (network (state i)) (Deliver (dirs i).from (dirs i).to)).reply) in
+    let took : Took (prefix_of x.head) (kind_of x.head) ≡ c.in-Ok-install.reply = sym (seen_took room kept c.engine_facts.ensures.sound x c.requires.seen) ∙ sym replies in
+    record {
+      replies = replies;
+      state = c.in-Ok-install.ensures.next ∙ (λ i. (step (network (state i)) (Deliver (dirs i).from (dirs i).to)).next);
+      history = search rules;
+      notes = search rules;
+      seats = search rules;
+    }
+
+pub returns-in-Err-clause-conf : goal.returns-in-Err-clause-conf
+returns-in-Err-clause-conf g c =
+    conf_still c.self.inside.sim.engine c.install.new.self.engine c.in-Err.ensures.same ∙ ap (λ r. r.engine.conf) c.self.view_is
+
+pub returns-clause-conf : goal.returns-clause-conf
+returns-clause-conf g c =
+    let e = c.self.inside.sim.engine in
+    let x = c.args.job.now in
+    let next : network c.install.new.self.engine ≡ (step (network e) (delivery_of x)).next =
+    c.in-Ok-install.ensures.next ∙ (λ i. (step (network e) (Deliver (c.direction-direction.ensures i).from (c.direction-direction.ensures i).to)).next) in
+    conf_after_delivery e c.install.new.self.engine x next ∙ ap (λ r. r.engine.conf) c.self.view_is

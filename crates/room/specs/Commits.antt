@@ -1,0 +1,47 @@
+-- What becomes of a job that is done.
+use Rattle.std.specs.Prelude.{◌≡◌, ◌≢◌, ◌∷◌, ◌++◌, [], Option}
+use Rattle.sim_event.specs.declared.event.Event.{Event}
+use Rattle.sim_event.specs.declared.event.Event.TheVariants.{Deliver}
+use Rattle.sim_event.specs.declared.reply.Reply.{Reply}
+use Rattle.reference_machine.specs.Decision.{route_from}
+use Rattle.reference_machine.specs.Machine.{step}
+use Rattle.session_queue.specs.declared.message.Message.{Message}
+use Rattle.session_queue.specs.Telling.{prefix_of}
+use Rattle.route_cell.specs.Cells.{route_of}
+use Rattle.cell_network.specs.Engine.{network}
+use Rattle.room.specs.declared.room.commit.Newer.{Newer}
+use Rattle.room.specs.declared.room.commit.Newer.TheVariants.{ConfMoved, SiteMoved, HeadMoved, CellMoved}
+use Rattle.room.specs.declared.room.commit.Committed.{Committed}
+use Rattle.room.specs.declared.room.commit.Committed.TheVariants.{Delivered, Stale}
+use Rattle.room.specs.Books.{RoomBook, SeatBook, version_of, with_call}
+use Rattle.room.specs.Jobs.{Seen, head_in, site_in}
+
+-- the delivery that the job was for
+abbrev pub delivery_of : Seen → Event
+delivery_of x = Deliver x.direction.from x.direction.to
+
+abbrev pub head_seen : Seen → Option Message
+head_seen x = Option.Some x.head
+
+-- what has moved, the first of these: the configuration, the receiver's site, the head of the queue, what the receiver has received
+abbrev pub IsNewer : RoomBook → Seen → Newer → Type 0
+IsNewer room x (ConfMoved had now) = (had ≡ x.version) × (now ≡ version_of room.history) × (had ≢ now)
+IsNewer room x (SiteMoved had now) = (x.version ≡ version_of room.history) × (had ≡ x.site) × (now ≡ site_in room x.direction) × (had ≢ now)
+IsNewer room x (HeadMoved had now) =
+    (x.version ≡ version_of room.history) × (x.site ≡ site_in room x.direction) × (had ≡ head_seen x) × (now ≡ head_in room x.direction) × (had ≢ now)
+IsNewer room x (CellMoved peer had now) =
+    (x.version ≡ version_of room.history) × (x.site ≡ site_in room x.direction) × (head_seen x ≡ head_in room x.direction)
+    × (had ≡ route_of x.heard.received peer) × (now ≡ route_from (network room.engine).received x.direction.to (prefix_of x.head) peer) × (had ≢ now)
+
+-- the delivery is the machine's own step, the last of the history, and of the seat's notes
+pub record IsDelivered (room : RoomBook) (seat : SeatBook) (event : Event) (reply : Reply) (room' : RoomBook) (seat' : SeatBook) : Type 0 where
+  pub replies : reply ≡ (step (network room.engine) event).reply
+  pub state : network room'.engine ≡ (step (network room.engine) event).next
+  pub history : room'.history ≡ room.history ++ record { seat = seat.number; event = event; reply = reply } ∷ []
+  pub notes : seat' ≡ with_call seat event reply
+  pub seats : room'.seats ≡ room.seats
+
+-- the outcome is put in, or something has moved and nothing changes
+abbrev pub IsCommitted : RoomBook → SeatBook → Seen → Committed → RoomBook → SeatBook → Type 0
+IsCommitted room seat x (Delivered reply) room' seat' = IsDelivered room seat (delivery_of x) reply room' seat'
+IsCommitted room seat x (Stale newer) room' seat' = IsNewer room x newer × (room' ≡ room) × (seat' ≡ seat)

@@ -1,0 +1,63 @@
+-- What a worker takes away from the room to decide, and what may have moved until it comes back.
+use Rattle.std.specs.Prelude.{◌≡◌, ℕ, ⊤, List, All, map, slice_get, Option, Some, None}
+use Rattle.std.specs.List.Sorted.{IsStrictlySortedBy}
+use Rattle.net_prefix.specs.Address.{addr_cmp}
+use Rattle.net_conf.specs.declared.site.SiteConf.{SiteConf}
+use Rattle.net_conf.specs.RouterSites.{router_site}
+use Rattle.session_queue.specs.declared.message.Message.{Message}
+use Rattle.session_queue.specs.declared.direction.Direction.{Direction}
+use Rattle.session_queue.specs.Telling.{prefix_of}
+use Rattle.session_queue.specs.Waiting.{queue_at}
+use Rattle.route_cell.specs.Cells.{Heard, Outcome, IsDecided}
+use Rattle.cell_network.specs.Engine.{heard_at}
+use Rattle.cell_engine.specs.Deliveries.{outcome_by}
+use Rattle.room.specs.Books.{RoomBook, version_of}
+
+-- what a job holds
+pub record Seen : Type 0 where
+  pub direction : Direction
+  -- how many edits were accepted
+  pub version : ℕ
+  -- the message at the head of the direction's queue
+  pub head : Message
+  -- the receiver's site; none where a virtual peer stands
+  pub site : Option SiteConf
+  -- what the receiver has received of the message's prefix, and its choice
+  pub heard : Heard
+
+-- IN THE ROOM
+
+abbrev pub head_in : RoomBook → Direction → Option Message
+head_in room d = slice_get (queue_at room.engine.queues d.from d.to) 0
+
+abbrev pub site_in : RoomBook → Direction → Option SiteConf
+site_in room d = router_site room.engine.conf d.to
+
+abbrev pub heard_in : RoomBook → Direction → Message → Heard
+heard_in room d m = heard_at d.to (prefix_of m) room.engine.tables
+
+-- the job holds what is in the room
+pub record IsSeenIn (room : RoomBook) (x : Seen) : Type 0 where
+  pub version : x.version ≡ version_of room.history
+  pub site : x.site ≡ site_in room x.direction
+  pub head : head_in room x.direction ≡ Some x.head
+  pub heard : x.heard ≡ heard_in room x.direction x.head
+
+-- the jobs were taken at one time: there is a room in which each holds what is there
+abbrev pub AreTakenTogether : List Seen → Type 0
+AreTakenTogether xs = (room : RoomBook) × All (IsSeenIn room) xs
+
+-- DECIDED
+
+abbrev pub ArePeersInOrder : Option SiteConf → Type 0
+ArePeersInOrder None = ⊤
+ArePeersInOrder (Some site) = IsStrictlySortedBy addr_cmp (map (λ s. s.peer) site.sessions)
+
+-- what was received was decided by the site
+pub record CanDecide (x : Seen) : Type 0 where
+  pub decided : IsDecided x.site (prefix_of x.head) x.heard
+  pub peers : ArePeersInOrder x.site
+
+-- what the receiver makes of the head (RFC 4271, 9)
+abbrev pub outcome_of : Seen → Outcome
+outcome_of x = outcome_by x.site x.heard x.direction.from x.head

@@ -1,0 +1,5 @@
+pub mod Books
+pub mod Closing
+pub mod Jobs
+pub mod Commits
+pub mod Differences

@@ -1,0 +1,311 @@
+//! Outcomes come back.
+
+ghost use Rattle.std.specs.Prelude.{◌≡◌, ◌↔◌, true, Some, None, IsTrue, IfOk, IfErr, IfSome, OnOk, OnErr};
+ghost use Rattle.route_cell.specs.Cells.{route_of};
+ghost use Rattle.cell_network.specs.Engine.{network, heard_at};
+ghost use Rattle.room.specs.Jobs.{IsSeenIn, site_in, head_in, outcome_of};
+ghost use Rattle.room.specs.Commits.{IsNewer, IsCommitted, IsDelivered, delivery_of, head_seen};
+ghost use Rattle.room.specs.Books.{GoesOn, version_of};
+
+use crate::room::Room;
+use crate::room::commit::{CommitFault, Committed, Newer};
+use crate::room::job::{Done, Job};
+use crate::room::received::first_difference;
+use crate::room::seat::Seat;
+use crate::room::together::Outcomes;
+use call_history::Draft;
+use cell_engine::{Cell, Outcome};
+use net_conf::SharedSite;
+use net_prefix::{Addr, Prefix};
+use path_attr::Attr;
+use prefix_table::PrefixTable;
+use route_select::Chosen;
+use seq::Copied;
+use session_queue::Message;
+use sim_event::Reply;
+use std::alloc::{AllocError, Global};
+use std::sync::ledger::Ledger;
+
+impl<S: Chosen + Drop, T: PrefixTable<Cell<S>> + Drop, L: Ledger> Room<S, T, L> {
+    /// Puts in the outcome where all that the job held is still as it was: this is the machine's own step of the delivery, the last of the
+    /// history, and of the seat's notes. Else it is told what has moved, the first of version, site, head and received routes, and nothing
+    /// changes. For want of memory nothing changes either, and the outcome is handed back. Nothing is decided here.
+    pub fn commit(&mut self, seat: &mut Seat<L>, done: Done<S>) -> Result<Committed, CommitFault<S>>
+        ensures committed { IfOk result (λ committed. IsCommitted self.old seat.old done committed self.new seat.new) }
+        ensures back { IfErr result (λ fault. fault.done ≡ done) }
+        ensures network { OnErr result (network self.new.engine ≡ network self.old.engine) }
+        ensures history { OnErr result (self.new.history ≡ self.old.history) }
+        ensures seats { OnErr result (self.new.seats ≡ self.old.seats) }
+        ensures seat { OnErr result (seat.new ≡ seat.old) }
+    {
+        match self.newer(&done, false) {
+            Ok(Some(newer)) => {
+                drop(done);
+                Ok(Committed::Stale(newer))
+            }
+            Ok(None) => self.put_in(seat, done),
+            Err(_) => Err(CommitFault { done }),
+        }
+    }
+
+    /// Puts in the outcome, all that its job held being as it was.
+    fn put_in(&mut self, seat: &mut Seat<L>, done: Done<S>) -> Result<Committed, CommitFault<S>>
+        requires { IsSeenIn self.old done }
+        ensures committed { IfOk result (λ committed. IsCommitted self.old seat.old done committed self.new seat.new) }
+        ensures conf { self.new.engine.conf ≡ self.old.engine.conf }
+        ensures back { IfErr result (λ fault. fault.done ≡ done) }
+        ensures network { OnErr result (network self.new.engine ≡ network self.old.engine) }
+        ensures history { OnErr result (self.new.history ≡ self.old.history) }
+        ensures seats { OnErr result (self.new.seats ≡ self.old.seats) }
+        ensures seat { OnErr result (seat.new ≡ seat.old) }
+    {
+        let Done { job, site, outcome } = done;
+        match self.deliver(seat, &job, outcome) {
+            Ok(reply) => {
+                drop((job, site));
+                Ok(Committed::Delivered(reply))
+            }
+            Err(outcome) => Err(CommitFault {
+                done: Done { job, site, outcome },
+            }),
+        }
+    }
+
+    /// Puts in each outcome in turn, as `commit` does. Those that came too late are let go, and so are those for which there is no memory.
+    /// The site of a receiver is compared once for all that come one after another.
+    pub fn commit_all(&mut self, seat: &mut Seat<L>, outcomes: Outcomes<S>)
+        ensures { GoesOn seat.old seat.new }
+    {
+        let mut known = None;
+        for done in outcomes.into_vec() {
+            let receiver = done.ends().1;
+            let is_known = is_receiver(known, receiver);
+            let is_same = self.bring(seat, done, is_known);
+            known = if is_same { Some(receiver) } else { None };
+        }
+    }
+
+    /// Puts in an outcome, or lets it go. Where it says so, the receiver's site is as the job had it, now and before.
+    fn bring(&mut self, seat: &mut Seat<L>, done: Done<S>, is_site_known: bool) -> bool
+        requires { is_site_known ≡ true → done.site ≡ site_in self.old done.direction }
+        ensures seat { GoesOn seat.old seat.new }
+        ensures site { result ≡ true → done.site ≡ site_in self.new done.direction }
+    {
+        match self.newer(&done, is_site_known) {
+            Ok(None) => {
+                drop(self.put_in(seat, done));
+                true
+            }
+            newer => {
+                drop((done, newer));
+                false
+            }
+        }
+    }
+
+    /// What has moved since the job was taken. The site is not compared where it is known to be the same.
+    fn newer(&self, done: &Done<S>, is_site_known: bool) -> Result<Option<Newer>, AllocError>
+        requires { is_site_known ≡ true → done.now.site ≡ site_in self.now done.now.direction }
+        ensures newer { IfOk result (λ found. IfSome found (IsNewer self.now done.now)) }
+        ensures none { IfOk result (λ found. found ≡ None → IsSeenIn self.now done.now) }
+    {
+        let job = &done.job;
+        if job.version != self.version {
+            return Ok(Some(Newer::ConfMoved {
+                had: job.version,
+                now: self.version,
+            }));
+        }
+        if is_site_known {
+            return self.newer_delivery(job);
+        }
+        if let Some(newer) = self.newer_site(done)? {
+            return Ok(Some(newer));
+        }
+        self.newer_delivery(job)
+    }
+
+    /// Whether the message or what the receiver has received is another, where version and site are as the job had them.
+    fn newer_delivery(&self, job: &Job<S>) -> Result<Option<Newer>, AllocError>
+        requires version { job.now.version ≡ version_of self.now.history }
+        requires site { job.now.site ≡ site_in self.now job.now.direction }
+        ensures newer { IfOk result (λ found. IfSome found (IsNewer self.now job.now)) }
+        ensures none { IfOk result (λ found. found ≡ None → IsSeenIn self.now job.now) }
+    {
+        if let Some(newer) = self.newer_head(job)? {
+            return Ok(Some(newer));
+        }
+        self.newer_route(job)
+    }
+
+    /// Whether the receiver's site is another, where the version is as the job had it.
+    fn newer_site(&self, done: &Done<S>) -> Result<Option<Newer>, AllocError>
+        requires version { done.now.version ≡ version_of self.now.history }
+        ensures newer { IfOk result (λ found. IfSome found (IsNewer self.now done.now)) }
+        ensures none { IfOk result (λ found. found ≡ None → done.now.site ≡ site_in self.now done.now.direction) }
+    {
+        let conf = self.sim.state().conf();
+        let now = conf.shared_site(self.alloc, done.ends().1)?;
+        if is_same_site(&done.site, &now) {
+            drop(now);
+            return Ok(None);
+        }
+        let Ok(had) = share_site(self.alloc, &done.site) else {
+            drop(now);
+            return Err(AllocError);
+        };
+        Ok(Some(Newer::SiteMoved { had, now }))
+    }
+
+    /// Whether another message is at the head of the queue, or none, where version and site are as the job had them.
+    fn newer_head(&self, job: &Job<S>) -> Result<Option<Newer>, AllocError>
+        requires version { job.now.version ≡ version_of self.now.history }
+        requires site { job.now.site ≡ site_in self.now job.now.direction }
+        ensures newer { IfOk result (λ found. IfSome found (IsNewer self.now job.now)) }
+        ensures none { IfOk result (λ found. found ≡ None → head_seen job.now ≡ head_in self.now job.now.direction) }
+    {
+        let now = self.head_of(job)?;
+        if is_same_head(&job.head, &now) {
+            drop(now);
+            return Ok(None);
+        }
+        let Ok(had) = job.head.copy(self.alloc) else {
+            drop(now);
+            return Err(AllocError);
+        };
+        Ok(Some(Newer::HeadMoved {
+            had: Some(had),
+            now,
+        }))
+    }
+
+    /// Whether the receiver has received another route from a peer, where all else is as the job had it.
+    fn newer_route(&self, job: &Job<S>) -> Result<Option<Newer>, AllocError>
+        requires version { job.now.version ≡ version_of self.now.history }
+        requires site { job.now.site ≡ site_in self.now job.now.direction }
+        requires head { head_seen job.now ≡ head_in self.now job.now.direction }
+        ensures newer { IfOk result (λ found. IfSome found (IsNewer self.now job.now)) }
+        ensures none { IfOk result (λ found. found ≡ None → IsSeenIn self.now job.now) }
+    {
+        self.engine_facts();
+        let had = job.received();
+        let now = self.received_at(job.direction.to, job.head.prefix());
+        let Some(peer) = first_difference(had, now) else {
+            return Ok(None);
+        };
+        Ok(Some(Newer::CellMoved {
+            peer,
+            had: route_of(had, peer)?,
+            now: route_of(now, peer)?,
+        }))
+    }
+
+    /// What the router has received of the prefix.
+    fn received_at(&self, router: Addr, prefix: Prefix) -> &[(Addr, Attr)]
+        ensures { result.now ≡ (heard_at router prefix self.now.engine.tables).received }
+    {
+        match self.sim.state().cell(router, prefix) {
+            Some(cell) => cell.received(),
+            None => &[],
+        }
+    }
+
+    /// The message at the head of the job's queue.
+    fn head_of(&self, job: &Job<S>) -> Result<Option<Message>, AllocError>
+        ensures { IfOk result (λ head. head ≡ head_in self.now job.now.direction) }
+    {
+        let queues = self.sim.state().queues();
+        match queues.head(job.direction.from, job.direction.to) {
+            Some(head) => Ok(Some(head.to_message()?)),
+            None => Ok(None),
+        }
+    }
+
+    /// Puts in an outcome that was made from what is in the room.
+    fn deliver(
+        &mut self,
+        seat: &mut Seat<L>,
+        job: &Job<S>,
+        outcome: Outcome<S>,
+    ) -> Result<Reply, Outcome<S>>
+        requires seen { IsSeenIn self.old job.now }
+        requires outcome { outcome ≡ outcome_of job.now }
+        ensures delivered { IfOk result (λ reply. IsDelivered self.old seat.old (delivery_of job.now) reply self.new seat.new) }
+        ensures conf { self.new.engine.conf ≡ self.old.engine.conf }
+        ensures back { IfErr result (λ back. back ≡ outcome) }
+        ensures network { OnErr result (network self.new.engine ≡ network self.old.engine) }
+        ensures history { OnErr result (self.new.history ≡ self.old.history) }
+        ensures seats { OnErr result (self.new.seats ≡ self.old.seats) }
+        ensures seat { OnErr result (seat.new ≡ seat.old) }
+    {
+        self.engine_facts();
+        if !self.history.makes_room(&mut seat.notes) {
+            return Err(outcome);
+        }
+        let direction = job.direction();
+        let Ok(draft) = Draft::of_delivery(self.alloc, seat.number, direction, job.head()) else {
+            return Err(outcome);
+        };
+        let reply = match self.sim.install(direction, outcome) {
+            Ok(reply) => reply,
+            Err(outcome) => {
+                drop(draft);
+                return Err(outcome);
+            }
+        };
+        self.history.write(&mut seat.notes, draft);
+        self.book.add(&mut seat.share, 1);
+        seat.count += 1;
+        Ok(reply)
+    }
+}
+
+/// Whether it is that receiver.
+fn is_receiver(known: Option<Addr>, receiver: Addr) -> bool
+    ensures { result ≡ true → known ≡ Some receiver }
+{
+    known == Some(receiver)
+}
+
+/// Whether both sites are the same.
+fn is_same_site(had: &Option<SharedSite>, now: &Option<SharedSite>) -> bool
+    ensures { IsTrue result ↔ (had.now ≡ now.now) }
+{
+    match (had, now) {
+        (None, None) => true,
+        (Some(had), Some(now)) => had.get().is_same(now.get()),
+        _ => false,
+    }
+}
+
+/// One owner more of the site.
+fn share_site(alloc: Global, site: &Option<SharedSite>) -> Result<Option<SharedSite>, AllocError>
+    ensures { IfOk result (λ shared. shared ≡ site.now) }
+{
+    match site {
+        Some(site) => Ok(Some(site.copy(alloc)?)),
+        None => Ok(None),
+    }
+}
+
+/// Whether the message is at the head.
+fn is_same_head(had: &Message, now: &Option<Message>) -> bool
+    ensures { IsTrue result ↔ (now.now ≡ Some had.now) }
+{
+    match now {
+        Some(now) => had.is_same(now),
+        None => false,
+    }
+}
+
+/// The route from the peer.
+fn route_of(routes: &[(Addr, Attr)], peer: Addr) -> Result<Option<Attr>, AllocError>
+    ensures { IfOk result (λ route. route ≡ route_of routes.now peer) }
+{
+    for route in routes {
+        if peer.cmp(&route.0).is_eq() {
+            return Ok(Some(route.1.share()?));
+        }
+    }
+    Ok(None)
+}

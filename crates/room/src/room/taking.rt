@@ -1,0 +1,206 @@
+//! Jobs are taken.
+
+ghost use Rattle.std.specs.Prelude.{◌≡◌, ◌<◌, ◌≤◌, ◌↔◌, false, [], None, length, All, IfOk, IfSome};
+ghost use Rattle.net_prefix.specs.declared.addr.Addr as address;
+ghost use Rattle.session_queue.specs.Shards.{shard_of};
+ghost use Rattle.session_queue.specs.Waiting.{queue_at};
+ghost use Rattle.cell_network.specs.Engine.{heard_at};
+ghost use Rattle.room.specs.Jobs.{IsSeenIn};
+
+use crate::room::Room;
+use crate::room::job::Job;
+use crate::room::together::Jobs;
+use cell_engine::Cell;
+use net_prefix::{Addr, Prefix};
+use prefix_table::PrefixTable;
+use route_select::{Chosen, Selector};
+use seq::Copied;
+use session_queue::Direction;
+use std::alloc::AllocError;
+use std::sync::ledger::Ledger;
+
+impl<S: Chosen, T: PrefixTable<Cell<S>>, L: Ledger> Room<S, T, L> {
+    /// Whether a message waits for a receiver of the shard.
+    pub fn has_message(&self, shard: u64, shards: u64) -> bool
+        requires { shard < shards }
+        ensures { (result ≡ false) ↔ ((from to : address.Addr) → shard_of to shards ≡ shard → queue_at self.now.engine.queues from to ≡ []) }
+    {
+        self.sim.state().queues().next_in(shard, shards).is_some()
+    }
+}
+
+impl<S: Selector + Drop, T: PrefixTable<Cell<S>>, L: Ledger> Room<S, T, L> {
+    /// A job of the shard: what the delivery of a message that waits depends on, as it is now. None where no message waits for a receiver
+    /// of the shard. Want of memory is the only error.
+    pub fn job(&self, shard: u64, shards: u64) -> Result<Option<Job<S>>, AllocError>
+        requires { shard < shards }
+        ensures seen { IfOk result (λ found. IfSome found (IsSeenIn self.now)) }
+        ensures shard { IfOk result (λ found. IfSome found (λ job. shard_of job.direction.to shards ≡ shard)) }
+        ensures none { IfOk result (λ found. found ≡ None → (from to : address.Addr) → shard_of to shards ≡ shard → queue_at self.now.engine.queues from to ≡ []) }
+    {
+        if self.is_quiet() {
+            return Ok(None);
+        }
+        match self.sim.state().queues().next_in(shard, shards) {
+            None => Ok(None),
+            Some(direction) => {
+                let job = self.job_of(direction)?;
+                Ok(Some(job))
+            }
+        }
+    }
+
+    /// Jobs of the shard, no more than so many, none of which makes another of them come too late: one where a message waits for a receiver of
+    /// the shard, and none else. Want of memory for the first is the only error.
+    pub fn jobs(&self, shard: u64, shards: u64, most: usize) -> Result<Jobs<S>, AllocError>
+        requires { shard < shards }
+        ensures seen { IfOk result (All (IsSeenIn self.now)) }
+        ensures none { IfOk result (λ jobs. jobs ≡ [] → (from to : address.Addr) → shard_of to shards ≡ shard → queue_at self.now.engine.queues from to ≡ []) }
+    {
+        let jobs = self.job_list(shard, shards, most)?;
+        Ok(Jobs::of(jobs))
+    }
+
+    /// The same, as a list.
+    fn job_list(&self, shard: u64, shards: u64, most: usize) -> Result<Vec<Job<S>>, AllocError>
+        requires { shard < shards }
+        ensures seen { IfOk result (λ jobs. All (IsSeenIn self.now) jobs.items) }
+        ensures none { IfOk result (λ jobs. jobs.items ≡ [] → (from to : address.Addr) → shard_of to shards ≡ shard → queue_at self.now.engine.queues from to ≡ []) }
+    {
+        let Some(first) = self.job(shard, shards)? else {
+            return Ok(Vec::new(self.alloc));
+        };
+        let Ok(mut jobs) = Vec::with_capacity(self.alloc, most) else {
+            drop(first);
+            return Err(AllocError);
+        };
+        let past = first.direction();
+        if jobs.push(first).is_err() {
+            return Err(AllocError);
+        }
+        self.add_jobs(&mut jobs, shard, shards, most, past);
+        Ok(jobs)
+    }
+
+    /// Adds jobs of the shard, of directions past that one, till there are so many, or there is no memory.
+    fn add_jobs(
+        &self,
+        jobs: &mut Vec<Job<S>>,
+        shard: u64,
+        shards: u64,
+        most: usize,
+        mut past: Direction,
+    )
+        requires shard { shard < shards }
+        requires seen { All (IsSeenIn self.now) jobs.old.items }
+        ensures seen { All (IsSeenIn self.now) jobs.new.items }
+        ensures more { length jobs.old.items ≤ length jobs.new.items }
+    {
+        for _ in 1..most {
+            let Some(direction) = self.next_past(shard, shards, past) else {
+                return;
+            };
+            past = direction;
+            if !self.is_added(jobs, direction) {
+                return;
+            }
+        }
+    }
+
+    /// Adds the job of the direction, unless there is one of its receiver and prefix: what the receiver has of the prefix would be
+    /// another then. False where there is no memory.
+    fn is_added(&self, jobs: &mut Vec<Job<S>>, direction: Direction) -> bool
+        requires message { 0 < length (queue_at self.now.engine.queues direction.from direction.to) }
+        requires seen { All (IsSeenIn self.now) jobs.old.items }
+        ensures seen { All (IsSeenIn self.now) jobs.new.items }
+        ensures more { length jobs.old.items ≤ length jobs.new.items }
+    {
+        let queues = self.sim.state().queues();
+        let Some(view) = queues.head(direction.from, direction.to) else {
+            return true;
+        };
+        if has_cell(jobs, direction.to, view.prefix()) {
+            return true;
+        }
+        match self.job_of(direction) {
+            Ok(job) => jobs.push(job).is_ok(),
+            Err(_) => false,
+        }
+    }
+
+    /// The next direction with a message to a receiver of the shard, by sender, then by receiver.
+    fn next_past(&self, shard: u64, shards: u64, past: Direction) -> Option<Direction>
+        requires { shard < shards }
+        ensures { IfSome result (λ next. 0 < length (queue_at self.now.engine.queues next.from next.to)) }
+    {
+        let queues = self.sim.state().queues();
+        let mut past = (past.from, last_before(past.to, shard, shards));
+        for _ in 0..u64::MAX {
+            let (from, to) = queues.next_full(Some(past))?;
+            if u64::from(to.0) % shards == shard {
+                return Some(Direction { from, to });
+            }
+            past = (from, last_before(to, shard, shards));
+        }
+        None
+    }
+
+    /// The job of a direction with a message.
+    fn job_of(&self, direction: Direction) -> Result<Job<S>, AllocError>
+        requires { 0 < length (queue_at self.now.engine.queues direction.from direction.to) }
+        ensures seen { IfOk result (IsSeenIn self.now) }
+        ensures direction { IfOk result (λ job. job.direction ≡ direction) }
+    {
+        self.engine_facts();
+        let state = self.sim.state();
+        let Some(view) = state.queues().head(direction.from, direction.to) else {
+            unreachable!()
+        };
+        let cell = self.cell_of(direction.to, view.prefix())?;
+        let Ok(conf) = state.share() else {
+            drop(cell);
+            return Err(AllocError);
+        };
+        let Ok(head) = view.to_message() else {
+            drop((cell, conf));
+            return Err(AllocError);
+        };
+        Ok(Job {
+            alloc: self.alloc,
+            direction,
+            version: self.version,
+            head,
+            conf,
+            cell,
+        })
+    }
+
+    /// A copy of the cell, an empty one where there is none.
+    fn cell_of(&self, router: Addr, prefix: Prefix) -> Result<Cell<S>, AllocError>
+        ensures { IfOk result (λ cell. cell ≡ heard_at router prefix self.now.engine.tables) }
+    {
+        match self.sim.state().cell(router, prefix) {
+            Some(cell) => cell.copy(self.alloc),
+            None => Ok(Cell::new(self.alloc)),
+        }
+    }
+}
+
+/// The last address before the next one of the shard: from this address on to there none is of the shard, but this may be.
+fn last_before(address: Addr, shard: u64, shards: u64) -> Addr
+    requires { shard < shards }
+{
+    let own = u64::from(address.0) % shards;
+    let steps = if own < shard {
+        shard - own
+    } else {
+        (shards - own).saturating_add(shard)
+    };
+    let last = u64::from(address.0).saturating_add(steps).saturating_sub(1);
+    Addr(last.min(u64::from(u32::MAX)) as u32)
+}
+
+/// Whether one of the jobs is of the receiver and prefix.
+fn has_cell<S: Chosen>(jobs: &[Job<S>], router: Addr, prefix: Prefix) -> bool {
+    jobs.iter().any(|job| job.direction().to == router && job.head().prefix() == prefix)
+}
