@@ -18,6 +18,16 @@ use crate::tree::Tree;
 use net_prefix::Addr;
 
 impl<'a> RootedGraph<'a> {
+    // The label of an address. In a tree that reaches every node its row is the node's place.
+    fn label_of(&self, tree: &Tree, addr: Addr) -> Option<Label>
+        ensures { result ≡ label_in tree.now addr }
+    {
+        match place_of(self.nodes, addr) {
+            Some(at) => tree.label_near(at, addr),
+            None => tree.label(addr),
+        }
+    }
+
     // Whether a node of this address is in the AS of the source.
     fn shares_as(&self, addr: Addr) -> bool
         ensures { result ≡ share_as self.now.nodes.now (addr_at self.now.nodes.now self.now.source) addr }
@@ -34,13 +44,13 @@ impl<'a> RootedGraph<'a> {
         requires metric { IsMetric metric }
         ensures { OnTrue result (OffersNoBetter self.now.nodes.now tree.now from to metric) }
     {
-        let Some(start) = tree.label(from) else {
+        let Some(start) = self.label_of(tree, from) else {
             return true;
         };
         if !self.shares_as(from) {
             return true;
         }
-        match tree.label(to) {
+        match self.label_of(tree, to) {
             Some(label) => is_not_after_offer(tree.source(), from, to, metric, start, label),
             None => false,
         }
@@ -52,7 +62,7 @@ impl<'a> RootedGraph<'a> {
         requires metric { IsMetric metric }
         ensures { OnTrue result (Offers self.now.nodes.now tree.now from to metric label) }
     {
-        let Some(start) = tree.label(from) else {
+        let Some(start) = self.label_of(tree, from) else {
             return false;
         };
         is_offer_not_after(tree.source(), from, to, metric, start, label) && self.shares_as(from)
@@ -65,7 +75,7 @@ impl<'a> RootedGraph<'a> {
         ensures { OnTrue result (IsHeld self.now.nodes.now self.now.links.now tree.now (addr_at self.now.nodes.now at)) }
     {
         let addr = self.nodes[at].0;
-        let Some(label) = tree.label(addr) else {
+        let Some(label) = tree.label_near(at, addr) else {
             return true;
         };
         if at == self.source {

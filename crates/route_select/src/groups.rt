@@ -107,8 +107,11 @@ pub(crate) fn best_place(entries: &[(Source, Standing)]) -> usize
     requires { AreRanked entries.now }
     ensures { IsBest (considered_in entries.now) (candidate_at entries.now result) }
 {
+    let Some(first) = candidate_at(entries, 0) else {
+        return 0;
+    };
     let mut best = 0;
-    let mut at = 0;
+    let mut at = group_start(entries, group_rank(first) + 1);
     while let Some(leader) = candidate_at(entries, at) {
         if is_better(entries, at, best) {
             best = at;

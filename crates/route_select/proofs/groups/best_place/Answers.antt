@@ -1,21 +1,34 @@
-use Rattle.std.proofs.Common.{◌≡◌, ◌<◌, length, cond, Some, sym, subst, ◌∙◌, arith}
+use Rattle.std.proofs.Common.{◌≡◌, ◌<◌, length, cond, true, false, refl, ℕ, Bool, Some, sym, subst, ◌∙◌, arith}
 use Rattle.route_select.specs.Entries.{candidate_at}
+use Rattle.route_select.specs.Groups.{is_better}
 use Rattle.route_select.proofs.GroupLeaders.{LeadersUpTo, leaders_start, leaders_more, leaders_all, goes_on}
 use Rattle.route_select.proofs.GroupPlaces.{has_place}
 use Rattle.route_select.proofs.groups.best_place.Goals as goal
 use Rattle.route_select.proofs.groups.best_place.Goals.{then-is_better, else-is_better}
 
+-- a choice between a place and itself
+chosen_same : (b : Bool) (n : ℕ) → cond b n n ≡ n
+chosen_same true n = refl
+chosen_same false n = refl
+
+pub returns-in_default : goal.returns-in_default
+returns-in_default c = leaders_all c.args.entries.now 0 0 c.requires (leaders_start c.args.entries.now c.requires) (sym c.in_default.ensures)
+
 pub loop-leader-init : goal.loop-leader-init
-loop-leader-init c = leaders_start c.args.entries.now c.requires
+loop-leader-init c =
+    let es = c.args.entries.now in
+    let next = c.group_start-at.result in
+    subst (LeadersUpTo es next) (chosen_same (is_better (candidate_at es 0) (candidate_at es 0)) 0)
+    (leaders_more es 0 0 next _ c.requires (leaders_start es c.requires) (sym c.in-Some.ensures) (rw c.group_rank.ensures.value at c.group_start-at.ensures))
 
 pub loop-leader-preserved : goal.loop-leader-preserved
 loop-leader-preserved c =
     let es = c.args.entries.now in
     let at = c.loop-leader.at in
     let best = c.loop-leader.best in
-    let next = c.group_start-at.result in
-    let here : candidate_at es at ≡ Some c.in-Some.leader.now = sym c.in-Some.ensures in
-    let more = leaders_more es at best next _ c.requires c.loop-leader.invariant here (rw c.group_rank.ensures.value at c.group_start-at.ensures) in
+    let next = c.group_start-at-in-Some-candidate_at.result in
+    let here : candidate_at es at ≡ Some c.in-Some-candidate_at.leader.now = sym c.in-Some-candidate_at.ensures in
+    let more = leaders_more es at best next _ c.requires c.loop-leader.invariant here (rw c.group_rank-in-Some-candidate_at.ensures.value at c.group_start-at-in-Some-candidate_at.ensures) in
     elim c.if-is_better.branch [
       | then-is_better w ↦ rw w.best-is (subst (λ b. LeadersUpTo es next (cond b at best)) (sym c.is_better.ensures ∙ w.if-is_better.true) more)
       | else-is_better w ↦ rw w.best-is (subst (λ b. LeadersUpTo es next (cond b at best)) (sym c.is_better.ensures ∙ w.if-is_better.false) more)
@@ -25,10 +38,10 @@ pub loop-leader-smaller : goal.loop-leader-smaller
 loop-leader-smaller c =
     let es = c.args.entries.now in
     let at = c.loop-leader.at in
-    let here : candidate_at es at ≡ Some c.in-Some.leader.now = sym c.in-Some.ensures in
-    let on : at < c.group_start-at.result = goes_on es at _ _ here (rw c.group_rank.ensures.value at c.group_start-at.ensures) in
+    let here : candidate_at es at ≡ Some c.in-Some-candidate_at.leader.now = sym c.in-Some-candidate_at.ensures in
+    let on : at < c.group_start-at-in-Some-candidate_at.result = goes_on es at _ _ here (rw c.group_rank-in-Some-candidate_at.ensures.value at c.group_start-at-in-Some-candidate_at.ensures) in
     let within : at < length es = has_place es at _ here in
     omega arith
 
 pub returns : goal.returns
-returns c = leaders_all c.args.entries.now c.loop-leader.at c.loop-leader.best c.requires c.loop-leader.invariant (sym c.in_default.ensures)
+returns c = leaders_all c.args.entries.now c.loop-leader.at c.loop-leader.best c.requires c.loop-leader.invariant (sym c.in_default-candidate_at.ensures)
