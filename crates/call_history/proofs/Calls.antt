@@ -1,19 +1,11 @@
 -- The calls of one seat, one entry at a time.
 use Rattle.std.proofs.lemmas.Bool.Decides.{nat_tests}
 use Rattle.std.proofs.lemmas.List.{drop_all}
-use Rattle.std.proofs.Common.{IsTrue, length-drop, ◌≡◌, ℕ, ◌≤◌, List, [], ◌∷◌, length, drop, map, filter, cond, sym, ap, ◌∙◌, arith, Bool, true, false}
+use Rattle.std.proofs.Common.{IsTrue, length-drop, ◌≡◌, ℕ, ◌≤◌, List, [], length, drop, sym, ap, ◌∙◌, arith}
 use Rattle.std.specs.Prelude.{◌↔◌, nat_eq}
 use Rattle.sim_event.specs.declared.entry.Entry.{Entry}
 use Rattle.sim_event.specs.declared.entry.Call.{Call}
-use Rattle.reference_machine.specs.Histories.{call_of, is_by, calls_of}
-
--- the entry is another seat's
-pub calls-skip : (n : ℕ) (es : List Entry) (e : Entry) → nat_eq e.seat n ≡ false → calls_of n (e ∷ es) ≡ calls_of n es
-calls-skip n es e not = ap (λ (b : Bool). map call_of (cond b (e ∷ filter (is_by n) es) (filter (is_by n) es))) not
-
--- the entry is the seat's
-pub calls-take : (n : ℕ) (es : List Entry) (e : Entry) → nat_eq e.seat n ≡ true → calls_of n (e ∷ es) ≡ call_of e ∷ calls_of n es
-calls-take n es e is = ap (λ (b : Bool). map call_of (cond b (e ∷ filter (is_by n) es) (filter (is_by n) es))) is
+use Rattle.reference_machine.specs.Histories.{calls_of}
 
 -- all entries were read
 pub reads_all : (n i next : ℕ) (es : List Entry) (notes : List Call) → length es ≤ i → next ≤ length notes

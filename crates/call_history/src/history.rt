@@ -1,6 +1,6 @@
 //! The history of all calls.
 
-ghost use Rattle.std.specs.Prelude.{◌≡◌, ◌+◌, ◌<◌, ◌≤◌, ◌∷◌, ◌++◌, ◌↔◌, [], true, false, length, vec_len, vec_capacity, IsTrue};
+ghost use Rattle.std.specs.Prelude.{◌≡◌, ◌+◌, ◌<◌, ◌≤◌, ◌∷◌, ◌++◌, ◌↔◌, ◌⊎◌, [], true, false, length, vec_len, vec_capacity, IsTrue};
 ghost use Rattle.reference_machine.specs.Histories.{calls_of};
 ghost use Rattle.call_history.specs.Written.{HistoryBook};
 
@@ -17,19 +17,17 @@ pub struct History {
     entries: Vec<Entry>,
     /// The number of the seat of each entry.
     callers: Vec<u8>,
-    room: u64,
 }
 
 impl Model for History {
-    ghost use Rattle.std.specs.Prelude.{◌≡◌, ◌+◌, ◌≤◌, map, vec_len, vec_capacity};
+    ghost use Rattle.std.specs.Prelude.{◌≡◌, ◌-◌, map, min, vec_len, vec_capacity};
     ghost use Rattle.call_history.specs.Written.{HistoryBook, caller_of};
 
     ghost Value = { HistoryBook };
 
-    ghost view = { λ h. record { entries = h.entries.items; room = h.room } };
+    ghost view = { λ h. record { entries = h.entries.items; room = min (vec_capacity h.entries - vec_len h.entries) (vec_capacity h.callers - vec_len h.callers) } };
 
-    ghost invariant = { λ h. (h.callers.items ≡ map caller_of h.entries.items)
-        × (vec_len h.entries + h.room ≤ vec_capacity h.entries) × (vec_len h.callers + h.room ≤ vec_capacity h.callers) };
+    ghost invariant = { λ h. h.callers.items ≡ map caller_of h.entries.items };
 }
 
 impl History {
@@ -40,7 +38,6 @@ impl History {
         History {
             entries: Vec::new(alloc),
             callers: Vec::new(alloc),
-            room: 0,
         }
     }
 
@@ -55,41 +52,32 @@ impl History {
     pub fn into_entries(self) -> Vec<Entry>
         ensures { result.items ≡ self.entries }
     {
-        let History {
-            entries,
-            callers,
-            room: _,
-        } = self;
+        let History { entries, callers } = self;
         drop(callers);
         entries
     }
 
-    /// Makes room for one call more, here and in the notes. False where there is no memory. Where there is, all calls and that one can be counted in
-    /// 64 bits.
+    /// Makes room for one call more, here and in the notes. False for want of memory, and only where there was no room here or in the notes. Where
+    /// there is room, all calls and that one can be counted in 64 bits.
     pub fn makes_room(&mut self, notes: &mut Vec<Call>) -> bool
         ensures entries { self.new.entries ≡ self.old.entries }
         ensures notes { notes.new.items ≡ notes.old.items }
         ensures here { result ≡ true → 1 ≤ self.new.room }
         ensures in_notes { result ≡ true → vec_len notes.new < vec_capacity notes.new }
         ensures few { result ≡ true → length self.new.entries < 18446744073709551615 }
+        ensures full { result ≡ false → (self.old.room ≡ 0) ⊎ (vec_len notes.old ≡ vec_capacity notes.old) }
     {
         self.reserve() && notes.reserve(1).is_ok()
     }
 
-    /// Makes room for one call more. False where there is no memory.
+    /// Makes room for one call more. False for want of memory, and only where there was no room.
     fn reserve(&mut self) -> bool
         ensures entries { self.new.entries ≡ self.old.entries }
         ensures room { result ≡ true → 1 ≤ self.new.room }
         ensures few { result ≡ true → length self.new.entries < 18446744073709551615 }
+        ensures full { result ≡ false → self.old.room ≡ 0 }
     {
-        if self.room > 0 {
-            return true;
-        }
-        if self.entries.reserve(1).is_err() || self.callers.reserve(1).is_err() {
-            return false;
-        }
-        self.room = 1;
-        true
+        self.entries.reserve(1).is_ok() && self.callers.reserve(1).is_ok()
     }
 
     /// Writes the call down, here and in the notes, where there is room.
@@ -103,7 +91,6 @@ impl History {
         let Draft { entry, call } = draft;
         self.callers.push_reserved(entry.seat);
         self.entries.push_reserved(entry);
-        self.room -= 1;
         notes.push_reserved(call);
     }
 

@@ -6,6 +6,7 @@ ghost use Rattle.room.specs.Books.{GoesOn, blank_seats, is_memory, noted};
 ghost use Rattle.desk.specs.Desks.{AreSeats, AreShards, IsOpenFault, IsReplied, IsTaken, IsNoted, IsSeatAfter};
 
 use crate::crowd::Crowd;
+use crate::effort::are_much_work;
 use crate::order::{Attendance, Order};
 use crate::posts::Concerned;
 use cell_engine::Cell;
@@ -278,13 +279,15 @@ impl<S: Chosen, T: PrefixTable<Cell<S>>, L: Ledger> Desk<S, T, L> {
 
     /// Tells those for whose receivers a message waits from the sender.
     fn tell_receivers(&self, table: &mut Table<S, T, L>, sender: Addr) {
-        let mut next = table.room.first_receiver(sender);
+        let mut past = last_before(sender);
         for _ in 0..u64::MAX {
-            let Some(receiver) = next else {
-                return;
-            };
-            self.order.tell_receiver(&mut table.at, receiver);
-            next = table.room.next_receiver(sender, receiver);
+            match table.room.next_full(past) {
+                Some((from, to)) if from == sender => {
+                    self.order.tell_receiver(&mut table.at, to);
+                    past = Some((from, to));
+                }
+                _ => return,
+            }
         }
     }
 
@@ -361,7 +364,7 @@ impl<S: Chosen + Drop, T: PrefixTable<Cell<S>> + Drop, L: Ledger> Desk<S, T, L> 
     )
         ensures { GoesOn seat.old seat.new }
     {
-        let is_much_work = outcomes.is_much_work();
+        let is_much_work = are_much_work(&outcomes);
         let mut table = self.sit_down(rt, crowd);
         crowd.note_work(is_much_work, table.at.turns_to_a_call());
         table.at.note_work(is_much_work);
@@ -461,5 +464,13 @@ impl<S: Selector + Drop, T: PrefixTable<Cell<S>> + Drop, L: Ledger> Table<S, T, 
     {
         self.room.facts();
         self.room.job(shard, shards)
+    }
+}
+
+/// The last direction before those of the sender. None before the first.
+fn last_before(sender: Addr) -> Option<(Addr, Addr)> {
+    match sender.0.checked_sub(1) {
+        Some(before) => Some((Addr(before), Addr(u32::MAX))),
+        None => None,
     }
 }

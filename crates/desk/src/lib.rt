@@ -3,6 +3,7 @@
 
 mod crowd;
 mod desk;
+mod effort;
 mod order;
 mod posts;
 mod workers;

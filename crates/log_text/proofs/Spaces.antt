@@ -1,6 +1,6 @@
 -- Words that are joined by spaces, cut where the pieces are that are written.
 use Rattle.std.proofs.Common.{◌≡◌, ℕ, List, [], ◌∷◌, ◌++◌, refl, sym, ap, ◌∙◌, append_assoc, append-nil}
-use Rattle.std.specs.List.{join_with_byte, flat_map}
+use Rattle.std.specs.List.{join_with_byte}
 use Rattle.log_text.specs.Rules.{spaced}
 
 pub spaced_both : (a b : List (List ℕ)) → spaced (a ++ b) ≡ spaced a ++ spaced b

@@ -1,2 +1,3 @@
 pub mod Logs
+pub mod LogParts
 pub mod Rules

@@ -6,4 +6,4 @@ mod log;
 mod rule;
 
 pub use command::write_command;
-pub use log::write_log;
+pub use log::{write_end, write_entries, write_header, write_log};

@@ -3,8 +3,8 @@
 ghost use Rattle.std.specs.Prelude.{◌++◌, length, codes};
 ghost use Rattle.std.specs.Fmt.{decimal};
 ghost use Rattle.std.specs.List.{flat_map};
-ghost use Rattle.reply_text.specs.Replies.{line_end};
-ghost use Rattle.log_text.specs.Logs.{call_line, entry_text, log_text};
+ghost use Rattle.reply_text.specs.Replies.{line_end, end_line};
+ghost use Rattle.log_text.specs.Logs.{header, call_line, entry_text, log_text};
 ghost use Rattle.watched.specs.Streams.{Writes};
 
 use crate::command::write_command;
@@ -18,13 +18,30 @@ use watched::{Output, WriterFailed};
 pub fn write_log<W: Write>(entries: &[Entry], output: &mut Output<W>) -> Result<(), WriterFailed>
     ensures { Writes output.old (log_text entries.now) result output.new }
 {
-    output.write(b"bgpsim log 1\n")?;
+    write_header(output)?;
     write_entries(entries, output)?;
-    write_numbered(b"end ", entries.len() as u64, output)
+    write_end(entries.len() as u64, output)
 }
 
-/// Writes the calls, each with its reply.
-fn write_entries<W: Write>(entries: &[Entry], output: &mut Output<W>) -> Result<(), WriterFailed>
+/// Writes the first line of a log. At an error a front of it went out, here and in the calls below.
+pub fn write_header<W: Write>(output: &mut Output<W>) -> Result<(), WriterFailed>
+    ensures { Writes output.old (header ++ line_end) result output.new }
+{
+    output.write(b"bgpsim log 1\n")
+}
+
+/// Writes the last line of a log of so many calls.
+pub fn write_end<W: Write>(count: u64, output: &mut Output<W>) -> Result<(), WriterFailed>
+    ensures { Writes output.old (end_line count) result output.new }
+{
+    write_numbered(b"end ", count, output)
+}
+
+/// Writes the calls, each with its reply, as they stand between the first line and the last.
+pub fn write_entries<W: Write>(
+    entries: &[Entry],
+    output: &mut Output<W>,
+) -> Result<(), WriterFailed>
     ensures { Writes output.old (flat_map entry_text entries.now) result output.new }
 {
     for entry in entries {

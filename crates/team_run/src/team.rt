@@ -13,7 +13,6 @@ use crate::scripts::{ScriptFile, read_scripts};
 use crate::told::Told;
 use cell_engine::Cell;
 use desk::{Audit, Desk, Record, Seat};
-use log_text::write_log;
 use prefix_table::PrefixTable;
 use route_select::Selector;
 use sim_event::Entry;
@@ -25,6 +24,7 @@ use std::sync::Wait;
 use std::sync::atomic::AtomicU64;
 use std::sync::ledger::{Blank, Ledger};
 use std::thread::Threads;
+use team_log::write_log_in_threads;
 use watched::{Output, WriterFailed};
 
 /// How a team is run.
@@ -112,7 +112,7 @@ fn play<
     ensures { IsPlayed output.old result output.new }
 {
     let ended = match recorded::<S, T, L, E, R>(rt, alloc, keys, blank, settings, scripts, errors) {
-        Ok(record) => write_record(&record, output),
+        Ok(record) => write_record(rt, alloc, settings.workers, &record, output),
         Err(fault) => Err(fault),
     };
     match ended {
@@ -232,26 +232,38 @@ fn closed<S: Selector + Drop, T: PrefixTable<Cell<S>> + Drop, L: Ledger, R: Wait
     }
 }
 
-/// Writes the log of the record, and sends it on.
-fn write_record<W: Write>(kept: &Record, output: &mut Output<W>) -> Result<(), TeamFault>
+/// Writes the log of the record, and sends it on. Several workers make its text together.
+fn write_record<W: Write, R: Threads + Sync>(
+    rt: &R,
+    alloc: Global,
+    workers: u16,
+    kept: &Record,
+    output: &mut Output<W>,
+) -> Result<(), TeamFault>
     requires { output.old.failed ≡ false }
     ensures legal { IsLegal kept.now }
     ensures logged { OnOk result (IsLogOf kept.now output.old output.new) }
     ensures cut_off { IfErr result (λ fault. (fault ≡ TeamFault.Write) × IsFrontOf kept.now output.old output.new) }
 {
-    match write_entries(kept.entries(), output) {
+    match write_entries(rt, alloc, workers, kept.entries(), output) {
         Ok(()) => Ok(()),
         Err(_) => Err(TeamFault::Write),
     }
 }
 
 /// Writes the log of the history, and sends it on.
-fn write_entries<W: Write>(entries: &[Entry], output: &mut Output<W>) -> Result<(), WriterFailed>
+fn write_entries<W: Write, R: Threads + Sync>(
+    rt: &R,
+    alloc: Global,
+    workers: u16,
+    entries: &[Entry],
+    output: &mut Output<W>,
+) -> Result<(), WriterFailed>
     requires { output.old.failed ≡ false }
     ensures logged { OnOk result (IsLogOf entries.now output.old output.new) }
     ensures front { OnErr result (AppendsFront output.old.written output.new.written (log_text entries.now)) }
     ensures failed { OnErr result (output.new.failed ≡ true) }
 {
-    write_log(entries, output)?;
+    write_log_in_threads(rt, alloc, workers, entries, output)?;
     output.flush()
 }

@@ -1,11 +1,12 @@
 //! A job: a delivery that is decided apart from the room.
 
 ghost use Rattle.std.specs.Prelude.{◌≡◌, IfOk, IfErr};
+ghost use Rattle.std.specs.Option.{option_copied};
 ghost use Rattle.route_cell.specs.Senders.{AreInOrder};
 ghost use Rattle.room.specs.Jobs.{CanDecide, outcome_of};
 
 use cell_engine::{Cell, Outcome, deliver, store};
-use net_conf::{Conf, SharedSite, SiteSession};
+use net_conf::{Conf, SharedSite, SiteConf};
 use net_prefix::Addr;
 use path_attr::Attr;
 use route_select::{Chosen, Selector};
@@ -13,9 +14,6 @@ use session_queue::{Direction, Message};
 use std::alloc::{AllocError, Global};
 use std::marker::Model;
 use std::sync::Arc;
-
-/// So many sessions and rules of a router are many: to look at them all takes longer than all else in a delivery.
-const MANY: usize = 1_000;
 
 /// What a delivery depends on, taken away from the room: the version, the message at the head of the queue, a share of the configuration,
 /// and a copy of the receiver's cell of the message's prefix. Contracts see the receiver's site in that configuration.
@@ -166,26 +164,13 @@ impl<S: Chosen> Done<S> {
         self.job.ends()
     }
 
-    /// Whether such a delivery is much work, as far as one can tell: the receiver is a router that has many sessions and rules.
-    pub fn is_much_work(&self) -> bool {
+    /// The receiver's site. None where a virtual peer stands.
+    pub fn site(&self) -> Option<&SiteConf>
+        ensures { option_copied result ≡ self.now.site }
+    {
         match &self.site {
-            Some(site) => are_many(site.get().sessions.as_slice()),
-            None => false,
+            Some(site) => Some(site.get()),
+            None => None,
         }
     }
-}
-
-/// Whether there are many sessions and rules.
-fn are_many(sessions: &[SiteSession]) -> bool {
-    let mut count = 0_usize;
-    for session in sessions {
-        count = count
-            .saturating_add(1)
-            .saturating_add(session.policy_in.len())
-            .saturating_add(session.policy_out.len());
-        if count >= MANY {
-            return true;
-        }
-    }
-    false
 }

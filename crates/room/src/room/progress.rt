@@ -1,6 +1,7 @@
 //! How far a room is, for people to read.
 
-ghost use Rattle.std.specs.Prelude.{◌≡◌, length};
+ghost use Rattle.std.specs.Prelude.{◌≡◌, ◌<◌, length, IfSome};
+ghost use Rattle.session_queue.specs.Waiting.{queue_at, IsPast, SkipsNone};
 
 use crate::room::Room;
 use cell_engine::Cell;
@@ -30,19 +31,13 @@ impl<S: Chosen, T: PrefixTable<Cell<S>>, L: Ledger> Room<S, T, L> {
         }
     }
 
-    /// The first to whom a message waits from the sender, by address.
-    pub fn first_receiver(&self, sender: Addr) -> Option<Addr> {
-        let least = Addr(0);
-        if self.sim.state().queues().len(sender, least) > 0 {
-            return Some(least);
-        }
-        self.next_receiver(sender, least)
-    }
-
-    /// The next one past this one.
-    pub fn next_receiver(&self, sender: Addr, past: Addr) -> Option<Addr> {
-        let (from, to) = self.sim.state().queues().next_full(Some((sender, past)))?;
-        if from == sender { Some(to) } else { None }
+    /// The next direction with a message, by sender, then by receiver: the first of all, or the first past the one that is given.
+    pub fn next_full(&self, past: Option<(Addr, Addr)>) -> Option<(Addr, Addr)>
+        ensures full { IfSome result (λ found. 0 < length (queue_at self.now.engine.queues found.0 found.1)) }
+        ensures past { IfSome result (IsPast past) }
+        ensures none_between { SkipsNone self.now.engine.queues past result }
+    {
+        self.sim.state().queues().next_full(past)
     }
 }
 

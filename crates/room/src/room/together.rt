@@ -1,6 +1,6 @@
 //! Jobs that are taken at one time, and their outcomes.
 
-ghost use Rattle.std.specs.Prelude.{◌≡◌, ℕ, length};
+ghost use Rattle.std.specs.Prelude.{◌≡◌, ◌==◌, ℕ, length};
 ghost use Rattle.room.specs.Jobs.{AreTakenTogether};
 
 use crate::room::job::{Done, Job};
@@ -37,7 +37,9 @@ impl<S: Chosen> Jobs<S> {
     }
 
     /// Whether there is none.
-    pub fn is_empty(&self) -> bool {
+    pub fn is_empty(&self) -> bool
+        ensures { result ≡ (length self.now == 0) }
+    {
         self.jobs.is_empty()
     }
 
@@ -90,11 +92,6 @@ impl<S: Chosen> Outcomes<S> {
         ensures { result.now ≡ self.now }
     {
         &self.outcomes
-    }
-
-    /// Whether one of the deliveries is much work.
-    pub fn is_much_work(&self) -> bool {
-        self.outcomes.iter().any(|done| done.is_much_work())
     }
 
     /// The outcomes, one by one.

@@ -1,4 +1,4 @@
-use Rattle.std.proofs.Common.{codes, ◌++◌, ◌∷◌, [], append_assoc}
+use Rattle.std.proofs.Common.{codes, ◌++◌, append_assoc}
 use Rattle.std.specs.Fmt.{decimal}
 use Rattle.reply_text.specs.Replies.{line_end}
 use Rattle.reply_text.specs.Pieces.{writes_same, writes_cut, writes_next}

@@ -1,4 +1,4 @@
-use Rattle.std.proofs.Common.{codes, ◌++◌, ◌∷◌, [], ap}
+use Rattle.std.proofs.Common.{codes, ◌++◌, ◌∷◌, []}
 use Rattle.std.specs.List.{join_with_byte}
 use Rattle.net_prefix.specs.Address.{addr_text}
 use Rattle.command_text.specs.Words.{match_words, action_words, side_word}
