@@ -5,7 +5,8 @@
                                                      workers: the log has to be one that the model and `bgpsim replay` find to agree; each engineer's calls
                                                      in it have to be the commands of the file, in order; the workers' are deliveries; and each line that
                                                      spells no command has to be told, in order
-    tools/teams.py faults                            a full device, threads that cannot be started, and each allocation refused in turn; it needs cc
+    tools/teams.py faults                            a full device, threads that cannot be started, each allocation refused in turn, and long logs, whose text
+                                                     several threads make; it needs cc
 
 `agree` ends with `N teams, K differ`, and with exit 1 where one differs; `faults`, a part of the gate, with `N passed, M failed`. PROGRAM= is another
 program than crates/bgpsim/out/bgpsim.
@@ -140,6 +141,24 @@ def with_few_threads(files, most):
     return team(files, 2, preexec_fn=limit)
 
 
+def long_logs(folder, shim):
+    """Whether several threads write the log that one writes, and so where one of the last allocations is refused: those are for its text."""
+    files = written(folder, ["".join("router 1.0.%d.%d %d\n" % (n >> 8, n & 255, n + 1) + "quiet\n" for n in range(9_000))])
+    alone = team(files, 1)
+    yield "a long log by one thread", wrong([pathlib.Path(files[0]).read_text()], 1, alone) is None, alone.err
+    for workers in (2, 3, 4, 8):
+        ran = team(files, workers)
+        yield "a long log by %d threads" % workers, ran == alone, ran.err
+
+    def refusing(number):
+        return team(files, 4, env=dict(os.environ, LD_PRELOAD=shim, REFUSED=str(number)))
+
+    *_, allocations = refusing(0).err.split()
+    with concurrent.futures.ThreadPoolExecutor(len(os.sched_getaffinity(0))) as pool:
+        ends = list(pool.map(refusing, range(int(allocations) - 60, int(allocations) + 1)))
+    yield "the last allocations of a long log refused in turn", all(ran == alone for ran in ends), collections.Counter(ran.status for ran in ends)
+
+
 def faults():
     """What a case cannot show: whether each went well, by name."""
     examples = TOP / "examples/team"
@@ -167,6 +186,7 @@ def faults():
         *_, allocations = refusing(0).err.split()
         with concurrent.futures.ThreadPoolExecutor(len(os.sched_getaffinity(0))) as pool:
             ends = list(pool.map(refusing, range(1, int(allocations) + 1)))
+        yield from long_logs(folder, shim)
     for number, ran in enumerate(ends, 1):
         if not is_well(ran):
             yield "allocation %d refused" % number, False, ran
