@@ -9,7 +9,10 @@ const MANY: usize = 1_000;
 
 /// Whether one of the deliveries is much work, as far as one can tell: its receiver is a router that has many sessions and rules.
 pub(crate) fn are_much_work<S: Chosen>(outcomes: &Outcomes<S>) -> bool {
-    outcomes.as_slice().iter().any(|done| is_much_work(done.site()))
+    outcomes
+        .as_slice()
+        .iter()
+        .any(|done| is_much_work(done.site()))
 }
 
 /// Whether there are many sessions and rules at the site.
