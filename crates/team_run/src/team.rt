@@ -155,12 +155,22 @@ fn recorded<
         u64::from(settings.workers),
         blank,
     ) else {
+        drop(scripts);
         return Err(TeamFault::Memory);
     };
-    let told = Told::new(alloc, errors, settings.is_terminal)?;
+    let Ok(told) = Told::new(alloc, errors, settings.is_terminal) else {
+        drop((desk, seats, scripts));
+        return Err(TeamFault::Memory);
+    };
     let seats = at_desk(rt, alloc, &desk, &told, scripts, seats, settings.turns);
     told.show();
-    closed(rt, desk, seats?)
+    match seats {
+        Ok(seats) => closed(rt, desk, seats),
+        Err(_) => {
+            drop(desk);
+            Err(TeamFault::Memory)
+        }
+    }
 }
 
 /// All threads at the desk, from the first call to the last. The seats come back.
