@@ -1,17 +1,21 @@
 -- What a caller at a desk knows of its own seat, and why a desk is not opened.
-use Rattle.std.specs.Prelude.{◌≡◌, ◌≤◌, ℕ, List, [], ◌∷◌}
+use Rattle.std.specs.Prelude.{◌≡◌, ◌≢◌, ◌≤◌, ℕ, List, [], ◌∷◌}
+use Rattle.net_prefix.specs.declared.addr.Addr.{Addr}
+use Rattle.session_queue.specs.Shards.{shard_of}
+use Rattle.session_queue.specs.Waiting.{queue_at}
 use Rattle.sim_event.specs.declared.entry.Entry.{Entry}
 use Rattle.sim_event.specs.declared.event.Event.{Event}
 use Rattle.sim_event.specs.declared.reply.Reply.{Reply}
 use Rattle.reference_machine.specs.Machine.{step}
 use Rattle.reference_machine.specs.Histories.{IsLegal, state_after, calls_of}
+use Rattle.room.specs.declared.room.commit.Newer.{Newer}
 use Rattle.room.specs.declared.room.commit.Committed.{Committed}
 use Rattle.room.specs.declared.room.commit.Committed.TheVariants.{Delivered, Stale}
 use Rattle.desk.specs.declared.desk.OpenFault.{OpenFault}
 use Rattle.desk.specs.declared.desk.OpenFault.TheVariants.{Seats, Shards, Memory}
 use Rattle.room.specs.Books.{RoomBook, SeatBook, IsKept, GoesOn, with_call}
 use Rattle.room.specs.Jobs.{Seen, IsSeenIn}
-use Rattle.room.specs.Commits.{delivery_of}
+use Rattle.room.specs.Commits.{delivery_of, IsNewer}
 
 -- a desk: how many shards it has
 pub record DeskBook : Type 0 where
@@ -43,16 +47,34 @@ pub record IsTaken (x : Seen) : Type 0 where
   pub kept : IsKept room
   pub seen : IsSeenIn room x
 
+-- there is a room, with a legal history, in which no message waits for a receiver of the shard
+pub record IsWithout (shard shards : ℕ) : Type 0 where
+  pub room : RoomBook
+  pub kept : IsKept room
+  pub none : (from to : Addr) → shard_of to shards ≡ shard → queue_at room.engine.queues from to ≡ []
+
+-- there is a room, with a legal history, in which this has moved since the job was taken
+pub record IsMoved (x : Seen) (newer : Newer) : Type 0 where
+  pub room : RoomBook
+  pub kept : IsKept room
+  pub moved : IsNewer room x newer
+
+-- there is a legal history, in which the seat's calls are others than its notes
+pub record IsUnlike (seat : SeatBook) : Type 0 where
+  pub history : List Entry
+  pub legal : IsLegal history
+  pub calls : calls_of seat.number history ≢ seat.notes
+
 -- there is a legal history, in which these are the seat's calls, in their order
 pub record IsNoted (seat : SeatBook) : Type 0 where
   pub history : List Entry
   pub legal : IsLegal history
   pub calls : calls_of seat.number history ≡ seat.notes
 
--- after its outcome came back the seat has one call more, with the machine's reply; or it is as it was
+-- after its outcome came back the seat has one call more, with the machine's reply; or something has moved, and the seat is as it was
 abbrev pub IsSeatAfter : SeatBook → Seen → Committed → SeatBook → Type 0
 IsSeatAfter seat x (Delivered reply) new = (new ≡ with_call seat (delivery_of x) reply) × IsReplied (delivery_of x) reply
-IsSeatAfter seat x (Stale newer) new = new ≡ seat
+IsSeatAfter seat x (Stale newer) new = (new ≡ seat) × IsMoved x newer
 
 -- each seat goes on from the one at its place
 abbrev pub AllGoOn : List SeatBook → List SeatBook → Type 0

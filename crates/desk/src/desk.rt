@@ -1,9 +1,9 @@
 //! The desk: a room under one lock.
 
-ghost use Rattle.std.specs.Prelude.{◌≡◌, ◌<◌, ◌≤◌, false, IfOk, IfErr, IfSome, OnOk, OnErr};
+ghost use Rattle.std.specs.Prelude.{◌≡◌, ◌<◌, ◌≤◌, false, None, IfOk, IfErr, IfSome, OnOk, OnErr};
 ghost use Rattle.session_queue.specs.Shards.{shard_of};
 ghost use Rattle.room.specs.Books.{GoesOn, blank_seats, is_memory, noted};
-ghost use Rattle.desk.specs.Desks.{AreSeats, AreShards, IsOpenFault, IsReplied, IsTaken, IsNoted, IsSeatAfter};
+ghost use Rattle.desk.specs.Desks.{AreSeats, AreShards, IsOpenFault, IsReplied, IsTaken, IsWithout, IsNoted, IsUnlike, IsSeatAfter};
 
 use crate::crowd::Crowd;
 use crate::effort::are_much_work;
@@ -134,7 +134,8 @@ impl<S: Chosen, T: PrefixTable<Cell<S>>, L: Ledger> Desk<S, T, L> {
 
     /// Whether the seat's notes are its calls in the history, which is legal.
     pub fn audit<R: Wait>(&self, rt: &R, seat: &Seat<L>) -> Audit
-        ensures { result ≡ Audit.Agrees → IsNoted seat.now }
+        ensures agrees { result ≡ Audit.Agrees → IsNoted seat.now }
+        ensures differs { result ≡ Audit.Differs → IsUnlike seat.now }
     {
         self.table.lock(rt).audit(seat)
     }
@@ -380,6 +381,7 @@ impl<S: Selector + Drop, T: PrefixTable<Cell<S>> + Drop, L: Ledger> Desk<S, T, L
         requires { shard < self.now.shards }
         ensures taken { IfOk result (λ found. IfSome found IsTaken) }
         ensures shard { IfOk result (λ found. IfSome found (λ job. shard_of job.direction.to self.now.shards ≡ shard)) }
+        ensures none { IfOk result (λ found. found ≡ None → IsWithout shard self.now.shards) }
     {
         self.table.lock(rt).take(shard, self.order.shards())
     }
@@ -428,7 +430,8 @@ impl<S: Selector + Drop, T: PrefixTable<Cell<S>> + Drop, L: Ledger> Desk<S, T, L
 // What is done under the lock. Contracts see the table here: what they say outlasts the lock.
 impl<S: Chosen, T: PrefixTable<Cell<S>>, L: Ledger> Table<S, T, L> {
     fn audit(&self, seat: &Seat<L>) -> Audit
-        ensures { result ≡ Audit.Agrees → IsNoted seat.now }
+        ensures agrees { result ≡ Audit.Agrees → IsNoted seat.now }
+        ensures differs { result ≡ Audit.Differs → IsUnlike seat.now }
     {
         self.room.facts();
         self.room.audit(seat)
@@ -461,6 +464,7 @@ impl<S: Selector + Drop, T: PrefixTable<Cell<S>> + Drop, L: Ledger> Table<S, T, 
         requires { shard < shards }
         ensures taken { IfOk result (λ found. IfSome found IsTaken) }
         ensures shard { IfOk result (λ found. IfSome found (λ job. shard_of job.direction.to shards ≡ shard)) }
+        ensures none { IfOk result (λ found. found ≡ None → IsWithout shard shards) }
     {
         self.room.facts();
         self.room.job(shard, shards)
