@@ -355,7 +355,8 @@ impl<S: Chosen + Drop, T: PrefixTable<Cell<S>> + Drop, L: Ledger> Desk<S, T, L> 
         committed
     }
 
-    /// Puts in each outcome in turn, as `commit` does. Those that came too late are let go, and so are those for which there is no memory.
+    /// Puts in each outcome in turn, as `commit` does: one that came too late is let go. For want of memory it stops, and those that are left
+    /// are let go.
     pub(crate) fn commit_all<R: Wait>(
         &self,
         rt: &R,
@@ -370,7 +371,7 @@ impl<S: Chosen + Drop, T: PrefixTable<Cell<S>> + Drop, L: Ledger> Desk<S, T, L> 
         crowd.note_work(is_much_work, table.at.turns_to_a_call());
         table.at.note_work(is_much_work);
         self.tell_all_sends(&mut table.at, &outcomes);
-        table.room.commit_all(seat, outcomes);
+        drop(table.room.commit_all(seat, outcomes));
         self.tell_end(&mut table);
     }
 }

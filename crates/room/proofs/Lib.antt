@@ -1,3 +1,5 @@
+pub mod Apart
+pub mod Brought
 pub mod Deliverable
 pub mod Differing
 pub mod Following

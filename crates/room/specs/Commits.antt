@@ -1,5 +1,5 @@
 -- What becomes of a job that is done.
-use Rattle.std.specs.Prelude.{◌≡◌, ◌≢◌, ◌∷◌, ◌++◌, [], Option}
+use Rattle.std.specs.Prelude.{◌≡◌, ◌≢◌, Bool, true, false, List, [], ◌∷◌, ◌++◌, Option}
 use Rattle.sim_event.specs.declared.event.Event.{Event}
 use Rattle.sim_event.specs.declared.event.Event.TheVariants.{Deliver}
 use Rattle.sim_event.specs.declared.reply.Reply.{Reply}
@@ -41,7 +41,28 @@ pub record IsDelivered (room : RoomBook) (seat : SeatBook) (event : Event) (repl
   pub notes : seat' ≡ with_call seat event reply
   pub seats : room'.seats ≡ room.seats
 
+abbrev pub is_delivered : Committed → Bool
+is_delivered (Delivered reply) = true
+is_delivered (Stale newer) = false
+
 -- the outcome is put in, or something has moved and nothing changes
 abbrev pub IsCommitted : RoomBook → SeatBook → Seen → Committed → RoomBook → SeatBook → Type 0
 IsCommitted room seat x (Delivered reply) room' seat' = IsDelivered room seat (delivery_of x) reply room' seat'
 IsCommitted room seat x (Stale newer) room' seat' = IsNewer room x newer × (room' ≡ room) × (seat' ≡ seat)
+
+-- the outcomes come back one after another
+abbrev pub AreCommitted : RoomBook → SeatBook → List Seen → RoomBook → SeatBook → Type 0
+AreCommitted room seat [] room' seat' = (room' ≡ room) × (seat' ≡ seat)
+AreCommitted room seat (x ∷ xs) room' seat' =
+    (next : RoomBook) × (after : SeatBook) × (told : Committed) × IsCommitted room seat x told next after × AreCommitted next after xs room' seat'
+
+-- so do the first of them; then there is no memory, and the others are let go
+pub record IsBrokenOff (room : RoomBook) (seat : SeatBook) (xs : List Seen) (room' : RoomBook) (seat' : SeatBook) : Type 0 where
+  pub first : List Seen
+  pub others : List Seen
+  pub parts : xs ≡ first ++ others
+  pub next : RoomBook
+  pub committed : AreCommitted room seat first next seat'
+  pub network : network room'.engine ≡ network next.engine
+  pub history : room'.history ≡ next.history
+  pub seats : room'.seats ≡ next.seats

@@ -1,7 +1,9 @@
 -- What a worker takes away from the room to decide, and what may have moved until it comes back.
-use Rattle.std.specs.Prelude.{◌≡◌, ℕ, ⊤, List, All, map, slice_get, Option, Some, None}
+use Rattle.std.specs.Prelude.{◌≡◌, ◌≢◌, ℕ, ⊤, List, [], ◌∷◌, All, map, slice_get, Option, Some, None}
 use Rattle.std.specs.List.Sorted.{IsStrictlySortedBy}
+use Rattle.net_prefix.specs.declared.addr.Addr.{Addr}
 use Rattle.net_prefix.specs.Address.{addr_cmp}
+use Rattle.net_prefix.specs.Block.{Block}
 use Rattle.net_conf.specs.declared.site.SiteConf.{SiteConf}
 use Rattle.net_conf.specs.RouterSites.{router_site}
 use Rattle.session_queue.specs.declared.message.Message.{Message}
@@ -46,6 +48,15 @@ pub record IsSeenIn (room : RoomBook) (x : Seen) : Type 0 where
 -- the jobs were taken at one time: there is a room in which each holds what is there
 abbrev pub AreTakenTogether : List Seen → Type 0
 AreTakenTogether xs = (room : RoomBook) × All (IsSeenIn room) xs
+
+-- the cell that the job decides: its receiver and prefix
+abbrev pub cell_of : Seen → Addr × Block
+cell_of x = (x.direction.to, prefix_of x.head)
+
+-- no two decide one cell
+abbrev pub AreApart : List Seen → Type 0
+AreApart [] = ⊤
+AreApart (x ∷ xs) = All (λ y. cell_of x ≢ cell_of y) xs × AreApart xs
 
 -- DECIDED
 

@@ -4,7 +4,7 @@ ghost use Rattle.std.specs.Prelude.{◌≡◌, ◌↔◌, true, Some, None, IsTr
 ghost use Rattle.route_cell.specs.Cells.{route_of};
 ghost use Rattle.cell_network.specs.Engine.{network, heard_at};
 ghost use Rattle.room.specs.Jobs.{IsSeenIn, site_in, head_in, outcome_of};
-ghost use Rattle.room.specs.Commits.{IsNewer, IsCommitted, IsDelivered, delivery_of, head_seen};
+ghost use Rattle.room.specs.Commits.{IsNewer, IsCommitted, AreCommitted, IsBrokenOff, IsDelivered, is_delivered, delivery_of, head_seen};
 ghost use Rattle.room.specs.Books.{GoesOn, version_of};
 
 use crate::room::Room;
@@ -38,7 +38,26 @@ impl<S: Chosen + Drop, T: PrefixTable<Cell<S>> + Drop, L: Ledger> Room<S, T, L> 
         ensures seats { OnErr result (self.new.seats ≡ self.old.seats) }
         ensures seat { OnErr result (seat.new ≡ seat.old) }
     {
-        match self.newer(&done, false) {
+        self.bring(seat, done, false)
+    }
+
+    /// The same. The receiver's site is not compared where it is known to be as the job had it; where the outcome is put in, it is, and stays so.
+    fn bring(
+        &mut self,
+        seat: &mut Seat<L>,
+        done: Done<S>,
+        is_site_known: bool,
+    ) -> Result<Committed, CommitFault<S>>
+        requires { is_site_known ≡ true → done.site ≡ site_in self.old done.direction }
+        ensures committed { IfOk result (λ committed. IsCommitted self.old seat.old done committed self.new seat.new) }
+        ensures site { IfOk result (λ committed. is_delivered committed ≡ true → done.site ≡ site_in self.new done.direction) }
+        ensures back { IfErr result (λ fault. fault.done ≡ done) }
+        ensures network { OnErr result (network self.new.engine ≡ network self.old.engine) }
+        ensures history { OnErr result (self.new.history ≡ self.old.history) }
+        ensures seats { OnErr result (self.new.seats ≡ self.old.seats) }
+        ensures seat { OnErr result (seat.new ≡ seat.old) }
+    {
+        match self.newer(&done, is_site_known) {
             Ok(Some(newer)) => {
                 drop(done);
                 Ok(Committed::Stale(newer))
@@ -71,36 +90,33 @@ impl<S: Chosen + Drop, T: PrefixTable<Cell<S>> + Drop, L: Ledger> Room<S, T, L> 
         }
     }
 
-    /// Puts in each outcome in turn, as `commit` does. Those that came too late are let go, and so are those for which there is no memory.
-    /// The site of a receiver is compared once for all that come one after another.
-    pub fn commit_all(&mut self, seat: &mut Seat<L>, outcomes: Outcomes<S>)
-        ensures { GoesOn seat.old seat.new }
+    /// Puts in each outcome in turn, as `commit` does: one that came too late is let go. For want of memory it stops, and the outcomes that are
+    /// left are let go. The site of a receiver is compared once for all that come one after another.
+    pub fn commit_all(
+        &mut self,
+        seat: &mut Seat<L>,
+        outcomes: Outcomes<S>,
+    ) -> Result<(), AllocError>
+        ensures committed { OnOk result (AreCommitted self.old seat.old outcomes self.new seat.new) }
+        ensures broken_off { OnErr result (IsBrokenOff self.old seat.old outcomes self.new seat.new) }
+        ensures seat { GoesOn seat.old seat.new }
     {
         let mut known = None;
         for done in outcomes.into_vec() {
             let receiver = done.ends().1;
             let is_known = is_receiver(known, receiver);
-            let is_same = self.bring(seat, done, is_known);
+            let committed = match self.bring(seat, done, is_known) {
+                Ok(committed) => committed,
+                Err(fault) => {
+                    drop(fault);
+                    return Err(AllocError);
+                }
+            };
+            let is_same = is_delivered(&committed);
+            drop(committed);
             known = if is_same { Some(receiver) } else { None };
         }
-    }
-
-    /// Puts in an outcome, or lets it go. Where it says so, the receiver's site is as the job had it, now and before.
-    fn bring(&mut self, seat: &mut Seat<L>, done: Done<S>, is_site_known: bool) -> bool
-        requires { is_site_known ≡ true → done.site ≡ site_in self.old done.direction }
-        ensures seat { GoesOn seat.old seat.new }
-        ensures site { result ≡ true → done.site ≡ site_in self.new done.direction }
-    {
-        match self.newer(&done, is_site_known) {
-            Ok(None) => {
-                drop(self.put_in(seat, done));
-                true
-            }
-            newer => {
-                drop((done, newer));
-                false
-            }
-        }
+        Ok(())
     }
 
     /// What has moved since the job was taken. The site is not compared where it is known to be the same.
@@ -265,6 +281,13 @@ fn is_receiver(known: Option<Addr>, receiver: Addr) -> bool
     ensures { result ≡ true → known ≡ Some receiver }
 {
     known == Some(receiver)
+}
+
+/// Whether the outcome was put in.
+fn is_delivered(committed: &Committed) -> bool
+    ensures { result ≡ is_delivered committed.now }
+{
+    matches!(committed, Committed::Delivered(_))
 }
 
 /// Whether both sites are the same.

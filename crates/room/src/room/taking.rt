@@ -1,11 +1,12 @@
 //! Jobs are taken.
 
-ghost use Rattle.std.specs.Prelude.{◌≡◌, ◌<◌, ◌≤◌, ◌↔◌, false, [], None, length, All, IfOk, IfSome};
+ghost use Rattle.std.specs.Prelude.{◌≡◌, ◌≢◌, ◌<◌, ◌≤◌, ◌+◌, ◌↔◌, ◌++◌, false, [], None, List, length, max, All, IfOk, IfSome};
+ghost use Rattle.std.specs.Bool.{OnFalse};
 ghost use Rattle.net_prefix.specs.declared.addr.Addr as address;
 ghost use Rattle.session_queue.specs.Shards.{shard_of};
 ghost use Rattle.session_queue.specs.Waiting.{queue_at};
 ghost use Rattle.cell_network.specs.Engine.{heard_at};
-ghost use Rattle.room.specs.Jobs.{IsSeenIn};
+ghost use Rattle.room.specs.Jobs.{Seen, IsSeenIn, AreApart, cell_of};
 
 use crate::room::Room;
 use crate::room::job::Job;
@@ -50,11 +51,14 @@ impl<S: Selector + Drop, T: PrefixTable<Cell<S>>, L: Ledger> Room<S, T, L> {
         }
     }
 
-    /// Jobs of the shard, no more than so many, none of which makes another of them come too late: one where a message waits for a receiver of
-    /// the shard, and none else. Want of memory for the first is the only error.
+    /// Jobs of the shard, no more than so many, and no two of one receiver and prefix, of which the first would make the second come too late.
+    /// One at least where a message waits for a receiver of the shard. Want of memory for the first is the only error.
     pub fn jobs(&self, shard: u64, shards: u64, most: usize) -> Result<Jobs<S>, AllocError>
         requires { shard < shards }
         ensures seen { IfOk result (All (IsSeenIn self.now)) }
+        ensures shard { IfOk result (All (λ job. shard_of job.direction.to shards ≡ shard)) }
+        ensures apart { IfOk result AreApart }
+        ensures most { IfOk result (λ jobs. length jobs ≤ max most 1) }
         ensures none { IfOk result (λ jobs. jobs ≡ [] → (from to : address.Addr) → shard_of to shards ≡ shard → queue_at self.now.engine.queues from to ≡ []) }
     {
         let jobs = self.job_list(shard, shards, most)?;
@@ -65,6 +69,9 @@ impl<S: Selector + Drop, T: PrefixTable<Cell<S>>, L: Ledger> Room<S, T, L> {
     fn job_list(&self, shard: u64, shards: u64, most: usize) -> Result<Vec<Job<S>>, AllocError>
         requires { shard < shards }
         ensures seen { IfOk result (λ jobs. All (IsSeenIn self.now) jobs.items) }
+        ensures shard { IfOk result (λ jobs. All (λ job. shard_of job.direction.to shards ≡ shard) jobs.items) }
+        ensures apart { IfOk result (λ jobs. AreApart jobs.items) }
+        ensures most { IfOk result (λ jobs. length jobs.items ≤ max most 1) }
         ensures none { IfOk result (λ jobs. jobs.items ≡ [] → (from to : address.Addr) → shard_of to shards ≡ shard → queue_at self.now.engine.queues from to ≡ []) }
     {
         let Some(first) = self.job(shard, shards)? else {
@@ -93,7 +100,12 @@ impl<S: Selector + Drop, T: PrefixTable<Cell<S>>, L: Ledger> Room<S, T, L> {
     )
         requires shard { shard < shards }
         requires seen { All (IsSeenIn self.now) jobs.old.items }
+        requires of_shard { All (λ job. shard_of job.direction.to shards ≡ shard) jobs.old.items }
+        requires apart { AreApart jobs.old.items }
         ensures seen { All (IsSeenIn self.now) jobs.new.items }
+        ensures shard { All (λ job. shard_of job.direction.to shards ≡ shard) jobs.new.items }
+        ensures apart { AreApart jobs.new.items }
+        ensures most { length jobs.new.items + 1 ≤ length jobs.old.items + max most 1 }
         ensures more { length jobs.old.items ≤ length jobs.new.items }
     {
         for _ in 1..most {
@@ -112,8 +124,10 @@ impl<S: Selector + Drop, T: PrefixTable<Cell<S>>, L: Ledger> Room<S, T, L> {
     fn is_added(&self, jobs: &mut Vec<Job<S>>, direction: Direction) -> bool
         requires message { 0 < length (queue_at self.now.engine.queues direction.from direction.to) }
         requires seen { All (IsSeenIn self.now) jobs.old.items }
+        requires apart { AreApart jobs.old.items }
         ensures seen { All (IsSeenIn self.now) jobs.new.items }
-        ensures more { length jobs.old.items ≤ length jobs.new.items }
+        ensures added { (more : List Seen) × (jobs.new.items ≡ jobs.old.items ++ more) × (length more ≤ 1) × All (λ job. job.direction ≡ direction) more }
+        ensures apart { AreApart jobs.new.items }
     {
         let queues = self.sim.state().queues();
         let Some(view) = queues.head(direction.from, direction.to) else {
@@ -131,7 +145,8 @@ impl<S: Selector + Drop, T: PrefixTable<Cell<S>>, L: Ledger> Room<S, T, L> {
     /// The next direction with a message to a receiver of the shard, by sender, then by receiver.
     fn next_past(&self, shard: u64, shards: u64, past: Direction) -> Option<Direction>
         requires { shard < shards }
-        ensures { IfSome result (λ next. 0 < length (queue_at self.now.engine.queues next.from next.to)) }
+        ensures message { IfSome result (λ next. 0 < length (queue_at self.now.engine.queues next.from next.to)) }
+        ensures shard { IfSome result (λ next. shard_of next.to shards ≡ shard) }
     {
         let queues = self.sim.state().queues();
         let mut past = (past.from, last_before(past.to, shard, shards));
@@ -201,6 +216,8 @@ fn last_before(address: Addr, shard: u64, shards: u64) -> Addr
 }
 
 /// Whether one of the jobs is of the receiver and prefix.
-fn has_cell<S: Chosen>(jobs: &[Job<S>], router: Addr, prefix: Prefix) -> bool {
+fn has_cell<S: Chosen>(jobs: &[Job<S>], router: Addr, prefix: Prefix) -> bool
+    ensures { OnFalse result (All (λ job. cell_of job ≢ (router, prefix)) jobs.now) }
+{
     jobs.iter().any(|job| job.direction().to == router && job.head().prefix() == prefix)
 }
