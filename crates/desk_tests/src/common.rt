@@ -122,5 +122,7 @@ pub fn replayed<R: Threads + Sync>(rt: &R, alloc: Global, record: &Record) -> Op
     write_log(record.entries(), &mut output).ok()?;
     let log = output.into_inner();
     let mut machine: Sim<FilterCell, SortedTable<Cell<FilterCell>>> = Sim::new(alloc, None);
-    replay(rt, alloc, &mut Input::new(log.as_slice()), &mut machine).ok()
+    let found = replay(rt, alloc, &mut Input::new(log.as_slice()), &mut machine).ok();
+    drop(machine);
+    found
 }

@@ -230,6 +230,8 @@ fn closed<S: Selector + Drop, T: PrefixTable<Cell<S>> + Drop, L: Ledger, R: Wait
         .iter()
         .all(|seat| desk.audit(rt, seat) == Audit::Agrees)
     {
+        drop(desk);
+        drop(seats);
         return Err(TeamFault::BookDiffers);
     }
     match desk.end().close_with_machine(seats) {
@@ -238,7 +240,10 @@ fn closed<S: Selector + Drop, T: PrefixTable<Cell<S>> + Drop, L: Ledger, R: Wait
             forget(machine);
             Ok(record)
         }
-        Err(_) => Err(TeamFault::BookDiffers),
+        Err(fault) => {
+            drop(fault);
+            Err(TeamFault::BookDiffers)
+        }
     }
 }
 
