@@ -37,6 +37,7 @@ fn routers_and_sessions(rt: HostRuntime) {
     assert_eq!(rt; conf.router(NOBODY), None);
     assert_eq!(rt; conf.session_up(PEER, ROUTER), Some(true));
     assert_eq!(rt; conf.session_up(ROUTER, NOBODY), None);
+    drop(conf);
 }
 
 /// Fails where the site of the router is not what the configuration says.
@@ -46,6 +47,7 @@ fn has_site(rt: &impl Abort, alloc: Global, conf: &Conf) {
     let session = site.session(PEER).expect(rt, "they have a session");
     assert_eq!(rt; session.peer_asn, Some(asn(rt, 2)));
     assert!(rt; session.up && session.external);
+    drop(site);
 }
 
 #[test]
@@ -55,4 +57,5 @@ fn sites(rt: HostRuntime) {
     assert_eq!(rt; conf.site(alloc, NOBODY).err(), Some(Refusal::NoRouter));
     assert_eq!(rt; conf.site(alloc, PEER).err(), Some(Refusal::BadEnd));
     has_site(&rt, alloc, &conf);
+    drop(conf);
 }

@@ -49,10 +49,14 @@ fn runs<S: Selector + Send + Sync + Drop, T: PrefixTable<Cell<S>> + Drop>(
 
 #[test]
 fn tries_run_a_list(rt: HostRuntime) {
-    runs(&rt, &mut TrieMachine::new(rt.alloc(), None));
+    let mut machine = TrieMachine::new(rt.alloc(), None);
+    runs(&rt, &mut machine);
+    drop(machine);
 }
 
 #[test]
 fn sorted_tables_run_a_list(rt: HostRuntime) {
-    runs(&rt, &mut SortedMachine::new(rt.alloc(), None));
+    let mut machine = SortedMachine::new(rt.alloc(), None);
+    runs(&rt, &mut machine);
+    drop(machine);
 }
