@@ -16,8 +16,8 @@ use Rattle.net_prefix.specs.Block.{Block, IsBlock, Covers, block_cmp}
 use Rattle.net_prefix.specs.Orders.{block_total, block_exact}
 use Rattle.prefix_table.specs.declared.node.Node.{Node}
 use Rattle.prefix_table.specs.Places.{block_at}
-use Rattle.prefix_table.specs.Tables.{Table, seen, Matches, IsKey, IsMatch, IsLongestMatch, HasNoMatch, is_after, first_after}
-use Rattle.prefix_table.specs.Trie.{whole, IsUnder, child_of, prefix_at, value_at, child_at, IsBelow, IsTrie, HasPrefix, IsCover, IsDeepest, IsLater, IsFirstLater, entry_or_not, node_entries, prefixes, valued, with_value, IsStored}
+use Rattle.prefix_table.specs.Tables.{Table, seen, Matches, IsKey, IsMatch, IsLongestMatch, HasNoMatch, is_after, first_after, adjusted, adjusted_by}
+use Rattle.prefix_table.specs.Trie.{whole, IsUnder, child_of, prefix_at, value_at, child_at, IsBelow, IsTrie, HasPrefix, IsCover, IsDeepest, IsLater, IsFirstLater, entry_or_not, node_entries, prefixes, valued, revalued, with_value, IsStored}
 use Rattle.prefix_table.proofs.Blocks.{covers_trans, block_at_covers, lower_lengths}
 use Rattle.prefix_table.proofs.Entries.{first, second, less_of}
 
@@ -160,6 +160,19 @@ module _ {V : Type 0} where
             });
       }
 
+  -- a value that is changed where it stands
+  value_read : (ns : List (Node V)) (i : ℕ) (n : Node V) → i < length ns → n ≡ get_or ns i n → value_at ns i ≡ n.value
+  value_read [] i n lt is = absurd (omega arith)
+  value_read (x ∷ xs) zero n lt is = ap (λ m. m.value) (sym is)
+  value_read (x ∷ xs) (suc i) n lt is = value_read xs i n (omega arith) is
+
+  pub set_revalued : (f : V → V) (ns : List (Node V)) (i : ℕ) (v : V) (n : Node V) → i < length ns → n ≡ get_or ns i n → n.value ≡ Some v → set ns i (with_value (f v) n) ≡ revalued f ns i (value_at ns i)
+  set_revalued f ns i v n lt is has = set_valued ns i (f v) n lt is ∙ ap (revalued f ns i) (sym (value_read ns i n lt is ∙ has))
+
+  pub revalued_trie : (f : V → V) (ns : List (Node V)) (t : IsTrie ns) (i : ℕ) (o : Option V) → IsTrie (revalued f ns i o)
+  revalued_trie f ns t i None = t
+  revalued_trie f ns t i (Some v) = valued_trie ns t i (f v)
+
   -- the map of the nodes' entries
   abbrev pub table_of : List (Node V) → Table V
   table_of ns = fin.from_entries (node_entries ns)
@@ -170,6 +183,17 @@ module _ {V : Type 0} where
   pub stored_map : (old new : List (Node V)) (q : Block) (v : V) → IsStored old new q v → table_of new ≡ fin.insert (table_of old) q v
   stored_map old new q v is =
       fin.same_map block_total block_exact _ _ (λ p. get_of_nodes new p ∙ is p ∙ ap (cond (eq_by_cmp block_cmp p q) (Some v)) (sym (get_of_nodes old p)) ∙ sym (fin.get-insert block_total (table_of old) q v p))
+
+  pub revalued_map : (f : V → V) (ns : List (Node V)) (t : IsTrie ns) (at : ℕ) (q : Block) → HasPrefix ns at q → table_of (revalued f ns at (value_at ns at)) ≡ adjusted f q (table_of ns)
+  revalued_map f ns t at q h =
+      elim (value_at ns at) as (λ o. table_of (revalued f ns at o) ≡ adjusted_by f q (table_of ns) o) [
+        | None ↦ refl
+        | Some v ↦ stored_map ns (valued ns at (f v)) q (f v) (stored ns t at (f v) q h)
+      ]
+      ∙ ap (adjusted_by f q (table_of ns)) (sym (get_of_nodes ns q ∙ find_at_node ns t q at h))
+
+  pub missing_map : (f : V → V) (ns : List (Node V)) (q : Block) → find block_cmp q (node_entries ns) ≡ None → table_of ns ≡ adjusted f q (table_of ns)
+  missing_map f ns q none = sym (ap (adjusted_by f q (table_of ns)) (get_of_nodes ns q ∙ none))
 
   pub key_node : (ns : List (Node V)) (q : Block) → IsKey (table_of ns) q → (j : ℕ) × (j < length ns) × (prefix_at ns j ≡ q) × IsTrue (is_some (value_at ns j))
   key_node ns q h = node_of ns q (ap is_some (sym (get_of_nodes ns q)) ∙ h)

@@ -1,10 +1,11 @@
 -- What a write to a sorted vector says of the map that it is seen as.
-use Rattle.std.proofs.Common.{◌≡◌, List, [], Option, Some, None, Result, Ok, Err, IfOk, IfErr, OnOk, OnErr, IsTrue, sym, ap, ◌∙◌}
+use Rattle.std.proofs.Common.{◌≡◌, List, [], Option, Some, None, Result, Ok, Err, IfOk, IfErr, OnOk, OnErr, IsTrue, refl, sym, ap, ◌∙◌}
 use Rattle.std.specs.FinMap as map
 use Rattle.std.specs.FinMap.Entries.{put, find, is_sorted}
 use Rattle.net_prefix.specs.Block.{Block, block_cmp}
 use Rattle.net_prefix.specs.Orders.{block_total, block_exact}
-use Rattle.prefix_table.specs.Tables.{Table}
+use Rattle.prefix_table.specs.Tables.{Table, adjusted, adjusted_by}
+use Rattle.prefix_table.specs.Places.{changed}
 use Rattle.prefix_table.proofs.Entries.{sorted-put, put_of, get_of}
 
 module _ {V A F : Type 0} (o : Result A F) (q : Block) (es : List (Block × V)) (t : IsTrue (is_sorted block_cmp es)) where
@@ -38,3 +39,16 @@ seen_old (Err x) q es m t is ok = tt
 
 pub none_seen : {V : Type 0} → ◌≡◌ {A = Table V} (map.from_sorted []) map.empty
 none_seen = map.same_map block_total block_exact _ _ (λ q. map.get-from_sorted block_cmp [] q tt ∙ sym (map.get-empty block_cmp q))
+
+-- what a value that is changed where it stands says of the map
+module _ {V : Type 0} (f : V → V) (q : Block) (es : List (Block × V)) (t : IsTrue (is_sorted block_cmp es)) where
+  pub changed_kept : (o : Option V) → IsTrue (is_sorted block_cmp (changed f q es o))
+  changed_kept None = t
+  changed_kept (Some v) = sorted-put q (f v) es t
+
+  changed_by : (o : Option V) → map.from_sorted (changed f q es o) ≡ adjusted_by f q (map.from_sorted es) o
+  changed_by None = refl
+  changed_by (Some v) = put_of es q (f v) t
+
+  pub seen_changed : map.from_sorted (changed f q es (find block_cmp q es)) ≡ adjusted f q (map.from_sorted es)
+  seen_changed = changed_by (find block_cmp q es) ∙ ap (adjusted_by f q (map.from_sorted es)) (sym (get_of es q t))

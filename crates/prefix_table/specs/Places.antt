@@ -1,6 +1,6 @@
 -- No public contract cites this file.
 -- Where a key's entry stands in a list in the order of its keys, and where it would go.
-use Rattle.std.specs.Prelude.{◌≡◌, ℕ, ◌*◌, ◌/◌, ◌<◌, ◌≤◌, List, length, Some, None, slice_get}
+use Rattle.std.specs.Prelude.{◌≡◌, ℕ, ◌*◌, ◌/◌, ◌<◌, ◌≤◌, List, length, Option, Some, None, slice_get}
 use Rattle.std.proofs.Common.{set}
 use Rattle.std.specs.List.{insert}
 use Rattle.std.specs.FinMap.Entries.{put, find}
@@ -23,3 +23,8 @@ pub record IsFor {V : Type 0} (es : List (Block × V)) (p : Block) (place : ℕ)
 -- the prefix of this length that contains the address
 abbrev pub block_at : Addr → ℕ → Block
 block_at a len = record { addr = record { 0 = a.0 / size len * size len }; len = len }
+
+-- the entries, with this value of the key, if it is one, changed
+abbrev pub changed : {V : Type 0} → (V → V) → Block → List (Block × V) → Option V → List (Block × V)
+changed f p es None = es
+changed f p es (Some v) = put block_cmp p (f v) es

@@ -43,6 +43,15 @@ pub record IsLongestMatch {V : Type 0} (t : Table V) (a : Addr) (most : ℕ) (p 
 abbrev pub HasNoMatch : {V : Type 0} → Table V → Addr → ℕ → Type 0
 HasNoMatch t a most = HasNone (IsMatch t a most)
 
+-- the table, with this value of the prefix, if it is one, changed
+abbrev pub adjusted_by : {V : Type 0} → (V → V) → Block → Table V → Option V → Table V
+adjusted_by f p t None = t
+adjusted_by f p t (Some v) = fin.insert t p (f v)
+
+-- the table, with the prefix's value, where it has one, changed
+abbrev pub adjusted : {V : Type 0} → (V → V) → Block → Table V → Table V
+adjusted f p t = adjusted_by f p t (fin.get t p)
+
 -- whether the second prefix comes after the first, if there is a first
 abbrev pub is_after : Option Block → Block → Bool
 is_after None q = true

@@ -161,3 +161,8 @@ valued (n ∷ ns) (suc i) v = n ∷ valued ns i v
 -- the entries have this value at q, and else what they had
 abbrev pub IsStored : {V : Type 0} → List (Node V) → List (Node V) → Block → V → Type 0
 IsStored old new q v = (p : Block) → find block_cmp p (node_entries new) ≡ cond (eq_by_cmp block_cmp p q) (Some v) (find block_cmp p (node_entries old))
+
+-- the nodes, with this value of one of them, if it is one, changed
+abbrev pub revalued : {V : Type 0} → (V → V) → List (Node V) → ℕ → Option V → List (Node V)
+revalued f ns i None = ns
+revalued f ns i (Some v) = valued ns i (f v)

@@ -1,6 +1,7 @@
 //! Tables from prefixes to values, with longest match and a walk in order.
 #![tactic(auto)]
 
+mod adjust;
 mod cut;
 mod descent;
 mod gather;
@@ -11,6 +12,7 @@ mod table;
 mod trie;
 mod walk;
 
+pub use adjust::Adjust;
 pub use sorted::SortedTable;
 pub use table::PrefixTable;
 pub use trie::TrieTable;

@@ -1,14 +1,15 @@
 //! The plain table: a vector in the order of the prefixes. Look-ups halve it; an insert moves what comes after.
 
-ghost use Rattle.std.specs.Prelude.{◌≡◌, Some, None, IfOk, IfErr, OnOk, OnErr, IsTrue, slice_get};
+ghost use Rattle.std.specs.Prelude.{◌≡◌, Some, None, IfOk, IfErr, OnOk, OnErr, IsTrue, slice_get, is_some};
 ghost use Rattle.std.specs.Option.{option_copied};
 ghost use Rattle.std.specs.FinMap as map;
 ghost use Rattle.std.specs.FinMap.Entries.{find, put, is_sorted};
 ghost use Rattle.std.specs.List as list;
 ghost use Rattle.net_prefix.specs.Block.{block_cmp};
 ghost use Rattle.prefix_table.specs.Tables.{seen, all_seen, is_after};
-ghost use Rattle.prefix_table.specs.Places.{IsAt, IsFor};
+ghost use Rattle.prefix_table.specs.Places.{IsAt, IsFor, changed};
 
+use crate::adjust::Adjust;
 use crate::cut::{comes_after, cut};
 use crate::gather::add;
 use crate::table::PrefixTable;
@@ -123,6 +124,22 @@ fn replace_in<V>(entries: &mut Vec<(Prefix, V)>, prefix: Prefix, value: V) -> Re
     }
 }
 
+/// Changes the prefix's value where it stands, and says whether it has one.
+fn adjust_in<V, A: Adjust<V>>(entries: &mut Vec<(Prefix, V)>, prefix: Prefix, change: &A) -> bool
+    requires { IsTrue (is_sorted block_cmp entries.old.items) }
+    ensures there { result ≡ is_some (find block_cmp prefix entries.old.items) }
+    ensures changed { entries.new.items ≡ changed (A.after change.now) prefix entries.old.items (find block_cmp prefix entries.old.items) }
+{
+    match place(entries, prefix) {
+        Ok(at) => {
+            let entry = &mut entries[at];
+            change.adjust(&mut entry.1);
+            true
+        }
+        Err(_) => false,
+    }
+}
+
 impl<V: Drop> PrefixTable<V> for SortedTable<V> {
     ghost table = { λ s. s };
 
@@ -142,6 +159,10 @@ impl<V: Drop> PrefixTable<V> for SortedTable<V> {
 
     fn replace(&mut self, prefix: Prefix, value: V) -> Result<V, V> {
         replace_in(&mut self.entries, prefix, value)
+    }
+
+    fn adjust<A: Adjust<V>>(&mut self, prefix: Prefix, change: &A) -> bool {
+        adjust_in(&mut self.entries, prefix, change)
     }
 
     fn longest(&self, addr: Addr, most: u8) -> Option<(Prefix, &V)> {

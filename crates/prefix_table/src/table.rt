@@ -1,10 +1,11 @@
 //! What every table promises, however it keeps its entries.
 
-ghost use Rattle.std.specs.Prelude.{◌≡◌, IfOk, IfErr, Some, None};
+ghost use Rattle.std.specs.Prelude.{◌≡◌, IfOk, IfErr, Some, None, is_some};
 ghost use Rattle.std.specs.Option.{option_copied, IfSome, IfNone};
 ghost use Rattle.std.specs.FinMap as map;
-ghost use Rattle.prefix_table.specs.Tables.{Table, seen, all_seen, IsLongestMatch, HasNoMatch, first_after};
+ghost use Rattle.prefix_table.specs.Tables.{Table, seen, all_seen, IsLongestMatch, HasNoMatch, first_after, adjusted};
 
+use crate::adjust::Adjust;
 use net_prefix::{Addr, Prefix};
 use std::alloc::{AllocError, Global};
 
@@ -38,6 +39,11 @@ pub trait PrefixTable<V> {
         ensures back { IfErr result (λ back. back ≡ value) }
         ensures absent { IfErr result (λ _. map.get (table self.old) prefix ≡ None) }
         ensures same { IfErr result (λ _. table self.new ≡ table self.old) };
+
+    /// Changes the prefix's value where it stands, and says whether it has one. It takes no memory.
+    fn adjust<A: Adjust<V>>(&mut self, prefix: Prefix, change: &A) -> bool
+        ensures there { result ≡ is_some (map.get (table self.old) prefix) }
+        ensures adjusted { table self.new ≡ adjusted (A.after change.now) prefix (table self.old) };
 
     /// The longest prefix of at most this length that has a value and contains the address. A length above 32 is as 32.
     fn longest(&self, addr: Addr, most: u8) -> Option<(Prefix, &V)>

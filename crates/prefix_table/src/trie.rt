@@ -1,13 +1,14 @@
 //! The fast table: a binary trie in an arena. Ways down it have at most 33 steps.
 
-ghost use Rattle.std.specs.Prelude.{◌≡◌, ◌<◌, length, Some, None, IfOk, IfErr, OnOk, OnErr};
+ghost use Rattle.std.specs.Prelude.{◌≡◌, ◌<◌, length, is_some, Some, None, IfOk, IfErr, OnOk, OnErr};
 ghost use Rattle.std.specs.Option.{IfSome, IfNone, option_copied, option_map};
 ghost use Rattle.std.specs.FinMap as map;
 ghost use Rattle.std.specs.FinMap.Entries.{find};
 ghost use Rattle.net_prefix.specs.Block.{block_cmp};
-ghost use Rattle.prefix_table.specs.Tables.{seen, IsLongestMatch, HasNoMatch, first_after};
-ghost use Rattle.prefix_table.specs.Trie.{IsTrie, IsStored, HasPrefix, valued, prefix_at, value_at, node_entries};
+ghost use Rattle.prefix_table.specs.Tables.{seen, IsLongestMatch, HasNoMatch, first_after, adjusted};
+ghost use Rattle.prefix_table.specs.Trie.{IsTrie, IsStored, HasPrefix, valued, revalued, prefix_at, value_at, node_entries};
 
+use crate::adjust::Adjust;
 use crate::cut::cut;
 use crate::descent::{deepest, find_node, first_later};
 use crate::growth::node_for;
@@ -106,6 +107,35 @@ fn replace_in<V: Drop>(nodes: &mut Vec<Node<V>>, prefix: Prefix, value: V) -> Re
     }
 }
 
+/// Changes the value of a node where it stands, and says whether it has one.
+fn adjust_at<V, A: Adjust<V>>(nodes: &mut Vec<Node<V>>, at: NodeId, change: &A) -> bool
+    requires { at.0 < length nodes.old.items }
+    ensures there { result ≡ is_some (value_at nodes.old.items at.0) }
+    ensures revalued { nodes.new.items ≡ revalued (A.after change.now) nodes.old.items at.0 (value_at nodes.old.items at.0) }
+{
+    let node = &mut nodes[at.0];
+    match &mut node.value {
+        Some(value) => {
+            change.adjust(value);
+            true
+        }
+        None => false,
+    }
+}
+
+/// Changes the prefix's value where it stands, and says whether it has one.
+fn adjust_in<V, A: Adjust<V>>(nodes: &mut Vec<Node<V>>, prefix: Prefix, change: &A) -> bool
+    requires { IsTrie nodes.old.items }
+    ensures trie { IsTrie nodes.new.items }
+    ensures there { result ≡ is_some (find block_cmp prefix (node_entries nodes.old.items)) }
+    ensures adjusted { map.from_entries (node_entries nodes.new.items) ≡ adjusted (A.after change.now) prefix (map.from_entries (node_entries nodes.old.items)) }
+{
+    match find_node(nodes, prefix) {
+        Some(at) => adjust_at(nodes, at, change),
+        None => false,
+    }
+}
+
 /// The longest key of at most this length that contains the address.
 fn longest_in<V>(nodes: &[Node<V>], addr: Addr, most: u8) -> Option<(Prefix, &V)>
     requires { IsTrie nodes.now }
@@ -154,6 +184,10 @@ impl<V: Drop> PrefixTable<V> for TrieTable<V> {
 
     fn replace(&mut self, prefix: Prefix, value: V) -> Result<V, V> {
         replace_in(&mut self.nodes, prefix, value)
+    }
+
+    fn adjust<A: Adjust<V>>(&mut self, prefix: Prefix, change: &A) -> bool {
+        adjust_in(&mut self.nodes, prefix, change)
     }
 
     fn longest(&self, addr: Addr, most: u8) -> Option<(Prefix, &V)> {

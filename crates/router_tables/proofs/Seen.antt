@@ -10,8 +10,8 @@ use Rattle.std.proofs.lemmas.Option.{slice_get-map}
 use Rattle.net_prefix.specs.declared.addr.Addr.{Addr}
 use Rattle.net_prefix.specs.Address.{addr_cmp}
 use Rattle.net_prefix.specs.Block.{Block, block_cmp}
-use Rattle.prefix_table.specs.Tables.{Table}
-use Rattle.router_tables.specs.RouterTables.{tables_of, table_at, value_at, with_value, is_past, next_of}
+use Rattle.prefix_table.specs.Tables.{Table, adjusted, adjusted_by}
+use Rattle.router_tables.specs.RouterTables.{tables_of, table_at, value_at, with_value, adjusted_value, adjusted_at, is_past, next_of}
 use Rattle.router_tables.specs.Places.{IsAt, IsFor}
 use Rattle.router_tables.proofs.Halving.{sorted-put}
 
@@ -91,6 +91,15 @@ module _ {V A : Type 0} (f : A → Table V) where
         ∙ ap (λ t. set (tables_of f ts) i (e.0, t)) made
         ∙ set_got (tables_of f ts) i (e.0, f e.1) (slice_get-map (λ t. (t.0, f t.1)) ts i ∙ ap (option_map (λ t. (t.0, f t.1))) got)
 
+    -- a table whose value is changed where it stands
+    pub set_adjusted : (change : V → V) (p : Block) (e : Addr × A) (new : A) → IsAt ts r i → slice_get ts i ≡ Some e → f new ≡ adjusted change p (f e.1)
+        → tables_of f (set ts i (e.0, new)) ≡ adjusted_at change r p (tables_of f ts)
+    set_adjusted change p e new at_ got made =
+        elim (finite.get (f e.1) p) as (λ o. finite.get (f e.1) p ≡ o → f new ≡ adjusted_by change p (f e.1) o → tables_of f (set ts i (e.0, new)) ≡ adjusted_at change r p (tables_of f ts)) [
+          | None ↦ λ is same. set_same e new got same ∙ sym (ap (adjusted_value change r p (tables_of f ts)) (value_found r p ts e.1 (at_.value e got) ∙ is))
+          | Some v ↦ λ is put_in. set_value p (change v) e new at_ got put_in ∙ sym (ap (adjusted_value change r p (tables_of f ts)) (value_found r p ts e.1 (at_.value e got) ∙ is))
+        ] refl made
+
     -- a new router's table with one value goes to its place
     pub insert_value : (p : Block) (v : V) (empty new : A) → IsFor ts r i → f empty ≡ finite.empty → f new ≡ finite.insert (f empty) p v
         → tables_of f (insert ts i (r, new)) ≡ with_value r p v (tables_of f ts)
@@ -104,6 +113,16 @@ module _ {V A : Type 0} (f : A → Table V) where
       → OnOk o (tables_of f ts' ≡ put addr_cmp r t (tables_of f ts)) → OnErr o (tables_of f ts' ≡ tables_of f ts) → IsTrue (is_sorted addr_cmp ts')
   sorted_kept (Ok x) r t ts ts' sorted ok err = sym (sorted_seen ts') ∙ ap (is_sorted addr_cmp) ok ∙ sorted-put r t (tables_of f ts) (sorted_seen ts ∙ sorted)
   sorted_kept (Err x) r t ts ts' sorted ok err = sym (sorted_seen ts') ∙ ap (is_sorted addr_cmp) err ∙ sorted_seen ts ∙ sorted
+
+  order_adjusted : (change : V → V) (r : Addr) (p : Block) (ts : List (Addr × Table V)) (o : Option V) → IsTrue (is_sorted addr_cmp ts) → IsTrue (is_sorted addr_cmp (adjusted_value change r p ts o))
+  order_adjusted change r p ts None sorted = sorted
+  order_adjusted change r p ts (Some v) sorted = sorted-put r (finite.insert (table_at r ts) p (change v)) ts sorted
+
+  -- so it is where a value is changed
+  pub adjusted_kept : (change : V → V) (r : Addr) (p : Block) (ts ts' : List (Addr × A)) → IsTrue (is_sorted addr_cmp ts)
+      → tables_of f ts' ≡ adjusted_at change r p (tables_of f ts) → IsTrue (is_sorted addr_cmp ts')
+  adjusted_kept change r p ts ts' sorted made =
+      sym (sorted_seen ts') ∙ ap (is_sorted addr_cmp) made ∙ order_adjusted change r p (tables_of f ts) (value_at r p (tables_of f ts)) (sorted_seen ts ∙ sorted)
 
 -- so it is where a whole table is put in
 pub order_kept : {A B F : Type 0} (o : Result B F) (r : Addr) (x : A) (ts ts' : List (Addr × A)) → IsTrue (is_sorted addr_cmp ts)

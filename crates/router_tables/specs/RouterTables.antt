@@ -24,6 +24,15 @@ value_at r p ts = finite.get (table_at r ts) p
 abbrev pub with_value : {V : Type 0} → Addr → Block → V → List (Addr × Table V) → List (Addr × Table V)
 with_value r p v ts = entries.put addr_cmp r (finite.insert (table_at r ts) p v) ts
 
+-- the tables, with this value of the router and prefix, if it is one, changed
+abbrev pub adjusted_value : {V : Type 0} → (V → V) → Addr → Block → List (Addr × Table V) → Option V → List (Addr × Table V)
+adjusted_value f r p ts None = ts
+adjusted_value f r p ts (Some v) = with_value r p (f v) ts
+
+-- the tables, with the value of the router and prefix, where there is one, changed
+abbrev pub adjusted_at : {V : Type 0} → (V → V) → Addr → Block → List (Addr × Table V) → List (Addr × Table V)
+adjusted_at f r p ts = adjusted_value f r p ts (value_at r p ts)
+
 -- the address comes after this one, if one is given
 abbrev pub is_past : Option Addr → Addr → Bool
 is_past None a = true

@@ -1,13 +1,13 @@
 //! Writes into a vector of tables in the order of the routers.
 
-ghost use Rattle.std.specs.Prelude.{◌≡◌, None, Some, IsTrue, IfOk, IfErr, OnOk, OnErr};
+ghost use Rattle.std.specs.Prelude.{◌≡◌, None, Some, is_some, IsTrue, IfOk, IfErr, OnOk, OnErr};
 ghost use Rattle.std.specs.FinMap.Entries.{find, put, is_sorted};
 ghost use Rattle.net_prefix.specs.Address.{addr_cmp};
-ghost use Rattle.router_tables.specs.RouterTables.{tables_of, value_at, with_value};
+ghost use Rattle.router_tables.specs.RouterTables.{tables_of, value_at, with_value, adjusted_at};
 
 use crate::places::place;
 use net_prefix::{Addr, Prefix};
-use prefix_table::PrefixTable;
+use prefix_table::{Adjust, PrefixTable};
 use std::alloc::Global;
 
 /// Gives the router and prefix this value.
@@ -62,6 +62,23 @@ pub(crate) fn replace_in<V, T: PrefixTable<V>>(
     match place(entries, router) {
         Ok(at) => entries[at].1.replace(prefix, value),
         Err(_) => Err(value),
+    }
+}
+
+/// Changes the value of the router and prefix where it stands, and says whether there is one.
+pub(crate) fn adjust_in<V, T: PrefixTable<V>, A: Adjust<V>>(
+    entries: &mut Vec<(Addr, T)>,
+    router: Addr,
+    prefix: Prefix,
+    change: &A,
+) -> bool
+    requires { IsTrue (is_sorted addr_cmp entries.old.items) }
+    ensures there { result ≡ is_some (value_at router prefix (tables_of T.table entries.old.items)) }
+    ensures adjusted { tables_of T.table entries.new.items ≡ adjusted_at (A.after change.now) router prefix (tables_of T.table entries.old.items) }
+{
+    match place(entries, router) {
+        Ok(at) => entries[at].1.adjust(prefix, change),
+        Err(_) => false,
     }
 }
 

@@ -1,15 +1,15 @@
 //! The tables of all routers.
 
-ghost use Rattle.std.specs.Prelude.{◌≡◌, [], None, Some, IsTrue, IfOk, IfErr, OnOk, OnErr};
+ghost use Rattle.std.specs.Prelude.{◌≡◌, [], None, Some, is_some, IsTrue, IfOk, IfErr, OnOk, OnErr};
 ghost use Rattle.std.specs.Option.{option_copied, option_map};
 ghost use Rattle.std.specs.FinMap.Entries.{find, put, is_sorted};
 ghost use Rattle.net_prefix.specs.Address.{addr_cmp};
-ghost use Rattle.router_tables.specs.RouterTables.{value_at, with_value, next_of};
+ghost use Rattle.router_tables.specs.RouterTables.{value_at, with_value, adjusted_at, next_of};
 
-use crate::entries::{insert_in, put_in, replace_in};
+use crate::entries::{adjust_in, insert_in, put_in, replace_in};
 use crate::places::{next_in, table_in};
 use net_prefix::{Addr, Prefix};
-use prefix_table::PrefixTable;
+use prefix_table::{Adjust, PrefixTable};
 use std::alloc::Global;
 use std::marker::{Model, PhantomData};
 
@@ -84,6 +84,14 @@ impl<V, T: PrefixTable<V>> RouterTables<V, T> {
         ensures same { OnErr result (self.new ≡ self.old) }
     {
         replace_in(&mut self.entries, router, prefix, value)
+    }
+
+    /// Changes the value of the router and prefix where it stands, and says whether there is one. It takes no memory.
+    pub fn adjust<A: Adjust<V>>(&mut self, router: Addr, prefix: Prefix, change: &A) -> bool
+        ensures there { result ≡ is_some (value_at router prefix self.old) }
+        ensures adjusted { self.new ≡ adjusted_at (A.after change.now) router prefix self.old }
+    {
+        adjust_in(&mut self.entries, router, prefix, change)
     }
 }
 
