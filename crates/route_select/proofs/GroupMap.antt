@@ -45,7 +45,7 @@ swapped true true x y z apart = absurd (apart refl refl)
 swapped true false x y z apart = refl
 swapped false b x y z apart = refl
 
-shadowed : (b : Bool) (x y z : Option Standing) → cond b x (cond b y z) ≡ cond b x z
+pub shadowed : (b : Bool) (x y z : Option Standing) → cond b x (cond b y z) ≡ cond b x z
 shadowed true x y z = refl
 shadowed false x y z = refl
 

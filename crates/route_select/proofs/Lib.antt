@@ -1,3 +1,4 @@
+mod AtCost
 pub mod EntryLemmas
 mod Filtering
 mod GroupLeaders

@@ -3,3 +3,4 @@ pub mod Laws
 pub mod Leaders
 pub mod Entries
 pub mod Groups
+pub mod AtCost

@@ -9,7 +9,7 @@ ghost use Rattle.route_select.specs.Groups.{AreRanked, AreDistinct, IsBest, Same
 
 use crate::candidate::{Candidate, Reason, Source, Standing};
 use crate::chosen::{Chosen, Selector};
-use crate::entries::copy_entries;
+use crate::entries::{copy_entries, set_lone_cost};
 use crate::filter::FILTERS;
 use crate::groups::{best_place, candidate_at, leader, place_of, slot};
 use std::alloc::{AllocError, Global};
@@ -116,6 +116,10 @@ impl Selector for GroupCell {
             self.entries.remove(at);
             self.best = best_place(&self.entries);
         }
+    }
+
+    fn set_cost(&mut self, cost: u32) {
+        set_lone_cost(&mut self.entries, cost);
     }
 
     fn copy(&self, alloc: Global) -> Result<Self, AllocError> {
