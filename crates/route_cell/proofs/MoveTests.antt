@@ -29,3 +29,7 @@ pub same_own : (s : SitePair) (p : Block) → same_origins s.old s.new ≡ true 
 same_own s p h =
     ap (λ os. not (beq (list_any (same_block p) s.old.origins) (list_any (same_block p) os))) (sym (same_list s.old.origins s.new.origins h))
     ∙ ap not ((booleans_Decides (is_originated s.old p) (is_originated s.old p)).1 refl)
+
+-- nor does one that was not originated come, so that one look tells of both
+pub own_before : (s : SitePair) (p : Block) → same_origins s.old s.new ≡ true → is_originated s.new p ≡ is_originated s.old p
+own_before s p h = ap (λ os. list_any (same_block p) os) (sym (same_list s.old.origins s.new.origins h))

@@ -1,6 +1,6 @@
 -- Which cells an edit can change: those where the standing of a route can become another, or what is advertised of it. All others stay
 -- as they are, and nothing is sent for them.
-use Rattle.std.specs.Prelude.{Bool, true, false, not, ◌&&◌, ◌||◌, List, [], ◌∷◌, Option, Some, None, if◌then◌else◌}
+use Rattle.std.specs.Prelude.{◌≡◌, Bool, true, false, not, ◌&&◌, ◌||◌, List, [], ◌∷◌, Option, Some, None, if◌then◌else◌}
 use Rattle.std.specs.Option.{option_map_or}
 use Rattle.std.specs.List.{list_any}
 use Rattle.std.proofs.Math.Bool.{beq}
@@ -63,3 +63,8 @@ abbrev pub is_moved : SitePair → Block → List (Addr × Attr) → Bool
 is_moved s p routes =
     if same_facts s.old s.new then is_own_moved s p || list_any (is_route_moved s p) routes
     else has_route s.old p routes || is_originated s.new p
+
+-- settings, sessions and originated prefixes stay: then a cell can move by a cost alone
+pub record MovesCostsAlone (s : SitePair) : Type 0 where
+  pub facts : same_facts s.old s.new ≡ true
+  pub origins : (p : Block) → is_own_moved s p ≡ false

@@ -4,6 +4,7 @@ ghost use Rattle.std.specs.Prelude.{◌≡◌, IfOk};
 ghost use Rattle.std.specs.Option.{option_copied};
 ghost use Rattle.route_select.specs.Selection.{best_of};
 ghost use Rattle.route_cell.specs.Cells.{nothing_heard, route_of};
+ghost use Rattle.route_cell.specs.Recosting.{recosted};
 ghost use Rattle.route_cell.specs.Senders.{AreInOrder, first_past, seen};
 
 use crate::received_routes::ReceivedRoutes;
@@ -41,6 +42,13 @@ impl<S: Selector> Cell<S> {
             received: ReceivedRoutes::new(alloc),
             chosen: S::new(alloc),
         }
+    }
+
+    /// Gives the cell's route this cost, where it is the only one. Nothing else changes. It takes no memory.
+    pub fn set_cost(&mut self, cost: u32)
+        ensures { self.new ≡ recosted cost self.old }
+    {
+        self.chosen.set_cost(cost);
     }
 }
 

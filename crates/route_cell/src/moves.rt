@@ -1,9 +1,12 @@
 //! Which cells an edit can change.
 
 ghost use Rattle.std.specs.Prelude.{◌≡◌, not};
+ghost use Rattle.std.specs.Bool.{OnTrue};
 ghost use Rattle.std.specs.List.{list_any};
+ghost use Rattle.igp_cost.specs.Trees.{cost_in};
 ghost use Rattle.net_conf.specs.Costs.{is_up};
-ghost use Rattle.route_cell.specs.Moves.{is_about_cost, counts_cost, moves_cost_to, is_route_moved, is_own_moved, has_route, is_moved};
+ghost use Rattle.route_cell.specs.Moves.{is_about_cost, counts_cost, moves_cost_to, is_route_moved, is_own_moved, has_route, is_moved, MovesCostsAlone};
+ghost use Rattle.route_cell.specs.Recosting.{is_own, lone_cost, recost};
 
 use crate::cell::Cell;
 use machine_rules::{exclusion, is_originated};
@@ -14,11 +17,12 @@ use route_policy::judge;
 use route_select::{Reason, Selector};
 use std::marker::Model;
 
-/// Whether the cost to an address becomes another, or comes, or goes.
+/// The cost to an address before the edit, and after it. None where no way leads there.
 #[derive(Clone, Copy)]
 struct Look {
     to: Addr,
-    moves: bool,
+    old: Option<u32>,
+    new: Option<u32>,
 }
 
 /// A router's part of the configuration before an edit and after it, compared once for all of its cells. It remembers the NEXT_HOP that was
@@ -34,8 +38,9 @@ pub struct SiteChange<'a> {
 
 impl<'a> Model for SiteChange<'a> {
     ghost use Rattle.std.specs.Prelude.{◌≡◌, IfSome};
+    ghost use Rattle.igp_cost.specs.Trees.{cost_in};
     ghost use Rattle.net_conf.specs.Facts.{same_facts};
-    ghost use Rattle.route_cell.specs.Moves.{SitePair, moves_cost_to};
+    ghost use Rattle.route_cell.specs.Moves.{SitePair};
     ghost use Rattle.route_cell.specs.MoveTests.{same_origins};
 
     ghost Value = { SitePair };
@@ -43,7 +48,7 @@ impl<'a> Model for SiteChange<'a> {
     ghost view = { λ x. record { old = x.old.now; new = x.new.now } };
 
     ghost invariant = { λ x. (x.has_same_facts ≡ same_facts x.old.now x.new.now) × (x.has_same_origins ≡ same_origins x.old.now x.new.now)
-        × IfSome x.last (λ look. look.moves ≡ moves_cost_to (record { old = x.old.now; new = x.new.now }) look.to) };
+        × IfSome x.last (λ look. (look.old ≡ cost_in x.old.now.costs look.to) × (look.new ≡ cost_in x.new.now.costs look.to)) };
 }
 
 impl<'a> SiteChange<'a> {
@@ -73,6 +78,21 @@ impl<'a> SiteChange<'a> {
         }
     }
 
+    /// Whether settings, sessions and originated prefixes stay: then a cell can move by a cost alone.
+    #[tactic(auto, using(crate::proofs::MoveTests::same_own))]
+    pub fn moves_costs_alone(&self) -> bool
+        ensures { OnTrue result (MovesCostsAlone self.now) }
+    {
+        self.has_same_facts && self.has_same_origins
+    }
+
+    /// Whether the cost to the address becomes another, or comes, or goes. It looks anew, and remembers nothing.
+    pub fn moves_cost(&self, to: Addr) -> bool
+        ensures { result ≡ moves_cost_to self.now to }
+    {
+        self.old.costs.cost(to) != self.new.costs.cost(to)
+    }
+
     /// Whether the router comes to originate the prefix, or ceases to.
     #[tactic(auto, using(crate::proofs::MoveTests::same_own))]
     fn moves_own(&self, prefix: Prefix) -> bool
@@ -84,19 +104,56 @@ impl<'a> SiteChange<'a> {
         is_originated(self.old, prefix) != is_originated(self.new, prefix)
     }
 
+    /// Whether the router originates the prefix, before the edit or after it.
+    #[tactic(auto, using(crate::proofs::MoveTests::own_before))]
+    fn is_own(&self, prefix: Prefix) -> bool
+        ensures { result ≡ is_own self.now prefix }
+    {
+        is_originated(self.old, prefix)
+            || (!self.has_same_origins && is_originated(self.new, prefix))
+    }
+
+    /// The costs to the address: those of the last look, where it was at this address, else of a new one.
+    fn look_at(&mut self, to: Addr) -> Look
+        ensures old { result.old ≡ cost_in self.entry.now.old.costs to }
+        ensures new { result.new ≡ cost_in self.entry.now.new.costs to }
+        ensures stays { self.exit.now ≡ self.entry.now }
+    {
+        if let Some(look) = self.last {
+            if look.to == to {
+                return look;
+            }
+        }
+        let look = Look {
+            to,
+            old: self.old.costs.cost(to),
+            new: self.new.costs.cost(to),
+        };
+        self.last = Some(look);
+        look
+    }
+
     /// Whether the cost to the address becomes another, or comes, or goes.
     fn moves_cost_to(&mut self, to: Addr) -> bool
         ensures moves { result ≡ moves_cost_to self.entry.now to }
         ensures stays { self.exit.now ≡ self.entry.now }
     {
-        if let Some(look) = self.last {
-            if look.to == to {
-                return look.moves;
+        let look = self.look_at(to);
+        look.old != look.new
+    }
+
+    /// The cost to the NEXT_HOP of a lone route after the edit. None where there is no cost before, or none after, or not one route.
+    fn lone_cost(&mut self, routes: &[(Addr, Attr)]) -> Option<u32>
+        ensures cost { result ≡ lone_cost self.entry.now routes.now }
+        ensures stays { self.exit.now ≡ self.entry.now }
+    {
+        match routes {
+            [route] => {
+                let look = self.look_at(route.1.next);
+                look.old.and(look.new)
             }
+            _ => None,
         }
-        let moves = self.old.costs.cost(to) != self.new.costs.cost(to);
-        self.last = Some(Look { to, moves });
-        moves
     }
 
     /// Whether a cost that counts for the peer's route becomes another.
@@ -150,6 +207,19 @@ impl<S: Selector> Cell<S> {
             change.moves_own(prefix) || change.moves_any(prefix, routes)
         } else {
             self.has_route(change.old, prefix) || is_originated(change.new, prefix)
+        }
+    }
+
+    /// The cost that the cell's one route has after the edit, where the edit changes the cell in that alone. None elsewhere: such a cell
+    /// has to be decided anew.
+    pub fn recost(&self, change: &mut SiteChange<'_>, prefix: Prefix) -> Option<u32>
+        ensures cost { result ≡ recost change.entry.now prefix self.now.received }
+        ensures stays { change.exit.now ≡ change.entry.now }
+    {
+        if change.has_same_facts && !change.is_own(prefix) {
+            change.lone_cost(self.received.routes())
+        } else {
+            None
         }
     }
 
