@@ -8,4 +8,6 @@ pub mod Placing
 pub mod Reconfigured
 pub mod Redecided
 pub mod Remade
+pub mod Skipped
 pub mod Walks
+pub mod Whole

@@ -31,7 +31,7 @@ use Rattle.cell_network.proofs.Moves.{settled_but_moved}
 use Rattle.cell_network.proofs.Settled.{settled_outside}
 use Rattle.cell_network.proofs.OverSessions.{up_after}
 use Rattle.cell_network.proofs.Refreshed.{told_edited, network_edited}
-use Rattle.cell_engine.specs.Edits.{Planned, planned, IsPlanned}
+use Rattle.cell_engine.specs.Edits.{Made, planned, IsMade}
 use Rattle.cell_engine.proofs.Delivered.{down_without_session, sent_without_session}
 
 -- the directions of the sessions that are down are cleared
@@ -53,11 +53,11 @@ module _ (e : Engine) (sound : IsSound e) (c : Configuration) (still : (f t : Ad
     by false is = none_by (has_session e.conf f t) refl is
 
 -- the engine with what the plan makes and these queues
-abbrev pub with_plan : Engine → Planned → WaitingByDirection → Engine
+abbrev pub with_plan : Engine → Made → WaitingByDirection → Engine
 with_plan e x r = record { conf = x.conf; tables = with_changes x.changes e.tables; directions = x.directions; queues = r }
 
 -- the queues are those that were cleared, with the plan's messages at their ends
-abbrev pub IsPushed : Planned → WaitingByDirection → WaitingByDirection → Type 0
+abbrev pub IsPushed : Made → WaitingByDirection → WaitingByDirection → Type 0
 IsPushed x q r = (f t : Addr) → queue_at r f t ≡ queue_at q f t ++ told_by_all (sends_for x.changes) f t
 
 module _ (e : Engine) (sound : IsSound e) (configured : IsConfigured e.conf) (up : AreOverSessionsUp e.conf e.tables) (edit : Edit) where
@@ -79,18 +79,18 @@ module _ (e : Engine) (sound : IsSound e) (configured : IsConfigured e.conf) (up
   tables_are = changes_placed (moves e.conf new) (scope edit) e.conf new e.tables sound.by_address settled unmoved
 
   -- each has a cell already
-  pub plan_there : (x : Planned) → IsPlanned e edit x → AreThere x.changes e.tables
-  plan_there x is = subst (λ (y : Planned). AreThere y.changes e.tables) (sym is.plan) (changes_there (moves e.conf new) (scope edit) e.conf new e.tables sound.by_address)
+  pub plan_there : (x : Made) → IsMade e edit x → AreThere x.changes e.tables
+  plan_there x is = subst (λ (y : Made). AreThere y.changes e.tables) (sym is.plan) (changes_there (moves e.conf new) (scope edit) e.conf new e.tables sound.by_address)
 
   -- all routes in the tables come over sessions that are up then
-  pub plan_over_sessions_up : (x : Planned) → IsPlanned e edit x → AreOverSessionsUp x.conf (with_changes x.changes e.tables)
-  plan_over_sessions_up x is = subst (λ (y : Planned). AreOverSessionsUp y.conf (with_changes y.changes e.tables)) (sym is.plan) (subst (AreOverSessionsUp new) (sym tables_are) (up_after new e.tables))
+  pub plan_over_sessions_up : (x : Made) → IsMade e edit x → AreOverSessionsUp x.conf (with_changes x.changes e.tables)
+  plan_over_sessions_up x is = subst (λ (y : Made). AreOverSessionsUp y.conf (with_changes y.changes e.tables)) (sym is.plan) (subst (AreOverSessionsUp new) (sym tables_are) (up_after new e.tables))
 
   -- whatever has a cell is a prefix still
-  pub plan_of_prefixes : (x : Planned) → IsPlanned e edit x → AreOfPrefixes e.tables → AreOfPrefixes (with_changes x.changes e.tables)
-  plan_of_prefixes x is are = subst (λ (y : Planned). AreOfPrefixes (with_changes y.changes e.tables)) (sym is.plan) (subst AreOfPrefixes (sym tables_are) (prefixes_kept new e.tables are))
+  pub plan_of_prefixes : (x : Made) → IsMade e edit x → AreOfPrefixes e.tables → AreOfPrefixes (with_changes x.changes e.tables)
+  plan_of_prefixes x is are = subst (λ (y : Made). AreOfPrefixes (with_changes y.changes e.tables)) (sym is.plan) (subst AreOfPrefixes (sym tables_are) (prefixes_kept new e.tables are))
 
-  abbrev Follows : Planned → Type 0
+  abbrev Follows : Made → Type 0
   Follows x = IsConfigured x.conf → (q r : WaitingByDirection) → IsCleared e x.conf q → IsPushed x q r → IsSound (with_plan e x r) × (network (with_plan e x r) ≡ with_sent (network e) (after_edit (network e) edit))
 
   module _ (allowed : refusal_of e.conf edit ≡ None) (origin : with_origin edit e.tables ≡ e.tables) where
@@ -123,5 +123,5 @@ module _ (e : Engine) (sound : IsSound e) (configured : IsConfigured e.conf) (up
         )
 
   -- the plan of an edit that is not refused
-  pub plan_followed : (x : Planned) → IsPlanned e edit x → Follows x
+  pub plan_followed : (x : Made) → IsMade e edit x → Follows x
   plan_followed x is = subst Follows (sym is.plan) (follows is.allowed is.origin)

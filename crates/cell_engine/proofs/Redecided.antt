@@ -40,8 +40,9 @@ use Rattle.cell_network.proofs.Kept.{value_kept}
 use Rattle.cell_network.proofs.Placed.{has_one, IsChosen, changes_chosen, value_unchanged}
 use Rattle.cell_network.proofs.Routers.{is_router_node, site_of_node, no_router_before, new_router_heard_nothing}
 use Rattle.cell_network.proofs.Touched.{Touches, touched}
-use Rattle.cell_engine.specs.Edits.{planned, refreshed_by, has_router_kind}
+use Rattle.cell_engine.specs.Edits.{Planned, planned, IsPlanned, refreshed_by, has_router_kind}
 use Rattle.cell_engine.proofs.Reconfigured.{settled, unmoved, tables_are}
+use Rattle.cell_engine.proofs.Whole.{refreshed_of, refreshed_whole}
 
 -- ROUTERS
 
@@ -142,7 +143,7 @@ module _ (e : Engine) (sound : IsSound e) (configured : IsConfigured e.conf) (up
   no_standings r p at = empty_before r p (no_router_before e.conf edit allowed r at) ∙ sym (same_network r p ∙ empty_later r p at)
 
   -- where a cell is not decided anew, each route stands as before
-  complete : (r : Addr) (p : Block) → list_any (is_cell_of r p) (refreshed_by (planned e edit)) ≡ false → standings_at (network e) r p ≡ standings_at next r p
+  complete : (r : Addr) (p : Block) → list_any (is_cell_of r p) (refreshed_of (planned e edit)) ≡ false → standings_at (network e) r p ≡ standings_at next r p
   complete r p none = by (router_site new r) refl
     where
       by : (o : Option SiteConf) → router_site new r ≡ o → standings_at (network e) r p ≡ standings_at next r p
@@ -193,12 +194,16 @@ module _ (e : Engine) (sound : IsSound e) (configured : IsConfigured e.conf) (up
         by (inl apart) = inl (λ same. apart (sym before_is ∙ same ∙ after_is))
         by (inr facts) = inr (facts.0, standing_by facts.1)
 
-  -- what the plan of the edit decides anew
-  pub refreshes : IsRefreshed (network e) next (refreshed_by (planned e edit))
-  refreshes = record {
+  -- what the edit decides anew
+  made_refreshes : IsRefreshed (network e) next (refreshed_of (planned e edit))
+  made_refreshes = record {
     ascending = chosen_in_order (λ y. is_some (router_site new y.router)) changes (changes_in_order (moves e.conf new) e.conf new (scope edit) e.tables sound.by_address);
     complete = complete;
     touched = mapped_all (λ x. IsTouched (network e) next x.0 x.1) (filter (λ y. is_some (router_site new y.router)) changes)
         (chosen_all (IsChosen e.conf new e.tables (moves e.conf new)) (λ y. IsTouched (network e) next y.router y.prefix) (λ y. is_some (router_site new y.router)) is_touched changes
         (changes_chosen e.conf new e.tables (moves e.conf new) (scope edit) sound.by_address));
   }
+
+  -- what its plan does
+  pub refreshes : (x : Planned) → IsPlanned e edit x → IsRefreshed (network e) next (refreshed_by x)
+  refreshes x is = subst (IsRefreshed (network e) next) (sym (refreshed_whole e.tables x ∙ ap refreshed_of is.plan)) made_refreshes

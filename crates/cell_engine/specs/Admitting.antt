@@ -5,12 +5,12 @@ use Rattle.net_prefix.specs.declared.addr.Addr.{Addr}
 use Rattle.path_attr.specs.declared.attr.Attr.{Attr}
 use Rattle.session_queue.specs.declared.message.Message.{Message}
 use Rattle.session_queue.specs.Waiting.{IsAdmittedBy}
-use Rattle.cell_network.specs.Changes.{Change}
+use Rattle.cell_engine.specs.CellEdits.{CellEdit, edit_sends}
 
 -- those of each message are among these
 abbrev pub AreAdmitted : List Attr → List (Addr × Message) → Type 0
 AreAdmitted attrs sends = All (λ e. IsAdmittedBy attrs e.1) sends
 
--- those of each message that is sent for one of the changes
-abbrev pub AreAllAdmitted : List Attr → List Change → Type 0
-AreAllAdmitted attrs xs = All (λ x. AreAdmitted attrs x.outcome.sends) xs
+-- those of each message that is sent for one of the edited cells
+abbrev pub AreAllAdmitted : List Attr → List CellEdit → Type 0
+AreAllAdmitted attrs xs = All (λ x. AreAdmitted attrs (edit_sends x)) xs

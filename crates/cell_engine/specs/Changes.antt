@@ -1,6 +1,6 @@
 -- What becomes of the cells of one address. No public contract cites this file.
-use Rattle.std.specs.Prelude.{◌∷◌, [], List, map, filter, Option, Some, None}
-use Rattle.std.specs.List.{flat_map}
+use Rattle.std.specs.Prelude.{◌≡◌, ℕ, Bool, true, false, ◌∷◌, [], List, map, filter, Option, Some, None}
+use Rattle.std.specs.List.{AllByRecursion, flat_map}
 use Rattle.std.specs.FinMap as finite
 use Rattle.net_prefix.specs.declared.addr.Addr.{Addr}
 use Rattle.net_prefix.specs.Block.{Block}
@@ -10,11 +10,15 @@ use Rattle.net_conf.specs.RouterSites.{router_site}
 use Rattle.prefix_table.specs.Tables.{Table}
 use Rattle.router_tables.specs.RouterTables.{table_at}
 use Rattle.route_cell.specs.Cells.{Heard}
-use Rattle.route_cell.specs.Moves.{SitePair}
+use Rattle.route_cell.specs.Moves.{SitePair, moves_cost_to}
+use Rattle.route_cell.specs.Recosting.{recost}
+use Rattle.hop_table.specs.declared.hops.Hops.{Hops}
+use Rattle.hop_table.specs.declared.hops.Hops.TheVariants.{Nothing, Only, Several}
 use Rattle.cell_network.specs.Keeping.{kept_cell}
 use Rattle.cell_network.specs.Editing.{sends_between}
 use Rattle.cell_network.specs.Moves.{is_moved_by, moves}
 use Rattle.cell_network.specs.Changes.{Change, router_changes}
+use Rattle.cell_engine.specs.CellEdits.{CellEdit}
 
 -- the configuration that comes, an address, and the part of the configuration before and after of the router that stands there
 pub record Becoming : Type 0 where
@@ -54,6 +58,25 @@ moved_cells b cells = map (λ e. record { becoming = b; prefix = e.0; heard = e.
 abbrev pub moved_cell : Becoming → Block → Heard → List MovedCell
 moved_cell b p h = moved_cells b ((p, h) ∷ [])
 
+-- the cost which is all that becomes of the router's cell. None elsewhere
+abbrev pub recost_in : Option SitePair → Block → Heard → Option ℕ
+recost_in None p h = None
+recost_in (Some s) p h = recost s p h.received
+
+-- the cost to one of these NEXT_HOPs can become another
+abbrev pub moves_one_of : SitePair → Hops → Bool
+moves_one_of s Nothing = false
+moves_one_of s (Only a) = moves_cost_to s a
+moves_one_of s Several = true
+
+abbrev pub edit_by : Option ℕ → Becoming → Block → Heard → CellEdit
+edit_by None b p h = record { router = b.address; prefix = p; remade = Some (change_of b p h).outcome; cost = 0 }
+edit_by (Some k) b p h = record { router = b.address; prefix = p; remade = None; cost = k }
+
+-- what is done to one cell
+abbrev pub edit_at : MovedCell → CellEdit
+edit_at x = edit_by (recost_in (pair_of x.becoming.old x.becoming.new) x.prefix x.heard) x.becoming x.prefix x.heard
+
 -- of all of these, in order, then by prefix
 abbrev pub all_moved : List Becoming → List (Addr × Table Heard) → List MovedCell
 all_moved bs ts = flat_map (λ b. moved_cells b (finite.entries (table_at b.address ts))) bs
@@ -63,6 +86,10 @@ pub record RouterEdit : Type 0 where
   pub before : Configuration
   pub after : Configuration
   pub router : Addr
+
+-- they are edits of this configuration
+abbrev pub AreEditsOf : Configuration → List RouterEdit → Type 0
+AreEditsOf c xs = AllByRecursion (λ x. x.before ≡ c) xs
 
 abbrev pub edit_becoming : RouterEdit → Becoming
 edit_becoming x = becoming_of x.before x.after x.router

@@ -1,7 +1,7 @@
--- How the prover knows the tables of a state again, and the changes of an edit (their Models ask for it). No public contract cites
+-- How the prover knows the tables of a state again, and the edited cells of an edit (their Models ask for it). No public contract cites
 -- this file.
-use Rattle.std.specs.Prelude.{refl}
-use Rattle.std.specs.Coded.{Coded, code_by, coded×}
+use Rattle.std.specs.Prelude.{ℕ, Option, refl}
+use Rattle.std.specs.Coded.{Coded, code_by, coded×, coded_ℕ, coded_option}
 use Rattle.std.specs.FinMap as finite
 use Rattle.net_prefix.specs.declared.addr.Addr.{Addr}
 use Rattle.net_prefix.specs.contracts.addr.Addr as address
@@ -9,10 +9,10 @@ use Rattle.net_prefix.specs.Block.{Block}
 use Rattle.prefix_table.specs.Tables.{Table, coded_block}
 use Rattle.route_cell.specs.Cells.{Heard, Outcome}
 use Rattle.route_cell.specs.Coding.{coded_heard, coded_outcome}
-use Rattle.cell_network.specs.Changes.{Change}
+use Rattle.cell_engine.specs.CellEdits.{CellEdit}
 
 abbrev pub coded_table : Coded (Table Heard)
 coded_table = finite.code coded_block coded_heard
 
-abbrev pub coded_change : Coded Change
-coded_change = code_by ((Addr × Block) × Outcome) (coded× (coded× address.the_row.coded coded_block) coded_outcome) (λ x. ((x.router, x.prefix), x.outcome)) (λ p. record { router = p.0.0; prefix = p.0.1; outcome = p.1 }) (λ _. refl)
+abbrev pub coded_edit : Coded CellEdit
+coded_edit = code_by ((Addr × Block) × (Option Outcome × ℕ)) (coded× (coded× address.the_row.coded coded_block) (coded× (coded_option coded_outcome) coded_ℕ)) (λ x. ((x.router, x.prefix), (x.remade, x.cost))) (λ p. record { router = p.0.0; prefix = p.0.1; remade = p.1.0; cost = p.1.1 }) (λ _. refl)

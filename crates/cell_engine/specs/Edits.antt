@@ -15,29 +15,45 @@ use Rattle.session_queue.specs.declared.direction.Direction.{Direction}
 use Rattle.session_queue.specs.Waiting.{spare_at, same_direction}
 use Rattle.cell_network.specs.Engine.{Engine}
 use Rattle.cell_network.specs.Editing.{with_directions, with_origin, told_by_all}
-use Rattle.cell_network.specs.Changes.{Change, changes_in, sends_for}
+use Rattle.prefix_table.specs.Tables.{Table}
+use Rattle.route_cell.specs.Cells.{Heard}
+use Rattle.cell_network.specs.Changes.{Change, changes_in}
 use Rattle.cell_engine.specs.Admitting.{AreAllAdmitted}
+use Rattle.cell_engine.specs.CellEdits.{CellEdit, edits_send, whole_changes}
 
--- what will be configured; the directions for that; and the cells that are decided anew, with what each router
--- sends for that
+-- what will be configured; the directions for that; and what is done to cells, with what each router sends for that
 pub record Planned : Type 0 where
+  pub conf : Configuration
+  pub directions : List Direction
+  pub edits : List CellEdit
+
+-- the same with what comes of the cells
+pub record Made : Type 0 where
   pub conf : Configuration
   pub directions : List Direction
   pub changes : List Change
 
+-- what comes of a plan in these tables
+abbrev pub made_in : List (Addr × Table Heard) → Planned → Made
+made_in ts x = record { conf = x.conf; directions = x.directions; changes = whole_changes ts x.edits }
+
 -- what the edit makes of an engine
-abbrev pub planned : Engine → Edit → Planned
+abbrev pub planned : Engine → Edit → Made
 planned e edit = record {
   conf = edited e.conf edit;
   directions = with_directions edit e.directions;
   changes = changes_in (scope edit) e.conf (edited e.conf edit) e.tables;
 }
 
--- the plan is that of the edit, which is not refused; and a router that is to originate a prefix has a cell of it
-pub record IsPlanned (e : Engine) (edit : Edit) (x : Planned) : Type 0 where
+-- this is what the edit makes, which is not refused; and a router that is to originate a prefix has a cell of it
+pub record IsMade (e : Engine) (edit : Edit) (x : Made) : Type 0 where
   pub allowed : refusal_of e.conf edit ≡ None
   pub origin : with_origin edit e.tables ≡ e.tables
   pub plan : x ≡ planned e edit
+
+-- the plan is that of the edit
+abbrev pub IsPlanned : Engine → Edit → Planned → Type 0
+IsPlanned e edit x = IsMade e edit (made_in e.tables x)
 
 -- the plan is that of an edit
 pub record IsOfEdit (e : Engine) (x : Planned) : Type 0 where
@@ -46,12 +62,12 @@ pub record IsOfEdit (e : Engine) (x : Planned) : Type 0 where
 
 -- each message that will be sent has a place in its queue, and is admitted
 pub record HasPlaces (e : Engine) (x : Planned) : Type 0 where
-  pub places : (f t : Addr) → length (told_by_all (sends_for x.changes) f t) ≤ spare_at e.queues f t
-  pub admitted : AreAllAdmitted e.queues.admitted x.changes
+  pub places : (f t : Addr) → length (told_by_all (edits_send x.edits) f t) ≤ spare_at e.queues f t
+  pub admitted : AreAllAdmitted e.queues.admitted x.edits
 
 -- the cells of routers among those that are decided anew: a virtual peer decides nothing
 abbrev pub refreshed_by : Planned → List (Addr × Block)
-refreshed_by x = map (λ y. (y.router, y.prefix)) (filter (λ y. is_some (router_site x.conf y.router)) x.changes)
+refreshed_by x = map (λ y. (y.router, y.prefix)) (filter (λ y. is_some (router_site x.conf y.router)) x.edits)
 
 -- what stands somewhere is a router
 abbrev pub has_router_kind : Option (ℕ × Kind) → Bool

@@ -1,4 +1,5 @@
 pub mod Admitting
+pub mod CellEdits
 pub mod Changes
 pub mod Coding
 pub mod Counts

@@ -4,7 +4,7 @@ ghost use Rattle.std.specs.Prelude.{◌≡◌, OnOk};
 ghost use Rattle.session_queue.specs.Waiting.{queue_at, spare_at, IsAdmitted, KeepsAdmitted};
 ghost use Rattle.cell_engine.specs.Admitting.{AreAdmitted, AreAllAdmitted};
 
-use crate::changes::Change;
+use crate::cell_edits::CellEdit;
 use net_prefix::Addr;
 use route_select::Selector;
 use session_queue::{Message, Queues};
@@ -36,17 +36,17 @@ pub(crate) fn admit_all(queues: &mut Queues, sends: &[(Addr, Message)]) -> Resul
     Ok(())
 }
 
-/// Sees to it that each message may be sent that the changes send.
+/// Sees to it that each message may be sent that is sent for the edited cells.
 pub(crate) fn admit_each<S: Selector>(
     queues: &mut Queues,
-    changes: &[Change<S>],
+    edits: &[CellEdit<S>],
 ) -> Result<(), AllocError>
-    ensures admitted { OnOk result (AreAllAdmitted queues.new.admitted changes.now) }
+    ensures admitted { OnOk result (AreAllAdmitted queues.new.admitted edits.now) }
     ensures queue { (f t : Addr) → queue_at queues.new f t ≡ queue_at queues.old f t }
     ensures spare { (f t : Addr) → spare_at queues.new f t ≡ spare_at queues.old f t }
 {
-    for change in changes {
-        admit_all(queues, &change.outcome.sends)?;
+    for edit in edits {
+        admit_all(queues, edit.sends())?;
     }
     Ok(())
 }

@@ -1,16 +1,21 @@
 //! What becomes of a router and its cells at an edit.
 
-ghost use Rattle.std.specs.Prelude.{◌≡◌, ◌++◌, IfOk, OnOk};
+ghost use Rattle.std.specs.Prelude.{◌≡◌, ◌++◌, None, false, IfOk, OnOk};
 ghost use Rattle.std.specs.Option.{option_copied};
+ghost use Rattle.std.specs.Bool.{OnTrue};
 ghost use Rattle.std.specs.FinMap as finite;
+ghost use Rattle.net_prefix.specs.Block as block;
+ghost use Rattle.route_cell.specs.Cells as cells;
+ghost use Rattle.hop_table.specs.Hops.{Have};
 ghost use Rattle.net_conf.specs.RouterSites.{router_site};
 ghost use Rattle.cell_network.specs.Keeping.{kept_cell};
 ghost use Rattle.cell_network.specs.Editing.{sends_between};
 ghost use Rattle.cell_network.specs.Moves.{is_moved_by};
-ghost use Rattle.cell_engine.specs.Changes.{pair_of, change_of, moved_cell, moved_cells};
+ghost use Rattle.cell_engine.specs.Changes.{pair_of, recost_in, moves_one_of, edit_by, moved_cell, moved_cells};
 
-use crate::changes::Change;
+use crate::cell_edits::CellEdit;
 use crate::moved_cells::MovedCell;
+use hop_table::{HopTable, Hops};
 use net_conf::{Conf, SiteConf};
 use net_prefix::{Addr, Prefix};
 use prefix_table::PrefixTable;
@@ -51,6 +56,32 @@ fn compared<'a>(old: Option<&'a SiteConf>, new: Option<&'a SiteConf>) -> Option<
     match (old, new) {
         (Some(old), Some(new)) => Some(SiteChange::of(old, new)),
         _ => None,
+    }
+}
+
+/// Whether the cost to one of these NEXT_HOPs can become another, or come, or go.
+fn moves_one_of(change: &SiteChange<'_>, hops: Hops) -> bool
+    ensures { result ≡ moves_one_of change.now hops }
+{
+    match hops {
+        Hops::Nothing => false,
+        Hops::Only(next) => change.moves_cost(next),
+        Hops::Several => true,
+    }
+}
+
+/// The cost which is all that becomes of a router's cell. None elsewhere.
+fn recost_in<S: Selector>(
+    change: &mut Option<SiteChange<'_>>,
+    prefix: Prefix,
+    cell: &Cell<S>,
+) -> Option<u32>
+    ensures cost { result ≡ recost_in change.old prefix cell.now }
+    ensures stays { change.new ≡ change.old }
+{
+    match change {
+        Some(change) => cell.recost(change, prefix),
+        None => None,
     }
 }
 
@@ -131,20 +162,21 @@ impl<'a> Becoming<'a> {
         }
     }
 
-    /// What becomes of the cell when it is decided anew.
-    pub fn change<S: Selector + Drop>(
+    /// What is done to a cell that is decided anew.
+    pub fn remade<S: Selector + Drop>(
         &self,
         alloc: Global,
         prefix: Prefix,
         cell: &Cell<S>,
-    ) -> Result<Change<S>, AllocError>
-        ensures { IfOk result (λ change. change ≡ change_of self.now prefix cell.now) }
+    ) -> Result<CellEdit<S>, AllocError>
+        ensures { IfOk result (λ edit. edit ≡ edit_by None self.now prefix cell.now) }
     {
         let outcome = self.remade_cell(alloc, prefix, cell)?;
-        Ok(Change {
+        Ok(CellEdit {
             router: self.address,
             prefix,
-            outcome,
+            remade: Some(outcome),
+            cost: 0,
         })
     }
 
@@ -180,11 +212,39 @@ impl<'a> Becoming<'a> {
         if !self.moves(change, prefix, cell) {
             return Ok(());
         }
-        moved.push(MovedCell::of(self, prefix, cell))
+        let recost = recost_in(change, prefix, cell);
+        moved.push(MovedCell::of(self, prefix, cell, recost))
+    }
+
+    /// Whether no cell can change whose routes have these NEXT_HOPs.
+    fn leaves(&self, hops: Hops) -> bool
+        ensures { OnTrue result ((p : block.Block) (h : cells.Heard) → Have hops h.received → is_moved_by self.now.old self.now.new self.now.conf self.now.address p h ≡ false) }
+    {
+        match &self.change {
+            Some(change) => change.moves_costs_alone() && !moves_one_of(change, hops),
+            None => false,
+        }
+    }
+
+    /// Adds the cells of the table that can change, by prefix. It is not walked where the NEXT_HOP that all its routes have tells that none can.
+    pub fn add_known<'b, S: Selector, T: PrefixTable<Cell<S>>>(
+        &'b self,
+        alloc: Global,
+        moved: &mut Seq<MovedCell<'b, S>>,
+        table: &'b HopTable<S, T>,
+    ) -> Result<(), AllocError>
+    where
+        'a: 'b,
+        ensures { OnOk result (moved.new ≡ moved.old ++ moved_cells self.now (finite.entries table.now)) }
+    {
+        if self.leaves(table.hops()) {
+            return Ok(());
+        }
+        self.add_table(alloc, moved, table.cells())
     }
 
     /// Adds the cells of the table that can change, by prefix.
-    pub fn add_table<'b, S: Selector, T: PrefixTable<Cell<S>>>(
+    fn add_table<'b, S: Selector, T: PrefixTable<Cell<S>>>(
         &'b self,
         alloc: Global,
         moved: &mut Seq<MovedCell<'b, S>>,

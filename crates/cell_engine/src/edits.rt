@@ -17,9 +17,10 @@ ghost use Rattle.cell_network.specs.Changes.{changes_in};
 ghost use Rattle.cell_network.specs.Editing.{with_directions, with_origin};
 ghost use Rattle.cell_engine.specs.Deliveries.{KeepsSame};
 ghost use Rattle.net_conf.specs.RouterSites.{router_site};
-ghost use Rattle.cell_engine.specs.Edits.{planned, IsPlanned, IsOfEdit, HasPlaces, refreshed_by, has_router_kind, is_of};
+ghost use Rattle.cell_engine.specs.CellEdits.{whole_changes};
+ghost use Rattle.cell_engine.specs.Edits.{planned, made_in, IsPlanned, IsOfEdit, HasPlaces, refreshed_by, has_router_kind, is_of};
 
-use crate::changes::{Change, place_changes};
+use crate::cell_edits::{CellEdit, place_edits};
 use crate::places::reserve_each;
 use crate::state::State;
 use net_conf::{Conf, Edit, EditedConf, Ends, Kind, Scope};
@@ -35,8 +36,8 @@ use std::marker::Model;
 use std::sync::Arc;
 use std::thread::Threads;
 
-/// What an edit will do: the configuration that it makes, the directions for that, and the cells that are decided anew, with what
-/// each router sends for that.
+/// What an edit will do: the configuration that it makes, the directions for that, and what is done to cells, with what each router
+/// sends for that.
 #[derive(Drop)]
 pub struct Edited<S: Selector> {
     parts: Box<Parts<S>>,
@@ -47,20 +48,20 @@ pub struct Edited<S: Selector> {
 struct Parts<S: Selector> {
     conf: Arc<Conf>,
     directions: Seq<Direction>,
-    changes: Seq<Change<S>>,
+    edits: Seq<CellEdit<S>>,
 }
 
 impl<S: Selector> Model for Edited<S> {
     ghost use Rattle.std.specs.Arc.{arc_value};
     ghost use Rattle.std.specs.Coded.{codes};
-    ghost use Rattle.cell_engine.specs.Coding.{coded_change};
+    ghost use Rattle.cell_engine.specs.Coding.{coded_edit};
     ghost use Rattle.cell_engine.specs.Edits.{Planned};
 
     ghost Value = { Planned };
 
-    ghost coded = { Prim.hlevel (codes, coded_change) };
+    ghost coded = { Prim.hlevel (codes, coded_edit) };
 
-    ghost view = { λ x. record { conf = arc_value x.parts.value.conf; directions = x.parts.value.directions; changes = x.parts.value.changes } };
+    ghost view = { λ x. record { conf = arc_value x.parts.value.conf; directions = x.parts.value.directions; edits = x.parts.value.edits } };
 }
 
 impl<S: Selector> Edited<S> {
@@ -68,22 +69,22 @@ impl<S: Selector> Edited<S> {
     pub fn refreshed(&self, alloc: Global) -> Result<Vec<(Addr, Prefix)>, AllocError>
         ensures { IfOk result (λ cells. cells.items ≡ refreshed_by self.now) }
     {
-        refreshed_cells(alloc, &self.parts.conf, self.parts.changes.as_slice())
+        refreshed_cells(alloc, &self.parts.conf, self.parts.edits.as_slice())
     }
 }
 
-/// The routers and prefixes of the changes, but for those of virtual peers.
+/// The routers and prefixes of the edited cells, but for those of virtual peers.
 fn refreshed_cells<S: Selector>(
     alloc: Global,
     conf: &Conf,
-    changes: &[Change<S>],
+    edits: &[CellEdit<S>],
 ) -> Result<Vec<(Addr, Prefix)>, AllocError>
-    ensures { IfOk result (λ cells. cells.items ≡ map (λ x. (x.router, x.prefix)) (filter (λ x. is_some (router_site conf.now x.router)) changes.now)) }
+    ensures { IfOk result (λ cells. cells.items ≡ map (λ x. (x.router, x.prefix)) (filter (λ x. is_some (router_site conf.now x.router)) edits.now)) }
 {
-    changes
+    edits
         .iter()
-        .filter(|change| is_router(conf, change.router))
-        .map(|change| (change.router, change.prefix))
+        .filter(|edit| is_router(conf, edit.router))
+        .map(|edit| (edit.router, edit.prefix))
         .collect(alloc)
 }
 
@@ -216,20 +217,20 @@ fn boxed<S: Selector + Drop>(
     alloc: Global,
     made: EditedConf,
     directions: Seq<Direction>,
-    changes: Seq<Change<S>>,
+    edits: Seq<CellEdit<S>>,
 ) -> Result<Edited<S>, AllocError>
-    ensures { IfOk result (λ edited. edited ≡ record { conf = made.conf; directions = directions; changes = changes }) }
+    ensures { IfOk result (λ edited. edited ≡ record { conf = made.conf; directions = directions; edits = edits }) }
 {
     let EditedConf { conf, concerned } = made;
     drop(concerned);
     let Ok(conf) = Arc::new(alloc, conf) else {
-        drop((directions, changes));
+        drop((directions, edits));
         return Err(AllocError);
     };
     let parts = Parts {
         conf,
         directions,
-        changes,
+        edits,
     };
     Ok(Edited {
         parts: Box::new(alloc, parts)?,
@@ -255,33 +256,33 @@ impl<S: Selector + Send + Sync + Drop, T: PrefixTable<Cell<S>> + Drop> State<S, 
 
     /// What the edit will do, where a router has a cell for what it is to originate.
     fn plan<R: Threads + Sync>(&self, rt: &R, edit: &Edit) -> Result<Edited<S>, AllocError>
-        ensures { IfOk result (λ edited. edited ≡ planned self.now edit.now) }
+        ensures { IfOk result (λ edited. made_in self.now.tables edited ≡ planned self.now edit.now) }
     {
         self.facts();
         let Ok(made) = self.conf().edited(rt, self.alloc, edit) else {
             return Err(AllocError);
         };
-        let Ok(changes) = self.changes_by(rt, edit.scope(), &made) else {
+        let Ok(edits) = self.edits_by(rt, edit.scope(), &made) else {
             drop(made);
             return Err(AllocError);
         };
         let directions = directions_after(self.alloc, self.directions.as_slice(), edit);
         let Ok(directions) = directions else {
-            drop((made, changes));
+            drop((made, edits));
             return Err(AllocError);
         };
-        boxed(self.alloc, made, directions, changes)
+        boxed(self.alloc, made, directions, edits)
     }
 
-    /// The cells that can change, decided anew when the configuration becomes the one that was made.
-    fn changes_by<R: Threads + Sync>(
+    /// The cells that can change, with what is done to each when the configuration becomes the one that was made.
+    fn edits_by<R: Threads + Sync>(
         &self,
         rt: &R,
         scope: Scope,
         made: &EditedConf,
-    ) -> Result<Seq<Change<S>>, AllocError>
+    ) -> Result<Seq<CellEdit<S>>, AllocError>
         requires { ConcernsAlone self.now.conf made.now.conf made.now.concerned.keys }
-        ensures { IfOk result (λ changes. changes ≡ changes_in scope self.now.conf made.now.conf self.now.tables) }
+        ensures { IfOk result (λ edits. whole_changes self.now.tables edits ≡ changes_in scope self.now.conf made.now.conf self.now.tables) }
     {
         match scope {
             Scope::Network => self.network_changes(rt, &made.conf, &made.concerned),
@@ -311,11 +312,7 @@ impl<S: Selector + Drop, T: PrefixTable<Cell<S>> + Drop> State<S, T> {
         ensures network { network self.new ≡ network self.old }
         ensures room { OnOk result (HasPlaces self.new edited.now) }
     {
-        reserve_each(
-            self.alloc,
-            &mut self.queues,
-            edited.parts.changes.as_slice(),
-        )
+        reserve_each(self.alloc, &mut self.queues, edited.parts.edits.as_slice())
     }
 
     /// Does what the edit will do: this is the machine's own next state (RFC 4271, 6, 8 and 9). What was on its way over sessions that
@@ -329,12 +326,12 @@ impl<S: Selector + Drop, T: PrefixTable<Cell<S>> + Drop> State<S, T> {
         let Parts {
             conf,
             directions,
-            changes,
+            edits,
         } = Box::into_inner(edited.parts);
         conf.facts();
         clear_down(&mut self.queues, &conf);
         self.conf.set(conf);
         self.directions = directions;
-        place_changes(&mut self.tables, &mut self.queues, changes.into_vec());
+        place_edits(&mut self.tables, &mut self.queues, edits.into_vec());
     }
 }

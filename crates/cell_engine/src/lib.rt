@@ -3,6 +3,7 @@
 
 mod admitting;
 mod becoming;
+mod cell_edits;
 mod changes;
 mod deliveries;
 mod edits;

@@ -1,10 +1,10 @@
 //! Cells that an edit can change, and what they become.
 
 ghost use Rattle.std.specs.Prelude.{◌≡◌, map, IfOk};
-ghost use Rattle.cell_engine.specs.Changes.{change_at};
+ghost use Rattle.cell_engine.specs.Changes.{edit_at, pair_of, recost_in};
 
 use crate::becoming::Becoming;
-use crate::changes::Change;
+use crate::cell_edits::CellEdit;
 use net_prefix::Prefix;
 use rayon::prelude::*;
 use route_cell::Cell;
@@ -14,7 +14,7 @@ use std::alloc::{AllocError, Global};
 use std::marker::Model;
 use std::thread::Threads;
 
-/// From how many cells on threads decide them: fewer are decided sooner than threads start.
+/// From how many cells that are decided anew on threads decide them: fewer are decided sooner than threads start.
 const WORTH_THREADS: usize = 2_048;
 
 /// The fewest cells that one thread decides.
@@ -26,9 +26,12 @@ pub(crate) struct MovedCell<'a, S: Selector> {
     becoming: &'a Becoming<'a>,
     prefix: Prefix,
     cell: &'a Cell<S>,
+    /// The cost of its one route, where that is all that becomes of it.
+    recost: Option<u32>,
 }
 
 impl<'a, S: Selector> Model for MovedCell<'a, S> {
+    ghost use Rattle.std.specs.Prelude.{◌≡◌};
     ghost use Rattle.std.specs.Coded.{codes};
     ghost use Rattle.prefix_table.specs.Tables.{coded_block};
     ghost use Rattle.route_cell.specs.Coding.{coded_heard};
@@ -39,74 +42,101 @@ impl<'a, S: Selector> Model for MovedCell<'a, S> {
     ghost coded = { Prim.hlevel (codes, coded_block, coded_heard) };
 
     ghost view = { λ x. record { becoming = x.becoming.now; prefix = x.prefix; heard = x.cell.now } };
+
+    ghost invariant = { λ x. x.recost ≡ changes.recost_in (changes.pair_of x.becoming.now.old x.becoming.now.new) x.prefix x.cell.now };
 }
 
 impl<'a, S: Selector> MovedCell<'a, S> {
-    /// This cell of the prefix.
-    pub fn of(becoming: &'a Becoming<'a>, prefix: Prefix, cell: &'a Cell<S>) -> Self
+    /// This cell of the prefix, with the cost which is all that becomes of it, if that is so.
+    pub fn of(
+        becoming: &'a Becoming<'a>,
+        prefix: Prefix,
+        cell: &'a Cell<S>,
+        recost: Option<u32>,
+    ) -> Self
+        requires { recost ≡ recost_in (pair_of becoming.now.old becoming.now.new) prefix cell.now }
         ensures { result ≡ record { becoming = becoming.now; prefix = prefix; heard = cell.now } }
     {
         MovedCell {
             becoming,
             prefix,
             cell,
+            recost,
         }
+    }
+
+    /// Whether another cell takes its place.
+    fn is_remade(&self) -> bool {
+        self.recost.is_none()
     }
 }
 
 impl<'a, S: Selector + Drop> MovedCell<'a, S> {
-    /// The cell decided anew.
-    fn change(&self, alloc: Global) -> Result<Change<S>, AllocError>
-        ensures { IfOk result (λ change. change ≡ change_at self.now) }
+    /// What is done to the cell: it is decided anew, unless its one route's cost is all that becomes of it.
+    fn edit(&self, alloc: Global) -> Result<CellEdit<S>, AllocError>
+        ensures { IfOk result (λ edit. edit ≡ edit_at self.now) }
     {
-        self.becoming.change(alloc, self.prefix, self.cell)
+        match self.recost {
+            Some(cost) => Ok(CellEdit {
+                router: self.becoming.address(),
+                prefix: self.prefix,
+                remade: None,
+                cost,
+            }),
+            None => self.becoming.remade(alloc, self.prefix, self.cell),
+        }
     }
 }
 
-/// The cells decided anew, in order. Many are shared among threads, in any number: the list is the same.
+/// The cells with what is done to each, in order. Many that are decided anew are shared among threads, in any number: the list is the same.
 pub(crate) fn decide<S: Selector + Send + Sync + Drop, R: Threads + Sync>(
     rt: &R,
     alloc: Global,
     moved: &[MovedCell<'_, S>],
-) -> Result<Seq<Change<S>>, AllocError>
-    ensures { IfOk result (λ changes. changes ≡ map change_at moved.now) }
+) -> Result<Seq<CellEdit<S>>, AllocError>
+    ensures { IfOk result (λ edits. edits ≡ map edit_at moved.now) }
 {
-    if moved.len() < WORTH_THREADS {
+    if remade_count(moved) < WORTH_THREADS {
         decide_in_turn(alloc, moved)
     } else {
         Ok(Seq::of(decide_in_threads(rt, alloc, moved)?))
     }
 }
 
-/// The cells decided anew by this thread, one after another.
+/// How many of the cells are decided anew.
+fn remade_count<S: Selector>(moved: &[MovedCell<'_, S>]) -> usize {
+    moved.iter().filter(|cell| cell.is_remade()).count()
+}
+
+/// The cells with what is done to each, worked out by this thread, one after another.
 pub(crate) fn decide_in_turn<S: Selector + Drop>(
     alloc: Global,
     moved: &[MovedCell<'_, S>],
-) -> Result<Seq<Change<S>>, AllocError>
-    ensures { IfOk result (λ changes. changes ≡ map change_at moved.now) }
+) -> Result<Seq<CellEdit<S>>, AllocError>
+    ensures { IfOk result (λ edits. edits ≡ map edit_at moved.now) }
 {
-    let mut changes = Seq::new(alloc);
+    let mut edits = Seq::new(alloc);
     for cell in moved {
-        changes.push(cell.change(alloc)?)?;
+        edits.push(cell.edit(alloc)?)?;
     }
-    Ok(changes)
+    Ok(edits)
 }
 
-/// The cells decided anew by as many threads as there are processors. One that finds no memory leaves nothing.
+/// The cells with what is done to each, worked out by as many threads as there are processors. One that finds no memory leaves nothing.
 fn decide_in_threads<S: Selector + Send + Sync + Drop, R: Threads + Sync>(
     rt: &R,
     alloc: Global,
     moved: &[MovedCell<'_, S>],
-) -> Result<Vec<Change<S>>, AllocError>
-    ensures { IfOk result (λ changes. changes.items ≡ map change_at moved.now) }
+) -> Result<Vec<CellEdit<S>>, AllocError>
+    ensures { IfOk result (λ edits. edits.items ≡ map edit_at moved.now) }
 {
-    let decided: Result<Vec<Change<S>>, AllocError> = moved
+    let decided: Result<Vec<CellEdit<S>>, AllocError> = moved
         .par_iter()
         .with_min_len(LEAST_CELLS)
         .map(
-            |cell: &MovedCell<'_, S>| -> Result<Change<S>, AllocError>
-                ensures { IfOk result (λ change. change ≡ change_at cell.now) }
-            { cell.change(alloc) },
+            |cell: &MovedCell<'_, S>| -> Result<CellEdit<S>, AllocError>
+                ensures { IfOk result (λ edit. edit ≡ edit_at cell.now) }
+            { cell.edit(alloc) },
         )
         .collect(rt, alloc)?;
     decided

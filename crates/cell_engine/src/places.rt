@@ -4,12 +4,12 @@ ghost use Rattle.std.specs.Prelude.{◌≡◌, ◌≤◌, ◌+◌, length, cond,
 ghost use Rattle.session_queue.specs.Waiting.{queue_at, spare_at, same_direction};
 ghost use Rattle.cell_network.specs.Sending.{told_from};
 ghost use Rattle.cell_network.specs.Editing.{told_by_all};
-ghost use Rattle.cell_network.specs.Changes.{sends_for};
 ghost use Rattle.cell_engine.specs.Admitting.{AreAllAdmitted};
+ghost use Rattle.cell_engine.specs.CellEdits.{edits_send};
 ghost use Rattle.cell_engine.specs.Counts.{count_at};
 
 use crate::admitting::admit_each;
-use crate::changes::Change;
+use crate::cell_edits::CellEdit;
 use net_prefix::Addr;
 use route_select::Selector;
 use session_queue::{Direction, Message, Queues};
@@ -50,16 +50,16 @@ fn count_sends(
     Ok(())
 }
 
-/// How many messages the changes send in each direction.
+/// How many messages are sent for the edited cells in each direction.
 fn counts_of<S: Selector>(
     alloc: Global,
-    changes: &[Change<S>],
+    edits: &[CellEdit<S>],
 ) -> Result<BTreeMap<Direction, usize>, AllocError>
-    ensures { IfOk result (λ counts. (f t : Addr) → count_at counts.entries f t ≡ length (told_by_all (sends_for changes.now) f t)) }
+    ensures { IfOk result (λ counts. (f t : Addr) → count_at counts.entries f t ≡ length (told_by_all (edits_send edits.now) f t)) }
 {
     let mut counts = BTreeMap::new(alloc);
-    for change in changes {
-        count_sends(&mut counts, change.router, &change.outcome.sends)?;
+    for edit in edits {
+        count_sends(&mut counts, edit.router, edit.sends())?;
     }
     Ok(counts)
 }
@@ -79,17 +79,17 @@ fn reserve_counts(
     Ok(())
 }
 
-/// Sees to it that each message that the changes send may be sent, and has a place. Each direction is asked for its places once.
+/// Sees to it that each message that is sent for the edited cells may be, and has a place. Each direction is asked for its places once.
 pub(crate) fn reserve_each<S: Selector>(
     alloc: Global,
     queues: &mut Queues,
-    changes: &[Change<S>],
+    edits: &[CellEdit<S>],
 ) -> Result<(), AllocError>
     ensures queue { (f t : Addr) → queue_at queues.new f t ≡ queue_at queues.old f t }
-    ensures room { OnOk result ((f t : Addr) → length (told_by_all (sends_for changes.now) f t) ≤ spare_at queues.new f t) }
-    ensures admitted { OnOk result (AreAllAdmitted queues.new.admitted changes.now) }
+    ensures room { OnOk result ((f t : Addr) → length (told_by_all (edits_send edits.now) f t) ≤ spare_at queues.new f t) }
+    ensures admitted { OnOk result (AreAllAdmitted queues.new.admitted edits.now) }
 {
-    admit_each(queues, changes)?;
-    let counts = counts_of(alloc, changes)?;
+    admit_each(queues, edits)?;
+    let counts = counts_of(alloc, edits)?;
     reserve_counts(queues, &counts)
 }

@@ -15,6 +15,7 @@ ghost use Rattle.cell_engine.specs.Sharing.{conf_shown};
 
 use crate::edits::is_router;
 use crate::held_conf::HeldConf;
+use hop_table::HopTable;
 use net_conf::{Conf, SiteConf};
 use net_prefix::{Addr, Prefix};
 use prefix_table::PrefixTable;
@@ -33,7 +34,7 @@ use std::sync::Arc;
 pub struct State<S: Chosen, T: PrefixTable<Cell<S>>> {
     pub(crate) alloc: Global,
     pub(crate) conf: HeldConf,
-    pub(crate) tables: RouterTables<Cell<S>, T>,
+    pub(crate) tables: RouterTables<Cell<S>, HopTable<S, T>>,
     /// Those of all sessions.
     pub(crate) directions: Seq<Direction>,
     pub(crate) queues: Queues,
@@ -129,7 +130,10 @@ impl<S: Chosen, T: PrefixTable<Cell<S>>> State<S, T> {
     pub fn table(&self, router: Addr) -> Option<&T>
         ensures { option_map T.table (option_copied result) ≡ find addr_cmp router self.now.tables }
     {
-        self.tables.table(router)
+        match self.tables.table(router) {
+            Some(table) => Some(table.cells()),
+            None => None,
+        }
     }
 
     /// The next address that has a table, past this one, or the first of all.

@@ -24,7 +24,7 @@ use Rattle.cell_network.specs.Changes.{AreOverSessionsUp, changes_in}
 use Rattle.cell_network.specs.Decisions.{IsRefreshed}
 use Rattle.cell_network.specs.Editing.{with_directions, with_origin}
 use Rattle.cell_engine.specs.Deliveries.{outcome_at, HasRoom, KeepsSame}
-use Rattle.cell_engine.specs.Edits.{Planned, IsPlanned, HasPlaces, refreshed_by}
+use Rattle.cell_engine.specs.Edits.{Planned, IsPlanned, HasPlaces, made_in, refreshed_by}
 use Rattle.cell_engine.proofs.Redecided.{refreshes}
 use Rattle.cell_engine.proofs.Growth.{network_kept, head_of, head_kept}
 use Rattle.sim_core.specs.Counting.{decided_at}
@@ -40,7 +40,7 @@ planned_still : (e e' : Engine) → KeepsSame e e' → e'.tables ≡ e.tables �
 planned_still e e' same tables edit x is = record {
   allowed = ap (λ c. refusal_of c edit) same.conf ∙ is.allowed;
   origin = ap (with_origin edit) tables ∙ is.origin ∙ sym tables;
-  plan = is.plan ∙ sym (λ i. record {
+  plan = ap (λ ts. made_in ts x) tables ∙ is.plan ∙ sym (λ i. record {
     conf = edited (same.conf i) edit;
     directions = with_directions edit (same.directions i);
     changes = changes_in (scope edit) (same.conf i) (edited (same.conf i) edit) (tables i);
@@ -55,7 +55,7 @@ prepared_edit e e' same tables sound configured up edit x is room cells are =
     record {
       reply = sym (ap (λ o. o.reply) (edit_done (network e) edit is.allowed)) ∙ reply_kept e e' same (AnEdit edit);
       accepted = refl;
-      refreshes = subst (λ t. IsRefreshed (network e') t cells) next (subst (IsRefreshed (network e') (with_sent (network e') (after_edit (network e') edit))) (sym (are ∙ ap refreshed_by still.plan)) (refreshes e' sound configured up edit still.allowed still.origin));
+      refreshes = subst (λ t. IsRefreshed (network e') t cells) next (subst (IsRefreshed (network e') (with_sent (network e') (after_edit (network e') edit))) (sym are) (refreshes e' sound configured up edit still.allowed still.origin x still));
       does = record { plan = x; pushed = refl; taken = refl; edited = refl; is = still; room = room };
     }
 

@@ -46,13 +46,13 @@ pub struct Plan<S: Selector> {
 impl<S: Selector> Model for Plan<S> {
     ghost use Rattle.std.specs.Option.{option_map};
     ghost use Rattle.std.specs.Coded.{codes};
-    ghost use Rattle.cell_engine.specs.Coding.{coded_change};
+    ghost use Rattle.cell_engine.specs.Coding.{coded_edit};
     ghost use Rattle.sim_core.specs.Coding.{coded_taken};
     ghost use Rattle.sim_core.specs.Plans as plans;
 
     ghost Value = { plans.Plan };
 
-    ghost coded = { Prim.hlevel (codes, coded_change, coded_taken) };
+    ghost coded = { Prim.hlevel (codes, coded_edit, coded_taken) };
 
     ghost view = { λ x. record { reply = x.reply; refreshed = x.refreshed.items; pushed = x.pushed; taken = option_map (λ t. t.value) x.taken; edited = x.edited } };
 }

@@ -1,7 +1,7 @@
 use Rattle.std.proofs.Common.{◌≡◌, map, take}
-use Rattle.cell_engine.specs.Changes.{change_at}
+use Rattle.cell_engine.specs.Changes.{edit_at}
 use Rattle.cell_engine.proofs.moved_cells.decide_in_turn.Given as goal
 
--- those of the cells so far are decided
+-- those of the cells so far have their edits
 abbrev pub invariant-loop-cell : goal.invariant-loop-cell
-invariant-loop-cell g l = l.changes ≡ map change_at (take l.cell-index l.moved)
+invariant-loop-cell g l = l.edits ≡ map edit_at (take l.cell-index l.moved)

@@ -4,8 +4,8 @@ use Rattle.cell_network.proofs.Unmoved.{none_of_router}
 use Rattle.cell_engine.specs.Changes.{all_changes}
 use Rattle.cell_engine.proofs.state.State.add_concerned.Goals as goal
 
-pub returns-then-not-contains : goal.returns-then-not-contains
-returns-then-not-contains g c =
+pub returns-then-not-contains-clause-more : goal.returns-then-not-contains-clause-more
+returns-then-not-contains-clause-more g c =
     let ts = c.args.self.now.tables in
     sym (
     ap (λ l. all_changes c.args.edits.now ts ++ l) (none_of_router c.args.self.now.conf c.args.conf.now c.args.router (c.requires c.args.router (sym c.contains.ensures ∙ c.if-not-contains.true)) ts c.facts.ensures.sessions)

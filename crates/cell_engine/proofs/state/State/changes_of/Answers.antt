@@ -1,12 +1,15 @@
-use Rattle.std.proofs.Common.{◌≡◌, map, IfOk, subst, ap, ◌∙◌}
-use Rattle.cell_engine.specs.Changes.{change_at, all_moved, all_changes}
+use Rattle.std.proofs.Common.{map, ap, ◌∙◌}
+use Rattle.cell_engine.specs.CellEdits.{whole_changes}
+use Rattle.cell_engine.specs.Changes.{all_moved, edit_at}
 use Rattle.cell_engine.proofs.Deciding.{decided_all}
+use Rattle.cell_engine.proofs.Whole.{whole_all}
+use Rattle.router_tables.proofs.Seen.{when_ok}
 use Rattle.cell_engine.proofs.state.State.changes_of.Goals as goal
 
 pub returns : goal.returns
 returns g c =
-    let ts = c.args.self.now.tables in
+    let e = c.args.self.now in
+    let ts = e.tables in
     let routers = c.args.edits.now in
-    let all : map change_at c.as_slice.result.now ≡ all_changes routers ts =
-    ap (map change_at) (c.as_slice.ensures ∙ c.in_ok-moved.ensures ∙ ap (λ bs. all_moved bs ts) (c.deref.ensures.value ∙ c.in_ok-becomings.ensures)) ∙ decided_all ts routers in
-    subst (λ l. IfOk c.decide.result (λ changes. changes ≡ l)) all c.decide.ensures
+    let moved = c.as_slice.ensures ∙ c.in_ok-moved.ensures ∙ ap (λ bs. all_moved bs ts) (c.deref.ensures.value ∙ c.in_ok-becomings.ensures) in
+    when_ok c.decide.result _ _ (λ made is. ap (whole_changes ts) (is ∙ ap (map edit_at) moved) ∙ whole_all e c.facts.ensures.sound c.facts.ensures.configured routers c.requires ∙ decided_all ts routers) c.decide.ensures

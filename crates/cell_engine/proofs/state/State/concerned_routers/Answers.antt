@@ -1,11 +1,11 @@
-use Rattle.std.proofs.Common.{◌++◌, length, Some, ap, sym, arith}
+use Rattle.std.proofs.Common.{◌++◌, length, Some, ap, sym, subst, arith}
 use Rattle.std.specs.FinMap as finite
 use Rattle.net_conf.specs.declared.edit.Scope.TheVariants.{Network}
 use Rattle.router_tables.specs.RouterTables.{table_at}
 use Rattle.cell_network.specs.Changes.{router_changes, changes_in}
 use Rattle.cell_network.specs.Moves.{moves}
 use Rattle.cell_network.proofs.Chunks.{T_of}
-use Rattle.cell_engine.specs.Changes.{all_changes}
+use Rattle.cell_engine.specs.Changes.{AreEditsOf, all_changes}
 use Rattle.cell_engine.proofs.Walks.{tables_past, tables_start, tables_step, tables_end}
 use Rattle.cell_engine.proofs.Remade.{gathered_more, gathered_all}
 use Rattle.cell_engine.proofs.state.State.concerned_routers.Goals as goal
@@ -13,13 +13,13 @@ use Rattle.cell_engine.proofs.state.State.concerned_routers.Goals as goal
 pub walk-init : goal.walk-init
 walk-init g c =
     let ts = c.args.self.now.tables in
-    λ i. all_changes (c.new-edits.ensures i) ts ++ changes_in Network c.args.self.now.conf c.args.conf.now (tables_start ts i)
+    (subst (AreEditsOf c.args.self.now.conf) (sym c.new-edits.ensures) tt, λ i. all_changes (c.new-edits.ensures i) ts ++ changes_in Network c.args.self.now.conf c.args.conf.now (tables_start ts i))
 
-pub returns-in-None : goal.returns-in-None
-returns-in-None g c =
+pub returns-in-None-clause-all : goal.returns-in-None-clause-all
+returns-in-None-clause-all g c =
     let ts = c.args.self.now.tables in
     let made = changes_in Network c.args.self.now.conf c.args.conf.now in
-    gathered_all (all_changes c.walk.edits ts) (made (tables_past c.walk.past ts)) (made ts) (ap made (tables_end ts c.walk.past (sym c.in-None.ensures))) c.walk.invariant
+    gathered_all (all_changes c.walk.edits ts) (made (tables_past c.walk.past ts)) (made ts) (ap made (tables_end ts c.walk.past (sym c.in-None.ensures))) c.walk.invariant.1
 
 pub walk-smaller : goal.walk-smaller
 walk-smaller g c =
@@ -31,6 +31,8 @@ walk-preserved g c =
     let ts = c.args.self.now.tables in
     let r = c.in-Some.router in
     let made = changes_in Network c.args.self.now.conf c.args.conf.now in
-    let step = tables_step ts c.walk.past r (T_of _ c.facts.ensures.sound.by_address) (sym c.in-Some.ensures) in
-    gathered_more (all_changes c.walk.edits ts) (router_changes (moves c.args.self.now.conf c.args.conf.now) c.args.self.now.conf c.args.conf.now r (finite.entries (table_at r ts))) (made (tables_past (Some r) ts)) (made (tables_past c.walk.past ts)) (made ts) (all_changes c.add_concerned.new.edits ts)
-    (sym (ap made step)) c.walk.invariant c.in_ok-add_concerned-in-Some.ensures
+    let step = tables_step ts c.walk.past r (T_of _ c.facts.ensures.sound.by_address) (sym c.in-Some.ensures) in (
+      c.in_ok-add_concerned-in-Some.ensures.of c.walk.invariant.0,
+      gathered_more (all_changes c.walk.edits ts) (router_changes (moves c.args.self.now.conf c.args.conf.now) c.args.self.now.conf c.args.conf.now r (finite.entries (table_at r ts))) (made (tables_past (Some r) ts)) (made (tables_past c.walk.past ts)) (made ts) (all_changes c.add_concerned.new.edits ts)
+          (sym (ap made step)) c.walk.invariant.1 c.in_ok-add_concerned-in-Some.ensures.more,
+    )

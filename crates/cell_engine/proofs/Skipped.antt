@@ -1,0 +1,49 @@
+-- A table of which no cell can change need not be walked.
+use Rattle.std.proofs.Common.{◌≡◌, Bool, true, false, not, cond, List, [], ◌∷◌, map, filter, Some, refl, ap, ◌∙◌}
+use Rattle.std.proofs.lemmas.Bool.{true≢false}
+use Rattle.std.specs.Bool.{OnTrue}
+use Rattle.std.specs.List.{AllByRecursion}
+use Rattle.std.specs.FinMap as finite
+use Rattle.std.specs.FinMap.Entries as entries
+use Rattle.net_prefix.specs.Block.{Block, block_cmp}
+use Rattle.net_prefix.specs.Orders.{block_total}
+use Rattle.prefix_table.specs.Tables.{Table}
+use Rattle.route_cell.specs.Cells.{Heard}
+use Rattle.route_cell.specs.Moves.{SitePair, is_moved, MovesCostsAlone}
+use Rattle.route_cell.proofs.OneHop.{none_by_hop, none_moved}
+use Rattle.hop_table.specs.Hops.{Have, AreKnown}
+use Rattle.hop_table.specs.declared.hops.Hops.{Hops}
+use Rattle.hop_table.specs.declared.hops.Hops.TheVariants.{Nothing, Only, Several}
+use Rattle.cell_network.specs.Moves.{is_moved_by}
+use Rattle.cell_network.proofs.Chunks.{of_T}
+use Rattle.cell_network.proofs.Refreshed.{all_from, found_each}
+use Rattle.cell_engine.specs.Changes.{Becoming, MovedCell, moves_one_of, moved_cells}
+
+-- what holds where a test says no
+pub leaves_by : (b : Bool) (P : Type 0) → (b ≡ false → P) → OnTrue (not b) P
+leaves_by true P h = tt
+leaves_by false P h = h refl
+
+-- no route with these NEXT_HOPs moves
+pub none_of_hops : (s : SitePair) → MovesCostsAlone s → (hops : Hops) → moves_one_of s hops ≡ false → (p : Block) (h : Heard) → Have hops h.received → is_moved s p h.received ≡ false
+none_of_hops s alone Nothing stays p h have = ap (is_moved s p) have ∙ none_moved s p alone
+none_of_hops s alone (Only a) stays p h have = none_by_hop s p a stays alone h.received have
+none_of_hops s alone Several stays p h have = absurd (true≢false stays)
+
+module _ (b : Becoming) where
+  abbrev moves : Block × Heard → Bool
+  moves e = is_moved_by b.old b.new b.conf b.address e.0 e.1
+
+  abbrev cell : Block × Heard → MovedCell
+  cell e = record { becoming = b; prefix = e.0; heard = e.1 }
+
+  none_chosen : (cells : List (Block × Heard)) → AllByRecursion (λ e. moves e ≡ false) cells → moved_cells b cells ≡ []
+  none_chosen [] all = refl
+  none_chosen (e ∷ es) all = ap (λ c. map cell (cond c (e ∷ filter moves es) (filter moves es))) all.0 ∙ none_chosen es all.1
+
+  -- and so none of the table, whose routes have these
+  pub none_of_table : (hops : Hops) (t : Table Heard) → AreKnown hops t → ((p : Block) (h : Heard) → Have hops h.received → is_moved_by b.old b.new b.conf b.address p h ≡ false) → moved_cells b (finite.entries t) ≡ []
+  none_of_table hops t known stays =
+      none_chosen (finite.entries t)
+      (all_from (λ e. entries.find block_cmp e.0 (finite.entries t) ≡ Some e.1) (λ e. moves e ≡ false) (λ e found. stays e.0 e.1 (known e.0 e.1 (finite.get-entries t e.0 ∙ found))) (finite.entries t)
+      (found_each block_total (finite.entries t) (of_T _ (finite.entries_sorted t))))
