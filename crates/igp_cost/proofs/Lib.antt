@@ -18,3 +18,4 @@ mod LoneNode
 mod OneMore
 mod Leaf
 mod MoreEdges
+mod Before

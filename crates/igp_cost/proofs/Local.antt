@@ -12,7 +12,7 @@ use Rattle.igp_cost.specs.Trees.{Reached, source_of, label_in, IsTreeOf}
 use Rattle.igp_cost.specs.Wired.{IsWired, IsFound, rows_of, no_row}
 use Rattle.igp_cost.specs.Changes.{ends_of, AreEndsOf, IsChange}
 use Rattle.igp_cost.specs.Stays.{IsTree, Follows}
-use Rattle.igp_cost.specs.Offers.{via, OffersNoBetter, IsHeld, IsSettledAround, IsLocal, IsMendedOver}
+use Rattle.igp_cost.specs.Offers.{via, OffersNoBetter, IsHeld, SaySameOf, SaySame, IsSettledAround, IsLocal, IsMendedOver}
 use Rattle.igp_cost.proofs.Bridge.{metrics}
 use Rattle.igp_cost.proofs.Certificate.{HasSource, IsCertified, certified_cost, certified_hop}
 use Rattle.igp_cost.proofs.Converse.{tree_certified}
@@ -72,7 +72,7 @@ module _ (change : Change) (nodes : Nodes) (old new : Edges) (r : Addr) (L M : A
   pub locally_certified : IsCertified nodes new r M
   locally_certified = record { metrics = metrics; start = start; closed = closed_all; backed = backed_all }
 
-module _ (change : Change) (nodes : Nodes) (old new : Edges) (links : List Link) (wired : IsWired nodes new links) (t : Reached) (labels : Labels) (same_length : length labels ≡ length nodes) (s : ℕ) (found : IsFound nodes (source_of t) s) (one other : ℕ) (found_one : IsFound nodes (ends_of change).0 one) (found_other : IsFound nodes (ends_of change).1 other) (is_change : IsChange change old new) (tree : IsTreeOf nodes old (source_of t) t) (local : IsLocal nodes links t (record { source = source_of t; labels = rows_of nodes labels }) one other) where
+module _ (change : Change) (nodes : Nodes) (old new : Edges) (links : List Link) (wired : IsWired nodes new links) (t : Reached) (labels : Labels) (same_length : length labels ≡ length nodes) (s : ℕ) (found : IsFound nodes (source_of t) s) (one other : ℕ) (found_one : IsFound nodes (ends_of change).0 one) (found_other : IsFound nodes (ends_of change).1 other) (is_change : IsChange change old new) (tree : IsTreeOf nodes old (source_of t) t) (before : Reached) (known : SaySame nodes t before) (local : IsLocal nodes links before (record { source = source_of t; labels = rows_of nodes labels }) one other) where
   abbrev made : Reached
   made = record { source = source_of t; labels = rows_of nodes labels }
 
@@ -87,7 +87,7 @@ module _ (change : Change) (nodes : Nodes) (old new : Edges) (links : List Link)
 
   -- what is looked at
   abbrev D : Addr → Type 0
-  D x = (v : ℕ) × IsFound nodes x v × IsSettledAround nodes links made v
+  D x = (v : ℕ) × IsFound nodes x v × IsSettledAround nodes links before made v
 
   end_one : D (ends_of change).0
   end_one = (one, found_one, local.first)
@@ -99,9 +99,9 @@ module _ (change : Change) (nodes : Nodes) (old new : Edges) (links : List Link)
   ends_within link among = All-contains (λ (l : Link). (l.from < length nodes) × (l.to < length nodes) × IsMetric l.metric) links link wired.within among
 
   same_node : (x : Addr) (v : ℕ) → v < length nodes → addr_at nodes v ≡ x → D x ⊎ (label_in made x ≡ label_in t x)
-  same_node x v lt at = elim (local.same v lt) [
-    | inl moved ↦ inl (v, record { within = lt; same = at }, All-contains (IsSettledAround nodes links made) local.places v local.settled moved)
-    | inr same ↦ inr (subst (λ y. label_in made y ≡ label_in t y) at same)
+  same_node x v lt at = elim (local.each v lt) [
+    | inr settled ↦ inl (v, record { within = lt; same = at }, settled)
+    | inl same ↦ inr (subst (λ y. label_in made y ≡ label_in t y) at (same ∙ known v lt))
   ]
 
   same_all : (x : Addr) → D x ⊎ (label_in made x ≡ label_in t x)
@@ -122,25 +122,32 @@ module _ (change : Change) (nodes : Nodes) (old new : Edges) (links : List Link)
       ]
 
   -- the link of an edge from an address that is looked at
-  around : (a b : Addr) (m : ℕ) → HasEdge new a b m → D a → OffersNoBetter nodes made a b m × OffersNoBetter nodes made b a m × IsHeld nodes links made b
+  around : (a b : Addr) (m : ℕ) → HasEdge new a b m → D a → OffersNoBetter nodes made a b m × (SaySameOf t made b → OffersNoBetter nodes made b a m × IsHeld nodes links made b)
   around a b m edge seen =
       let h = wired.has_links a b m edge in
       let place : h.link.from ≡ seen.0 = one_place nowhere nodes wired.rising h.link.from seen.0 (ends_within h.link h.among).0 seen.1.within (h.from ∙ sym seen.1.same) in
       let over = seen.2.each h.link h.among place in
-      subst (λ x. OffersNoBetter nodes made x b m × OffersNoBetter nodes made b x m × IsHeld nodes links made b) seen.1.same
-      (subst (λ y. OffersNoBetter nodes made (addr_at nodes seen.0) y m × OffersNoBetter nodes made y (addr_at nodes seen.0) m × IsHeld nodes links made y) h.to
-      (subst (λ n. OffersNoBetter nodes made (addr_at nodes seen.0) (addr_at nodes h.link.to) n × OffersNoBetter nodes made (addr_at nodes h.link.to) (addr_at nodes seen.0) n × IsHeld nodes links made (addr_at nodes h.link.to)) h.metric (over.out, over.back, over.near)))
+      let same : SaySameOf t made (addr_at nodes h.link.to) → SaySameOf before made (addr_at nodes h.link.to) = λ is. is ∙ sym (known h.link.to (ends_within h.link h.among).1) in
+      subst (λ x. OffersNoBetter nodes made x b m × (SaySameOf t made b → OffersNoBetter nodes made b x m × IsHeld nodes links made b)) seen.1.same
+      (subst (λ y. OffersNoBetter nodes made (addr_at nodes seen.0) y m × (SaySameOf t made y → OffersNoBetter nodes made y (addr_at nodes seen.0) m × IsHeld nodes links made y)) h.to
+      (subst (λ n. OffersNoBetter nodes made (addr_at nodes seen.0) (addr_at nodes h.link.to) n × (SaySameOf t made (addr_at nodes h.link.to) → OffersNoBetter nodes made (addr_at nodes h.link.to) (addr_at nodes seen.0) n × IsHeld nodes links made (addr_at nodes h.link.to))) h.metric (over.out, λ is. (over.back (same is), over.near (same is)))))
 
   closed_around : IsClosedAround D nodes new r (label_in made)
   closed_around a b m l (inl seen) edge inside is = (around a b m edge seen).0 l inside is
-  closed_around a b m l (inr seen) edge inside is = (around b a m (swap new a b m edge) seen).1 l inside is
+  closed_around a b m l (inr seen) edge inside is = elim (same_all a) [
+    | inl first ↦ (around a b m edge first).0 l inside is
+    | inr same ↦ ((around b a m (swap new a b m edge) seen).1 same).0 l inside is
+  ]
 
   held_backed : (x : Addr) (l : Label) → IsHeld nodes links made x → label_in made x ≡ Some l → (x ≡ r) ⊎ HasSource nodes new r (label_in made) x l
   held_backed x l held is = elim (held l is) [ inl start ↦ inl start | inr o ↦ inr (by_link nodes new links wired made x l o) ]
 
   backed_around : IsBackedAround D nodes new r (label_in made)
   backed_around x l (inl seen) is = held_backed x l (subst (IsHeld nodes links made) seen.1.same seen.2.held) is
-  backed_around x l (inr near) is = held_backed x l (around near.0 x near.1 near.2 near.3).2 is
+  backed_around x l (inr near) is = elim (same_all x) [
+    | inl seen ↦ held_backed x l (subst (IsHeld nodes links made) seen.1.same seen.2.held) is
+    | inr same ↦ held_backed x l ((around near.0 x near.1 near.2 near.3).1 same).1 is
+  ]
 
   after : IsCertified nodes new r (label_in made)
   after = locally_certified change nodes old new r (label_in t) (label_in made) D is_change certified all_metrics end_one end_other same_all local.start closed_around backed_around
@@ -154,6 +161,6 @@ module _ (change : Change) (nodes : Nodes) (old new : Edges) (links : List Link)
 pub follows_whole : (change : Change) (nodes : Nodes) (new : Edges) (links : List Link) → IsWired nodes new links → (t : Reached) (s : ℕ) → IsFound nodes (source_of t) s → (other : Reached) → IsMendedOver nodes links change t other → Follows change nodes new t other
 follows_whole change nodes new links wired t s found other over =
     let m = over.mended in
-    let local = subst (λ (u : Reached). IsLocal nodes links t u over.one over.other) m.is m.local in
-    let shown : Follows change nodes new t (record { source = source_of t; labels = rows_of nodes m.labels }) = λ old is_change was. follows change nodes old new links wired t m.labels m.same_length s found over.one over.other over.found_one over.found_other is_change was local in
+    let local = subst (λ (u : Reached). IsLocal nodes links m.before u over.one over.other) m.is m.local in
+    let shown : Follows change nodes new t (record { source = source_of t; labels = rows_of nodes m.labels }) = λ old is_change was. follows change nodes old new links wired t m.labels m.same_length s found over.one over.other over.found_one over.found_other is_change was m.before m.known local in
     subst (λ (u : Reached). Follows change nodes new t u) (sym m.is) shown

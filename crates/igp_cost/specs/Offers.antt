@@ -1,11 +1,11 @@
 -- What edges offer by a tree's labels, and what a look at the links of some nodes tells of it. No public contract cites this file.
-use Rattle.std.specs.Prelude.{◌≡◌, ℕ, ◌+◌, ◌<◌, ◌==◌, ◌≢◌, ◌⊎◌, List, All, length, Contains, IsTrue, Some, None, if◌then◌else◌}
+use Rattle.std.specs.Prelude.{◌≡◌, ℕ, ◌+◌, ◌<◌, ◌==◌, ◌≢◌, ◌⊎◌, List, length, Contains, IsTrue, Some, None, if◌then◌else◌}
 use Rattle.net_prefix.specs.declared.addr.Addr.{Addr}
 use Rattle.igp_cost.specs.declared.change.Change.{Change}
 use Rattle.igp_cost.specs.declared.label.Label.{Label}
 use Rattle.igp_cost.specs.declared.link.Link.{Link}
 use Rattle.igp_cost.specs.Walks.{Nodes, share_as}
-use Rattle.igp_cost.specs.Labels.{Labels, IsNotAfter, addr_at}
+use Rattle.igp_cost.specs.Labels.{Labels, IsNotAfter, addr_at, label_at}
 use Rattle.igp_cost.specs.Wired.{IsFound, AreAscending, rows_of}
 use Rattle.igp_cost.specs.Trees.{Reached, source_of, label_in}
 use Rattle.igp_cost.specs.Changes.{ends_of, metric_of, Loses, AreEndsOf}
@@ -48,20 +48,28 @@ LosesNothing change nodes links t = Loses change → IsHeld nodes links t (ends_
 abbrev pub GainsNothing : Change → Nodes → Reached → Type 0
 GainsNothing change nodes t = (m : ℕ) → metric_of change ≡ Some m → OffersNoBetter nodes t (ends_of change).0 (ends_of change).1 m × OffersNoBetter nodes t (ends_of change).1 (ends_of change).0 m
 
--- a link from a offers neither end anything better, and its other end is held
-pub record IsSettledOver (nodes : Nodes) (links : List Link) (t : Reached) (a : Addr) (link : Link) : Type 0 where
-  pub out : OffersNoBetter nodes t a (addr_at nodes link.to) link.metric
-  pub back : OffersNoBetter nodes t (addr_at nodes link.to) a link.metric
-  pub near : IsHeld nodes links t (addr_at nodes link.to)
+-- both trees say the same of an address
+abbrev pub SaySameOf : Reached → Reached → Addr → Type 0
+SaySameOf t made x = label_in made x ≡ label_in t x
+
+-- both trees say the same of each node
+abbrev pub SaySame : Nodes → Reached → Reached → Type 0
+SaySame nodes t made = (v : ℕ) → v < length nodes → SaySameOf t made (addr_at nodes v)
+
+-- a link from a offers its other end nothing better; and if that has the label that it had, it is held, and offered a nothing better
+pub record IsSettledOver (nodes : Nodes) (links : List Link) (t made : Reached) (a : Addr) (link : Link) : Type 0 where
+  pub out : OffersNoBetter nodes made a (addr_at nodes link.to) link.metric
+  pub back : SaySameOf t made (addr_at nodes link.to) → OffersNoBetter nodes made (addr_at nodes link.to) a link.metric
+  pub near : SaySameOf t made (addr_at nodes link.to) → IsHeld nodes links made (addr_at nodes link.to)
 
 -- so do the links of the node at a place, and it is held itself
-pub record IsSettledAround (nodes : Nodes) (links : List Link) (t : Reached) (v : ℕ) : Type 0 where
-  pub held : IsHeld nodes links t (addr_at nodes v)
-  pub each : (link : Link) → Contains links link → link.from ≡ v → IsSettledOver nodes links t (addr_at nodes v) link
+pub record IsSettledAround (nodes : Nodes) (links : List Link) (t made : Reached) (v : ℕ) : Type 0 where
+  pub held : IsHeld nodes links made (addr_at nodes v)
+  pub each : (link : Link) → Contains links link → link.from ≡ v → IsSettledOver nodes links t made (addr_at nodes v) link
 
--- each node is at one of the places, or has the label that it had
-abbrev pub AreSameBut : Nodes → Reached → Reached → List ℕ → Type 0
-AreSameBut nodes t made places = (v : ℕ) → v < length nodes → Contains places v ⊎ (label_in made (addr_at nodes v) ≡ label_in t (addr_at nodes v))
+-- the node at a place has the label that it had, or is settled
+abbrev pub IsSameOrSettled : Nodes → List Link → Reached → Reached → ℕ → Type 0
+IsSameOrSettled nodes links t made v = SaySameOf t made (addr_at nodes v) ⊎ IsSettledAround nodes links t made v
 
 -- the tree says of its source that it is at no cost
 abbrev pub HasStart : Reached → Type 0
@@ -69,19 +77,23 @@ HasStart t = label_in t (source_of t) ≡ Some (record { cost = 0; hop = source_
 
 -- the labels that differ are settled, and so are two places
 pub record IsLocal (nodes : Nodes) (links : List Link) (t made : Reached) (one other : ℕ) : Type 0 where
-  pub places : List ℕ
-  pub same : AreSameBut nodes t made places
   pub start : HasStart made
-  pub settled : All (IsSettledAround nodes links made) places
-  pub first : IsSettledAround nodes links made one
-  pub second : IsSettledAround nodes links made other
+  pub each : (v : ℕ) → v < length nodes → IsSameOrSettled nodes links t made v
+  pub first : IsSettledAround nodes links t made one
+  pub second : IsSettledAround nodes links t made other
 
--- a tree made of labels, that is settled where it differs
+-- the labels by places are those that a tree says
+abbrev pub AreLabelsOf : Nodes → Reached → Labels → Type 0
+AreLabelsOf nodes t labels = (v : ℕ) → v < length nodes → label_at labels v ≡ label_in t (addr_at nodes v)
+
+-- a tree made of labels, that is settled where it differs from one that says the same of each node
 pub record IsMended (nodes : Nodes) (links : List Link) (t : Reached) (one other : ℕ) (made : Reached) : Type 0 where
   pub labels : Labels
   pub same_length : length labels ≡ length nodes
   pub is : made ≡ record { source = source_of t; labels = rows_of nodes labels }
-  pub local : IsLocal nodes links t made one other
+  pub before : Reached
+  pub known : SaySame nodes t before
+  pub local : IsLocal nodes links before made one other
 
 -- so mended around the ends of a change
 pub record IsMendedOver (nodes : Nodes) (links : List Link) (change : Change) (t made : Reached) : Type 0 where

@@ -139,6 +139,9 @@ impl Graph {
         ensures source { IfOk result (λ o. IfSome o (λ t. source_of t ≡ source_of old.now)) }
         ensures follows { IfOk result (λ o. IfSome o (λ t. Follows change.now self.now.nodes self.now.edges old.now t)) }
     {
+        if change.loses() {
+            return Ok(None);
+        }
         match self.rooted(old.source()) {
             Some(graph) => graph.grown_tree(alloc, old, change),
             None => Ok(None),

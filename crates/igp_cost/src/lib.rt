@@ -16,6 +16,7 @@ mod repair;
 mod rooted;
 mod search;
 mod settled;
+mod shift;
 mod stays;
 mod tree;
 mod wiring;

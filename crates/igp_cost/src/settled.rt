@@ -1,20 +1,18 @@
 //! A certificate of a tree after a change, by the labels that differ from those of the tree before it: a look at the links around these.
 
-ghost use Rattle.std.specs.Prelude.{◌≡◌, ◌<◌, ◌≤◌, ◌⊎◌, length, All, Contains, IfOk};
+ghost use Rattle.std.specs.Prelude.{◌≡◌, ◌↔◌, ◌<◌, ◌≤◌, ◌⊎◌, ℕ, length, Contains, IsTrue};
 ghost use Rattle.std.specs.Bool.{OnTrue};
 ghost use Rattle.igp_cost.specs.Metric.{IsMetric};
 ghost use Rattle.igp_cost.specs.Labels.{addr_at};
 ghost use Rattle.igp_cost.specs.Trees.{label_in};
 ghost use Rattle.igp_cost.specs.Walks.{share_as};
-ghost use Rattle.igp_cost.specs.Offers.{tree_by, Offers, OffersNoBetter, IsHeld, AreSameBut, HasStart, IsLocal, IsSettledAround, IsSettledOver};
+ghost use Rattle.igp_cost.specs.Offers.{tree_by, Offers, OffersNoBetter, IsHeld, SaySameOf, IsSameOrSettled, HasStart, IsLocal, IsSettledAround, IsSettledOver};
 
 use crate::label::Label;
 use crate::link::Link;
 use crate::rooted::RootedGraph;
 use crate::stays::{is_not_after_offer, is_offer_not_after};
-use crate::tree::Tree;
 use net_prefix::Addr;
-use std::alloc::{AllocError, Global};
 
 impl<'a> RootedGraph<'a> {
     // The address at a place.
@@ -53,19 +51,17 @@ impl<'a> RootedGraph<'a> {
         let Some(start) = self.label_by(labels, from) else {
             return true;
         };
-        if !self.is_inside(from) {
-            return true;
-        }
         match self.label_by(labels, to) {
-            Some(label) => is_not_after_offer(
-                self.addr(self.source),
-                self.addr(from),
-                self.addr(to),
-                metric,
-                start,
-                label,
-            ),
-            None => false,
+            Some(label)
+                if is_not_after_offer(
+                    self.addr(self.source),
+                    self.addr(from),
+                    self.addr(to),
+                    metric,
+                    start,
+                    label,
+                ) => { true }
+            _ => !self.is_inside(from),
         }
     }
 
@@ -115,100 +111,157 @@ impl<'a> RootedGraph<'a> {
         false
     }
 
-    // The places of the nodes whose labels are not those of a tree.
-    fn moved_places(
-        &self,
-        alloc: Global,
-        old: &Tree,
-        labels: &[Option<Label>],
-    ) -> Result<Vec<usize>, AllocError>
-        requires { length labels.now ≡ length self.now.nodes.now }
-        ensures within { IfOk result (λ v. All (λ p. p < length self.now.nodes.now) v.items) }
-        ensures same { IfOk result (λ v. AreSameBut self.now.nodes.now old.now (tree_by self.now.nodes.now self.now.source labels.now) v.items) }
+    // Whether the node at a place has no label or is the source.
+    fn needs_no_link(&self, labels: &[Option<Label>], at: usize) -> bool
+        requires at { at < length self.now.nodes.now }
+        requires same_length { length labels.now ≡ length self.now.nodes.now }
+        ensures { OnTrue result (IsHeld self.now.nodes.now self.now.links.now (tree_by self.now.nodes.now self.now.source labels.now) (addr_at self.now.nodes.now at)) }
     {
-        let mut places = Vec::with_capacity(alloc, 64)?;
-        let mut row: usize = 0;
-        for at in 0..self.nodes.len() {
-            let before = old.label_near(row, self.nodes[at].0);
-            let now = self.label_by(labels, at);
-            row = row.wrapping_add(before.is_some() as usize);
-            if !is_same(now, before) {
-                places.push(at)?;
-            }
-        }
-        Ok(places)
+        self.label_by(labels, at).is_none() || at == self.source
     }
 
-    // Whether a link from a place offers neither end anything better, and its other end is held.
-    fn is_settled_over(&self, labels: &[Option<Label>], at: usize, link: Link) -> bool
+    // Whether the node at a place has no label, or is offered its label over a link that leaves it.
+    fn is_held_over(&self, labels: &[Option<Label>], at: usize, link: Link) -> bool
         requires at { at < length self.now.nodes.now }
         requires ends { (link.to < length self.now.nodes.now) × IsMetric link.metric }
+        requires among { Contains self.now.links.now link }
         requires same_length { length labels.now ≡ length self.now.nodes.now }
-        ensures { OnTrue result (IsSettledOver self.now.nodes.now self.now.links.now (tree_by self.now.nodes.now self.now.source labels.now) (addr_at self.now.nodes.now at) link) }
+        ensures { OnTrue result (IsHeld self.now.nodes.now self.now.links.now (tree_by self.now.nodes.now self.now.source labels.now) (addr_at self.now.nodes.now at)) }
+    {
+        let Some(label) = self.label_by(labels, at) else {
+            return true;
+        };
+        link.from as usize == at
+            && self.is_source(labels, link.to as usize, at, link.metric as u32, label)
+    }
+
+    // Whether the label at a place is that of before.
+    fn is_unmoved_at(&self, before: &[Option<Label>], labels: &[Option<Label>], at: usize) -> bool
+        requires at { at < length self.now.nodes.now }
+        requires before { length before.now ≡ length self.now.nodes.now }
+        requires same_length { length labels.now ≡ length self.now.nodes.now }
+        ensures { IsTrue result ↔ SaySameOf (tree_by self.now.nodes.now self.now.source before.now) (tree_by self.now.nodes.now self.now.source labels.now) (addr_at self.now.nodes.now at) }
+    {
+        is_same(self.label_by(labels, at), self.label_by(before, at))
+    }
+
+    // Whether a link from a place offers its other end nothing better; and if that has its label of before, the other way neither, and it
+    // is held. Of an end that has not the link is asked from there.
+    fn is_settled_over(
+        &self,
+        before: &[Option<Label>],
+        labels: &[Option<Label>],
+        at: usize,
+        link: Link,
+    ) -> bool
+        requires at { at < length self.now.nodes.now }
+        requires ends { (link.to < length self.now.nodes.now) × IsMetric link.metric }
+        requires before { length before.now ≡ length self.now.nodes.now }
+        requires same_length { length labels.now ≡ length self.now.nodes.now }
+        ensures { OnTrue result (IsSettledOver self.now.nodes.now self.now.links.now (tree_by self.now.nodes.now self.now.source before.now) (tree_by self.now.nodes.now self.now.source labels.now) (addr_at self.now.nodes.now at) link) }
     {
         let to = link.to as usize;
         let metric = link.metric as u32;
-        self.is_no_gain(labels, at, to, metric)
-            && self.is_no_gain(labels, to, at, metric)
-            && self.is_backed_by(labels, to)
+        if !self.is_no_gain(labels, at, to, metric) {
+            return false;
+        }
+        if !self.is_unmoved_at(before, labels, to) {
+            return true;
+        }
+        self.is_settled_back(labels, at, link)
+    }
+
+    // Whether a link, the other way round, offers a place nothing better, and its other end is held. Few links are asked this.
+    #[inline(never)]
+    fn is_settled_back(&self, labels: &[Option<Label>], at: usize, link: Link) -> bool
+        requires at { at < length self.now.nodes.now }
+        requires ends { (link.to < length self.now.nodes.now) × IsMetric link.metric }
+        requires same_length { length labels.now ≡ length self.now.nodes.now }
+        ensures back { OnTrue result (OffersNoBetter self.now.nodes.now (tree_by self.now.nodes.now self.now.source labels.now) (addr_at self.now.nodes.now link.to) (addr_at self.now.nodes.now at) link.metric) }
+        ensures near { OnTrue result (IsHeld self.now.nodes.now self.now.links.now (tree_by self.now.nodes.now self.now.source labels.now) (addr_at self.now.nodes.now link.to)) }
+    {
+        let to = link.to as usize;
+        self.is_no_gain(labels, to, at, link.metric as u32) && self.is_backed_by(labels, to)
     }
 
     // Whether the node at a place is held, and all its links are settled.
-    fn is_settled_around(&self, labels: &[Option<Label>], at: usize) -> bool
+    #[inline(always)]
+    fn is_settled_around(
+        &self,
+        before: &[Option<Label>],
+        labels: &[Option<Label>],
+        at: usize,
+    ) -> bool
         requires at { at < length self.now.nodes.now }
+        requires before { length before.now ≡ length self.now.nodes.now }
         requires same_length { length labels.now ≡ length self.now.nodes.now }
-        ensures { OnTrue result (IsSettledAround self.now.nodes.now self.now.links.now (tree_by self.now.nodes.now self.now.source labels.now) at) }
+        ensures { OnTrue result (IsSettledAround self.now.nodes.now self.now.links.now (tree_by self.now.nodes.now self.now.source before.now) (tree_by self.now.nodes.now self.now.source labels.now) at) }
     {
-        if !self.is_backed_by(labels, at) {
-            return false;
-        }
+        let mut held = self.needs_no_link(labels, at);
         for i in self.starts[at]..self.starts[at + 1] {
-            if !self.is_settled_over(labels, at, self.links[i]) {
+            let link = self.links[i];
+            if !self.is_settled_over(before, labels, at, link) {
                 return false;
             }
+            held = held || self.is_held_over(labels, at, link);
         }
-        true
+        held
     }
 
-    // Whether the nodes at some places are.
-    fn are_settled_around(&self, labels: &[Option<Label>], places: &[usize]) -> bool
-        requires places { All (λ p. p < length self.now.nodes.now) places.now }
+    // Whether the node at a place has its label of before, or is settled.
+    fn is_same_or_settled(
+        &self,
+        before: &[Option<Label>],
+        labels: &[Option<Label>],
+        at: usize,
+    ) -> bool
+        requires at { at < length self.now.nodes.now }
+        requires before { length before.now ≡ length self.now.nodes.now }
         requires same_length { length labels.now ≡ length self.now.nodes.now }
-        ensures { OnTrue result (All (IsSettledAround self.now.nodes.now self.now.links.now (tree_by self.now.nodes.now self.now.source labels.now)) places.now) }
+        ensures { OnTrue result (IsSameOrSettled self.now.nodes.now self.now.links.now (tree_by self.now.nodes.now self.now.source before.now) (tree_by self.now.nodes.now self.now.source labels.now) at) }
     {
-        for at in places {
-            if !self.is_settled_around(labels, *at) {
+        self.is_unmoved_at(before, labels, at) || self.is_settled_around(before, labels, at)
+    }
+
+    // Whether each node is.
+    #[inline(never)]
+    fn are_same_or_settled(&self, before: &[Option<Label>], labels: &[Option<Label>]) -> bool
+        requires before { length before.now ≡ length self.now.nodes.now }
+        requires same_length { length labels.now ≡ length self.now.nodes.now }
+        ensures { OnTrue result ((v : ℕ) → v < length self.now.nodes.now → IsSameOrSettled self.now.nodes.now self.now.links.now (tree_by self.now.nodes.now self.now.source before.now) (tree_by self.now.nodes.now self.now.source labels.now) v) }
+    {
+        for at in 0..self.nodes.len() {
+            if !self.is_same_or_settled(before, labels, at) {
                 return false;
             }
         }
         true
     }
 
-    // Whether labels are settled where they are not those of a tree, and at two places.
+    // Whether labels are settled where they are not those of before, and at two places.
     pub fn is_local(
         &self,
-        alloc: Global,
-        old: &Tree,
+        before: &[Option<Label>],
         labels: &[Option<Label>],
         one: usize,
         other: usize,
-    ) -> Result<bool, AllocError>
+    ) -> bool
         requires one { one < length self.now.nodes.now }
         requires other { other < length self.now.nodes.now }
+        requires before { length before.now ≡ length self.now.nodes.now }
         requires same_length { length labels.now ≡ length self.now.nodes.now }
-        ensures { IfOk result (λ b. OnTrue b (IsLocal self.now.nodes.now self.now.links.now old.now (tree_by self.now.nodes.now self.now.source labels.now) one other)) }
+        ensures { OnTrue result (IsLocal self.now.nodes.now self.now.links.now (tree_by self.now.nodes.now self.now.source before.now) (tree_by self.now.nodes.now self.now.source labels.now) one other) }
     {
         if !self.has_start(labels) {
-            return Ok(false);
+            return false;
         }
-        if !self.is_settled_around(labels, one) {
-            return Ok(false);
+        if !self.is_settled_around(before, labels, one) {
+            return false;
         }
-        if !self.is_settled_around(labels, other) {
-            return Ok(false);
+        if !self.is_settled_around(before, labels, other) {
+            return false;
         }
-        let places = self.moved_places(alloc, old, labels)?;
-        Ok(self.are_settled_around(labels, &places))
+        self.are_same_or_settled(before, labels)
     }
 
     // Whether the source is at no cost.
@@ -225,7 +278,7 @@ impl<'a> RootedGraph<'a> {
 
 // Whether two labels are the same, or both are missing.
 fn is_same(one: Option<Label>, other: Option<Label>) -> bool
-    ensures { OnTrue result (one ≡ other) }
+    ensures { IsTrue result ↔ (one ≡ other) }
 {
     match (one, other) {
         (Some(one), Some(other)) => one == other,

@@ -1,10 +1,14 @@
 //! The costs and first hops from one router.
 
-ghost use Rattle.std.specs.Prelude.{◌≡◌, ◌≤◌, ◌↔◌, length, IsTrue, IfOk, IfSome};
+ghost use Rattle.std.specs.Prelude.{◌≡◌, ◌≤◌, ◌<◌, ◌↔◌, length, IsTrue, IfOk, IfSome, Some};
+ghost use Rattle.std.specs.Map.{lookup};
+ghost use Rattle.std.specs.BTreeMap.{is_at};
+ghost use Rattle.net_prefix.specs.Address.{addr_cmp};
+ghost use Rattle.igp_cost.specs.Labels.{AreLimited};
 ghost use Rattle.std.specs.List.{insert};
-ghost use Rattle.igp_cost.specs.Offers.{HasOneMore};
+ghost use Rattle.igp_cost.specs.Offers.{HasOneMore, AreLabelsOf};
 ghost use Rattle.igp_cost.specs.Trees.{source_of, label_in, cost_in, first_hop_in};
-ghost use Rattle.igp_cost.specs.Wired.{IsRising, row, rows_of};
+ghost use Rattle.igp_cost.specs.Wired.{IsRising, AreAscending, row, rows_of};
 
 use crate::label::Label;
 use net_prefix::Addr;
@@ -112,6 +116,31 @@ impl Tree {
         self.label(to)
     }
 
+    /// The labels of nodes at their places, where the tree reaches these and no others. None where it does not, or where one of them is
+    /// past the limit, which none is.
+    pub(crate) fn labels_in_order(
+        &self,
+        alloc: Global,
+        nodes: &[(Addr, Asn)],
+    ) -> Result<Option<Vec<Option<Label>>>, AllocError>
+        ensures same_length { IfOk result (λ o. IfSome o (λ v. length v.items ≡ length nodes.now)) }
+        ensures limited { IfOk result (λ o. IfSome o (λ v. AreLimited v.items)) }
+        ensures known { IfOk result (λ o. IfSome o (λ v. AreLabelsOf nodes.now self.now v.items)) }
+    {
+        let rows = self.rows.as_slice();
+        if rows.len() != nodes.len() {
+            return Ok(None);
+        }
+        let mut labels = Vec::with_capacity(alloc, nodes.len())?;
+        for at in 0..nodes.len() {
+            let Some(label) = label_in_row(rows, at, nodes[at].0) else {
+                return Ok(None);
+            };
+            labels.push(Some(label))?;
+        }
+        Ok(Some(labels))
+    }
+
     /// Whether both say the same of every address.
     pub fn is_same(&self, other: &Tree) -> bool
         ensures { IsTrue result ↔ (self.now ≡ other.now) }
@@ -141,6 +170,21 @@ impl Clone for Tree {
             source: self.source,
             rows: self.rows.share()?,
         })
+    }
+}
+
+// The label in a row, if it is that of an address and within the limit.
+fn label_in_row(rows: &[(Addr, Label)], at: usize, to: Addr) -> Option<Label>
+    requires rising { AreAscending rows.now }
+    requires at { at < length rows.now }
+    ensures found { IfSome result (λ l. lookup (is_at (addr_cmp to)) rows.now ≡ Some l) }
+    ensures limited { IfSome result (λ l. l.cost ≤ 268435456) }
+{
+    let (addr, label) = rows[at];
+    if addr.0 == to.0 && label.cost <= 268_435_456 {
+        Some(label)
+    } else {
+        None
     }
 }
 
