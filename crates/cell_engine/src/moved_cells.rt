@@ -115,11 +115,11 @@ pub(crate) fn decide_in_turn<S: Selector + Drop>(
 ) -> Result<Seq<CellEdit<S>>, AllocError>
     ensures { IfOk result (λ edits. edits ≡ map edit_at moved.now) }
 {
-    let mut edits = Seq::new(alloc);
+    let mut edits = Vec::with_capacity(alloc, moved.len())?;
     for cell in moved {
         edits.push(cell.edit(alloc)?)?;
     }
-    Ok(edits)
+    Ok(Seq::of(edits))
 }
 
 /// The cells with what is done to each, worked out by as many threads as there are processors. One that finds no memory leaves nothing.

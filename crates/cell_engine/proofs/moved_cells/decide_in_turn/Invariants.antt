@@ -4,4 +4,4 @@ use Rattle.cell_engine.proofs.moved_cells.decide_in_turn.Given as goal
 
 -- those of the cells so far have their edits
 abbrev pub invariant-loop-cell : goal.invariant-loop-cell
-invariant-loop-cell g l = l.edits ≡ map edit_at (take l.cell-index l.moved)
+invariant-loop-cell g l = l.edits.items ≡ map edit_at (take l.cell-index l.moved)
