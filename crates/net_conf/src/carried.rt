@@ -39,7 +39,7 @@ pub(crate) fn carry_trees<R: Threads + Sync>(
     ensures trees { IfOk result (λ made. (r : Addr) → lookup (is_at (addr_cmp r)) made.trees ≡ option_map (λ t. tree_of graph.now.nodes graph.now.edges r) (lookup (is_at (addr_cmp r)) old.now)) }
     ensures moved { IfOk result (λ made. (r : Addr) → is_among r made.moved.keys ≡ false → lookup (is_at (addr_cmp r)) made.trees ≡ lookup (is_at (addr_cmp r)) old.now) }
 {
-    let moved = moved_trees(alloc, graph, change, old.as_slice())?;
+    let moved = moved_trees(alloc, graph, nodes, change, old.as_slice())?;
     let made = trees_after(rt, alloc, &moved, nodes)?;
     let carried = with_trees(alloc, old, made)?;
     Ok(carried)

@@ -1,7 +1,7 @@
 //! Trees that a change of the edges may move, and what they become.
 
 ghost use Rattle.std.specs.Prelude.{◌≡◌, map, IfOk};
-ghost use Rattle.std.specs.List.Sorted.{IsStrictlySortedBy};
+ghost use Rattle.std.specs.List.Sorted.{IsPermutation, IsStrictlySortedBy};
 ghost use Rattle.std.specs.Map.{keys_of};
 ghost use Rattle.net_prefix.specs.Address.{addr_cmp};
 ghost use Rattle.net_conf.specs.Kept.{WereTrees};
@@ -51,8 +51,40 @@ impl<'a> MovedTree<'a> {
     }
 }
 
-/// Those of the trees from before the change that are not seen to stay.
+/// Whether so many trees of so many nodes are made by threads.
+fn is_worth_threads(trees: usize, nodes: usize) -> bool {
+    trees.saturating_mul(nodes) >= WORTH_THREADS
+}
+
+/// Puts trees whose sources have neighbouring addresses far apart. A change moves those of neighbours alike, and each thread makes trees that
+/// follow one another: so no thread gets all of the work.
+fn spread(moved: &mut Vec<MovedTree<'_>>)
+    ensures { IsPermutation moved.old.items moved.new.items }
+{
+    moved.sort_unstable_by_key(|tree| tree.tree.source().0.reverse_bits());
+}
+
+/// Those of the trees from before the change that are not seen to stay, in an order for threads where there are many.
 pub(crate) fn moved_trees<'a>(
+    alloc: Global,
+    graph: &'a Graph,
+    nodes: usize,
+    change: &'a Change,
+    old: &'a [(Addr, Tree)],
+) -> Result<Vec<MovedTree<'a>>, AllocError>
+    requires were { WereTrees change.now graph.now.nodes graph.now.edges old.now }
+    requires ordered { IsStrictlySortedBy addr_cmp (keys_of old.now) }
+    ensures { IfOk result (λ moved. AreMoved graph.now old.now moved.items) }
+{
+    let mut moved = find_moved(alloc, graph, change, old)?;
+    if is_worth_threads(moved.len(), nodes) {
+        spread(&mut moved);
+    }
+    Ok(moved)
+}
+
+/// Those of the trees from before the change that are not seen to stay.
+fn find_moved<'a>(
     alloc: Global,
     graph: &'a Graph,
     change: &'a Change,
@@ -85,11 +117,11 @@ pub(crate) fn trees_after<R: Threads + Sync>(
 ) -> Result<Vec<Tree>, AllocError>
     ensures { IfOk result (λ trees. trees.items ≡ map tree_after moved.now) }
 {
-    if moved.len().saturating_mul(nodes) < WORTH_THREADS {
-        make_in_turn(alloc, moved)
-    } else {
+    if is_worth_threads(moved.len(), nodes) {
         let least = LEAST_LABELS.checked_div(nodes).unwrap_or(1);
         make_in_threads(rt, alloc, moved, least)
+    } else {
+        make_in_turn(alloc, moved)
     }
 }
 

@@ -1,6 +1,6 @@
 use Rattle.std.proofs.Common.{take}
 use Rattle.net_conf.specs.MovedTrees.{AreMoved}
-use Rattle.net_conf.proofs.moved_trees.moved_trees.Given as goal
+use Rattle.net_conf.proofs.moved_trees.find_moved.Given as goal
 
 -- those of the trees so far
 abbrev pub invariant-loop-entry : goal.invariant-loop-entry
