@@ -22,6 +22,6 @@ pub mod SameSites
 pub mod SameKeys
 pub mod LinkTurns
 pub mod DownSessions
-pub mod InThreads
+pub mod Pieces
 pub mod SiteSettings
 pub mod SiteJoins

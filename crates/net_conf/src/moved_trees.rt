@@ -1,18 +1,19 @@
 //! Trees that a change of the edges may move, and what they become.
 
-ghost use Rattle.std.specs.Prelude.{◌≡◌, map, IfOk};
+ghost use Rattle.std.specs.Prelude.{◌≡◌, ◌<◌, map, IfOk};
 ghost use Rattle.std.specs.List.Sorted.{IsPermutation, IsStrictlySortedBy};
 ghost use Rattle.std.specs.Map.{keys_of};
+ghost use Rattle.std.specs.Thread.{IsSync};
 ghost use Rattle.net_prefix.specs.Address.{addr_cmp};
 ghost use Rattle.net_conf.specs.Kept.{WereTrees};
 ghost use Rattle.net_conf.specs.MovedTrees.{tree_after, AreMoved};
 
 use igp_cost::{Change, Graph, Tree};
 use net_prefix::Addr;
-use rayon::prelude::*;
+use rayon::current_num_threads;
 use std::alloc::{AllocError, Global};
 use std::marker::Model;
-use std::thread::Threads;
+use std::thread::{Threads, join};
 
 /// From how many labels on threads make the trees. Where each tree changes at one label alone, these take some three milliseconds; with fewer,
 /// threads cost more than they bring.
@@ -108,6 +109,12 @@ fn find_moved<'a>(
     Ok(moved)
 }
 
+/// In how many pieces so many trees of so many nodes are made: one for each processor, and none of few labels.
+fn pieces_of<R: Threads>(rt: &R, trees: usize, nodes: usize) -> usize {
+    let most = trees.saturating_mul(nodes) / LEAST_LABELS;
+    current_num_threads(rt).min(most).min(trees)
+}
+
 /// The trees after the change, in order. Many are shared among threads, in any number: the list is the same.
 pub(crate) fn trees_after<R: Threads + Sync>(
     rt: &R,
@@ -118,8 +125,8 @@ pub(crate) fn trees_after<R: Threads + Sync>(
     ensures { IfOk result (λ trees. trees.items ≡ map tree_after moved.now) }
 {
     if is_worth_threads(moved.len(), nodes) {
-        let least = LEAST_LABELS.checked_div(nodes).unwrap_or(1);
-        make_in_threads(rt, alloc, moved, least)
+        let pieces = pieces_of(rt, moved.len(), nodes);
+        make_in_pieces(rt, alloc, moved, pieces)
     } else {
         make_in_turn(alloc, moved)
     }
@@ -129,31 +136,39 @@ pub(crate) fn trees_after<R: Threads + Sync>(
 fn make_in_turn(alloc: Global, moved: &[MovedTree<'_>]) -> Result<Vec<Tree>, AllocError>
     ensures { IfOk result (λ trees. trees.items ≡ map tree_after moved.now) }
 {
-    let mut trees = Vec::new(alloc);
+    let mut trees = Vec::with_capacity(alloc, moved.len())?;
     for tree in moved {
         trees.push(tree.after(alloc)?)?;
     }
     Ok(trees)
 }
 
-/// The trees after the change, made by as many threads as there are processors, at least so many a piece. One that finds no memory
-/// leaves nothing.
-fn make_in_threads<R: Threads + Sync>(
+/// The trees after the change, in so many pieces. This thread makes the last, and starts a thread for each other one: a system puts threads
+/// that one thread starts on processors of their own, and those that these start in turn beside them. A piece that finds no memory leaves
+/// nothing.
+#[cycle(pieces)]
+fn make_in_pieces<R: Threads + Sync>(
     rt: &R,
     alloc: Global,
     moved: &[MovedTree<'_>],
-    least: usize,
+    pieces: usize,
 ) -> Result<Vec<Tree>, AllocError>
     ensures { IfOk result (λ trees. trees.items ≡ map tree_after moved.now) }
 {
-    let made: Result<Vec<Tree>, AllocError> = moved
-        .par_iter()
-        .with_min_len(least)
-        .map(
-            |tree: &MovedTree<'_>| -> Result<Tree, AllocError>
-                ensures { IfOk result (λ made. made ≡ tree_after tree.now) }
-            { tree.after(alloc) },
-        )
-        .collect(rt, alloc)?;
-    made
+    if pieces < 2 {
+        return make_in_turn(alloc, moved);
+    }
+    let (piece, others) = moved.split_at(moved.len() / pieces);
+    let theirs = move || -> Result<Vec<Tree>, AllocError>
+        ensures { IfOk result (λ trees. trees.items ≡ map tree_after piece.entry.now) }
+    { make_in_turn(alloc, piece) };
+    let own = move || -> Result<Vec<Tree>, AllocError>
+        requires { IsSync R.row × (1 < pieces) }
+        ensures { IfOk result (λ trees. trees.items ≡ map tree_after others.entry.now) }
+    { make_in_pieces(rt, alloc, others, pieces - 1) };
+    let (made, rest) = join(rt, theirs, own);
+    let mut trees = made?;
+    let mut rest = rest?;
+    trees.append(&mut rest)?;
+    Ok(trees)
 }
