@@ -3,7 +3,8 @@
 ghost use Rattle.std.specs.Prelude.{◌≡◌, ◌<◌, length, IfOk, IfSome};
 ghost use Rattle.std.specs.Bool.{OnTrue};
 ghost use Rattle.igp_cost.specs.Metric.{IsMetric};
-ghost use Rattle.igp_cost.specs.Trees.{source_of};
+ghost use Rattle.igp_cost.specs.Labels.{addr_at};
+ghost use Rattle.igp_cost.specs.Trees.{source_of, label_in};
 ghost use Rattle.igp_cost.specs.Offers.{IsGrownOver, IsGrownTo, IsQuietOver, IsSettledAlone};
 ghost use Rattle.igp_cost.specs.Wired.{IsFound};
 
@@ -17,16 +18,17 @@ use net_prefix::Addr;
 use std::alloc::{AllocError, Global};
 
 impl<'a> RootedGraph<'a> {
-    // Whether a link from an address offers neither end anything better.
-    fn is_quiet_over(&self, tree: &Tree, addr: Addr, link: Link) -> bool
+    // Whether a link from a place offers neither end anything better.
+    fn is_quiet_over(&self, tree: &Tree, at: usize, link: Link) -> bool
         requires source { IsFound self.now.nodes.now (source_of tree.now) self.now.source }
+        requires at { at < length self.now.nodes.now }
         requires ends { (link.to < length self.now.nodes.now) × IsMetric link.metric }
-        ensures { OnTrue result (IsQuietOver self.now.nodes.now tree.now addr link) }
+        ensures { OnTrue result (IsQuietOver self.now.nodes.now tree.now (addr_at self.now.nodes.now at) link) }
     {
-        let other = self.nodes[link.to as usize].0;
+        let other = link.to as usize;
         let metric = link.metric as u32;
-        self.offers_no_better(tree, addr, other, metric)
-            && self.offers_no_better(tree, other, addr, metric)
+        self.offers_no_better(tree, at, other, metric)
+            && self.offers_no_better(tree, other, at, metric)
     }
 
     // Whether the links of the node at a place offer neither end anything better, and it is held.
@@ -38,13 +40,22 @@ impl<'a> RootedGraph<'a> {
         if !self.is_held(tree, at) {
             return false;
         }
-        let addr = self.nodes[at].0;
         for i in self.starts[at]..self.starts[at + 1] {
-            if !self.is_quiet_over(tree, addr, self.links[i]) {
+            if !self.is_quiet_over(tree, at, self.links[i]) {
                 return false;
             }
         }
         true
+    }
+
+    // The label of an address. In a tree that reaches every node its row is the node's place.
+    fn label_of(&self, tree: &Tree, addr: Addr) -> Option<Label>
+        ensures { result ≡ label_in tree.now addr }
+    {
+        match place_of(self.nodes, addr) {
+            Some(at) => tree.label_near(at, addr),
+            None => tree.label(addr),
+        }
     }
 
     // The tree with a label of one node more. None where that is no node, has a label, or is not the only one that the edge moves.
@@ -84,7 +95,7 @@ impl<'a> RootedGraph<'a> {
         let Change::Added(one, other, metric) = change else {
             return Ok(None);
         };
-        match (old.label(*one), old.label(*other)) {
+        match (self.label_of(old, *one), self.label_of(old, *other)) {
             (Some(start), None) => {
                 let label = label_over(old.source(), *one, *other, metric.cost(), start);
                 self.grown_to(alloc, old, *other, label)

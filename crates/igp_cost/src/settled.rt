@@ -33,7 +33,7 @@ impl<'a> RootedGraph<'a> {
     }
 
     // Whether the node at a place is in the AS of the source.
-    fn is_inside(&self, at: usize) -> bool
+    pub fn is_inside(&self, at: usize) -> bool
         requires { at < length self.now.nodes.now }
         ensures { result ≡ share_as self.now.nodes.now (addr_at self.now.nodes.now self.now.source) (addr_at self.now.nodes.now at) }
     {

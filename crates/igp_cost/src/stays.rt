@@ -3,7 +3,6 @@
 ghost use Rattle.std.specs.Prelude.{◌≡◌, ◌+◌, ◌==◌, ◌<◌, ◌≤◌, length, if◌then◌else◌};
 ghost use Rattle.std.specs.Bool.{OnTrue};
 ghost use Rattle.igp_cost.specs.Metric.{IsMetric};
-ghost use Rattle.igp_cost.specs.Walks.{share_as};
 ghost use Rattle.igp_cost.specs.Labels.{IsNotAfter, addr_at};
 ghost use Rattle.igp_cost.specs.Trees.{source_of, label_in};
 ghost use Rattle.igp_cost.specs.Changes.{ends_of};
@@ -18,54 +17,51 @@ use crate::tree::Tree;
 use net_prefix::Addr;
 
 impl<'a> RootedGraph<'a> {
-    // The label of an address. In a tree that reaches every node its row is the node's place.
-    fn label_of(&self, tree: &Tree, addr: Addr) -> Option<Label>
-        ensures { result ≡ label_in tree.now addr }
+    // The label of the node at a place. In a tree that reaches every node it stands in the row of that place.
+    fn label_at(&self, tree: &Tree, at: usize) -> Option<Label>
+        requires { at < length self.now.nodes.now }
+        ensures { result ≡ label_in tree.now (addr_at self.now.nodes.now at) }
     {
-        match place_of(self.nodes, addr) {
-            Some(at) => tree.label_near(at, addr),
-            None => tree.label(addr),
-        }
-    }
-
-    // Whether a node of this address is in the AS of the source.
-    fn shares_as(&self, addr: Addr) -> bool
-        ensures { result ≡ share_as self.now.nodes.now (addr_at self.now.nodes.now self.now.source) addr }
-    {
-        match place_of(self.nodes, addr) {
-            Some(at) => self.nodes[self.source].1 == self.nodes[at].1,
-            None => false,
-        }
+        tree.label_near(at, self.nodes[at].0)
     }
 
     // Whether an edge with this metric offers its end nothing better than what is there.
-    pub fn offers_no_better(&self, tree: &Tree, from: Addr, to: Addr, metric: u32) -> bool
+    pub fn offers_no_better(&self, tree: &Tree, from: usize, to: usize, metric: u32) -> bool
         requires source { IsFound self.now.nodes.now (source_of tree.now) self.now.source }
+        requires from { from < length self.now.nodes.now }
+        requires to { to < length self.now.nodes.now }
         requires metric { IsMetric metric }
-        ensures { OnTrue result (OffersNoBetter self.now.nodes.now tree.now from to metric) }
+        ensures { OnTrue result (OffersNoBetter self.now.nodes.now tree.now (addr_at self.now.nodes.now from) (addr_at self.now.nodes.now to) metric) }
     {
-        let Some(start) = self.label_of(tree, from) else {
+        let Some(start) = self.label_at(tree, from) else {
             return true;
         };
-        if !self.shares_as(from) {
+        if !self.is_inside(from) {
             return true;
         }
-        match self.label_of(tree, to) {
-            Some(label) => is_not_after_offer(tree.source(), from, to, metric, start, label),
+        let (first, second) = (self.nodes[from].0, self.nodes[to].0);
+        match self.label_at(tree, to) {
+            Some(label) => {
+                is_not_after_offer(tree.source(), first, second, metric, start, label)
+            }
             None => false,
         }
     }
 
-    // Whether an edge with this metric offers a label or better.
-    fn offers_as_good(&self, tree: &Tree, from: Addr, to: Addr, metric: u32, label: Label) -> bool
+    // Whether an edge with this metric offers its end a label or better.
+    fn offers_as_good(&self, tree: &Tree, from: usize, to: usize, metric: u32, label: Label) -> bool
         requires source { IsFound self.now.nodes.now (source_of tree.now) self.now.source }
+        requires from { from < length self.now.nodes.now }
+        requires to { to < length self.now.nodes.now }
         requires metric { IsMetric metric }
-        ensures { OnTrue result (Offers self.now.nodes.now tree.now from to metric label) }
+        ensures { OnTrue result (Offers self.now.nodes.now tree.now (addr_at self.now.nodes.now from) (addr_at self.now.nodes.now to) metric label) }
     {
-        let Some(start) = self.label_of(tree, from) else {
+        let Some(start) = self.label_at(tree, from) else {
             return false;
         };
-        is_offer_not_after(tree.source(), from, to, metric, start, label) && self.shares_as(from)
+        let (first, second) = (self.nodes[from].0, self.nodes[to].0);
+        is_offer_not_after(tree.source(), first, second, metric, start, label)
+            && self.is_inside(from)
     }
 
     // Whether the node at a place has no label, is the source, or is offered its label over one of its links.
@@ -74,8 +70,7 @@ impl<'a> RootedGraph<'a> {
         requires at { at < length self.now.nodes.now }
         ensures { OnTrue result (IsHeld self.now.nodes.now self.now.links.now tree.now (addr_at self.now.nodes.now at)) }
     {
-        let addr = self.nodes[at].0;
-        let Some(label) = tree.label_near(at, addr) else {
+        let Some(label) = self.label_at(tree, at) else {
             return true;
         };
         if at == self.source {
@@ -83,9 +78,8 @@ impl<'a> RootedGraph<'a> {
         }
         for i in self.starts[at]..self.starts[at + 1] {
             let link = self.links[i];
-            let other = self.nodes[link.to as usize].0;
             if link.from as usize == at
-                && self.offers_as_good(tree, other, addr, link.metric as u32, label)
+                && self.offers_as_good(tree, link.to as usize, at, link.metric as u32, label)
             {
                 return true;
             }
@@ -93,27 +87,23 @@ impl<'a> RootedGraph<'a> {
         false
     }
 
-    // Whether both ends of the edge keep their labels without it.
-    fn loses_nothing(&self, tree: &Tree, change: &Change) -> bool
+    // Whether the ends of the edge, at these places, keep their labels without it.
+    fn loses_nothing(&self, tree: &Tree, change: &Change, one: usize, other: usize) -> bool
         requires source { IsFound self.now.nodes.now (source_of tree.now) self.now.source }
+        requires one { IsFound self.now.nodes.now (ends_of change.now).0 one }
+        requires other { IsFound self.now.nodes.now (ends_of change.now).1 other }
         ensures { OnTrue result (LosesNothing change.now self.now.nodes.now self.now.links.now tree.now) }
     {
-        if !change.loses() {
-            return true;
-        }
-        let (one, other) = change.ends();
-        match (place_of(self.nodes, one), place_of(self.nodes, other)) {
-            (Some(one), Some(other)) => self.is_held(tree, one) && self.is_held(tree, other),
-            _ => false,
-        }
+        !change.loses() || (self.is_held(tree, one) && self.is_held(tree, other))
     }
 
-    // Whether the edge offers neither end anything better.
-    fn gains_nothing(&self, tree: &Tree, change: &Change) -> bool
+    // Whether the edge offers neither end, at these places, anything better.
+    fn gains_nothing(&self, tree: &Tree, change: &Change, one: usize, other: usize) -> bool
         requires source { IsFound self.now.nodes.now (source_of tree.now) self.now.source }
+        requires one { IsFound self.now.nodes.now (ends_of change.now).0 one }
+        requires other { IsFound self.now.nodes.now (ends_of change.now).1 other }
         ensures { OnTrue result (GainsNothing change.now self.now.nodes.now tree.now) }
     {
-        let (one, other) = change.ends();
         match change.metric() {
             Some(metric) => {
                 let metric = metric.cost();
@@ -124,13 +114,20 @@ impl<'a> RootedGraph<'a> {
         }
     }
 
-    // Whether a tree from before a change is seen to stay.
+    // Whether a tree from before a change is seen to stay: each end of the edge is looked for once.
     pub fn is_unmoved(&self, tree: &Tree, change: &Change) -> bool
         requires source { IsFound self.now.nodes.now (source_of tree.now) self.now.source }
         ensures loses { OnTrue result (LosesNothing change.now self.now.nodes.now self.now.links.now tree.now) }
         ensures gains { OnTrue result (GainsNothing change.now self.now.nodes.now tree.now) }
     {
-        self.gains_nothing(tree, change) && self.loses_nothing(tree, change)
+        let (one, other) = change.ends();
+        match (place_of(self.nodes, one), place_of(self.nodes, other)) {
+            (Some(one), Some(other)) => {
+                self.gains_nothing(tree, change, one, other)
+                    && self.loses_nothing(tree, change, one, other)
+            }
+            _ => false,
+        }
     }
 }
 

@@ -1,6 +1,7 @@
 //! The costs and first hops from one router.
 
-ghost use Rattle.std.specs.Prelude.{◌≡◌, ◌≤◌, ◌<◌, ◌↔◌, length, IsTrue, IfOk, IfSome, Some};
+ghost use Rattle.std.specs.Prelude.{◌≡◌, ◌≤◌, ◌<◌, ◌↔◌, length, IsTrue, IfOk, IfSome, Some, None};
+ghost use Rattle.std.specs.Bool.{OnTrue};
 ghost use Rattle.std.specs.Map.{lookup};
 ghost use Rattle.std.specs.BTreeMap.{is_at};
 ghost use Rattle.net_prefix.specs.Address.{addr_cmp};
@@ -16,6 +17,9 @@ use path_attr::Asn;
 use seq::{Copied, SharedSeq, push_some};
 use std::alloc::{AllocError, Global};
 use std::marker::Model;
+
+/// By how many rows the room of a tree grows that gets one row more.
+const CHUNK: usize = 64;
 
 /// The least cost and the first hop from a router, its source, to each address that a walk from it reaches. A copy takes no memory.
 #[derive(Debug, Drop)]
@@ -105,13 +109,16 @@ impl Tree {
         }
     }
 
-    /// The label of an address, with a guess of the row where it may stand.
+    /// The label of an address, with a guess of the row where it may stand. An address above all rows is not searched for.
     pub(crate) fn label_near(&self, row: usize, to: Addr) -> Option<Label>
         ensures { result ≡ label_in self.now to }
     {
         let rows = self.rows.as_slice();
         if row < rows.len() && rows[row].0.0 == to.0 {
             return Some(rows[row].1);
+        }
+        if is_above(rows, to) {
+            return None;
         }
         self.label(to)
     }
@@ -173,6 +180,15 @@ impl Clone for Tree {
     }
 }
 
+// Whether an address is above those of all rows: it has none.
+fn is_above(rows: &[(Addr, Label)], to: Addr) -> bool
+    requires { AreAscending rows.now }
+    ensures { OnTrue result (lookup (is_at (addr_cmp to)) rows.now ≡ None) }
+{
+    let count = rows.len();
+    count == 0 || rows[count - 1].0.0 < to.0
+}
+
 // The label in a row, if it is that of an address and within the limit.
 fn label_in_row(rows: &[(Addr, Label)], at: usize, to: Addr) -> Option<Label>
     requires rising { AreAscending rows.now }
@@ -188,6 +204,11 @@ fn label_in_row(rows: &[(Addr, Label)], at: usize, to: Addr) -> Option<Label>
     }
 }
 
+// Room for so many rows, and for up to so many more as a chunk has: as a network grows, its trees take the memory that trees before them have left.
+fn room_for(rows: usize) -> usize {
+    rows.saturating_add(CHUNK) / CHUNK * CHUNK
+}
+
 // The rows with one more at a place.
 fn inserted(
     alloc: Global,
@@ -198,7 +219,7 @@ fn inserted(
     requires { at ≤ length rows.now }
     ensures { IfOk result (λ v. v.items ≡ insert rows.now at row) }
 {
-    let mut made = Vec::with_capacity(alloc, rows.len() + 1)?;
+    let mut made = Vec::with_capacity(alloc, room_for(rows.len()))?;
     made.extend_from_slice(&rows[..at])?;
     made.push(row)?;
     made.extend_from_slice(&rows[at..])?;

@@ -1,8 +1,10 @@
 //! Links between the places of nodes, from edges between their addresses.
 
-ghost use Rattle.std.specs.Prelude.{◌≡◌, ◌≤◌, [], ◌∷◌, ◌++◌, length, IsTrue, IfOk, OnOk};
+ghost use Rattle.std.specs.Prelude.{◌≡◌, ◌≤◌, ◌<◌, [], ◌∷◌, ◌++◌, true, false, ltb, length, IsTrue, IfOk, OnOk};
 ghost use Rattle.std.specs.Bool.{OnTrue};
-ghost use Rattle.std.specs.List.Sorted.{IsNonDecreasingBy};
+ghost use Rattle.std.specs.List.{AllWithin};
+ghost use Rattle.std.specs.List.Sorted.{IsNonDecreasingBy, IsPartitionPoint};
+ghost use Rattle.igp_cost.specs.declared.link.Link.{Link};
 ghost use Rattle.igp_cost.specs.declared.limits.TheConstants.{MAX_NODES};
 ghost use Rattle.igp_cost.specs.Labels.{IsIndexed};
 ghost use Rattle.igp_cost.specs.Topology.{is_node, IsTopology};
@@ -91,6 +93,21 @@ fn place(nodes: &[(Addr, Asn)], addr: Addr, guess: usize) -> usize
     }
 }
 
+// The first link, from one on, of those that leave no node before a place.
+fn next_start(links: &[Link], start: usize, at: usize) -> usize
+    requires start { start ≤ length links.now }
+    requires sorted { IsNonDecreasingBy (λ l. l.from) links.now }
+    requires before { AllWithin (λ (l : Link). ltb l.from at ≡ true) links.now 0 start }
+    ensures within { result ≤ length links.now }
+    ensures point { IsPartitionPoint (λ (l : Link). ltb l.from at ≡ true) (λ (l : Link). ltb l.from at ≡ false) links.now result }
+{
+    let mut next = start;
+    while next < links.len() && (links[next].from as usize) < at {
+        next += 1;
+    }
+    next
+}
+
 // Where the links of each node start, and where they all end.
 pub fn starts_of(
     alloc: Global,
@@ -102,8 +119,10 @@ pub fn starts_of(
     ensures { IfOk result (λ v. IsIndexed nodes.now links.now v.items) }
 {
     let mut starts = Vec::with_capacity(alloc, nodes.len() + 1)?;
+    let mut start = 0;
     for at in 0..nodes.len() + 1 {
-        starts.push(links.partition_point(|link| (link.from as usize) < at))?;
+        start = next_start(links, start, at);
+        starts.push(start)?;
     }
     Ok(starts)
 }
