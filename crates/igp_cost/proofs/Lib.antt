@@ -19,3 +19,4 @@ mod OneMore
 mod Leaf
 mod MoreEdges
 mod Before
+mod InPlace

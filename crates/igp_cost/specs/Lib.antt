@@ -10,3 +10,4 @@ pub mod Codes
 pub mod Changes
 pub mod Stays
 pub mod Offers
+pub mod Placed

@@ -12,6 +12,7 @@ mod limits;
 mod link;
 mod mended;
 mod metric;
+mod placed;
 mod repair;
 mod rooted;
 mod search;

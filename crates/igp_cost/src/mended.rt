@@ -6,11 +6,13 @@ ghost use Rattle.std.specs.Bool.{OnTrue};
 ghost use Rattle.igp_cost.specs.Labels.{IsSound, IsClosed, AreLimited, Starts};
 ghost use Rattle.igp_cost.specs.Trees.{source_of};
 ghost use Rattle.igp_cost.specs.Offers.{AreLabelsOf, IsMended, IsMendedOver};
+ghost use Rattle.igp_cost.specs.Placed.{labels_of, ArePlaced};
 ghost use Rattle.igp_cost.specs.Wired.{IsFound};
 
 use crate::change::Change;
 use crate::conditions::place_of;
 use crate::label::Label;
+use crate::placed::known_labels;
 use crate::rooted::RootedGraph;
 use crate::tree::Tree;
 use net_prefix::Addr;
@@ -69,122 +71,88 @@ impl<'a> RootedGraph<'a> {
         requires other { other < length self.now.nodes.now }
         ensures { IfOk result (λ o. IfSome o (IsMended self.now.nodes.now self.now.links.now old.now one other)) }
     {
-        let Some(before) = self.labels_before(alloc, old)? else {
-            return Ok(None);
-        };
-        match self.shifted_tree(alloc, old, &before, one, other)? {
-            Some(made) => Ok(Some(made)),
-            None => self.searched_tree(alloc, old, &before, one, other),
+        if self.has_rows_in_order(old) {
+            return self.mended_rows(alloc, old, old.rows(), one, other);
+        }
+        match self.rows_of_tree(alloc, old)? {
+            Some(before) => self.mended_rows(alloc, old, &before, one, other),
+            None => Ok(None),
         }
     }
 
-    // The labels of a tree at the places of the nodes. None where one of them is past the limit, which none is.
-    fn labels_before(
+    // The tree of the rows before, mended: those below the end of an edge are shifted together, and where that did not do, a search mends
+    // them. None where neither did.
+    fn mended_rows(
         &self,
         alloc: Global,
         old: &Tree,
-    ) -> Result<Option<Vec<Option<Label>>>, AllocError>
-        ensures same_length { IfOk result (λ o. IfSome o (λ v. length v.items ≡ length self.now.nodes.now)) }
-        ensures limited { IfOk result (λ o. IfSome o (λ v. AreLimited v.items)) }
-        ensures known { IfOk result (λ o. IfSome o (λ v. AreLabelsOf self.now.nodes.now old.now v.items)) }
-    {
-        match old.labels_in_order(alloc, self.nodes)? {
-            Some(labels) => Ok(Some(labels)),
-            None => self.labels_by_address(alloc, old),
-        }
-    }
-
-    // The same, where a tree does not reach every node.
-    fn labels_by_address(
-        &self,
-        alloc: Global,
-        old: &Tree,
-    ) -> Result<Option<Vec<Option<Label>>>, AllocError>
-        ensures same_length { IfOk result (λ o. IfSome o (λ v. length v.items ≡ length self.now.nodes.now)) }
-        ensures limited { IfOk result (λ o. IfSome o (λ v. AreLimited v.items)) }
-        ensures known { IfOk result (λ o. IfSome o (λ v. AreLabelsOf self.now.nodes.now old.now v.items)) }
-    {
-        let mut labels = Vec::with_capacity(alloc, self.nodes.len())?;
-        let mut row: usize = 0;
-        for at in 0..self.nodes.len() {
-            let label = old.label_near(row, self.nodes[at].0);
-            if !is_limited(label) {
-                return Ok(None);
-            }
-            row = row.wrapping_add(label.is_some() as usize);
-            labels.push(label)?;
-        }
-        Ok(Some(labels))
-    }
-
-    // The tree of the labels before, where those below the end of an edge are shifted together. None where that did not do.
-    fn shifted_tree(
-        &self,
-        alloc: Global,
-        old: &Tree,
-        before: &[Option<Label>],
+        before: &[(Addr, Label)],
         one: usize,
         other: usize,
     ) -> Result<Option<Tree>, AllocError>
         requires source { IsFound self.now.nodes.now (source_of old.now) self.now.source }
         requires one { one < length self.now.nodes.now }
         requires other { other < length self.now.nodes.now }
-        requires same_length { length before.now ≡ length self.now.nodes.now }
-        requires limited { AreLimited before.now }
-        requires known { AreLabelsOf self.now.nodes.now old.now before.now }
+        requires placed { ArePlaced self.now.nodes.now before.now }
+        requires limited { AreLimited (labels_of before.now) }
+        requires known { AreLabelsOf self.now.nodes.now old.now (labels_of before.now) }
         ensures { IfOk result (λ o. IfSome o (IsMended self.now.nodes.now self.now.links.now old.now one other)) }
     {
-        let mut labels = Vec::from_slice(alloc, before)?;
-        if !self.shift(alloc, before, &mut labels, one, other)? {
-            return Ok(None);
+        let mut rows = Vec::from_slice(alloc, before)?;
+        if self.shift(alloc, before, &mut rows, one, other)? {
+            let made = self.tree_if_local(alloc, old, before, rows, one, other)?;
+            if made.is_some() {
+                return Ok(made);
+            }
         }
-        self.tree_if_local(alloc, old, before, &labels, one, other)
+        self.searched_tree(alloc, old, before, one, other)
     }
 
-    // The tree of the labels before, mended by a search. None where that did not do.
+    // The tree of the rows before, mended by a search. None where that did not do.
     fn searched_tree(
         &self,
         alloc: Global,
         old: &Tree,
-        before: &[Option<Label>],
+        before: &[(Addr, Label)],
         one: usize,
         other: usize,
     ) -> Result<Option<Tree>, AllocError>
         requires source { IsFound self.now.nodes.now (source_of old.now) self.now.source }
         requires one { one < length self.now.nodes.now }
         requires other { other < length self.now.nodes.now }
-        requires same_length { length before.now ≡ length self.now.nodes.now }
-        requires limited { AreLimited before.now }
-        requires known { AreLabelsOf self.now.nodes.now old.now before.now }
+        requires placed { ArePlaced self.now.nodes.now before.now }
+        requires limited { AreLimited (labels_of before.now) }
+        requires known { AreLabelsOf self.now.nodes.now old.now (labels_of before.now) }
         ensures { IfOk result (λ o. IfSome o (IsMended self.now.nodes.now self.now.links.now old.now one other)) }
     {
-        let mut labels = Vec::from_slice(alloc, before)?;
+        let mut labels = known_labels(alloc, before)?;
         self.mend(alloc, &mut labels, one, other)?;
-        self.tree_if_local(alloc, old, before, &labels, one, other)
+        let rows = self.rows_of_labels(alloc, &labels)?;
+        self.tree_if_local(alloc, old, before, rows, one, other)
     }
 
-    // The tree of labels, if they are certified where they differ from those before.
+    // The tree of rows, if they are certified where they differ from those before.
     fn tree_if_local(
         &self,
         alloc: Global,
         old: &Tree,
-        before: &[Option<Label>],
-        labels: &[Option<Label>],
+        before: &[(Addr, Label)],
+        rows: Vec<(Addr, Label)>,
         one: usize,
         other: usize,
     ) -> Result<Option<Tree>, AllocError>
         requires source { IsFound self.now.nodes.now (source_of old.now) self.now.source }
         requires one { one < length self.now.nodes.now }
         requires other { other < length self.now.nodes.now }
-        requires before { length before.now ≡ length self.now.nodes.now }
-        requires known { AreLabelsOf self.now.nodes.now old.now before.now }
-        requires same_length { length labels.now ≡ length self.now.nodes.now }
+        requires before { ArePlaced self.now.nodes.now before.now }
+        requires known { AreLabelsOf self.now.nodes.now old.now (labels_of before.now) }
+        requires placed { ArePlaced self.now.nodes.now rows.items }
         ensures { IfOk result (λ o. IfSome o (IsMended self.now.nodes.now self.now.links.now old.now one other)) }
     {
-        if !self.is_local(before, labels, one, other) {
+        if !self.is_local(before, &rows, one, other) {
             return Ok(None);
         }
-        let made = Tree::from_labels(alloc, old.source(), self.nodes, labels)?;
+        let made = Tree::from_rows(alloc, old.source(), self.nodes, rows)?;
         Ok(Some(made))
     }
 
@@ -231,16 +199,6 @@ fn first_from(rows: &[(Addr, Label)], start: usize, addr: Addr) -> usize {
         row += 1;
     }
     row
-}
-
-// Whether the cost of a label, if there is one, is within the limit.
-pub fn is_limited(label: Option<Label>) -> bool
-    ensures { OnTrue result (IfSome label (λ l. l.cost ≤ 268435456)) }
-{
-    match label {
-        Some(label) => label.cost <= 268_435_456,
-        None => true,
-    }
 }
 
 // The label in a row, if it is that of the address, and its cost is within the limit.

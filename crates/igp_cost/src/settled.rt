@@ -6,10 +6,12 @@ ghost use Rattle.igp_cost.specs.Metric.{IsMetric};
 ghost use Rattle.igp_cost.specs.Labels.{addr_at};
 ghost use Rattle.igp_cost.specs.Trees.{label_in};
 ghost use Rattle.igp_cost.specs.Walks.{share_as};
-ghost use Rattle.igp_cost.specs.Offers.{tree_by, Offers, OffersNoBetter, IsHeld, SaySameOf, IsSameOrSettled, HasStart, IsLocal, IsSettledAround, IsSettledOver};
+ghost use Rattle.igp_cost.specs.Placed.{known, tree_in};
+ghost use Rattle.igp_cost.specs.Offers.{Offers, OffersNoBetter, IsHeld, SaySameOf, IsSameOrSettled, HasStart, IsLocal, IsSettledAround, IsSettledOver};
 
 use crate::label::Label;
 use crate::link::Link;
+use crate::placed::{NO_WALK, known};
 use crate::rooted::RootedGraph;
 use crate::stays::{is_not_after_offer, is_offer_not_after};
 use net_prefix::Addr;
@@ -24,12 +26,12 @@ impl<'a> RootedGraph<'a> {
     }
 
     // The label at a place.
-    fn label_by(&self, labels: &[Option<Label>], at: usize) -> Option<Label>
+    fn label_by(&self, rows: &[(Addr, Label)], at: usize) -> Option<Label>
         requires at { at < length self.now.nodes.now }
-        requires same_length { length labels.now ≡ length self.now.nodes.now }
-        ensures { result ≡ label_in (tree_by self.now.nodes.now self.now.source labels.now) (addr_at self.now.nodes.now at) }
+        requires same_length { length rows.now ≡ length self.now.nodes.now }
+        ensures { result ≡ label_in (tree_in self.now.nodes.now self.now.source rows.now) (addr_at self.now.nodes.now at) }
     {
-        labels[at]
+        known(rows[at].1)
     }
 
     // Whether the node at a place is in the AS of the source.
@@ -41,17 +43,17 @@ impl<'a> RootedGraph<'a> {
     }
 
     // Whether an edge with this metric offers its end nothing better than what is there.
-    fn is_no_gain(&self, labels: &[Option<Label>], from: usize, to: usize, metric: u32) -> bool
+    fn is_no_gain(&self, rows: &[(Addr, Label)], from: usize, to: usize, metric: u32) -> bool
         requires from { from < length self.now.nodes.now }
         requires to { to < length self.now.nodes.now }
         requires metric { IsMetric metric }
-        requires same_length { length labels.now ≡ length self.now.nodes.now }
-        ensures { OnTrue result (OffersNoBetter self.now.nodes.now (tree_by self.now.nodes.now self.now.source labels.now) (addr_at self.now.nodes.now from) (addr_at self.now.nodes.now to) metric) }
+        requires same_length { length rows.now ≡ length self.now.nodes.now }
+        ensures { OnTrue result (OffersNoBetter self.now.nodes.now (tree_in self.now.nodes.now self.now.source rows.now) (addr_at self.now.nodes.now from) (addr_at self.now.nodes.now to) metric) }
     {
-        let Some(start) = self.label_by(labels, from) else {
+        let Some(start) = self.label_by(rows, from) else {
             return true;
         };
-        match self.label_by(labels, to) {
+        match self.label_by(rows, to) {
             Some(label)
                 if is_not_after_offer(
                     self.addr(self.source),
@@ -68,7 +70,7 @@ impl<'a> RootedGraph<'a> {
     // Whether an edge with this metric offers its end a label or better.
     fn is_source(
         &self,
-        labels: &[Option<Label>],
+        rows: &[(Addr, Label)],
         from: usize,
         to: usize,
         metric: u32,
@@ -77,10 +79,10 @@ impl<'a> RootedGraph<'a> {
         requires from { from < length self.now.nodes.now }
         requires to { to < length self.now.nodes.now }
         requires metric { IsMetric metric }
-        requires same_length { length labels.now ≡ length self.now.nodes.now }
-        ensures { OnTrue result (Offers self.now.nodes.now (tree_by self.now.nodes.now self.now.source labels.now) (addr_at self.now.nodes.now from) (addr_at self.now.nodes.now to) metric label) }
+        requires same_length { length rows.now ≡ length self.now.nodes.now }
+        ensures { OnTrue result (Offers self.now.nodes.now (tree_in self.now.nodes.now self.now.source rows.now) (addr_at self.now.nodes.now from) (addr_at self.now.nodes.now to) metric label) }
     {
-        let Some(start) = self.label_by(labels, from) else {
+        let Some(start) = self.label_by(rows, from) else {
             return false;
         };
         let source = self.addr(self.source);
@@ -89,12 +91,12 @@ impl<'a> RootedGraph<'a> {
     }
 
     // Whether the node at a place has no label, is the source, or is offered its label over one of its links.
-    fn is_backed_by(&self, labels: &[Option<Label>], at: usize) -> bool
+    fn is_backed_by(&self, rows: &[(Addr, Label)], at: usize) -> bool
         requires at { at < length self.now.nodes.now }
-        requires same_length { length labels.now ≡ length self.now.nodes.now }
-        ensures { OnTrue result (IsHeld self.now.nodes.now self.now.links.now (tree_by self.now.nodes.now self.now.source labels.now) (addr_at self.now.nodes.now at)) }
+        requires same_length { length rows.now ≡ length self.now.nodes.now }
+        ensures { OnTrue result (IsHeld self.now.nodes.now self.now.links.now (tree_in self.now.nodes.now self.now.source rows.now) (addr_at self.now.nodes.now at)) }
     {
-        let Some(label) = self.label_by(labels, at) else {
+        let Some(label) = self.label_by(rows, at) else {
             return true;
         };
         if at == self.source {
@@ -103,7 +105,7 @@ impl<'a> RootedGraph<'a> {
         for i in self.starts[at]..self.starts[at + 1] {
             let link = self.links[i];
             if link.from as usize == at
-                && self.is_source(labels, link.to as usize, at, link.metric as u32, label)
+                && self.is_source(rows, link.to as usize, at, link.metric as u32, label)
             {
                 return true;
             }
@@ -112,98 +114,93 @@ impl<'a> RootedGraph<'a> {
     }
 
     // Whether the node at a place has no label or is the source.
-    fn needs_no_link(&self, labels: &[Option<Label>], at: usize) -> bool
+    fn needs_no_link(&self, rows: &[(Addr, Label)], at: usize) -> bool
         requires at { at < length self.now.nodes.now }
-        requires same_length { length labels.now ≡ length self.now.nodes.now }
-        ensures { OnTrue result (IsHeld self.now.nodes.now self.now.links.now (tree_by self.now.nodes.now self.now.source labels.now) (addr_at self.now.nodes.now at)) }
+        requires same_length { length rows.now ≡ length self.now.nodes.now }
+        ensures { OnTrue result (IsHeld self.now.nodes.now self.now.links.now (tree_in self.now.nodes.now self.now.source rows.now) (addr_at self.now.nodes.now at)) }
     {
-        self.label_by(labels, at).is_none() || at == self.source
+        self.label_by(rows, at).is_none() || at == self.source
     }
 
     // Whether the node at a place has no label, or is offered its label over a link that leaves it.
-    fn is_held_over(&self, labels: &[Option<Label>], at: usize, link: Link) -> bool
+    fn is_held_over(&self, rows: &[(Addr, Label)], at: usize, link: Link) -> bool
         requires at { at < length self.now.nodes.now }
         requires ends { (link.to < length self.now.nodes.now) × IsMetric link.metric }
         requires among { Contains self.now.links.now link }
-        requires same_length { length labels.now ≡ length self.now.nodes.now }
-        ensures { OnTrue result (IsHeld self.now.nodes.now self.now.links.now (tree_by self.now.nodes.now self.now.source labels.now) (addr_at self.now.nodes.now at)) }
+        requires same_length { length rows.now ≡ length self.now.nodes.now }
+        ensures { OnTrue result (IsHeld self.now.nodes.now self.now.links.now (tree_in self.now.nodes.now self.now.source rows.now) (addr_at self.now.nodes.now at)) }
     {
-        let Some(label) = self.label_by(labels, at) else {
+        let Some(label) = self.label_by(rows, at) else {
             return true;
         };
         link.from as usize == at
-            && self.is_source(labels, link.to as usize, at, link.metric as u32, label)
+            && self.is_source(rows, link.to as usize, at, link.metric as u32, label)
     }
 
     // Whether the label at a place is that of before.
-    fn is_unmoved_at(&self, before: &[Option<Label>], labels: &[Option<Label>], at: usize) -> bool
+    fn is_unmoved_at(&self, before: &[(Addr, Label)], rows: &[(Addr, Label)], at: usize) -> bool
         requires at { at < length self.now.nodes.now }
         requires before { length before.now ≡ length self.now.nodes.now }
-        requires same_length { length labels.now ≡ length self.now.nodes.now }
-        ensures { IsTrue result ↔ SaySameOf (tree_by self.now.nodes.now self.now.source before.now) (tree_by self.now.nodes.now self.now.source labels.now) (addr_at self.now.nodes.now at) }
+        requires same_length { length rows.now ≡ length self.now.nodes.now }
+        ensures { IsTrue result ↔ SaySameOf (tree_in self.now.nodes.now self.now.source before.now) (tree_in self.now.nodes.now self.now.source rows.now) (addr_at self.now.nodes.now at) }
     {
-        is_same(self.label_by(labels, at), self.label_by(before, at))
+        is_same(rows[at].1, before[at].1)
     }
 
     // Whether a link from a place offers its other end nothing better; and if that has its label of before, the other way neither, and it
     // is held. Of an end that has not the link is asked from there.
     fn is_settled_over(
         &self,
-        before: &[Option<Label>],
-        labels: &[Option<Label>],
+        before: &[(Addr, Label)],
+        rows: &[(Addr, Label)],
         at: usize,
         link: Link,
     ) -> bool
         requires at { at < length self.now.nodes.now }
         requires ends { (link.to < length self.now.nodes.now) × IsMetric link.metric }
         requires before { length before.now ≡ length self.now.nodes.now }
-        requires same_length { length labels.now ≡ length self.now.nodes.now }
-        ensures { OnTrue result (IsSettledOver self.now.nodes.now self.now.links.now (tree_by self.now.nodes.now self.now.source before.now) (tree_by self.now.nodes.now self.now.source labels.now) (addr_at self.now.nodes.now at) link) }
+        requires same_length { length rows.now ≡ length self.now.nodes.now }
+        ensures { OnTrue result (IsSettledOver self.now.nodes.now self.now.links.now (tree_in self.now.nodes.now self.now.source before.now) (tree_in self.now.nodes.now self.now.source rows.now) (addr_at self.now.nodes.now at) link) }
     {
         let to = link.to as usize;
         let metric = link.metric as u32;
-        if !self.is_no_gain(labels, at, to, metric) {
+        if !self.is_no_gain(rows, at, to, metric) {
             return false;
         }
-        if !self.is_unmoved_at(before, labels, to) {
+        if !self.is_unmoved_at(before, rows, to) {
             return true;
         }
-        self.is_settled_back(labels, at, link)
+        self.is_settled_back(rows, at, link)
     }
 
     // Whether a link, the other way round, offers a place nothing better, and its other end is held. Few links are asked this.
     #[inline(never)]
-    fn is_settled_back(&self, labels: &[Option<Label>], at: usize, link: Link) -> bool
+    fn is_settled_back(&self, rows: &[(Addr, Label)], at: usize, link: Link) -> bool
         requires at { at < length self.now.nodes.now }
         requires ends { (link.to < length self.now.nodes.now) × IsMetric link.metric }
-        requires same_length { length labels.now ≡ length self.now.nodes.now }
-        ensures back { OnTrue result (OffersNoBetter self.now.nodes.now (tree_by self.now.nodes.now self.now.source labels.now) (addr_at self.now.nodes.now link.to) (addr_at self.now.nodes.now at) link.metric) }
-        ensures near { OnTrue result (IsHeld self.now.nodes.now self.now.links.now (tree_by self.now.nodes.now self.now.source labels.now) (addr_at self.now.nodes.now link.to)) }
+        requires same_length { length rows.now ≡ length self.now.nodes.now }
+        ensures back { OnTrue result (OffersNoBetter self.now.nodes.now (tree_in self.now.nodes.now self.now.source rows.now) (addr_at self.now.nodes.now link.to) (addr_at self.now.nodes.now at) link.metric) }
+        ensures near { OnTrue result (IsHeld self.now.nodes.now self.now.links.now (tree_in self.now.nodes.now self.now.source rows.now) (addr_at self.now.nodes.now link.to)) }
     {
         let to = link.to as usize;
-        self.is_no_gain(labels, to, at, link.metric as u32) && self.is_backed_by(labels, to)
+        self.is_no_gain(rows, to, at, link.metric as u32) && self.is_backed_by(rows, to)
     }
 
     // Whether the node at a place is held, and all its links are settled.
     #[inline(always)]
-    fn is_settled_around(
-        &self,
-        before: &[Option<Label>],
-        labels: &[Option<Label>],
-        at: usize,
-    ) -> bool
+    fn is_settled_around(&self, before: &[(Addr, Label)], rows: &[(Addr, Label)], at: usize) -> bool
         requires at { at < length self.now.nodes.now }
         requires before { length before.now ≡ length self.now.nodes.now }
-        requires same_length { length labels.now ≡ length self.now.nodes.now }
-        ensures { OnTrue result (IsSettledAround self.now.nodes.now self.now.links.now (tree_by self.now.nodes.now self.now.source before.now) (tree_by self.now.nodes.now self.now.source labels.now) at) }
+        requires same_length { length rows.now ≡ length self.now.nodes.now }
+        ensures { OnTrue result (IsSettledAround self.now.nodes.now self.now.links.now (tree_in self.now.nodes.now self.now.source before.now) (tree_in self.now.nodes.now self.now.source rows.now) at) }
     {
-        let mut held = self.needs_no_link(labels, at);
+        let mut held = self.needs_no_link(rows, at);
         for i in self.starts[at]..self.starts[at + 1] {
             let link = self.links[i];
-            if !self.is_settled_over(before, labels, at, link) {
+            if !self.is_settled_over(before, rows, at, link) {
                 return false;
             }
-            held = held || self.is_held_over(labels, at, link);
+            held = held || self.is_held_over(rows, at, link);
         }
         held
     }
@@ -211,27 +208,27 @@ impl<'a> RootedGraph<'a> {
     // Whether the node at a place has its label of before, or is settled.
     fn is_same_or_settled(
         &self,
-        before: &[Option<Label>],
-        labels: &[Option<Label>],
+        before: &[(Addr, Label)],
+        rows: &[(Addr, Label)],
         at: usize,
     ) -> bool
         requires at { at < length self.now.nodes.now }
         requires before { length before.now ≡ length self.now.nodes.now }
-        requires same_length { length labels.now ≡ length self.now.nodes.now }
-        ensures { OnTrue result (IsSameOrSettled self.now.nodes.now self.now.links.now (tree_by self.now.nodes.now self.now.source before.now) (tree_by self.now.nodes.now self.now.source labels.now) at) }
+        requires same_length { length rows.now ≡ length self.now.nodes.now }
+        ensures { OnTrue result (IsSameOrSettled self.now.nodes.now self.now.links.now (tree_in self.now.nodes.now self.now.source before.now) (tree_in self.now.nodes.now self.now.source rows.now) at) }
     {
-        self.is_unmoved_at(before, labels, at) || self.is_settled_around(before, labels, at)
+        self.is_unmoved_at(before, rows, at) || self.is_settled_around(before, rows, at)
     }
 
     // Whether each node is.
     #[inline(never)]
-    fn are_same_or_settled(&self, before: &[Option<Label>], labels: &[Option<Label>]) -> bool
+    fn are_same_or_settled(&self, before: &[(Addr, Label)], rows: &[(Addr, Label)]) -> bool
         requires before { length before.now ≡ length self.now.nodes.now }
-        requires same_length { length labels.now ≡ length self.now.nodes.now }
-        ensures { OnTrue result ((v : ℕ) → v < length self.now.nodes.now → IsSameOrSettled self.now.nodes.now self.now.links.now (tree_by self.now.nodes.now self.now.source before.now) (tree_by self.now.nodes.now self.now.source labels.now) v) }
+        requires same_length { length rows.now ≡ length self.now.nodes.now }
+        ensures { OnTrue result ((v : ℕ) → v < length self.now.nodes.now → IsSameOrSettled self.now.nodes.now self.now.links.now (tree_in self.now.nodes.now self.now.source before.now) (tree_in self.now.nodes.now self.now.source rows.now) v) }
     {
         for at in 0..self.nodes.len() {
-            if !self.is_same_or_settled(before, labels, at) {
+            if !self.is_same_or_settled(before, rows, at) {
                 return false;
             }
         }
@@ -241,48 +238,45 @@ impl<'a> RootedGraph<'a> {
     // Whether labels are settled where they are not those of before, and at two places.
     pub fn is_local(
         &self,
-        before: &[Option<Label>],
-        labels: &[Option<Label>],
+        before: &[(Addr, Label)],
+        rows: &[(Addr, Label)],
         one: usize,
         other: usize,
     ) -> bool
         requires one { one < length self.now.nodes.now }
         requires other { other < length self.now.nodes.now }
         requires before { length before.now ≡ length self.now.nodes.now }
-        requires same_length { length labels.now ≡ length self.now.nodes.now }
-        ensures { OnTrue result (IsLocal self.now.nodes.now self.now.links.now (tree_by self.now.nodes.now self.now.source before.now) (tree_by self.now.nodes.now self.now.source labels.now) one other) }
+        requires same_length { length rows.now ≡ length self.now.nodes.now }
+        ensures { OnTrue result (IsLocal self.now.nodes.now self.now.links.now (tree_in self.now.nodes.now self.now.source before.now) (tree_in self.now.nodes.now self.now.source rows.now) one other) }
     {
-        if !self.has_start(labels) {
+        if !self.has_start(rows) {
             return false;
         }
-        if !self.is_settled_around(before, labels, one) {
+        if !self.is_settled_around(before, rows, one) {
             return false;
         }
-        if !self.is_settled_around(before, labels, other) {
+        if !self.is_settled_around(before, rows, other) {
             return false;
         }
-        self.are_same_or_settled(before, labels)
+        self.are_same_or_settled(before, rows)
     }
 
     // Whether the source is at no cost.
-    fn has_start(&self, labels: &[Option<Label>]) -> bool
-        requires { length labels.now ≡ length self.now.nodes.now }
-        ensures { OnTrue result (HasStart (tree_by self.now.nodes.now self.now.source labels.now)) }
+    fn has_start(&self, rows: &[(Addr, Label)]) -> bool
+        requires { length rows.now ≡ length self.now.nodes.now }
+        ensures { OnTrue result (HasStart (tree_in self.now.nodes.now self.now.source rows.now)) }
     {
-        match self.label_by(labels, self.source) {
+        match self.label_by(rows, self.source) {
             Some(label) => label.cost == 0 && label.hop == self.addr(self.source),
             None => false,
         }
     }
 }
 
-// Whether two labels are the same, or both are missing.
-fn is_same(one: Option<Label>, other: Option<Label>) -> bool
-    ensures { IsTrue result ↔ (one ≡ other) }
+// Whether two rows say the same of their node.
+#[inline(always)]
+fn is_same(one: Label, other: Label) -> bool
+    ensures { IsTrue result ↔ (known one ≡ known other) }
 {
-    match (one, other) {
-        (Some(one), Some(other)) => one == other,
-        (None, None) => true,
-        _ => false,
-    }
+    one.cost == other.cost && (one.hop.0 == other.hop.0 || one.cost == NO_WALK)
 }

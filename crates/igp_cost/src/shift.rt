@@ -1,115 +1,114 @@
-//! The mending of old labels by a shift: an edge with another metric moves all labels that lead over it by the same difference.
+//! The mending of old rows by a shift: an edge with another metric moves all labels that lead over it by the same difference.
 
 ghost use Rattle.std.specs.Prelude.{◌≡◌, ◌<◌, length, IfSome, IfOk, All};
 ghost use Rattle.std.specs.BinaryHeap.{heap_items};
 ghost use Rattle.igp_cost.specs.Metric.{IsMetric};
-ghost use Rattle.igp_cost.specs.Labels.{AreLimited};
+ghost use Rattle.igp_cost.specs.Placed.{ArePlaced};
 
 use crate::label::Label;
 use crate::link::Link;
-use crate::mended::is_limited;
-use crate::repair::enqueue;
+use crate::placed::known;
 use crate::rooted::RootedGraph;
 use crate::search::{Queue, improves};
+use net_prefix::Addr;
 use std::alloc::{AllocError, Global};
+use std::cmp::Reverse;
 use std::collections::BinaryHeap;
 
 impl<'a> RootedGraph<'a> {
-    // The label that the link at a place offers its end.
-    fn offer_at(&self, labels: &[Option<Label>], i: usize) -> Option<Label>
-        requires i { i < length self.now.links.now }
-        requires labels { length labels.now ≡ length self.now.nodes.now }
-        requires limited { AreLimited labels.now }
+    // The label that a link offers its end.
+    fn offer_in(&self, rows: &[(Addr, Label)], link: Link) -> Option<Label>
+        requires ends { (link.from < length self.now.nodes.now) × (link.to < length self.now.nodes.now) × IsMetric link.metric }
+        requires rows { length rows.now ≡ length self.now.nodes.now }
     {
-        let link = self.links[i];
-        self.offer(link, labels[link.from as usize])
+        let start = known(rows[link.from as usize].1)?;
+        if !self.is_inside(link.from as usize) {
+            return None;
+        }
+        let hop = if link.from as usize == self.source {
+            self.nodes[link.to as usize].0
+        } else {
+            start.hop
+        };
+        Some(Label {
+            cost: start.cost.wrapping_add(link.metric as u32),
+            hop,
+        })
     }
 
-    // Gives the end of a link what the link offers, and adds the end to those that are moved. Whether it offers something within the limit.
-    fn move_over(
-        &self,
-        labels: &mut [Option<Label>],
-        i: usize,
-        moved: &mut Vec<usize>,
-    ) -> Result<bool, AllocError>
-        requires i { i < length self.now.links.now }
-        requires same_length { length labels.old ≡ length self.now.nodes.now }
-        requires limited { AreLimited labels.old }
-        requires moved { All (λ p. p < length self.now.nodes.now) moved.old.items }
-        ensures limited { AreLimited labels.new }
-        ensures moved { All (λ p. p < length self.now.nodes.now) moved.new.items }
+    // What a link offers its end, if that is better than what is there.
+    fn gain(&self, rows: &[(Addr, Label)], link: Link) -> Option<Label>
+        requires ends { (link.from < length self.now.nodes.now) × (link.to < length self.now.nodes.now) × IsMetric link.metric }
+        requires rows { length rows.now ≡ length self.now.nodes.now }
     {
-        let to = self.links[i].to as usize;
-        let new = self.offer_at(labels, i);
-        if new.is_none() || !is_limited(new) {
-            return Ok(false);
+        let new = self.offer_in(rows, link)?;
+        if improves(new, known(rows[link.to as usize].1)) {
+            Some(new)
+        } else {
+            None
         }
-        labels[to] = new;
-        moved.push(to)?;
-        Ok(true)
     }
 
     // Goes on over a link of a moved node, whose label was this: moves the other end too, if its label came over the link; else adds the
     // link to the border.
+    #[inline(always)]
     fn shift_over(
         &self,
-        before: &[Option<Label>],
-        labels: &mut [Option<Label>],
-        was: Label,
+        before: &[(Addr, Label)],
+        rows: &mut [(Addr, Label)],
+        at: usize,
         i: usize,
         moved: &mut Vec<usize>,
         border: &mut Vec<usize>,
     ) -> Result<(), AllocError>
+        requires at { at < length self.now.nodes.now }
         requires i { i < length self.now.links.now }
         requires before { length before.now ≡ length self.now.nodes.now }
-        requires same_length { length labels.old ≡ length self.now.nodes.now }
-        requires limited { AreLimited labels.old }
+        requires placed { ArePlaced self.now.nodes.now rows.old }
         requires moved { All (λ p. p < length self.now.nodes.now) moved.old.items }
         requires border { All (λ k. k < length self.now.links.now) border.old.items }
-        ensures limited { AreLimited labels.new }
+        ensures placed { ArePlaced self.now.nodes.now rows.new }
         ensures moved { All (λ p. p < length self.now.nodes.now) moved.new.items }
         ensures border { All (λ k. k < length self.now.links.now) border.new.items }
     {
         let link = self.links[i];
         let to = link.to as usize;
-        let there = Some(Label {
-            cost: was.cost.wrapping_add(link.metric as u32),
-            hop: was.hop,
-        });
-        if labels[to] != before[to] {
+        let there = before[to].1;
+        if rows[to].1 != there {
             return Ok(());
         }
-        if labels[to] == there && self.move_over(labels, i, moved)? {
-            return Ok(());
+        let came = shifted(before[at].1, link.metric as u32);
+        if came == there && self.is_inside(at) {
+            let new = shifted(rows[at].1, link.metric as u32);
+            self.put(rows, to, new);
+            moved.push(to)?;
+        } else {
+            border.push(i)?;
         }
-        border.push(i)?;
         Ok(())
     }
 
     // Goes on over the links of a moved node.
+    #[inline(always)]
     fn shift_from(
         &self,
-        before: &[Option<Label>],
-        labels: &mut [Option<Label>],
+        before: &[(Addr, Label)],
+        rows: &mut [(Addr, Label)],
         at: usize,
         moved: &mut Vec<usize>,
         border: &mut Vec<usize>,
     ) -> Result<(), AllocError>
         requires at { at < length self.now.nodes.now }
         requires before { length before.now ≡ length self.now.nodes.now }
-        requires same_length { length labels.old ≡ length self.now.nodes.now }
-        requires limited { AreLimited labels.old }
+        requires placed { ArePlaced self.now.nodes.now rows.old }
         requires moved { All (λ p. p < length self.now.nodes.now) moved.old.items }
         requires border { All (λ k. k < length self.now.links.now) border.old.items }
-        ensures limited { AreLimited labels.new }
+        ensures placed { ArePlaced self.now.nodes.now rows.new }
         ensures moved { All (λ p. p < length self.now.nodes.now) moved.new.items }
         ensures border { All (λ k. k < length self.now.links.now) border.new.items }
     {
-        let Some(was) = before[at] else {
-            return Ok(());
-        };
         for i in self.starts[at]..self.starts[at + 1] {
-            self.shift_over(before, labels, was, i, moved, border)?;
+            self.shift_over(before, rows, at, i, moved, border)?;
         }
         Ok(())
     }
@@ -119,15 +118,14 @@ impl<'a> RootedGraph<'a> {
     fn shift_on(
         &self,
         alloc: Global,
-        before: &[Option<Label>],
-        labels: &mut [Option<Label>],
+        before: &[(Addr, Label)],
+        rows: &mut [(Addr, Label)],
         mut moved: Vec<usize>,
     ) -> Result<Vec<usize>, AllocError>
         requires before { length before.now ≡ length self.now.nodes.now }
-        requires same_length { length labels.old ≡ length self.now.nodes.now }
-        requires limited { AreLimited labels.old }
+        requires placed { ArePlaced self.now.nodes.now rows.old }
         requires moved { All (λ p. p < length self.now.nodes.now) moved.items }
-        ensures limited { AreLimited labels.new }
+        ensures placed { ArePlaced self.now.nodes.now rows.new }
         ensures border { IfOk result (λ v. All (λ k. k < length self.now.links.now) v.items) }
     {
         let mut border = Vec::with_capacity(alloc, 8)?;
@@ -137,68 +135,90 @@ impl<'a> RootedGraph<'a> {
                 break;
             }
             let at = moved[next];
-            self.shift_from(before, labels, at, &mut moved, &mut border)?;
+            self.shift_from(before, rows, at, &mut moved, &mut border)?;
         }
         Ok(border)
     }
 
-    // Whether a link offers its end something better than what is there.
-    fn gains(&self, labels: &[Option<Label>], link: Link) -> bool
-        requires ends { (link.from < length self.now.nodes.now) × (link.to < length self.now.nodes.now) × IsMetric link.metric }
-        requires labels { length labels.now ≡ length self.now.nodes.now }
-        requires limited { AreLimited labels.now }
-    {
-        match self.offer(link, labels[link.from as usize]) {
-            Some(new) => improves(new, labels[link.to as usize]),
-            None => false,
-        }
-    }
-
-    // Queues the ends of a link, each where it offers the other one something better.
-    fn enqueue_ends(
+    // Gives the ends of a link what it offers them, where that is better, and queues them.
+    fn gain_over(
         &self,
-        labels: &[Option<Label>],
-        i: usize,
+        rows: &mut [(Addr, Label)],
+        link: Link,
         queue: &mut Queue,
     ) -> Result<(), AllocError>
-        requires i { i < length self.now.links.now }
-        requires labels { length labels.now ≡ length self.now.nodes.now }
-        requires limited { AreLimited labels.now }
+        requires ends { (link.from < length self.now.nodes.now) × (link.to < length self.now.nodes.now) × IsMetric link.metric }
+        requires placed { ArePlaced self.now.nodes.now rows.old }
         requires queued { All (λ e. e.0.2 < length self.now.nodes.now) (heap_items queue.old) }
+        ensures placed { ArePlaced self.now.nodes.now rows.new }
         ensures queued { All (λ e. e.0.2 < length self.now.nodes.now) (heap_items queue.new) }
     {
-        let link = self.links[i];
-        let back = Link {
-            from: link.to,
-            to: link.from,
-            metric: link.metric,
+        let Some(new) = self.gain(rows, link) else {
+            return Ok(());
         };
-        if self.gains(labels, link) {
-            enqueue(labels, link.from as usize, queue)?;
+        let to = link.to as usize;
+        self.put(rows, to, new);
+        queue.push(Reverse((new.cost, new.hop, to)))?;
+        Ok(())
+    }
+
+    // Does so over each link of the border, both ways.
+    fn gain_over_border(
+        &self,
+        alloc: Global,
+        rows: &mut [(Addr, Label)],
+        border: &[usize],
+    ) -> Result<Queue, AllocError>
+        requires placed { ArePlaced self.now.nodes.now rows.old }
+        requires border { All (λ k. k < length self.now.links.now) border.now }
+        ensures placed { ArePlaced self.now.nodes.now rows.new }
+        ensures queued { IfOk result (λ q. All (λ e. e.0.2 < length self.now.nodes.now) (heap_items q)) }
+    {
+        let mut queue: Queue = BinaryHeap::new(alloc);
+        for i in border {
+            let link = self.links[*i];
+            self.gain_over(rows, link, &mut queue)?;
+            self.gain_over(rows, turned(link), &mut queue)?;
         }
-        if self.gains(labels, back) {
-            enqueue(labels, link.to as usize, queue)?;
+        Ok(queue)
+    }
+
+    // Does so over each link of a node.
+    fn gain_from(
+        &self,
+        rows: &mut [(Addr, Label)],
+        at: usize,
+        queue: &mut Queue,
+    ) -> Result<(), AllocError>
+        requires at { at < length self.now.nodes.now }
+        requires placed { ArePlaced self.now.nodes.now rows.old }
+        requires queued { All (λ e. e.0.2 < length self.now.nodes.now) (heap_items queue.old) }
+        ensures placed { ArePlaced self.now.nodes.now rows.new }
+        ensures queued { All (λ e. e.0.2 < length self.now.nodes.now) (heap_items queue.new) }
+    {
+        for i in self.starts[at]..self.starts[at + 1] {
+            self.gain_over(rows, self.links[i], queue)?;
         }
         Ok(())
     }
 
-    // The ends of links.
-    fn ends_of(
-        &self,
-        alloc: Global,
-        labels: &[Option<Label>],
-        border: &[usize],
-    ) -> Result<Queue, AllocError>
-        requires labels { length labels.now ≡ length self.now.nodes.now }
-        requires limited { AreLimited labels.now }
-        requires border { All (λ k. k < length self.now.links.now) border.now }
-        ensures { IfOk result (λ q. All (λ e. e.0.2 < length self.now.nodes.now) (heap_items q)) }
+    // Goes on from the nodes that are queued, the nearest first. An entry whose label got better since is passed over.
+    #[inline(never)]
+    fn gain_on(&self, rows: &mut [(Addr, Label)], mut queue: Queue) -> Result<(), AllocError>
+        requires placed { ArePlaced self.now.nodes.now rows.old }
+        requires queued { All (λ e. e.0.2 < length self.now.nodes.now) (heap_items queue) }
+        ensures { ArePlaced self.now.nodes.now rows.new }
     {
-        let mut queue: Queue = BinaryHeap::new(alloc);
-        for i in border {
-            self.enqueue_ends(labels, *i, &mut queue)?;
+        // Mostly a node is queued once; where there are more, the certificate tells. The bound shows that the loop ends.
+        for _ in 0..self.links.len() {
+            let Some(Reverse((cost, hop, at))) = queue.pop() else {
+                break;
+            };
+            if rows[at].1 == (Label { cost, hop }) {
+                self.gain_from(rows, at, &mut queue)?;
+            }
         }
-        Ok(queue)
+        Ok(())
     }
 
     // A link from one place to another.
@@ -215,46 +235,69 @@ impl<'a> RootedGraph<'a> {
     }
 
     // The link of an edge that may lead to a label: to the end that is further from the source.
-    fn link_outward(&self, labels: &[Option<Label>], one: usize, other: usize) -> Option<usize>
-        requires labels { length labels.now ≡ length self.now.nodes.now }
+    fn link_outward(&self, rows: &[(Addr, Label)], one: usize, other: usize) -> Option<usize>
+        requires rows { length rows.now ≡ length self.now.nodes.now }
         requires one { one < length self.now.nodes.now }
         requires other { other < length self.now.nodes.now }
         ensures { IfSome result (λ i. i < length self.now.links.now) }
     {
-        if labels[one]?.cost < labels[other]?.cost {
+        if known(rows[one].1)?.cost < known(rows[other].1)?.cost {
             self.link_between(one, other)
         } else {
             self.link_between(other, one)
         }
     }
 
-    // Mends the labels before, given the ends of an edge that has another metric: moves the label at the end that is further from the
+    // Mends the rows before, given the ends of an edge that has another metric: moves the label at the end that is further from the
     // source, and those that came over it, to what they are offered now, and improves the labels from the border of these on. Whether
     // there is such an end. Nothing is promised of what they say: a certificate tells.
     pub fn shift(
         &self,
         alloc: Global,
-        before: &[Option<Label>],
-        labels: &mut [Option<Label>],
+        before: &[(Addr, Label)],
+        rows: &mut [(Addr, Label)],
         one: usize,
         other: usize,
     ) -> Result<bool, AllocError>
         requires before { length before.now ≡ length self.now.nodes.now }
-        requires same_length { length labels.old ≡ length self.now.nodes.now }
-        requires limited { AreLimited labels.old }
+        requires placed { ArePlaced self.now.nodes.now rows.old }
         requires one { one < length self.now.nodes.now }
         requires other { other < length self.now.nodes.now }
+        ensures { ArePlaced self.now.nodes.now rows.new }
     {
         let Some(i) = self.link_outward(before, one, other) else {
             return Ok(false);
         };
-        let mut moved = Vec::with_capacity(alloc, 64)?;
-        if !self.move_over(labels, i, &mut moved)? {
+        let link = self.links[i];
+        let Some(new) = self.offer_in(rows, link) else {
             return Ok(false);
-        }
-        let border = self.shift_on(alloc, before, labels, moved)?;
-        let mut queue = self.ends_of(alloc, labels, &border)?;
-        self.explore(labels, &mut queue)?;
+        };
+        self.put(rows, link.to as usize, new);
+        let mut moved = Vec::with_capacity(alloc, 64)?;
+        moved.push(link.to as usize)?;
+        let border = self.shift_on(alloc, before, rows, moved)?;
+        let queue = self.gain_over_border(alloc, rows, &border)?;
+        self.gain_on(rows, queue)?;
         Ok(true)
+    }
+}
+
+// A label, further on by a metric.
+#[inline(always)]
+fn shifted(label: Label, metric: u32) -> Label {
+    Label {
+        cost: label.cost.wrapping_add(metric),
+        hop: label.hop,
+    }
+}
+
+// A link, the other way round.
+fn turned(link: Link) -> Link
+    ensures { result ≡ record { from = link.to; to = link.from; metric = link.metric } }
+{
+    Link {
+        from: link.to,
+        to: link.from,
+        metric: link.metric,
     }
 }

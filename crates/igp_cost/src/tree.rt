@@ -1,17 +1,18 @@
 //! The costs and first hops from one router.
 
-ghost use Rattle.std.specs.Prelude.{◌≡◌, ◌≤◌, ◌<◌, ◌↔◌, length, IsTrue, IfOk, IfSome, Some, None};
+ghost use Rattle.std.specs.Prelude.{◌≡◌, ◌≢◌, ◌≤◌, ◌↔◌, length, All, IsTrue, IfOk, IfSome, Some, None};
 ghost use Rattle.std.specs.Bool.{OnTrue};
 ghost use Rattle.std.specs.Map.{lookup};
 ghost use Rattle.std.specs.BTreeMap.{is_at};
 ghost use Rattle.net_prefix.specs.Address.{addr_cmp};
-ghost use Rattle.igp_cost.specs.Labels.{AreLimited};
 ghost use Rattle.std.specs.List.{insert};
-ghost use Rattle.igp_cost.specs.Offers.{HasOneMore, AreLabelsOf};
+ghost use Rattle.igp_cost.specs.Offers.{HasOneMore};
+ghost use Rattle.igp_cost.specs.Placed.{labels_of, ArePlaced};
 ghost use Rattle.igp_cost.specs.Trees.{source_of, label_in, cost_in, first_hop_in};
 ghost use Rattle.igp_cost.specs.Wired.{IsRising, AreAscending, row, rows_of};
 
 use crate::label::Label;
+use crate::placed::{NO_WALK, known_labels};
 use net_prefix::Addr;
 use path_attr::Asn;
 use seq::{Copied, SharedSeq, push_some};
@@ -56,6 +57,27 @@ impl Tree {
             source,
             rows: SharedSeq::of(alloc, rows)?,
         })
+    }
+
+    /// The tree of rows by the places of their nodes. Where a walk to each node is known, these rows are the tree's.
+    pub(crate) fn from_rows(
+        alloc: Global,
+        source: Addr,
+        nodes: &[(Addr, Asn)],
+        rows: Vec<(Addr, Label)>,
+    ) -> Result<Self, AllocError>
+        requires rising { IsRising nodes.now }
+        requires placed { ArePlaced nodes.now rows.items }
+        ensures { IfOk result (λ t. t ≡ record { source = source; labels = rows_of nodes.now (labels_of rows.items) }) }
+    {
+        if are_known(&rows) {
+            return Ok(Tree {
+                source,
+                rows: SharedSeq::of(alloc, rows)?,
+            });
+        }
+        let labels = known_labels(alloc, &rows)?;
+        Tree::from_labels(alloc, source, nodes, &labels)
     }
 
     /// The tree with a label of one address more. None where the address has a label.
@@ -123,31 +145,6 @@ impl Tree {
         self.label(to)
     }
 
-    /// The labels of nodes at their places, where the tree reaches these and no others. None where it does not, or where one of them is
-    /// past the limit, which none is.
-    pub(crate) fn labels_in_order(
-        &self,
-        alloc: Global,
-        nodes: &[(Addr, Asn)],
-    ) -> Result<Option<Vec<Option<Label>>>, AllocError>
-        ensures same_length { IfOk result (λ o. IfSome o (λ v. length v.items ≡ length nodes.now)) }
-        ensures limited { IfOk result (λ o. IfSome o (λ v. AreLimited v.items)) }
-        ensures known { IfOk result (λ o. IfSome o (λ v. AreLabelsOf nodes.now self.now v.items)) }
-    {
-        let rows = self.rows.as_slice();
-        if rows.len() != nodes.len() {
-            return Ok(None);
-        }
-        let mut labels = Vec::with_capacity(alloc, nodes.len())?;
-        for at in 0..nodes.len() {
-            let Some(label) = label_in_row(rows, at, nodes[at].0) else {
-                return Ok(None);
-            };
-            labels.push(Some(label))?;
-        }
-        Ok(Some(labels))
-    }
-
     /// Whether both say the same of every address.
     pub fn is_same(&self, other: &Tree) -> bool
         ensures { IsTrue result ↔ (self.now ≡ other.now) }
@@ -157,7 +154,8 @@ impl Tree {
 
     /// The addresses that are reached, in ascending order, each with its label.
     pub(crate) fn rows(&self) -> &[(Addr, Label)]
-        ensures { result.now ≡ self.now.labels }
+        ensures rows { result.now ≡ self.now.labels }
+        ensures ascending { AreAscending self.now.labels }
     {
         self.rows.as_slice()
     }
@@ -189,19 +187,11 @@ fn is_above(rows: &[(Addr, Label)], to: Addr) -> bool
     count == 0 || rows[count - 1].0.0 < to.0
 }
 
-// The label in a row, if it is that of an address and within the limit.
-fn label_in_row(rows: &[(Addr, Label)], at: usize, to: Addr) -> Option<Label>
-    requires rising { AreAscending rows.now }
-    requires at { at < length rows.now }
-    ensures found { IfSome result (λ l. lookup (is_at (addr_cmp to)) rows.now ≡ Some l) }
-    ensures limited { IfSome result (λ l. l.cost ≤ 268435456) }
+// Whether a walk to the node of each row is known.
+fn are_known(rows: &[(Addr, Label)]) -> bool
+    ensures { OnTrue result (All (λ r. r.1.cost ≢ 4294967295) rows.now) }
 {
-    let (addr, label) = rows[at];
-    if addr.0 == to.0 && label.cost <= 268_435_456 {
-        Some(label)
-    } else {
-        None
-    }
+    rows.iter().all(|row| row.1.cost != NO_WALK)
 }
 
 // Room for so many rows, and for up to so many more as a chunk has: as a network grows, its trees take the memory that trees before them have left.

@@ -3,7 +3,8 @@ use Rattle.std.proofs.lemmas.Bool.{cases_lt}
 use Rattle.std.proofs.lemmas.List.{get_or_default}
 use Rattle.igp_cost.specs.declared.link.Link.{Link}
 use Rattle.igp_cost.specs.Labels.{addr_at}
-use Rattle.igp_cost.specs.Offers.{tree_by, IsSettledOver}
+use Rattle.igp_cost.specs.Placed.{tree_in}
+use Rattle.igp_cost.specs.Offers.{IsSettledOver}
 use Rattle.igp_cost.proofs.rooted.RootedGraph.is_settled_around.Goals as goal
 
 pub loop-i-preserved : goal.loop-i-preserved
@@ -11,7 +12,7 @@ loop-i-preserved c =
     let nodes = c.args.self.now.nodes.now in
     let links = c.args.self.now.links.now in
     let n = c.loop-i.i in
-    let Over : Link → Type 0 = λ link. IsSettledOver nodes links (tree_by nodes c.args.self.now.source c.args.before.now) (tree_by nodes c.args.self.now.source c.args.labels.now) (addr_at nodes c.args.at) link in
+    let Over : Link → Type 0 = λ link. IsSettledOver nodes links (tree_in nodes c.args.self.now.source c.args.before.now) (tree_in nodes c.args.self.now.source c.args.rows.now) (addr_at nodes c.args.at) link in
     record {
       held = search rules;
       each = λ k link from lt within is. elim (cases_lt k n) [
