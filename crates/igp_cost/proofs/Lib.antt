@@ -20,3 +20,4 @@ mod Leaf
 mod MoreEdges
 mod Before
 mod InPlace
+mod Elsewhere

@@ -13,6 +13,7 @@ mod link;
 mod mended;
 mod metric;
 mod placed;
+mod plain;
 mod repair;
 mod rooted;
 mod search;

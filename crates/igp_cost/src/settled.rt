@@ -18,7 +18,7 @@ use net_prefix::Addr;
 
 impl<'a> RootedGraph<'a> {
     // The address at a place.
-    fn addr(&self, at: usize) -> Addr
+    pub fn addr(&self, at: usize) -> Addr
         requires { at < length self.now.nodes.now }
         ensures { result ≡ addr_at self.now.nodes.now at }
     {
@@ -91,7 +91,7 @@ impl<'a> RootedGraph<'a> {
     }
 
     // Whether the node at a place has no label, is the source, or is offered its label over one of its links.
-    fn is_backed_by(&self, rows: &[(Addr, Label)], at: usize) -> bool
+    pub fn is_backed_by(&self, rows: &[(Addr, Label)], at: usize) -> bool
         requires at { at < length self.now.nodes.now }
         requires same_length { length rows.now ≡ length self.now.nodes.now }
         ensures { OnTrue result (IsHeld self.now.nodes.now self.now.links.now (tree_in self.now.nodes.now self.now.source rows.now) (addr_at self.now.nodes.now at)) }
@@ -138,7 +138,7 @@ impl<'a> RootedGraph<'a> {
     }
 
     // Whether the label at a place is that of before.
-    fn is_unmoved_at(&self, before: &[(Addr, Label)], rows: &[(Addr, Label)], at: usize) -> bool
+    pub fn is_unmoved_at(&self, before: &[(Addr, Label)], rows: &[(Addr, Label)], at: usize) -> bool
         requires at { at < length self.now.nodes.now }
         requires before { length before.now ≡ length self.now.nodes.now }
         requires same_length { length rows.now ≡ length self.now.nodes.now }
@@ -175,7 +175,7 @@ impl<'a> RootedGraph<'a> {
 
     // Whether a link, the other way round, offers a place nothing better, and its other end is held. Few links are asked this.
     #[inline(never)]
-    fn is_settled_back(&self, rows: &[(Addr, Label)], at: usize, link: Link) -> bool
+    pub fn is_settled_back(&self, rows: &[(Addr, Label)], at: usize, link: Link) -> bool
         requires at { at < length self.now.nodes.now }
         requires ends { (link.to < length self.now.nodes.now) × IsMetric link.metric }
         requires same_length { length rows.now ≡ length self.now.nodes.now }
@@ -187,7 +187,7 @@ impl<'a> RootedGraph<'a> {
     }
 
     // Whether the node at a place is held, and all its links are settled.
-    #[inline(always)]
+    #[inline(never)]
     fn is_settled_around(&self, before: &[(Addr, Label)], rows: &[(Addr, Label)], at: usize) -> bool
         requires at { at < length self.now.nodes.now }
         requires before { length before.now ≡ length self.now.nodes.now }
@@ -206,6 +206,7 @@ impl<'a> RootedGraph<'a> {
     }
 
     // Whether the node at a place has its label of before, or is settled.
+    #[inline(always)]
     fn is_same_or_settled(
         &self,
         before: &[(Addr, Label)],
@@ -217,7 +218,15 @@ impl<'a> RootedGraph<'a> {
         requires same_length { length rows.now ≡ length self.now.nodes.now }
         ensures { OnTrue result (IsSameOrSettled self.now.nodes.now self.now.links.now (tree_in self.now.nodes.now self.now.source before.now) (tree_in self.now.nodes.now self.now.source rows.now) at) }
     {
-        self.is_unmoved_at(before, rows, at) || self.is_settled_around(before, rows, at)
+        if self.is_unmoved_at(before, rows, at) {
+            return true;
+        }
+        match self.label_by(rows, at) {
+            Some(label) if label.cost <= 268_435_456 && self.passes_on(at) => {
+                self.is_plainly_settled(before, rows, at, label)
+            }
+            _ => self.is_settled_around(before, rows, at),
+        }
     }
 
     // Whether each node is.
@@ -278,5 +287,5 @@ impl<'a> RootedGraph<'a> {
 fn is_same(one: Label, other: Label) -> bool
     ensures { IsTrue result ↔ (known one ≡ known other) }
 {
-    one.cost == other.cost && (one.hop.0 == other.hop.0 || one.cost == NO_WALK)
+    one == other || (one.cost == NO_WALK && other.cost == NO_WALK)
 }
