@@ -1,5 +1,5 @@
 -- Rows by places, and the labels that they say.
-use Rattle.std.proofs.Common.{◌≡◌, ℕ, zero, suc, ◌+◌, ◌<◌, ◌≤◌, ◌≢◌, List, [], ◌∷◌, ◌++◌, length, map, get_or, Option, Some, None, IfSome, Bool, true, false, if◌then◌else◌, refl, sym, ap, ◌∙◌, subst, inl, inr, arith}
+use Rattle.std.proofs.Common.{◌≡◌, ℕ, suc, ◌+◌, ◌<◌, ◌≤◌, ◌≢◌, List, [], ◌∷◌, ◌++◌, length, get_or, Some, None, IfSome, Bool, true, false, if◌then◌else◌, refl, sym, ap, ◌∙◌, subst, inl, inr, arith}
 use Rattle.std.specs.Bool.{OnTrue}
 use Rattle.std.specs.Option.{option_to_list}
 use Rattle.std.proofs.lemmas.Bool.{cases_lt}
@@ -8,7 +8,7 @@ use Rattle.std.proofs.lemmas.Option.{none-some}
 use Rattle.net_prefix.specs.declared.addr.Addr.{Addr}
 use Rattle.igp_cost.specs.declared.label.Label.{Label}
 use Rattle.igp_cost.specs.Walks.{Nodes}
-use Rattle.igp_cost.specs.Labels.{Labels, AreLimited, addr_at, label_at}
+use Rattle.igp_cost.specs.Labels.{AreLimited, addr_at, label_at}
 use Rattle.igp_cost.specs.Offers.{AreLabelsOf}
 use Rattle.igp_cost.specs.Trees.{Reached, label_in}
 use Rattle.igp_cost.specs.Wired.{IsRising, AreAscending, rows_of, no_row, row as row_for}

@@ -1,6 +1,6 @@
 //! Rows by the places of nodes: one for each node, in which a cost past all others says that no walk is known.
 
-ghost use Rattle.std.specs.Prelude.{◌≡◌, ◌<◌, ◌≤◌, ℕ, length, slice_index_or, IfOk, IfSome};
+ghost use Rattle.std.specs.Prelude.{◌≡◌, ◌<◌, ◌≤◌, ◌+◌, ◌*◌, ℕ, length, slice_index_or, IfOk, IfSome};
 ghost use Rattle.std.specs.Bool.{OnTrue};
 ghost use Rattle.igp_cost.specs.Labels.{AreLimited};
 ghost use Rattle.igp_cost.specs.Offers.{AreLabelsOf};
@@ -26,6 +26,14 @@ pub fn known(label: Label) -> Option<Label>
     } else {
         Some(label)
     }
+}
+
+/// A label as one number, by its cost and then by its hop.
+#[inline(always)]
+pub fn number_of(label: Label) -> u64
+    ensures { result ≡ label.cost * 4294967296 + label.hop.0 }
+{
+    label.cost as u64 * 4_294_967_296 + label.hop.0 as u64
 }
 
 /// What rows say of their nodes.

@@ -13,6 +13,7 @@ ghost use Rattle.igp_cost.specs.Offers.{Offers, OffersNoBetter, IsHeld, IsSettle
 
 use crate::label::Label;
 use crate::link::Link;
+use crate::placed::number_of;
 use crate::rooted::RootedGraph;
 use net_prefix::Addr;
 
@@ -111,7 +112,7 @@ impl<'a> RootedGraph<'a> {
         if !self.is_unmoved_at(before, rows, to) {
             return true;
         }
-        self.is_settled_back(rows, at, link)
+        self.is_settled_back(rows, at, to, link.metric as u32)
     }
 
     // Whether the node at a place, a plain one whose label is this, is held, and all its links are settled.
@@ -141,14 +142,6 @@ impl<'a> RootedGraph<'a> {
         }
         held || self.is_backed_by(rows, at)
     }
-}
-
-// A label as one number, by its cost and then by its hop.
-#[inline(always)]
-fn number_of(label: Label) -> u64
-    ensures { result ≡ label.cost * 4294967296 + label.hop.0 }
-{
-    label.cost as u64 * 4_294_967_296 + label.hop.0 as u64
 }
 
 // Whether a label is at least as good as another one, further on by a metric.

@@ -11,7 +11,7 @@ ghost use Rattle.igp_cost.specs.Offers.{Offers, OffersNoBetter, IsHeld, SaySameO
 
 use crate::label::Label;
 use crate::link::Link;
-use crate::placed::{NO_WALK, known};
+use crate::placed::{NO_WALK, known, number_of};
 use crate::rooted::RootedGraph;
 use crate::stays::{is_not_after_offer, is_offer_not_after};
 use net_prefix::Addr;
@@ -170,20 +170,20 @@ impl<'a> RootedGraph<'a> {
         if !self.is_unmoved_at(before, rows, to) {
             return true;
         }
-        self.is_settled_back(rows, at, link)
+        self.is_settled_back(rows, at, to, metric)
     }
 
-    // Whether a link, the other way round, offers a place nothing better, and its other end is held. Few links are asked this.
+    // Whether an edge with this metric offers a place nothing better from its other end, and that is held. Few are asked this.
     #[inline(never)]
-    pub fn is_settled_back(&self, rows: &[(Addr, Label)], at: usize, link: Link) -> bool
+    pub fn is_settled_back(&self, rows: &[(Addr, Label)], at: usize, to: usize, metric: u32) -> bool
         requires at { at < length self.now.nodes.now }
-        requires ends { (link.to < length self.now.nodes.now) × IsMetric link.metric }
+        requires to { to < length self.now.nodes.now }
+        requires metric { IsMetric metric }
         requires same_length { length rows.now ≡ length self.now.nodes.now }
-        ensures back { OnTrue result (OffersNoBetter self.now.nodes.now (tree_in self.now.nodes.now self.now.source rows.now) (addr_at self.now.nodes.now link.to) (addr_at self.now.nodes.now at) link.metric) }
-        ensures near { OnTrue result (IsHeld self.now.nodes.now self.now.links.now (tree_in self.now.nodes.now self.now.source rows.now) (addr_at self.now.nodes.now link.to)) }
+        ensures back { OnTrue result (OffersNoBetter self.now.nodes.now (tree_in self.now.nodes.now self.now.source rows.now) (addr_at self.now.nodes.now to) (addr_at self.now.nodes.now at) metric) }
+        ensures near { OnTrue result (IsHeld self.now.nodes.now self.now.links.now (tree_in self.now.nodes.now self.now.source rows.now) (addr_at self.now.nodes.now to)) }
     {
-        let to = link.to as usize;
-        self.is_no_gain(rows, to, at, link.metric as u32) && self.is_backed_by(rows, to)
+        self.is_no_gain(rows, to, at, metric) && self.is_backed_by(rows, to)
     }
 
     // Whether the node at a place is held, and all its links are settled.
@@ -287,5 +287,5 @@ impl<'a> RootedGraph<'a> {
 fn is_same(one: Label, other: Label) -> bool
     ensures { IsTrue result ↔ (known one ≡ known other) }
 {
-    one == other || (one.cost == NO_WALK && other.cost == NO_WALK)
+    number_of(one) == number_of(other) || (one.cost == NO_WALK && other.cost == NO_WALK)
 }

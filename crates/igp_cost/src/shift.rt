@@ -7,7 +7,7 @@ ghost use Rattle.igp_cost.specs.Placed.{ArePlaced};
 
 use crate::label::Label;
 use crate::link::Link;
-use crate::placed::known;
+use crate::placed::{known, number_of};
 use crate::rooted::RootedGraph;
 use crate::search::{Queue, improves};
 use net_prefix::Addr;
@@ -73,12 +73,12 @@ impl<'a> RootedGraph<'a> {
     {
         let link = self.links[i];
         let to = link.to as usize;
-        let there = before[to].1;
-        if rows[to].1 != there {
+        let there = number_of(before[to].1);
+        if number_of(rows[to].1) != there {
             return Ok(());
         }
         let came = shifted(before[at].1, link.metric as u32);
-        if came == there && self.is_inside(at) {
+        if number_of(came) == there && self.is_inside(at) {
             let new = shifted(rows[at].1, link.metric as u32);
             self.put(rows, to, new);
             moved.push(to)?;

@@ -12,7 +12,7 @@ ghost use Rattle.igp_cost.specs.Trees.{source_of, label_in, cost_in, first_hop_i
 ghost use Rattle.igp_cost.specs.Wired.{IsRising, AreAscending, row, rows_of};
 
 use crate::label::Label;
-use crate::placed::{NO_WALK, known_labels};
+use crate::placed::{NO_WALK, known};
 use net_prefix::Addr;
 use path_attr::Asn;
 use seq::{Copied, SharedSeq, push_some};
@@ -59,7 +59,7 @@ impl Tree {
         })
     }
 
-    /// The tree of rows by the places of their nodes. Where a walk to each node is known, these rows are the tree's.
+    /// The tree of rows by the places of their nodes.
     pub(crate) fn from_rows(
         alloc: Global,
         source: Addr,
@@ -70,14 +70,11 @@ impl Tree {
         requires placed { ArePlaced nodes.now rows.items }
         ensures { IfOk result (λ t. t ≡ record { source = source; labels = rows_of nodes.now (labels_of rows.items) }) }
     {
-        if are_known(&rows) {
-            return Ok(Tree {
-                source,
-                rows: SharedSeq::of(alloc, rows)?,
-            });
-        }
-        let labels = known_labels(alloc, &rows)?;
-        Tree::from_labels(alloc, source, nodes, &labels)
+        let rows = reached_rows(alloc, nodes, rows)?;
+        Ok(Tree {
+            source,
+            rows: SharedSeq::of(alloc, rows)?,
+        })
     }
 
     /// The tree with a label of one address more. None where the address has a label.
@@ -237,6 +234,38 @@ fn labelled(
         push_some(&mut rows, row(nodes[at].0, labels[at]))?;
     }
     Ok(rows)
+}
+
+// The rows of nodes to which a walk is known. Where that is each node, these rows are they.
+fn reached_rows(
+    alloc: Global,
+    nodes: &[(Addr, Asn)],
+    rows: Vec<(Addr, Label)>,
+) -> Result<Vec<(Addr, Label)>, AllocError>
+    requires { ArePlaced nodes.now rows.items }
+    ensures { IfOk result (λ v. v.items ≡ rows_of nodes.now (labels_of rows.items)) }
+{
+    if are_known(&rows) {
+        Ok(rows)
+    } else {
+        known_rows(alloc, nodes, &rows)
+    }
+}
+
+// The rows of nodes to which a walk is known.
+fn known_rows(
+    alloc: Global,
+    nodes: &[(Addr, Asn)],
+    rows: &[(Addr, Label)],
+) -> Result<Vec<(Addr, Label)>, AllocError>
+    requires same_length { length rows.now ≡ length nodes.now }
+    ensures { IfOk result (λ v. v.items ≡ rows_of nodes.now (labels_of rows.now)) }
+{
+    let mut some = Vec::with_capacity(alloc, nodes.len())?;
+    for at in 0..nodes.len() {
+        push_some(&mut some, row(nodes[at].0, known(rows[at].1)))?;
+    }
+    Ok(some)
 }
 
 // Whether both lists have the same rows.

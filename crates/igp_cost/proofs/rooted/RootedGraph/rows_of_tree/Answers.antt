@@ -1,4 +1,4 @@
-use Rattle.std.proofs.Common.{◌≡◌, ℕ, ◌+◌, ◌<◌, List, [], ◌∷◌, ◌++◌, length, Option, sym, ap, ◌∙◌, subst, rules}
+use Rattle.std.proofs.Common.{◌≡◌, ℕ, ◌+◌, ◌<◌, [], ◌∷◌, ◌++◌, length, Option, sym, ap, ◌∙◌, subst, rules}
 use Rattle.std.proofs.lemmas.List.{get_or_default, length-map}
 use Rattle.net_prefix.specs.declared.addr.Addr.{Addr}
 use Rattle.igp_cost.specs.declared.label.Label.{Label}
