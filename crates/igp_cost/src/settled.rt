@@ -1,4 +1,5 @@
-//! A certificate of a tree after a change, by the labels that differ from those of the tree before it: a look at the links around these.
+//! A certificate of the rows of a tree after a change, by the labels that differ from those of the rows before it: a look at the links
+//! around these. Of most nodes `plain` tells sooner.
 
 ghost use Rattle.std.specs.Prelude.{◌≡◌, ◌↔◌, ◌<◌, ◌≤◌, ◌⊎◌, ℕ, length, Contains, IsTrue};
 ghost use Rattle.std.specs.Bool.{OnTrue};
