@@ -11,3 +11,4 @@ pub mod Remade
 pub mod Skipped
 pub mod Walks
 pub mod Whole
+mod Filtered

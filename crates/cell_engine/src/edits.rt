@@ -1,6 +1,6 @@
 //! What the engine does with an edit: first all that takes memory, beside the state; then the change, which takes none.
 
-ghost use Rattle.std.specs.Prelude.{◌≡◌, ◌++◌, None, [], true, false, map, filter, is_some, IfOk, OnOk, if◌then◌else◌};
+ghost use Rattle.std.specs.Prelude.{◌≡◌, ◌++◌, None, Some, [], true, false, cond, map, filter, is_some, IfSome, IfOk, OnOk, if◌then◌else◌};
 ghost use Rattle.std.specs.List.{list_any};
 ghost use Rattle.std.specs.List.Sorted.{IsStrictlySortedBy};
 ghost use Rattle.std.specs.Ordering.{is_lt, is_gt};
@@ -22,6 +22,7 @@ ghost use Rattle.cell_engine.specs.Edits.{planned, made_in, IsPlanned, IsOfEdit,
 
 use crate::cell_edits::{CellEdit, place_edits};
 use crate::places::reserve_each;
+use crate::router_test::is_router_again;
 use crate::state::State;
 use net_conf::{Conf, Edit, EditedConf, Ends, Kind, Scope};
 use net_prefix::{Addr, Prefix};
@@ -29,7 +30,7 @@ use path_attr::Asn;
 use prefix_table::PrefixTable;
 use route_cell::Cell;
 use route_select::Selector;
-use seq::Seq;
+use seq::{Seq, push_some};
 use session_queue::{Direction, Queues};
 use std::alloc::{AllocError, Global};
 use std::marker::Model;
@@ -81,11 +82,54 @@ fn refreshed_cells<S: Selector>(
 ) -> Result<Vec<(Addr, Prefix)>, AllocError>
     ensures { IfOk result (λ cells. cells.items ≡ map (λ x. (x.router, x.prefix)) (filter (λ x. is_some (router_site conf.now x.router)) edits.now)) }
 {
+    let cells = places_of(alloc, edits)?;
+    routers_alone(alloc, conf, &cells)
+}
+
+/// The routers and prefixes of the edited cells.
+fn places_of<S: Selector>(
+    alloc: Global,
+    edits: &[CellEdit<S>],
+) -> Result<Vec<(Addr, Prefix)>, AllocError>
+    ensures { IfOk result (λ cells. cells.items ≡ map (λ x. (x.router, x.prefix)) edits.now) }
+{
     edits
         .iter()
-        .filter(|edit| is_router(conf, edit.router))
         .map(|edit| (edit.router, edit.prefix))
         .collect(alloc)
+}
+
+/// Those of the routers and prefixes that are not of virtual peers.
+fn routers_alone(
+    alloc: Global,
+    conf: &Conf,
+    cells: &[(Addr, Prefix)],
+) -> Result<Vec<(Addr, Prefix)>, AllocError>
+    ensures { IfOk result (λ some. some.items ≡ filter (λ c. is_some (router_site conf.now c.0)) cells.now) }
+{
+    let mut last = None;
+    let mut some = Vec::with_capacity(alloc, cells.len())?;
+    for cell in cells {
+        push_some(&mut some, of_router(conf, &mut last, *cell))?;
+    }
+    Ok(some)
+}
+
+/// A router and prefix, unless they are of a virtual peer. The last answer is whether a router stands at some address.
+fn of_router(
+    conf: &Conf,
+    last: &mut Option<(Addr, bool)>,
+    cell: (Addr, Prefix),
+) -> Option<(Addr, Prefix)>
+    requires right { IfSome last.old (λ l. l.1 ≡ is_some (router_site conf.now l.0)) }
+    ensures cell { result ≡ cond (is_some (router_site conf.now cell.0)) (Some cell) None }
+    ensures right { IfSome last.new (λ l. l.1 ≡ is_some (router_site conf.now l.0)) }
+{
+    if is_router_again(conf, last, cell.0) {
+        Some(cell)
+    } else {
+        None
+    }
 }
 
 /// Whether a router stands at the address.

@@ -13,6 +13,7 @@ mod installs;
 mod moved_cells;
 mod places;
 mod router_edits;
+mod router_test;
 mod state;
 
 pub use edits::Edited;

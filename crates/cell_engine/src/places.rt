@@ -5,7 +5,7 @@ ghost use Rattle.session_queue.specs.Waiting.{queue_at, spare_at, same_direction
 ghost use Rattle.cell_network.specs.Sending.{told_from};
 ghost use Rattle.cell_network.specs.Editing.{told_by_all};
 ghost use Rattle.cell_engine.specs.Admitting.{AreAllAdmitted};
-ghost use Rattle.cell_engine.specs.CellEdits.{edits_send};
+ghost use Rattle.cell_engine.specs.CellEdits.{edit_sends, edits_send};
 ghost use Rattle.cell_engine.specs.Counts.{count_at};
 
 use crate::admitting::admit_each;
@@ -50,6 +50,19 @@ fn count_sends(
     Ok(())
 }
 
+/// Counts what is sent for the edited cell: nothing where its cost alone changes.
+fn count_edit<S: Selector>(
+    counts: &mut BTreeMap<Direction, usize>,
+    edit: &CellEdit<S>,
+) -> Result<(), AllocError>
+    ensures { OnOk result ((f t : Addr) → count_at counts.new.entries f t ≡ count_at counts.old.entries f t + length (told_from edit.now.router (edit_sends edit.now) f t)) }
+{
+    match &edit.remade {
+        Some(outcome) => count_sends(counts, edit.router, &outcome.sends),
+        None => Ok(()),
+    }
+}
+
 /// How many messages are sent for the edited cells in each direction.
 fn counts_of<S: Selector>(
     alloc: Global,
@@ -59,7 +72,7 @@ fn counts_of<S: Selector>(
 {
     let mut counts = BTreeMap::new(alloc);
     for edit in edits {
-        count_sends(&mut counts, edit.router, edit.sends())?;
+        count_edit(&mut counts, edit)?;
     }
     Ok(counts)
 }

@@ -1,6 +1,8 @@
 //! A router at an edit.
 
 ghost use Rattle.std.specs.Prelude.{◌≡◌, map, IfOk};
+ghost use Rattle.std.specs.Option.{option_copied};
+ghost use Rattle.net_conf.specs.RouterSites.{router_site};
 ghost use Rattle.cell_engine.specs.Changes.{edit_becoming};
 
 use crate::becoming::Becoming;
@@ -9,26 +11,71 @@ use net_prefix::Addr;
 use std::alloc::{AllocError, Global};
 use std::marker::Model;
 
-/// A router where the configuration becomes another, with its part of each: made here where the configuration keeps none.
+/// A router's part of a configuration, looked for once: the one that is kept there, else one that is made here.
+#[derive(Drop)]
+struct RouterPart<'a> {
+    kept: Option<&'a SiteConf>,
+    made: Option<SiteConf>,
+}
+
+impl<'a> Model for RouterPart<'a> {
+    ghost use Rattle.std.specs.Prelude.{Option};
+    ghost use Rattle.std.specs.Option.{option_copied, option_or};
+    ghost use Rattle.net_conf.specs.declared.site.SiteConf as site;
+
+    ghost Value = { Option site.SiteConf };
+
+    ghost view = { λ x. option_or (option_copied x.kept) x.made };
+}
+
+impl<'a> RouterPart<'a> {
+    /// The router's part of the configuration. None where no router stands.
+    fn of(alloc: Global, conf: &'a Conf, router: Addr) -> Result<Self, AllocError>
+        ensures { IfOk result (λ part. part ≡ router_site conf.now router) }
+    {
+        match conf.kept_site(router) {
+            Some(site) => Ok(RouterPart {
+                kept: Some(site),
+                made: None,
+            }),
+            None => Ok(RouterPart {
+                kept: None,
+                made: conf.made_site(alloc, router)?,
+            }),
+        }
+    }
+
+    /// The part itself.
+    fn get(&self) -> Option<&SiteConf>
+        ensures { option_copied result ≡ self.now }
+    {
+        match self.kept {
+            Some(site) => Some(site),
+            None => self.made.as_ref(),
+        }
+    }
+}
+
+/// A router where the configuration becomes another, with its part of each.
 #[derive(Drop)]
 pub(crate) struct RouterEdit<'a> {
     before: &'a Conf,
     after: &'a Conf,
     router: Addr,
-    made_before: Option<SiteConf>,
-    made_after: Option<SiteConf>,
+    part_before: RouterPart<'a>,
+    part_after: RouterPart<'a>,
 }
 
 impl<'a> Model for RouterEdit<'a> {
     ghost use Rattle.std.specs.Prelude.{◌≡◌};
-    ghost use Rattle.net_conf.specs.RouterSites.{site_made};
+    ghost use Rattle.net_conf.specs.RouterSites.{router_site};
     ghost use Rattle.cell_engine.specs.Changes as changes;
 
     ghost Value = { changes.RouterEdit };
 
     ghost view = { λ x. record { before = x.before.now; after = x.after.now; router = x.router } };
 
-    ghost invariant = { λ x. (x.made_before ≡ site_made x.before.now x.router) × (x.made_after ≡ site_made x.after.now x.router) };
+    ghost invariant = { λ x. (x.part_before ≡ router_site x.before.now x.router) × (x.part_after ≡ router_site x.after.now x.router) };
 }
 
 impl<'a> RouterEdit<'a> {
@@ -45,8 +92,8 @@ impl<'a> RouterEdit<'a> {
             before,
             after,
             router,
-            made_before: before.made_site(alloc, router)?,
-            made_after: after.made_site(alloc, router)?,
+            part_before: RouterPart::of(alloc, before, router)?,
+            part_after: RouterPart::of(alloc, after, router)?,
         })
     }
 
@@ -54,12 +101,12 @@ impl<'a> RouterEdit<'a> {
     pub fn becoming(&self) -> Becoming<'_>
         ensures { result ≡ edit_becoming self.now }
     {
-        let (before, after): (&Conf, &Conf) = (self.before, self.after);
+        let after: &Conf = self.after;
         Becoming::of(
             after,
             self.router,
-            before.site_in(&self.made_before, self.router),
-            after.site_in(&self.made_after, self.router),
+            self.part_before.get(),
+            self.part_after.get(),
         )
     }
 }
