@@ -12,11 +12,11 @@ use Rattle.session_queue.specs.declared.message.Message.{Message}
 use Rattle.session_queue.specs.declared.direction.Direction.{Direction}
 use Rattle.session_queue.specs.Waiting.{direction_cmp, same_direction}
 use Rattle.session_queue.proofs.Places.{direction_total}
-use Rattle.route_cell.proofs.Entries.{lookup_inserted}
-use Rattle.cell_network.specs.Sending.{told, told_from}
-use Rattle.cell_network.specs.Editing.{told_by_all}
-use Rattle.cell_network.proofs.Offers.{same_addr_true}
-use Rattle.cell_network.proofs.Told.{told_step}
+use Rattle.cell_engine.proofs.Entries.{lookup_inserted}
+use Rattle.cell_engine.specs.Sending.{told, told_from}
+use Rattle.cell_engine.specs.Editing.{told_by_all}
+use Rattle.cell_engine.proofs.Offers.{same_addr_true}
+use Rattle.cell_engine.proofs.Told.{told_step}
 use Rattle.cell_engine.specs.Counts.{count_at}
 
 -- ONE MORE

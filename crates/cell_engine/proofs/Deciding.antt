@@ -9,10 +9,10 @@ use Rattle.std.specs.FinMap as finite
 use Rattle.net_prefix.specs.declared.addr.Addr.{Addr}
 use Rattle.net_prefix.specs.Block.{Block}
 use Rattle.prefix_table.specs.Tables.{Table}
-use Rattle.router_tables.specs.RouterTables.{table_at}
-use Rattle.route_cell.specs.Cells.{Heard}
-use Rattle.cell_network.specs.Moves.{is_moved_by}
-use Rattle.cell_engine.specs.Changes.{Becoming, RouterEdit, change_of, change_at, moved_cells, all_moved, edit_becoming, edit_changes, all_changes}
+use Rattle.cell_engine.specs.RouterTables.{table_at}
+use Rattle.cell_engine.specs.Cells.{Heard}
+use Rattle.cell_engine.specs.Moves.{is_moved_by}
+use Rattle.cell_engine.specs.Becomings.{Becoming, RouterEdit, change_of, change_at, moved_cells, all_moved, edit_becoming, edit_changes, all_changes}
 
 -- IN THREADS
 

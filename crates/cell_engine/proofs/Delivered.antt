@@ -23,19 +23,19 @@ use Rattle.reference_machine.specs.Network.{Network, messages_in, without_head}
 use Rattle.reference_machine.specs.Decision.{best}
 use Rattle.reference_machine.specs.Advertising.{advert_of, sends, changes, sent, advertised, change_of}
 use Rattle.reference_machine.specs.Machine.{taken, head_step, with_sent}
-use Rattle.router_tables.specs.RouterTables.{with_value}
-use Rattle.route_cell.specs.Cells.{Heard, Outcome, with_news, decided, is_up_in, delivered, stored}
-use Rattle.cell_network.specs.Engine.{Engine, IsSound, heard_at, network}
-use Rattle.cell_network.specs.Keeping.{kept_from}
-use Rattle.cell_network.specs.Changes.{AreOverSessionsUp}
-use Rattle.cell_network.specs.Sending.{told, told_from}
-use Rattle.cell_network.proofs.Decided.{best_heard}
-use Rattle.cell_network.proofs.Offers.{best_stays, sent_by_one, same_addr_true, nothing_if}
-use Rattle.cell_network.proofs.Queues.{network_popped, network_sent, messages_on_session}
-use Rattle.cell_network.proofs.OverSessions.{up_with_cell, delivered_kept, stored_kept}
-use Rattle.cell_network.proofs.Sites.{up_in_site, site_of_router}
-use Rattle.cell_network.proofs.Taken.{cell_after, after_news, heard_here, route_elsewhere, sound_after_news, network_after_news}
-use Rattle.cell_network.proofs.Told.{told_one, delivered_is_sent}
+use Rattle.cell_engine.specs.RouterTables.{with_value}
+use Rattle.cell_engine.specs.Cells.{Heard, Outcome, with_news, decided, is_up_in, delivered, stored}
+use Rattle.cell_engine.specs.Engine.{Engine, IsSound, heard_at, network}
+use Rattle.cell_engine.specs.Keeping.{kept_from}
+use Rattle.cell_engine.specs.Changes.{AreOverSessionsUp}
+use Rattle.cell_engine.specs.Sending.{told, told_from}
+use Rattle.cell_engine.proofs.Decided.{best_heard}
+use Rattle.cell_engine.proofs.Offers.{best_stays, sent_by_one, same_addr_true, nothing_if}
+use Rattle.cell_engine.proofs.Queues.{network_popped, network_sent, messages_on_session}
+use Rattle.cell_engine.proofs.OverSessions.{up_with_cell, delivered_kept, stored_kept}
+use Rattle.cell_engine.proofs.Sites.{up_in_site, site_of_router}
+use Rattle.cell_engine.proofs.Taken.{cell_after, after_news, heard_here, route_elsewhere, sound_after_news, network_after_news}
+use Rattle.cell_engine.proofs.Told.{told_one, delivered_is_sent}
 use Rattle.cell_engine.specs.Deliveries.{outcome_by, outcome_at, IsOfHead}
 
 -- QUEUES OF SOUND ENGINES

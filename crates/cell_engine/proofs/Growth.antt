@@ -20,17 +20,17 @@ use Rattle.session_queue.specs.Waiting.{WaitingByDirection, queue_at, IsQuiet}
 use Rattle.net_conf.specs.Configuration.{Configuration, unconfigured}
 use Rattle.net_conf.specs.RouterSites.{router_site}
 use Rattle.reference_machine.specs.Machine.{nothing}
-use Rattle.router_tables.specs.RouterTables.{value_at, with_value}
-use Rattle.route_cell.specs.Cells.{Heard, Outcome, nothing_heard}
-use Rattle.cell_network.specs.Engine.{Engine, IsSound, heard_at, network, queue_of}
-use Rattle.cell_network.specs.Keeping.{kept_from}
-use Rattle.cell_network.specs.Changes.{AreOverSessionsUp}
-use Rattle.cell_network.specs.Reporting.{AreOfPrefixes}
-use Rattle.cell_network.proofs.Matches.{prefixes_with_cell}
-use Rattle.cell_network.proofs.Decided.{value_with_cell, sound_with_empty_cell}
-use Rattle.cell_network.proofs.Queues.{network_same}
-use Rattle.cell_network.proofs.Received.{entries_with_empty_cell}
-use Rattle.cell_network.proofs.Taken.{value_here}
+use Rattle.cell_engine.specs.RouterTables.{value_at, with_value}
+use Rattle.cell_engine.specs.Cells.{Heard, Outcome, nothing_heard}
+use Rattle.cell_engine.specs.Engine.{Engine, IsSound, heard_at, network, queue_of}
+use Rattle.cell_engine.specs.Keeping.{kept_from}
+use Rattle.cell_engine.specs.Changes.{AreOverSessionsUp}
+use Rattle.cell_engine.specs.Reporting.{AreOfPrefixes}
+use Rattle.cell_engine.proofs.Matches.{prefixes_with_cell}
+use Rattle.cell_engine.proofs.Decided.{value_with_cell, sound_with_empty_cell}
+use Rattle.cell_engine.proofs.Queues.{network_same}
+use Rattle.cell_engine.proofs.Received.{entries_with_empty_cell}
+use Rattle.cell_engine.proofs.Taken.{value_here}
 use Rattle.cell_engine.specs.Deliveries.{outcome_by, outcome_at, IsOfHead, KeepsSame}
 use Rattle.cell_engine.proofs.Delivered.{sound_with_queues}
 

@@ -13,24 +13,24 @@ use Rattle.net_conf.proofs.KeptTrees.{or_right}
 use Rattle.net_conf.proofs.OthersStay.{sites_of_others, sessions_stay, origins_alone, other_origins}
 use Rattle.reference_machine.specs.Advertising.{sent}
 use Rattle.reference_machine.specs.Machine.{after_edit, with_sent, reconfigured}
-use Rattle.route_cell.specs.Cells.{nothing_heard}
-use Rattle.cell_network.specs.Engine.{Engine, IsSound, network}
-use Rattle.cell_network.specs.Keeping.{kept_from, kept_tables}
-use Rattle.cell_network.specs.Editing.{with_origin, left_at, edited_tables, edited_engine, all_sends, told_by_all}
-use Rattle.cell_network.specs.Changes.{with_changes, sends_for, AreOverSessionsUp}
-use Rattle.cell_network.specs.Moves.{moves}
-use Rattle.cell_network.specs.Settled.{AreSettledOutside, AreSettledBut, AreThere}
-use Rattle.cell_network.specs.Reporting.{AreOfPrefixes}
-use Rattle.cell_network.proofs.Edits.{passes, joins, session_edited}
-use Rattle.cell_network.proofs.Edited.{sound_edited}
-use Rattle.cell_network.proofs.Matches.{prefixes_kept}
-use Rattle.cell_network.proofs.Placed.{changes_there, changes_placed}
-use Rattle.cell_network.proofs.ToldByChanges.{told_by_changes}
-use Rattle.cell_network.proofs.Decided.{is_cell}
-use Rattle.cell_network.proofs.Moves.{settled_but_moved}
-use Rattle.cell_network.proofs.Settled.{settled_outside}
-use Rattle.cell_network.proofs.OverSessions.{up_after}
-use Rattle.cell_network.proofs.Refreshed.{told_edited, network_edited}
+use Rattle.cell_engine.specs.Cells.{nothing_heard}
+use Rattle.cell_engine.specs.Engine.{Engine, IsSound, network}
+use Rattle.cell_engine.specs.Keeping.{kept_from, kept_tables}
+use Rattle.cell_engine.specs.Editing.{with_origin, left_at, edited_tables, edited_engine, all_sends, told_by_all}
+use Rattle.cell_engine.specs.Changes.{with_changes, sends_for, AreOverSessionsUp}
+use Rattle.cell_engine.specs.Moves.{moves}
+use Rattle.cell_engine.specs.Settled.{AreSettledOutside, AreSettledBut, AreThere}
+use Rattle.cell_engine.specs.Reporting.{AreOfPrefixes}
+use Rattle.cell_engine.proofs.AcceptedEdits.{passes, joins, session_edited}
+use Rattle.cell_engine.proofs.AfterEdit.{sound_edited}
+use Rattle.cell_engine.proofs.Matches.{prefixes_kept}
+use Rattle.cell_engine.proofs.Placed.{changes_there, changes_placed}
+use Rattle.cell_engine.proofs.ToldByChanges.{told_by_changes}
+use Rattle.cell_engine.proofs.Decided.{is_cell}
+use Rattle.cell_engine.proofs.Moves.{settled_but_moved}
+use Rattle.cell_engine.proofs.Settled.{settled_outside}
+use Rattle.cell_engine.proofs.OverSessions.{up_after}
+use Rattle.cell_engine.proofs.Refreshed.{told_edited, network_edited}
 use Rattle.cell_engine.specs.Edits.{Made, planned, IsMade}
 use Rattle.cell_engine.proofs.Delivered.{down_without_session, sent_without_session}
 

@@ -25,21 +25,21 @@ use Rattle.net_conf.specs.Scopes.{scope}
 use Rattle.reference_machine.specs.Decision.{standings}
 use Rattle.reference_machine.specs.Machine.{after_edit, with_sent, reconfigured}
 use Rattle.reference_machine.specs.Network.{Network}
-use Rattle.route_cell.specs.Cells.{Heard, nothing_heard}
-use Rattle.cell_network.specs.Changes.{Change, AreOverSessionsUp, changes_in}
-use Rattle.cell_network.specs.Decisions.{standings_at, HasStanding, AreFactsMoved, IsTouched, is_cell_of, IsRefreshed}
-use Rattle.cell_network.specs.Editing.{with_origin, edited_engine}
-use Rattle.cell_network.specs.Engine.{Engine, IsSound, heard_at, network}
-use Rattle.cell_network.specs.Keeping.{kept_from, kept_cell, kept_tables}
-use Rattle.cell_network.specs.Moves.{moves}
-use Rattle.cell_network.proofs.Ascending.{changes_in_order, chosen_in_order}
-use Rattle.cell_network.proofs.Decided.{is_cell}
-use Rattle.cell_network.proofs.Decisions.{standings_in_cell}
-use Rattle.cell_network.proofs.Edited.{sound_edited, received_edited}
-use Rattle.cell_network.proofs.Kept.{value_kept}
-use Rattle.cell_network.proofs.Placed.{has_one, IsChosen, changes_chosen, value_unchanged}
-use Rattle.cell_network.proofs.Routers.{is_router_node, site_of_node, no_router_before, new_router_heard_nothing}
-use Rattle.cell_network.proofs.Touched.{Touches, touched}
+use Rattle.cell_engine.specs.Cells.{Heard, nothing_heard}
+use Rattle.cell_engine.specs.Changes.{Change, AreOverSessionsUp, changes_in}
+use Rattle.cell_engine.specs.Decisions.{standings_at, HasStanding, AreFactsMoved, IsTouched, is_cell_of, IsRefreshed}
+use Rattle.cell_engine.specs.Editing.{with_origin, edited_engine}
+use Rattle.cell_engine.specs.Engine.{Engine, IsSound, heard_at, network}
+use Rattle.cell_engine.specs.Keeping.{kept_from, kept_cell, kept_tables}
+use Rattle.cell_engine.specs.Moves.{moves}
+use Rattle.cell_engine.proofs.Ascending.{changes_in_order, chosen_in_order}
+use Rattle.cell_engine.proofs.Decided.{is_cell}
+use Rattle.cell_engine.proofs.Decisions.{standings_in_cell}
+use Rattle.cell_engine.proofs.AfterEdit.{sound_edited, received_edited}
+use Rattle.cell_engine.proofs.Kept.{value_kept}
+use Rattle.cell_engine.proofs.Placed.{has_one, IsChosen, changes_chosen, value_unchanged}
+use Rattle.cell_engine.proofs.Routers.{is_router_node, site_of_node, no_router_before, new_router_heard_nothing}
+use Rattle.cell_engine.proofs.Touched.{Touches, touched}
 use Rattle.cell_engine.specs.Edits.{Planned, planned, IsPlanned, refreshed_by, has_router_kind}
 use Rattle.cell_engine.proofs.Reconfigured.{settled, unmoved, tables_are}
 use Rattle.cell_engine.proofs.Whole.{refreshed_of, refreshed_whole}

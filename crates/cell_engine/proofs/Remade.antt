@@ -10,12 +10,12 @@ use Rattle.net_conf.specs.Configuration.{Configuration}
 use Rattle.net_conf.specs.RouterSites.{router_site}
 use Rattle.net_conf.specs.declared.site.SiteConf.{SiteConf}
 use Rattle.prefix_table.specs.Tables.{Table}
-use Rattle.route_cell.specs.Cells.{Heard, Outcome, decided, refreshed}
-use Rattle.route_cell.specs.Moves.{SitePair}
-use Rattle.cell_network.specs.Keeping.{kept_from, kept_cell}
-use Rattle.cell_network.specs.Editing.{sends_between}
-use Rattle.cell_network.proofs.Sites.{refreshed_is_kept}
-use Rattle.cell_engine.specs.Changes.{pair_of}
+use Rattle.cell_engine.specs.Cells.{Heard, Outcome, decided, refreshed}
+use Rattle.cell_engine.specs.SiteMoves.{SitePair}
+use Rattle.cell_engine.specs.Keeping.{kept_from, kept_cell}
+use Rattle.cell_engine.specs.Editing.{sends_between}
+use Rattle.cell_engine.proofs.Sites.{refreshed_is_kept}
+use Rattle.cell_engine.specs.Becomings.{pair_of}
 
 -- ONE CELL
 

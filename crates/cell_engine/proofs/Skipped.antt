@@ -8,16 +8,16 @@ use Rattle.std.specs.FinMap.Entries as entries
 use Rattle.net_prefix.specs.Block.{Block, block_cmp}
 use Rattle.net_prefix.specs.Orders.{block_total}
 use Rattle.prefix_table.specs.Tables.{Table}
-use Rattle.route_cell.specs.Cells.{Heard}
-use Rattle.route_cell.specs.Moves.{SitePair, is_moved, MovesCostsAlone}
-use Rattle.route_cell.proofs.OneHop.{none_by_hop, none_moved}
-use Rattle.hop_table.specs.Hops.{Have, AreKnown}
-use Rattle.hop_table.specs.declared.hops.Hops.{Hops}
-use Rattle.hop_table.specs.declared.hops.Hops.TheVariants.{Nothing, Only, Several}
-use Rattle.cell_network.specs.Moves.{is_moved_by}
-use Rattle.cell_network.proofs.Chunks.{of_T}
-use Rattle.cell_network.proofs.Refreshed.{all_from, found_each}
-use Rattle.cell_engine.specs.Changes.{Becoming, MovedCell, moves_one_of, moved_cells}
+use Rattle.cell_engine.specs.Cells.{Heard}
+use Rattle.cell_engine.specs.SiteMoves.{SitePair, is_moved, MovesCostsAlone}
+use Rattle.cell_engine.proofs.OneHop.{none_by_hop, none_moved}
+use Rattle.cell_engine.specs.Hops.{Have, AreKnown}
+use Rattle.cell_engine.specs.declared.hops.Hops.{Hops}
+use Rattle.cell_engine.specs.declared.hops.Hops.TheVariants.{Nothing, Only, Several}
+use Rattle.cell_engine.specs.Moves.{is_moved_by}
+use Rattle.cell_engine.proofs.Chunks.{of_T}
+use Rattle.cell_engine.proofs.Refreshed.{all_from, found_each}
+use Rattle.cell_engine.specs.Becomings.{Becoming, MovedCell, moves_one_of, moved_cells}
 
 -- what holds where a test says no
 pub leaves_by : (b : Bool) (P : Type 0) → (b ≡ false → P) → OnTrue (not b) P

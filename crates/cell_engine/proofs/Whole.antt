@@ -18,21 +18,21 @@ use Rattle.net_conf.specs.Configured.{IsConfigured}
 use Rattle.net_conf.specs.RouterSites.{router_site}
 use Rattle.net_conf.proofs.RouterLaws.{site_of_router, site_sessions_in_order}
 use Rattle.prefix_table.specs.Tables.{Table}
-use Rattle.router_tables.specs.RouterTables.{table_at, value_at, with_value}
-use Rattle.route_cell.specs.Cells.{Heard, Outcome, nothing_heard, decided}
-use Rattle.route_cell.specs.Moves.{SitePair, is_moved}
-use Rattle.route_cell.specs.Recosting.{recosted}
-use Rattle.route_cell.proofs.Recosted.{recosted_alone}
-use Rattle.cell_network.specs.Engine.{Engine, IsSound, heard_at}
-use Rattle.cell_network.specs.Changes.{Change, with_changes, sends_for}
-use Rattle.cell_network.specs.Decisions.{cell_cmp}
-use Rattle.cell_network.specs.Moves.{is_moved_by, moves}
-use Rattle.cell_network.specs.Settled.{AreThere}
-use Rattle.cell_network.proofs.Ascending.{cell_of, changes_in_order}
-use Rattle.cell_network.proofs.Decided.{is_cell, value_with_cell, still_there}
-use Rattle.cell_network.proofs.Placed.{cells_found}
+use Rattle.cell_engine.specs.RouterTables.{table_at, value_at, with_value}
+use Rattle.cell_engine.specs.Cells.{Heard, Outcome, nothing_heard, decided}
+use Rattle.cell_engine.specs.SiteMoves.{SitePair, is_moved}
+use Rattle.cell_engine.specs.Recosting.{recosted}
+use Rattle.cell_engine.proofs.Recosted.{recosted_alone}
+use Rattle.cell_engine.specs.Engine.{Engine, IsSound, heard_at}
+use Rattle.cell_engine.specs.Changes.{Change, with_changes, sends_for}
+use Rattle.cell_engine.specs.Decisions.{cell_cmp}
+use Rattle.cell_engine.specs.Moves.{is_moved_by, moves}
+use Rattle.cell_engine.specs.Settled.{AreThere}
+use Rattle.cell_engine.proofs.Ascending.{cell_of, changes_in_order}
+use Rattle.cell_engine.proofs.Decided.{is_cell, value_with_cell, still_there}
+use Rattle.cell_engine.proofs.Placed.{cells_found}
 use Rattle.cell_engine.specs.CellEdits.{CellEdit, outcome_of, edits_send, whole_change, whole_changes, AreEditsThere, with_edit, with_edits}
-use Rattle.cell_engine.specs.Changes.{Becoming, MovedCell, RouterEdit, AreEditsOf, becoming_of, edit_becoming, pair_of, recost_in, edit_by, edit_at, change_of, change_at, moved_cells, all_moved}
+use Rattle.cell_engine.specs.Becomings.{Becoming, MovedCell, RouterEdit, AreEditsOf, becoming_of, edit_becoming, pair_of, recost_in, edit_by, edit_at, change_of, change_at, moved_cells, all_moved}
 use Rattle.net_conf.specs.declared.edit.Edit.{Edit}
 use Rattle.net_conf.specs.Edits.{edited}
 use Rattle.net_conf.specs.Scopes.{scope}

@@ -6,11 +6,11 @@ use Rattle.net_prefix.specs.declared.addr.Addr.{Addr}
 use Rattle.net_prefix.specs.Block.{Block}
 use Rattle.session_queue.specs.declared.message.Message.{Message}
 use Rattle.prefix_table.specs.Tables.{Table}
-use Rattle.router_tables.specs.RouterTables.{value_at, with_value}
-use Rattle.route_cell.specs.Cells.{Heard, Outcome}
-use Rattle.route_cell.specs.Recosting.{recosted}
-use Rattle.cell_network.specs.Engine.{heard_at}
-use Rattle.cell_network.specs.Changes.{Change}
+use Rattle.cell_engine.specs.RouterTables.{value_at, with_value}
+use Rattle.cell_engine.specs.Cells.{Heard, Outcome}
+use Rattle.cell_engine.specs.Recosting.{recosted}
+use Rattle.cell_engine.specs.Engine.{heard_at}
+use Rattle.cell_engine.specs.Changes.{Change}
 
 -- remade: the cell that takes the place, and what is sent for that; where there is none, cost: that of the one route
 pub record CellEdit : Type 0 where

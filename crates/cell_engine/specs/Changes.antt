@@ -1,103 +1,59 @@
--- What becomes of the cells of one address. No public contract cites this file.
-use Rattle.std.specs.Prelude.{◌≡◌, ℕ, Bool, true, false, ◌∷◌, [], List, map, filter, Option, Some, None}
-use Rattle.std.specs.List.{AllByRecursion, flat_map}
+-- What an edit changes of an engine's tables, cell by cell, and what is sent for that.
+use Rattle.std.specs.Prelude.{◌≡◌, Bool, List, [], ◌∷◌, map, filter, option_map}
+use Rattle.std.specs.Option.{option_to_list}
+use Rattle.std.specs.List.{flat_map}
 use Rattle.std.specs.FinMap as finite
 use Rattle.net_prefix.specs.declared.addr.Addr.{Addr}
 use Rattle.net_prefix.specs.Block.{Block}
+use Rattle.session_queue.specs.declared.message.Message.{Message}
 use Rattle.net_conf.specs.Configuration.{Configuration}
-use Rattle.net_conf.specs.declared.site.SiteConf.{SiteConf}
-use Rattle.net_conf.specs.RouterSites.{router_site}
+use Rattle.net_conf.specs.declared.edit.Scope.{Scope}
+use Rattle.net_conf.specs.declared.edit.Scope.TheVariants.{Network, Site, Route}
 use Rattle.prefix_table.specs.Tables.{Table}
-use Rattle.router_tables.specs.RouterTables.{table_at}
-use Rattle.route_cell.specs.Cells.{Heard}
-use Rattle.route_cell.specs.Moves.{SitePair, moves_cost_to}
-use Rattle.route_cell.specs.Recosting.{recost}
-use Rattle.hop_table.specs.declared.hops.Hops.{Hops}
-use Rattle.hop_table.specs.declared.hops.Hops.TheVariants.{Nothing, Only, Several}
-use Rattle.cell_network.specs.Keeping.{kept_cell}
-use Rattle.cell_network.specs.Editing.{sends_between}
-use Rattle.cell_network.specs.Moves.{is_moved_by, moves}
-use Rattle.cell_network.specs.Changes.{Change, router_changes}
-use Rattle.cell_engine.specs.CellEdits.{CellEdit}
+use Rattle.cell_engine.specs.RouterTables.{table_at, value_at, with_value}
+use Rattle.cell_engine.specs.Cells.{Heard, Outcome}
+use Rattle.cell_engine.specs.Engine.{heard_at}
+use Rattle.cell_engine.specs.Keeping.{kept_from, kept_cell}
+use Rattle.cell_engine.specs.Editing.{cell_sends}
+use Rattle.cell_engine.specs.Moves.{moves}
 
--- the configuration that comes, an address, and the part of the configuration before and after of the router that stands there
-pub record Becoming : Type 0 where
-  pub conf : Configuration
-  pub address : Addr
-  pub old : Option SiteConf
-  pub new : Option SiteConf
-
--- where a router stands before and after
-abbrev pub pair_of : Option SiteConf → Option SiteConf → Option SitePair
-pair_of (Some old) (Some new) = Some (record { old = old; new = new })
-pair_of _ _ = None
-
--- of a router, when the configuration c becomes d
-abbrev pub becoming_of : Configuration → Configuration → Addr → Becoming
-becoming_of c d r = record { conf = d; address = r; old = router_site c r; new = router_site d r }
-
--- one cell
-abbrev pub change_of : Becoming → Block → Heard → Change
-change_of b p h = record { router = b.address; prefix = p; outcome = record { heard = kept_cell b.conf b.address p h; sends = sends_between b.old b.new p h } }
-
--- a cell that can change, and what becomes of who keeps it
-pub record MovedCell : Type 0 where
-  pub becoming : Becoming
-  pub prefix : Block
-  pub heard : Heard
-
--- what comes of it
-abbrev pub change_at : MovedCell → Change
-change_at x = change_of x.becoming x.prefix x.heard
-
--- those of these that can change
-abbrev pub moved_cells : Becoming → List (Block × Heard) → List MovedCell
-moved_cells b cells = map (λ e. record { becoming = b; prefix = e.0; heard = e.1 }) (filter (λ e. is_moved_by b.old b.new b.conf b.address e.0 e.1) cells)
-
--- this one, if it can
-abbrev pub moved_cell : Becoming → Block → Heard → List MovedCell
-moved_cell b p h = moved_cells b ((p, h) ∷ [])
-
--- the cost which is all that becomes of the router's cell. None elsewhere
-abbrev pub recost_in : Option SitePair → Block → Heard → Option ℕ
-recost_in None p h = None
-recost_in (Some s) p h = recost s p h.received
-
--- the cost to one of these NEXT_HOPs can become another
-abbrev pub moves_one_of : SitePair → Hops → Bool
-moves_one_of s Nothing = false
-moves_one_of s (Only a) = moves_cost_to s a
-moves_one_of s Several = true
-
-abbrev pub edit_by : Option ℕ → Becoming → Block → Heard → CellEdit
-edit_by None b p h = record { router = b.address; prefix = p; remade = Some (change_of b p h).outcome; cost = 0 }
-edit_by (Some k) b p h = record { router = b.address; prefix = p; remade = None; cost = k }
-
--- what is done to one cell
-abbrev pub edit_at : MovedCell → CellEdit
-edit_at x = edit_by (recost_in (pair_of x.becoming.old x.becoming.new) x.prefix x.heard) x.becoming x.prefix x.heard
-
--- of all of these, in order, then by prefix
-abbrev pub all_moved : List Becoming → List (Addr × Table Heard) → List MovedCell
-all_moved bs ts = flat_map (λ b. moved_cells b (finite.entries (table_at b.address ts))) bs
-
--- a router where the configuration becomes another
-pub record RouterEdit : Type 0 where
-  pub before : Configuration
-  pub after : Configuration
+-- a cell that is decided anew: its router and prefix, and what comes of it
+pub record Change : Type 0 where
   pub router : Addr
+  pub prefix : Block
+  pub outcome : Outcome
 
--- they are edits of this configuration
-abbrev pub AreEditsOf : Configuration → List RouterEdit → Type 0
-AreEditsOf c xs = AllByRecursion (λ x. x.before ≡ c) xs
+-- the router's cell, when the configuration c becomes d
+abbrev pub cell_change : Configuration → Configuration → Addr → Block → Heard → Change
+cell_change c d r p h = record { router = r; prefix = p; outcome = record { heard = kept_cell d r p h; sends = cell_sends c d r p h } }
 
-abbrev pub edit_becoming : RouterEdit → Becoming
-edit_becoming x = becoming_of x.before x.after x.router
+-- a cell is decided anew, or not
+abbrev pub Choice : Type 0
+Choice = Addr → Block → Heard → Bool
 
--- what becomes of its cells
-abbrev pub edit_changes : List (Addr × Table Heard) → RouterEdit → List Change
-edit_changes ts x = router_changes (moves x.before x.after) x.before x.after x.router (finite.entries (table_at x.router ts))
+-- the router's cells that are, in order of prefix
+abbrev pub router_changes : Choice → Configuration → Configuration → Addr → List (Block × Heard) → List Change
+router_changes holds c d r cells = map (λ e. cell_change c d r e.0 e.1) (filter (λ e. holds r e.0 e.1) cells)
 
--- of those of all of these
-abbrev pub all_changes : List RouterEdit → List (Addr × Table Heard) → List Change
-all_changes xs ts = flat_map (edit_changes ts) xs
+-- those that an edit of this scope can change, in order of router, then prefix
+abbrev pub changes_where : Choice → Scope → Configuration → Configuration → List (Addr × Table Heard) → List Change
+changes_where holds Network c d ts = flat_map (λ t. router_changes holds c d t.0 (finite.entries t.1)) ts
+changes_where holds (Site a) c d ts = router_changes holds c d a (finite.entries (table_at a ts))
+changes_where holds (Route a p) c d ts = router_changes holds c d a (option_to_list (option_map (λ h. (p, h)) (value_at a p ts)))
+
+-- of these the ones that it changes
+abbrev pub changes_in : Scope → Configuration → Configuration → List (Addr × Table Heard) → List Change
+changes_in s c d ts = changes_where (moves c d) s c d ts
+
+-- the tables, with each changed cell in its place
+abbrev pub with_changes : List Change → List (Addr × Table Heard) → List (Addr × Table Heard)
+with_changes [] ts = ts
+with_changes (x ∷ xs) ts = with_changes xs (with_value x.router x.prefix x.outcome.heard ts)
+
+-- what the routers send for the changes
+abbrev pub sends_for : List Change → List (Addr × List (Addr × Message))
+sends_for xs = map (λ x. (x.router, x.outcome.sends)) xs
+
+-- all routes in the tables came over sessions that are up
+abbrev pub AreOverSessionsUp : Configuration → List (Addr × Table Heard) → Type 0
+AreOverSessionsUp c ts = (r : Addr) (p : Block) → kept_from c r (heard_at r p ts).received ≡ (heard_at r p ts).received

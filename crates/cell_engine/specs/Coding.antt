@@ -7,8 +7,8 @@ use Rattle.net_prefix.specs.declared.addr.Addr.{Addr}
 use Rattle.net_prefix.specs.contracts.addr.Addr as address
 use Rattle.net_prefix.specs.Block.{Block}
 use Rattle.prefix_table.specs.Tables.{Table, coded_block}
-use Rattle.route_cell.specs.Cells.{Heard, Outcome}
-use Rattle.route_cell.specs.Coding.{coded_heard, coded_outcome}
+use Rattle.cell_engine.specs.Cells.{Heard, Outcome}
+use Rattle.cell_engine.specs.CellCoding.{coded_heard, coded_outcome}
 use Rattle.cell_engine.specs.CellEdits.{CellEdit}
 
 abbrev pub coded_table : Coded (Table Heard)

@@ -9,10 +9,10 @@ use Rattle.session_queue.specs.declared.message.Message.{Message}
 use Rattle.session_queue.specs.declared.direction.Direction.{Direction}
 use Rattle.session_queue.specs.Telling.{prefix_of}
 use Rattle.session_queue.specs.Waiting.{queue_at, spare_at}
-use Rattle.router_tables.specs.RouterTables.{value_at}
-use Rattle.route_cell.specs.Cells.{Heard, Outcome, delivered, stored}
-use Rattle.cell_network.specs.Engine.{Engine, heard_at, all_entries}
-use Rattle.cell_network.specs.Sending.{told}
+use Rattle.cell_engine.specs.RouterTables.{value_at}
+use Rattle.cell_engine.specs.Cells.{Heard, Outcome, delivered, stored}
+use Rattle.cell_engine.specs.Engine.{Engine, heard_at, all_entries}
+use Rattle.cell_engine.specs.Sending.{told}
 use Rattle.cell_engine.specs.Admitting.{AreAdmitted}
 
 -- a router decides, a virtual peer keeps what it receives

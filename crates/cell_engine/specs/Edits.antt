@@ -13,11 +13,11 @@ use Rattle.net_conf.specs.Edits.{edited, refusal_of}
 use Rattle.net_conf.specs.Scopes.{scope}
 use Rattle.session_queue.specs.declared.direction.Direction.{Direction}
 use Rattle.session_queue.specs.Waiting.{spare_at, same_direction}
-use Rattle.cell_network.specs.Engine.{Engine}
-use Rattle.cell_network.specs.Editing.{with_directions, with_origin, told_by_all}
+use Rattle.cell_engine.specs.Engine.{Engine}
+use Rattle.cell_engine.specs.Editing.{with_directions, with_origin, told_by_all}
 use Rattle.prefix_table.specs.Tables.{Table}
-use Rattle.route_cell.specs.Cells.{Heard}
-use Rattle.cell_network.specs.Changes.{Change, changes_in}
+use Rattle.cell_engine.specs.Cells.{Heard}
+use Rattle.cell_engine.specs.Changes.{Change, changes_in}
 use Rattle.cell_engine.specs.Admitting.{AreAllAdmitted}
 use Rattle.cell_engine.specs.CellEdits.{CellEdit, edits_send, whole_changes}
 

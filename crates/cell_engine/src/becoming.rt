@@ -5,21 +5,22 @@ ghost use Rattle.std.specs.Option.{option_copied};
 ghost use Rattle.std.specs.Bool.{OnTrue};
 ghost use Rattle.std.specs.FinMap as finite;
 ghost use Rattle.net_prefix.specs.Block as block;
-ghost use Rattle.route_cell.specs.Cells as cells;
-ghost use Rattle.hop_table.specs.Hops.{Have};
+ghost use Rattle.cell_engine.specs.Cells as cells;
+ghost use Rattle.cell_engine.specs.Hops.{Have};
 ghost use Rattle.net_conf.specs.RouterSites.{router_site};
-ghost use Rattle.cell_network.specs.Keeping.{kept_cell};
-ghost use Rattle.cell_network.specs.Editing.{sends_between};
-ghost use Rattle.cell_network.specs.Moves.{is_moved_by};
-ghost use Rattle.cell_engine.specs.Changes.{pair_of, recost_in, moves_one_of, edit_by, moved_cell, moved_cells};
+ghost use Rattle.cell_engine.specs.Keeping.{kept_cell};
+ghost use Rattle.cell_engine.specs.Editing.{sends_between};
+ghost use Rattle.cell_engine.specs.Moves.{is_moved_by};
+ghost use Rattle.cell_engine.specs.Becomings.{pair_of, recost_in, moves_one_of, edit_by, moved_cell, moved_cells};
 
 use crate::cell_edits::CellEdit;
+use crate::hop_table::HopTable;
+use crate::hops::Hops;
 use crate::moved_cells::MovedCell;
-use hop_table::{HopTable, Hops};
+use crate::route_cell::{Cell, Outcome, SiteChange, keep, refresh, refresh_compared};
 use net_conf::{Conf, SiteConf};
 use net_prefix::{Addr, Prefix};
 use prefix_table::PrefixTable;
-use route_cell::{Cell, Outcome, SiteChange, keep, refresh, refresh_compared};
 use route_select::Selector;
 use seq::Seq;
 use std::alloc::{AllocError, Global};
@@ -40,7 +41,7 @@ impl<'a> Model for Becoming<'a> {
     ghost use Rattle.std.specs.Prelude.{◌≡◌};
     ghost use Rattle.std.specs.Option.{option_copied};
     ghost use Rattle.net_conf.specs.RouterSites.{router_site};
-    ghost use Rattle.cell_engine.specs.Changes as changes;
+    ghost use Rattle.cell_engine.specs.Becomings as changes;
 
     ghost Value = { changes.Becoming };
 

@@ -2,19 +2,19 @@
 
 ghost use Rattle.std.specs.Prelude.{◌≡◌, ◌≤◌, ◌+◌, ◌++◌, length, true, is_some};
 ghost use Rattle.session_queue.specs.Waiting.{queue_at, spare_at};
-ghost use Rattle.router_tables.specs.RouterTables.{value_at, with_value};
-ghost use Rattle.route_cell.specs.Recosting.{recosted};
-ghost use Rattle.cell_network.specs.Sending.{told, told_from};
-ghost use Rattle.cell_network.specs.Editing.{told_by_all};
+ghost use Rattle.cell_engine.specs.RouterTables.{value_at, with_value};
+ghost use Rattle.cell_engine.specs.Recosting.{recosted};
+ghost use Rattle.cell_engine.specs.Sending.{told, told_from};
+ghost use Rattle.cell_engine.specs.Editing.{told_by_all};
 ghost use Rattle.cell_engine.specs.Admitting.{AreAdmitted, AreAllAdmitted};
 ghost use Rattle.cell_engine.specs.CellEdits.{edit_sends, edits_send, AreEditsThere, with_edit, with_edits};
 
 use crate::deliveries::push_all;
+use crate::route_cell::{Cell, Outcome};
+use crate::router_tables::RouterTables;
 use net_prefix::{Addr, Prefix};
 use prefix_table::{Adjust, PrefixTable};
-use route_cell::{Cell, Outcome};
 use route_select::Selector;
-use router_tables::RouterTables;
 use session_queue::{Message, Queues};
 use std::marker::Model;
 

@@ -4,22 +4,22 @@ ghost use Rattle.std.specs.Prelude.{◌≡◌, ◌≤◌, ◌+◌, ◌++◌, len
 ghost use Rattle.net_conf.specs.Costs.{is_up};
 ghost use Rattle.session_queue.specs.Telling.{prefix_of};
 ghost use Rattle.session_queue.specs.Waiting.{queue_at, spare_at};
-ghost use Rattle.router_tables.specs.RouterTables.{value_at, with_value};
-ghost use Rattle.route_cell.specs.Cells.{nothing_heard};
+ghost use Rattle.cell_engine.specs.RouterTables.{value_at, with_value};
+ghost use Rattle.cell_engine.specs.Cells.{nothing_heard};
 ghost use Rattle.reference_machine.specs.Network.{messages_in};
 ghost use Rattle.reference_machine.specs.Machine.{head_step};
-ghost use Rattle.cell_network.specs.Engine.{network};
-ghost use Rattle.cell_network.specs.Sending.{told, told_from};
+ghost use Rattle.cell_engine.specs.Engine.{network};
+ghost use Rattle.cell_engine.specs.Sending.{told, told_from};
 ghost use Rattle.cell_engine.specs.Admitting.{AreAdmitted};
 ghost use Rattle.cell_engine.specs.Deliveries.{outcome_at, HasRoom, IsOfHead, KeepsSame};
 
 use crate::admitting::admit_all;
+use crate::route_cell::{Cell, Outcome, deliver, store};
+use crate::router_tables::RouterTables;
 use crate::state::State;
 use net_prefix::{Addr, Prefix};
 use prefix_table::PrefixTable;
-use route_cell::{Cell, Outcome, deliver, store};
 use route_select::Selector;
-use router_tables::RouterTables;
 use session_queue::{Direction, Message, Queues};
 use std::alloc::{AllocError, Global};
 

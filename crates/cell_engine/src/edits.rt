@@ -12,9 +12,9 @@ ghost use Rattle.net_conf.specs.declared.edit.Scope.TheVariants.{Network, Site, 
 ghost use Rattle.std.specs.BTreeSet.{insert_key};
 ghost use Rattle.session_queue.specs.Waiting.{direction_cmp, queue_at, spare_at};
 ghost use Rattle.reference_machine.specs.Machine.{with_sent, after_edit};
-ghost use Rattle.cell_network.specs.Engine.{network};
-ghost use Rattle.cell_network.specs.Changes.{changes_in};
-ghost use Rattle.cell_network.specs.Editing.{with_directions, with_origin};
+ghost use Rattle.cell_engine.specs.Engine.{network};
+ghost use Rattle.cell_engine.specs.Changes.{changes_in};
+ghost use Rattle.cell_engine.specs.Editing.{with_directions, with_origin};
 ghost use Rattle.cell_engine.specs.Deliveries.{KeepsSame};
 ghost use Rattle.net_conf.specs.RouterSites.{router_site};
 ghost use Rattle.cell_engine.specs.CellEdits.{whole_changes};
@@ -22,13 +22,13 @@ ghost use Rattle.cell_engine.specs.Edits.{planned, made_in, IsPlanned, IsOfEdit,
 
 use crate::cell_edits::{CellEdit, place_edits};
 use crate::places::reserve_each;
+use crate::route_cell::Cell;
 use crate::router_test::is_router_again;
 use crate::state::State;
 use net_conf::{Conf, Edit, EditedConf, Ends, Kind, Scope};
 use net_prefix::{Addr, Prefix};
 use path_attr::Asn;
 use prefix_table::PrefixTable;
-use route_cell::Cell;
 use route_select::Selector;
 use seq::{Seq, push_some};
 use session_queue::{Direction, Queues};

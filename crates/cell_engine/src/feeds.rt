@@ -4,13 +4,13 @@ ghost use Rattle.std.specs.Prelude.{◌≡◌, ◌<◌, true, OnOk};
 ghost use Rattle.net_conf.specs.Configuration.{has_session};
 ghost use Rattle.session_queue.specs.Waiting.{spare_at, IsAdmitted};
 ghost use Rattle.reference_machine.specs.Network.{with_message};
-ghost use Rattle.cell_network.specs.Engine.{network};
+ghost use Rattle.cell_engine.specs.Engine.{network};
 ghost use Rattle.cell_engine.specs.Deliveries.{KeepsSame};
 
 use crate::admitting::admit;
+use crate::route_cell::Cell;
 use crate::state::State;
 use prefix_table::PrefixTable;
-use route_cell::Cell;
 use route_select::Selector;
 use session_queue::{Direction, Message};
 use std::alloc::AllocError;

@@ -1,13 +1,13 @@
 //! Cells that an edit can change, and what they become.
 
 ghost use Rattle.std.specs.Prelude.{◌≡◌, map, IfOk};
-ghost use Rattle.cell_engine.specs.Changes.{edit_at, pair_of, recost_in};
+ghost use Rattle.cell_engine.specs.Becomings.{edit_at, pair_of, recost_in};
 
 use crate::becoming::Becoming;
 use crate::cell_edits::CellEdit;
+use crate::route_cell::Cell;
 use net_prefix::Prefix;
 use rayon::prelude::*;
-use route_cell::Cell;
 use route_select::Selector;
 use seq::Seq;
 use std::alloc::{AllocError, Global};
@@ -34,8 +34,8 @@ impl<'a, S: Selector> Model for MovedCell<'a, S> {
     ghost use Rattle.std.specs.Prelude.{◌≡◌};
     ghost use Rattle.std.specs.Coded.{codes};
     ghost use Rattle.prefix_table.specs.Tables.{coded_block};
-    ghost use Rattle.route_cell.specs.Coding.{coded_heard};
-    ghost use Rattle.cell_engine.specs.Changes as changes;
+    ghost use Rattle.cell_engine.specs.CellCoding.{coded_heard};
+    ghost use Rattle.cell_engine.specs.Becomings as changes;
 
     ghost Value = { changes.MovedCell };
 

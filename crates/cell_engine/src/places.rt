@@ -2,8 +2,8 @@
 
 ghost use Rattle.std.specs.Prelude.{◌≡◌, ◌≤◌, ◌+◌, length, cond, IfOk, OnOk};
 ghost use Rattle.session_queue.specs.Waiting.{queue_at, spare_at, same_direction};
-ghost use Rattle.cell_network.specs.Sending.{told_from};
-ghost use Rattle.cell_network.specs.Editing.{told_by_all};
+ghost use Rattle.cell_engine.specs.Sending.{told_from};
+ghost use Rattle.cell_engine.specs.Editing.{told_by_all};
 ghost use Rattle.cell_engine.specs.Admitting.{AreAllAdmitted};
 ghost use Rattle.cell_engine.specs.CellEdits.{edit_sends, edits_send};
 ghost use Rattle.cell_engine.specs.Counts.{count_at};

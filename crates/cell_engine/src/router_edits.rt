@@ -3,7 +3,7 @@
 ghost use Rattle.std.specs.Prelude.{◌≡◌, map, IfOk};
 ghost use Rattle.std.specs.Option.{option_copied};
 ghost use Rattle.net_conf.specs.RouterSites.{router_site};
-ghost use Rattle.cell_engine.specs.Changes.{edit_becoming};
+ghost use Rattle.cell_engine.specs.Becomings.{edit_becoming};
 
 use crate::becoming::Becoming;
 use net_conf::{Conf, SiteConf};
@@ -69,7 +69,7 @@ pub(crate) struct RouterEdit<'a> {
 impl<'a> Model for RouterEdit<'a> {
     ghost use Rattle.std.specs.Prelude.{◌≡◌};
     ghost use Rattle.net_conf.specs.RouterSites.{router_site};
-    ghost use Rattle.cell_engine.specs.Changes as changes;
+    ghost use Rattle.cell_engine.specs.Becomings as changes;
 
     ghost Value = { changes.RouterEdit };
 

@@ -5,23 +5,23 @@ ghost use Rattle.std.specs.Option.{option_copied, option_map};
 ghost use Rattle.net_conf.specs.Configured.{IsConfigured};
 ghost use Rattle.net_conf.specs.RouterSites.{router_site, site_made};
 ghost use Rattle.reference_machine.specs.Machine.{nothing};
-ghost use Rattle.router_tables.specs.RouterTables.{value_at, next_of};
+ghost use Rattle.cell_engine.specs.RouterTables.{value_at, next_of};
 ghost use Rattle.std.specs.FinMap.Entries.{find};
 ghost use Rattle.net_prefix.specs.Address.{addr_cmp};
-ghost use Rattle.cell_network.specs.Engine.{network, IsSound};
-ghost use Rattle.cell_network.specs.Reporting.{AreOfPrefixes};
-ghost use Rattle.cell_network.specs.Changes.{AreOverSessionsUp};
+ghost use Rattle.cell_engine.specs.Engine.{network, IsSound};
+ghost use Rattle.cell_engine.specs.Reporting.{AreOfPrefixes};
+ghost use Rattle.cell_engine.specs.Changes.{AreOverSessionsUp};
 ghost use Rattle.cell_engine.specs.Sharing.{conf_shown};
 
 use crate::edits::is_router;
 use crate::held_conf::HeldConf;
-use hop_table::HopTable;
+use crate::hop_table::HopTable;
+use crate::route_cell::Cell;
+use crate::router_tables::RouterTables;
 use net_conf::{Conf, SiteConf};
 use net_prefix::{Addr, Prefix};
 use prefix_table::PrefixTable;
-use route_cell::Cell;
 use route_select::Chosen;
-use router_tables::RouterTables;
 use seq::Seq;
 use session_queue::{Direction, Queues};
 use std::alloc::{AllocError, Global};
@@ -43,9 +43,9 @@ pub struct State<S: Chosen, T: PrefixTable<Cell<S>>> {
 impl<S: Chosen, T: PrefixTable<Cell<S>>> Model for State<S, T> {
     ghost use Rattle.std.specs.Prelude.{◌≡◌};
     ghost use Rattle.std.specs.Coded.{codes};
-    ghost use Rattle.cell_network.specs.Engine.{Engine, IsSound};
-    ghost use Rattle.cell_network.specs.Reporting.{AreOfPrefixes};
-    ghost use Rattle.cell_network.specs.Changes.{AreOverSessionsUp};
+    ghost use Rattle.cell_engine.specs.Engine.{Engine, IsSound};
+    ghost use Rattle.cell_engine.specs.Reporting.{AreOfPrefixes};
+    ghost use Rattle.cell_engine.specs.Changes.{AreOverSessionsUp};
     ghost use Rattle.cell_engine.specs.Coding.{coded_table};
 
     ghost Value = { Engine };

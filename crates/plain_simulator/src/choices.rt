@@ -6,9 +6,9 @@ ghost use Rattle.net_conf.specs.Sites.{site_of};
 ghost use Rattle.plain_simulator.specs.Choices.{prefix_choices, router_choices, AreChoices, message_of, messages_of};
 
 use crate::state::{State, prefixes_of};
-use machine_rules::{advert_of, change_of};
 use net_conf::SiteConf;
 use net_prefix::{Addr, Prefix};
+use reference_machine::{advert_of, change_of};
 use route_select::{Candidate, Selector};
 use seq::{Seq, push_some};
 use session_queue::Message;

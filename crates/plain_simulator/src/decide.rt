@@ -6,11 +6,10 @@ ghost use Rattle.reference_machine.specs.Decision.{route_from, standing_from, ad
 ghost use Rattle.route_select.specs.Selection.{best_of};
 ghost use Rattle.std.specs.Option.{option_to_list, option_copied};
 
-use machine_rules::{put_own, put_received};
 use net_conf::{SiteConf, SiteSession};
 use net_prefix::{Addr, Prefix};
 use path_attr::Attr;
-use reference_machine::RouteKey;
+use reference_machine::{RouteKey, put_own, put_received};
 use route_select::{Candidate, Selector};
 use seq::Copied;
 use std::alloc::{AllocError, Global};

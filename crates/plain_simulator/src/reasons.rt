@@ -10,11 +10,10 @@ ghost use Rattle.reference_machine.specs.Decision.{own_standings, standing_over,
 ghost use Rattle.reference_machine.specs.Reports.{reasons_of, reasons_at};
 
 use crate::decide::{route_from, standings};
-use machine_rules::is_originated;
 use net_conf::{SiteConf, SiteSession};
 use net_prefix::Prefix;
 use path_attr::Attr;
-use reference_machine::RouteKey;
+use reference_machine::{RouteKey, is_originated};
 use route_select::{Chosen, Reason, Selector, Source};
 use std::alloc::{AllocError, Global};
 use std::collections::{BTreeMap, BTreeSet};

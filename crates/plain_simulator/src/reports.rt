@@ -15,11 +15,10 @@ ghost use Rattle.reference_machine.specs.Machine.{asks_quiet, ask_refusal, repor
 use crate::queues;
 use crate::reasons::reasons_at;
 use crate::state::State;
-use machine_rules::{advert_of, cost_and_hop, held_of};
 use net_conf::SiteConf;
 use net_prefix::{Addr, Prefix};
 use path_attr::Attr;
-use reference_machine::RouteKey;
+use reference_machine::{RouteKey, advert_of, cost_and_hop, held_of};
 use route_select::{Reason, Selector, Source};
 use seq::{Copied, Seq, copy_all, push_some};
 use session_queue::{Direction, Message};

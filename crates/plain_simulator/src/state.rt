@@ -12,11 +12,10 @@ ghost use Rattle.plain_simulator.specs.Choices.{router_choices};
 
 use crate::choices::{RouterChoices, choices_at, messages_of};
 use crate::{decide, queues};
-use machine_rules::sends;
 use net_conf::{Conf, SiteConf};
 use net_prefix::{Addr, Prefix};
 use path_attr::Attr;
-use reference_machine::{Queue, RouteKey};
+use reference_machine::{Queue, RouteKey, sends};
 use route_select::{Candidate, Selector};
 use seq::Copied;
 use session_queue::Message;

@@ -8,10 +8,11 @@ ghost use Rattle.reference_machine.specs.Machine.{step, edit_step, with_queues, 
 
 use crate::queues;
 use crate::state::{State, with_sent};
-use machine_rules::{ask_refusal, delivery_refusal, fed_message, feed_refusal};
 use net_conf::{Conf, Edit, Refusal};
 use path_attr::Attr;
-use reference_machine::{Queue, RouteKey};
+use reference_machine::{
+    Queue, RouteKey, ask_refusal, delivery_refusal, fed_message, feed_refusal,
+};
 use route_select::Selector;
 use seq::{Copied, Seq, copy_all};
 use session_queue::{Direction, Message};

@@ -1,3 +1,4 @@
 pub mod Known
 pub mod Matches
 pub mod Traces
+pub mod Originated

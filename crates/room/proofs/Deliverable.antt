@@ -14,8 +14,8 @@ use Rattle.reference_machine.specs.Histories.{after_calls, state_after}
 use Rattle.session_law.proofs.Configs.{session_either}
 use Rattle.session_law.proofs.Told.{IsTidy, IsTold, told_nothing}
 use Rattle.session_law.proofs.Runs.{kept_step}
-use Rattle.cell_network.specs.Engine.{Engine, IsSound, network}
-use Rattle.cell_network.proofs.Queues.{messages_on_session}
+use Rattle.cell_engine.specs.Engine.{Engine, IsSound, network}
+use Rattle.cell_engine.proofs.Queues.{messages_on_session}
 
 told_after : (s : Network) → IsTold s → (h : List Entry) → IsTold (after_calls s h)
 told_after s told [] = told

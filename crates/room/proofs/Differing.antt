@@ -19,8 +19,8 @@ use Rattle.net_prefix.specs.Orders.{addr_total, addr_exact}
 use Rattle.path_attr.specs.declared.attr.Attr.{Attr}
 use Rattle.path_attr.specs.Attribute.{same_attr}
 use Rattle.path_attr.specs.Sameness.{attrs_exact}
-use Rattle.route_cell.specs.Cells.{route_of}
-use Rattle.route_cell.specs.Senders.{AreInOrder}
+use Rattle.cell_engine.specs.Cells.{route_of}
+use Rattle.cell_engine.specs.Senders.{AreInOrder}
 use Rattle.room.specs.Differences.{same_route, lower, first_difference}
 
 addr_true : (a b : Addr) → same_addr a b ≡ true → a ≡ b

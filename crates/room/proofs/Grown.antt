@@ -6,7 +6,7 @@ use Rattle.sim_event.specs.declared.reply.Reply.{Reply}
 use Rattle.reference_machine.specs.Network.{Network}
 use Rattle.reference_machine.specs.Machine.{nothing, step, is_refusal}
 use Rattle.reference_machine.specs.Histories.{after_calls, AreAnswered, IsLegal, state_after}
-use Rattle.cell_network.specs.Engine.{Engine, network}
+use Rattle.cell_engine.specs.Engine.{Engine, network}
 use Rattle.room.specs.Books.{IsKept, is_accepted_edit, version_of}
 
 state_push : (s : Network) (es : List Entry) (e : Entry) → after_calls s (es ++ e ∷ []) ≡ (step (after_calls s es) e.event).next

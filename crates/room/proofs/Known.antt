@@ -8,7 +8,7 @@ use Rattle.session_queue.specs.declared.message.Message.{Message}
 use Rattle.session_queue.specs.declared.direction.Direction.{Direction}
 use Rattle.reference_machine.specs.Network.{Network, messages_in}
 use Rattle.reference_machine.specs.Machine.{step, unless_refused, head_step, delivery_step, delivery_refusal, taken, with_sent}
-use Rattle.cell_network.specs.Engine.{Engine, network}
+use Rattle.cell_engine.specs.Engine.{Engine, network}
 use Rattle.room.specs.Books.{RoomBook}
 use Rattle.room.specs.Jobs.{Seen, IsSeenIn, site_in}
 use Rattle.room.specs.Commits.{delivery_of}

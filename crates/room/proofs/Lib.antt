@@ -1,3 +1,4 @@
+pub mod Calls
 pub mod Apart
 pub mod Brought
 pub mod Deliverable

@@ -15,10 +15,10 @@ use Rattle.session_queue.specs.Waiting.{queue_at}
 use Rattle.sim_event.specs.declared.reply.Reply.TheVariants.{Took}
 use Rattle.reference_machine.specs.Decision.{route_from}
 use Rattle.reference_machine.specs.Machine.{step, delivery_refusal}
-use Rattle.route_cell.specs.Cells.{Outcome, decided, route_of}
-use Rattle.cell_network.specs.Engine.{Engine, IsSound, heard_at, network}
-use Rattle.cell_network.proofs.Decided.{heard_decided}
-use Rattle.cell_network.proofs.Received.{route_heard}
+use Rattle.cell_engine.specs.Cells.{Outcome, decided, route_of}
+use Rattle.cell_engine.specs.Engine.{Engine, IsSound, heard_at, network}
+use Rattle.cell_engine.proofs.Decided.{heard_decided}
+use Rattle.cell_engine.proofs.Received.{route_heard}
 use Rattle.cell_engine.specs.Deliveries.{outcome_by}
 use Rattle.sim_core.specs.Installing.{IsOutcomeOfHead}
 use Rattle.sim_core.proofs.Accepted.{delivery_takes}

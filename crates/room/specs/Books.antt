@@ -11,7 +11,7 @@ use Rattle.sim_event.specs.declared.reply.Reply.TheVariants.{Refused}
 use Rattle.reference_machine.specs.Network.{Network}
 use Rattle.reference_machine.specs.Machine.{step, is_refusal}
 use Rattle.reference_machine.specs.Histories.{IsLegal, state_after}
-use Rattle.cell_network.specs.Engine.{Engine, network}
+use Rattle.cell_engine.specs.Engine.{Engine, network}
 
 -- history: the calls that were made, the first first; engine: the machine, as it stands; seats: how many there are
 pub record RoomBook : Type 0 where

@@ -7,8 +7,8 @@ use Rattle.reference_machine.specs.Decision.{route_from}
 use Rattle.reference_machine.specs.Machine.{step}
 use Rattle.session_queue.specs.declared.message.Message.{Message}
 use Rattle.session_queue.specs.Telling.{prefix_of}
-use Rattle.route_cell.specs.Cells.{route_of}
-use Rattle.cell_network.specs.Engine.{network}
+use Rattle.cell_engine.specs.Cells.{route_of}
+use Rattle.cell_engine.specs.Engine.{network}
 use Rattle.room.specs.declared.room.commit.Newer.{Newer}
 use Rattle.room.specs.declared.room.commit.Newer.TheVariants.{ConfMoved, SiteMoved, HeadMoved, CellMoved}
 use Rattle.room.specs.declared.room.commit.Committed.{Committed}

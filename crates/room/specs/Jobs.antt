@@ -10,8 +10,8 @@ use Rattle.session_queue.specs.declared.message.Message.{Message}
 use Rattle.session_queue.specs.declared.direction.Direction.{Direction}
 use Rattle.session_queue.specs.Telling.{prefix_of}
 use Rattle.session_queue.specs.Waiting.{queue_at}
-use Rattle.route_cell.specs.Cells.{Heard, Outcome, IsDecided}
-use Rattle.cell_network.specs.Engine.{heard_at}
+use Rattle.cell_engine.specs.Cells.{Heard, Outcome, IsDecided}
+use Rattle.cell_engine.specs.Engine.{heard_at}
 use Rattle.cell_engine.specs.Deliveries.{outcome_by}
 use Rattle.room.specs.Books.{RoomBook, version_of}
 

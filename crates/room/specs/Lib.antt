@@ -1,3 +1,4 @@
+pub mod Written
 pub mod Books
 pub mod Closing
 pub mod Jobs

@@ -5,7 +5,7 @@ ghost use Rattle.reference_machine.specs.Machine.{nothing, step, refused};
 ghost use Rattle.reference_machine.specs.Histories.{IsLegal, state_after, calls_of};
 ghost use Rattle.net_conf.specs.Configured.{IsConfigured};
 ghost use Rattle.session_queue.specs.Waiting.{IsQuiet};
-ghost use Rattle.cell_network.specs.Engine.{network, IsSound};
+ghost use Rattle.cell_engine.specs.Engine.{network, IsSound};
 ghost use Rattle.sim_core.specs.Plans.{IsPrepared};
 ghost use Rattle.room.specs.Books.{IsKept, blank_seats, is_memory, stepped, recorded, noted, with_call, is_edit, version_of};
 ghost use Rattle.room.specs.Closing.{IsEachOnce, AllAgree, IsFault, counted};
@@ -20,8 +20,8 @@ mod seat;
 mod taking;
 mod together;
 
+use crate::call_history::{Draft, History};
 use crate::room::record::{all_agree, is_each_once};
-use call_history::{Draft, History};
 use cell_engine::Cell;
 pub use commit::{CommitFault, Committed, Newer};
 pub use job::{Done, Job};

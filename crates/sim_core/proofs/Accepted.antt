@@ -17,8 +17,8 @@ use Rattle.sim_event.specs.declared.event.Ask.{Ask}
 use Rattle.sim_event.specs.declared.reply.Reply.TheVariants.{Done, Took, Report as AReport}
 use Rattle.reference_machine.specs.Network.{Network, messages_in}
 use Rattle.reference_machine.specs.Machine.{Outcome, unless_refused, refused, is_refusal, edit_step, after_edit, with_sent, feed_refusal, feed_step, after_feed, delivery_refusal, delivery_step, head_step, ask_refusal, question_step, report_of}
-use Rattle.cell_network.specs.Engine.{Engine, IsSound, network}
-use Rattle.cell_network.proofs.Queues.{messages_on_session}
+use Rattle.cell_engine.specs.Engine.{Engine, IsSound, network}
+use Rattle.cell_engine.proofs.Queues.{messages_on_session}
 
 passes : (test : Bool) (refusal : Refusal) (later : Option Refusal) → (if test then Some refusal else later) ≡ None → test ≡ false
 passes true refusal later is = absurd (none-some refusal (sym is))

@@ -8,8 +8,8 @@ use Rattle.sim_event.specs.declared.reply.Report.{Report}
 use Rattle.sim_event.specs.declared.reply.Reply.TheVariants.{Report as AReport, Refused}
 use Rattle.reference_machine.specs.Network.{Network}
 use Rattle.reference_machine.specs.Machine.{IsStep, ask_refusal, report_of}
-use Rattle.cell_network.specs.Engine.{Engine, network}
-use Rattle.sim_report.specs.Answers.{IsAnswer}
+use Rattle.cell_engine.specs.Engine.{Engine, network}
+use Rattle.sim_core.specs.Answers.{IsAnswer}
 use Rattle.sim_core.specs.Counting.{Counts, raised}
 use Rattle.sim_core.specs.Plans.{IsRefused}
 use Rattle.sim_core.proofs.Accepted.{question_answered}

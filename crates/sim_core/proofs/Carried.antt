@@ -12,7 +12,7 @@ use Rattle.sim_event.specs.declared.event.Event.TheVariants.{Edit as AnEdit, Fee
 use Rattle.sim_event.specs.declared.event.Ask.{Ask}
 use Rattle.reference_machine.specs.Network.{Network, with_message, messages_in}
 use Rattle.reference_machine.specs.Machine.{step, is_refusal, with_sent, after_edit, head_step, edit_step, question_step, delivery_refusal, feed_refusal, ask_refusal}
-use Rattle.cell_network.specs.Engine.{Engine, network}
+use Rattle.cell_engine.specs.Engine.{Engine, network}
 use Rattle.cell_engine.specs.Deliveries.{HasRoom, IsOfHead}
 use Rattle.cell_engine.specs.Edits.{Planned, IsPlanned, HasPlaces}
 use Rattle.sim_core.specs.Plans.{Plan, Taken, IsPrepared}

@@ -12,8 +12,8 @@ use Rattle.sim_event.specs.declared.reply.Reply.{Reply}
 use Rattle.sim_event.specs.declared.reply.Reply.TheVariants.{Took, Refused}
 use Rattle.reference_machine.specs.Network.{Network, messages_in}
 use Rattle.reference_machine.specs.Machine.{head_step, delivery_refusal, IsStep}
-use Rattle.route_cell.specs.Cells.{Outcome}
-use Rattle.cell_network.specs.Engine.{Engine, IsSound, network}
+use Rattle.cell_engine.specs.Cells.{Outcome}
+use Rattle.cell_engine.specs.Engine.{Engine, IsSound, network}
 use Rattle.cell_engine.specs.Deliveries.{IsOfHead, outcome_at, KeepsSame}
 use Rattle.cell_engine.proofs.Growth.{network_kept, head_of, head_kept}
 use Rattle.sim_core.specs.Counting.{decided_at, raised, Counts}

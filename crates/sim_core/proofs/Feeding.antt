@@ -8,7 +8,7 @@ use Rattle.sim_event.specs.declared.event.Feed.{Feed}
 use Rattle.sim_event.specs.declared.reply.Reply.TheVariants.{Done, Refused}
 use Rattle.reference_machine.specs.Network.{Network, with_message}
 use Rattle.reference_machine.specs.Machine.{feed_refusal, fed_message, IsStep}
-use Rattle.cell_network.specs.Engine.{Engine, network}
+use Rattle.cell_engine.specs.Engine.{Engine, network}
 use Rattle.cell_engine.specs.Deliveries.{KeepsSame}
 use Rattle.cell_engine.proofs.Growth.{network_kept}
 use Rattle.sim_core.specs.Counting.{raised, Counts}

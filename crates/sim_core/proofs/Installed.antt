@@ -11,8 +11,8 @@ use Rattle.sim_event.specs.declared.reply.Reply.{Reply}
 use Rattle.sim_event.specs.declared.reply.Reply.TheVariants.{Took}
 use Rattle.reference_machine.specs.Network.{messages_in}
 use Rattle.reference_machine.specs.Machine.{step, head_step, delivery_refusal}
-use Rattle.route_cell.specs.Cells.{Outcome}
-use Rattle.cell_network.specs.Engine.{Engine, IsSound, network}
+use Rattle.cell_engine.specs.Cells.{Outcome}
+use Rattle.cell_engine.specs.Engine.{Engine, IsSound, network}
 use Rattle.cell_engine.specs.Deliveries.{IsOfHead, outcome_at}
 use Rattle.cell_engine.proofs.Growth.{head_of}
 use Rattle.sim_core.specs.Counting.{decided_at, raised, Counts}

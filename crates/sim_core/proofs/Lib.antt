@@ -1,3 +1,8 @@
+mod Forwarding
+mod Lists
+mod Matching
+mod AcceptedQuestions
+mod Routers
 pub mod Accepted
 pub mod Carried
 pub mod Prepared

@@ -18,11 +18,11 @@ use Rattle.sim_event.specs.declared.reply.Report.{Report}
 use Rattle.sim_event.specs.declared.reply.Reply.{Reply}
 use Rattle.sim_event.specs.declared.reply.Reply.TheVariants.{Done, Took, Report as AReport}
 use Rattle.reference_machine.specs.Machine.{after_edit, with_sent, step, feed_refusal, fed_message, delivery_refusal, ask_refusal, report_of}
-use Rattle.route_cell.specs.Cells.{Outcome}
-use Rattle.cell_network.specs.Engine.{Engine, IsSound, network}
-use Rattle.cell_network.specs.Changes.{AreOverSessionsUp, changes_in}
-use Rattle.cell_network.specs.Decisions.{IsRefreshed}
-use Rattle.cell_network.specs.Editing.{with_directions, with_origin}
+use Rattle.cell_engine.specs.Cells.{Outcome}
+use Rattle.cell_engine.specs.Engine.{Engine, IsSound, network}
+use Rattle.cell_engine.specs.Changes.{AreOverSessionsUp, changes_in}
+use Rattle.cell_engine.specs.Decisions.{IsRefreshed}
+use Rattle.cell_engine.specs.Editing.{with_directions, with_origin}
 use Rattle.cell_engine.specs.Deliveries.{outcome_at, HasRoom, KeepsSame}
 use Rattle.cell_engine.specs.Edits.{Planned, IsPlanned, HasPlaces, made_in, refreshed_by}
 use Rattle.cell_engine.proofs.Redecided.{refreshes}

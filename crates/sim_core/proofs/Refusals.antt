@@ -12,8 +12,8 @@ use Rattle.sim_event.specs.declared.event.Event.TheVariants.{Edit as AnEdit, Fee
 use Rattle.sim_event.specs.declared.event.Feed.{Feed}
 use Rattle.sim_event.specs.declared.event.Ask.{Ask}
 use Rattle.reference_machine.specs.Machine.{step, is_refusal, asks_quiet, feed_refusal, delivery_refusal, ask_refusal}
-use Rattle.cell_network.specs.Engine.{Engine, IsSound, network}
-use Rattle.sim_report.specs.Answers.{IsAnswer}
+use Rattle.cell_engine.specs.Engine.{Engine, IsSound, network}
+use Rattle.sim_core.specs.Answers.{IsAnswer}
 use Rattle.sim_core.specs.Plans.{IsRefused}
 use Rattle.sim_core.proofs.Accepted.{edit_refused, edit_done, feed_refused, feed_done, delivery_refused, delivery_takes, delivery_of_nothing, question_refused, question_answered}
 

@@ -5,8 +5,8 @@ use Rattle.net_prefix.specs.Block.{Block}
 use Rattle.prefix_table.specs.Tables.{coded_block}
 use Rattle.session_queue.specs.declared.direction.Direction.{Direction}
 use Rattle.session_queue.specs.contracts.direction.Direction as direction
-use Rattle.route_cell.specs.Cells.{Outcome}
-use Rattle.route_cell.specs.Coding.{coded_outcome}
+use Rattle.cell_engine.specs.Cells.{Outcome}
+use Rattle.cell_engine.specs.CellCoding.{coded_outcome}
 use Rattle.sim_core.specs.Plans.{Taken}
 
 abbrev pub coded_taken : Coded Taken

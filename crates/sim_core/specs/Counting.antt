@@ -11,8 +11,8 @@ use Rattle.sim_event.specs.declared.reply.Reply.{Reply}
 use Rattle.sim_event.specs.declared.reply.Reply.TheVariants.{Took}
 use Rattle.reference_machine.specs.Network.{Network}
 use Rattle.reference_machine.specs.Machine.{step, is_refusal, IsStep}
-use Rattle.cell_network.specs.Engine.{Engine}
-use Rattle.cell_network.specs.Decisions.{IsRefreshed}
+use Rattle.cell_engine.specs.Engine.{Engine}
+use Rattle.cell_engine.specs.Decisions.{IsRefreshed}
 
 -- the engine, and how many routes it has decided anew
 pub record Counted : Type 0 where

@@ -13,8 +13,8 @@ use Rattle.sim_event.specs.declared.event.Event.TheVariants.{Edit as AnEdit, Fee
 use Rattle.sim_event.specs.declared.event.Feed.{Feed}
 use Rattle.sim_event.specs.declared.reply.Reply.{Reply}
 use Rattle.reference_machine.specs.Machine.{step, refused, is_refusal, asks_quiet, fed_message}
-use Rattle.route_cell.specs.Cells.{Outcome}
-use Rattle.cell_network.specs.Engine.{Engine, network}
+use Rattle.cell_engine.specs.Cells.{Outcome}
+use Rattle.cell_engine.specs.Engine.{Engine, network}
 use Rattle.cell_engine.specs.Deliveries.{HasRoom, IsOfHead}
 use Rattle.cell_engine.specs.Edits.{Planned, IsPlanned, HasPlaces}
 use Rattle.sim_core.specs.Counting.{Refreshes}

@@ -2,7 +2,7 @@
 
 ghost use Rattle.std.specs.Prelude.{◌≡◌};
 ghost use Rattle.reference_machine.specs.Machine.{nothing, step};
-ghost use Rattle.cell_network.specs.Engine.{network};
+ghost use Rattle.cell_engine.specs.Engine.{network};
 ghost use Rattle.sim_core.specs.Plans.{IsPrepared, IsOfEvent, Prepares};
 
 use crate::plan::Plan;
@@ -26,7 +26,7 @@ pub(crate) struct EventMachine<S: Chosen, T: PrefixTable<Cell<S>>> {
 
 impl<S: Chosen, T: PrefixTable<Cell<S>>> Model for EventMachine<S, T> {
     ghost use Rattle.std.specs.Coded.{codes};
-    ghost use Rattle.cell_network.specs.Engine.{Engine};
+    ghost use Rattle.cell_engine.specs.Engine.{Engine};
     ghost use Rattle.cell_engine.specs.Coding.{coded_table};
 
     ghost Value = { Engine };

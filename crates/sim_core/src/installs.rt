@@ -4,7 +4,7 @@ ghost use Rattle.std.specs.Prelude.{◌≡◌, length, None, IfOk, IfErr, OnOk, 
 ghost use Rattle.net_prefix.specs.Block.{Block};
 ghost use Rattle.sim_event.specs.declared.event.Event.TheVariants.{Deliver};
 ghost use Rattle.reference_machine.specs.Machine.{delivery_refusal, step};
-ghost use Rattle.cell_network.specs.Engine.{network, IsSound};
+ghost use Rattle.cell_engine.specs.Engine.{network, IsSound};
 ghost use Rattle.sim_core.specs.Counting.{decided_at};
 ghost use Rattle.sim_core.specs.Installing.{IsOutcomeOfHead};
 

@@ -3,18 +3,18 @@
 ghost use Rattle.std.specs.Prelude.{◌≡◌, ℕ};
 ghost use Rattle.sim_event.specs.declared.event.Event.TheVariants.{Ask as AnAsk};
 ghost use Rattle.reference_machine.specs.Machine.{IsStep};
-ghost use Rattle.cell_network.specs.Engine.{network};
+ghost use Rattle.cell_engine.specs.Engine.{network};
 ghost use Rattle.sim_core.specs.Counting.{Counts, raised};
 ghost use Rattle.sim_core.specs.Plans.{Prepares};
 
 use crate::event_machine::EventMachine;
 use crate::plan::Plan;
+use crate::sim_report::ask;
 use cell_engine::Cell;
 use net_conf::Refusal;
 use prefix_table::PrefixTable;
 use route_select::Selector;
 use sim_event::{Ask, Reply};
-use sim_report::ask;
 
 impl<S: Selector, T: PrefixTable<Cell<S>>> EventMachine<S, T> {
     /// Makes an answer ready.

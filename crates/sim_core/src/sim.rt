@@ -4,7 +4,7 @@ ghost use Rattle.std.specs.Prelude.{◌≡◌, None, length, if◌then◌else◌
 ghost use Rattle.net_conf.specs.declared.refusal.Refusal.TheVariants.{Memory};
 ghost use Rattle.sim_event.specs.declared.event.Event.TheVariants.{Feed as AFeed, Deliver, Ask as AnAsk};
 ghost use Rattle.reference_machine.specs.Machine.{nothing, step, delivery_refusal, is_refusal, IsStep, IsRun};
-ghost use Rattle.cell_network.specs.Engine.{network};
+ghost use Rattle.cell_engine.specs.Engine.{network};
 ghost use Rattle.sim_core.specs.Counting.{raised, Counts, IsCountedRun};
 ghost use Rattle.sim_core.specs.Installing.{IsOutcomeOfHead};
 ghost use Rattle.sim_core.specs.Plans.{IsPrepared, IsOfEvent, Prepares};
@@ -206,7 +206,7 @@ impl<S: Selector + Drop, T: PrefixTable<Cell<S>> + Drop> Sim<S, T> {
 
 // At each pair of types: what a method of a trait sends to threads may not rest on a bound of its impl.
 impl Machine for Sim<GroupCell, TrieTable<Cell<GroupCell>>> {
-    ghost use Rattle.cell_network.specs.Engine as engine;
+    ghost use Rattle.cell_engine.specs.Engine as engine;
 
     ghost network = { λ s. engine.network s.engine };
 
@@ -216,7 +216,7 @@ impl Machine for Sim<GroupCell, TrieTable<Cell<GroupCell>>> {
 }
 
 impl Machine for Sim<FilterCell, SortedTable<Cell<FilterCell>>> {
-    ghost use Rattle.cell_network.specs.Engine as engine;
+    ghost use Rattle.cell_engine.specs.Engine as engine;
 
     ghost network = { λ s. engine.network s.engine };
 

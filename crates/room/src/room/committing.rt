@@ -1,19 +1,19 @@
 //! Outcomes come back.
 
 ghost use Rattle.std.specs.Prelude.{◌≡◌, ◌↔◌, true, Some, None, IsTrue, IfOk, IfErr, IfSome, OnOk, OnErr};
-ghost use Rattle.route_cell.specs.Cells.{route_of};
-ghost use Rattle.cell_network.specs.Engine.{network, heard_at};
+ghost use Rattle.cell_engine.specs.Cells.{route_of};
+ghost use Rattle.cell_engine.specs.Engine.{network, heard_at};
 ghost use Rattle.room.specs.Jobs.{IsSeenIn, site_in, head_in, outcome_of};
 ghost use Rattle.room.specs.Commits.{IsNewer, IsCommitted, AreCommitted, IsBrokenOff, IsDelivered, is_delivered, delivery_of, head_seen};
 ghost use Rattle.room.specs.Books.{GoesOn, version_of};
 
+use crate::call_history::Draft;
 use crate::room::Room;
 use crate::room::commit::{CommitFault, Committed, Newer};
 use crate::room::job::{Done, Job};
 use crate::room::received::first_difference;
 use crate::room::seat::Seat;
 use crate::room::together::Outcomes;
-use call_history::Draft;
 use cell_engine::{Cell, Outcome};
 use net_conf::SharedSite;
 use net_prefix::{Addr, Prefix};

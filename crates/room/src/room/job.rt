@@ -2,7 +2,7 @@
 
 ghost use Rattle.std.specs.Prelude.{◌≡◌, IfOk, IfErr};
 ghost use Rattle.std.specs.Option.{option_copied};
-ghost use Rattle.route_cell.specs.Senders.{AreInOrder};
+ghost use Rattle.cell_engine.specs.Senders.{AreInOrder};
 ghost use Rattle.room.specs.Jobs.{CanDecide, outcome_of};
 
 use cell_engine::{Cell, Outcome, deliver, store};
@@ -31,7 +31,7 @@ pub struct Job<S: Chosen> {
 impl<S: Chosen> Model for Job<S> {
     ghost use Rattle.std.specs.Coded.{codes};
     ghost use Rattle.net_conf.specs.RouterSites.{router_site};
-    ghost use Rattle.route_cell.specs.Coding.{coded_heard};
+    ghost use Rattle.cell_engine.specs.CellCoding.{coded_heard};
     ghost use Rattle.cell_engine.specs.Sharing.{conf_shown};
     ghost use Rattle.room.specs.Jobs.{Seen, CanDecide};
 
@@ -55,7 +55,7 @@ pub struct Done<S: Chosen> {
 impl<S: Chosen> Model for Done<S> {
     ghost use Rattle.std.specs.Prelude.{◌≡◌};
     ghost use Rattle.std.specs.Coded.{codes};
-    ghost use Rattle.route_cell.specs.Coding.{coded_heard};
+    ghost use Rattle.cell_engine.specs.CellCoding.{coded_heard};
     ghost use Rattle.room.specs.Jobs.{Seen, outcome_of};
 
     ghost Value = { Seen };

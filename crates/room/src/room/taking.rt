@@ -5,7 +5,7 @@ ghost use Rattle.std.specs.Bool.{OnFalse};
 ghost use Rattle.net_prefix.specs.declared.addr.Addr as address;
 ghost use Rattle.session_queue.specs.Shards.{shard_of};
 ghost use Rattle.session_queue.specs.Waiting.{queue_at};
-ghost use Rattle.cell_network.specs.Engine.{heard_at};
+ghost use Rattle.cell_engine.specs.Engine.{heard_at};
 ghost use Rattle.room.specs.Jobs.{Seen, IsSeenIn, AreApart, cell_of};
 
 use crate::room::Room;

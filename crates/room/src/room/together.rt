@@ -16,7 +16,7 @@ pub struct Jobs<S: Chosen> {
 impl<S: Chosen> Model for Jobs<S> {
     ghost use Rattle.std.specs.Prelude.{List};
     ghost use Rattle.std.specs.Coded.{codes};
-    ghost use Rattle.route_cell.specs.Coding.{coded_heard};
+    ghost use Rattle.cell_engine.specs.CellCoding.{coded_heard};
     ghost use Rattle.room.specs.Jobs.{Seen, AreTakenTogether};
 
     ghost Value = { List Seen };
@@ -68,7 +68,7 @@ pub struct Outcomes<S: Chosen> {
 impl<S: Chosen> Model for Outcomes<S> {
     ghost use Rattle.std.specs.Prelude.{List};
     ghost use Rattle.std.specs.Coded.{codes};
-    ghost use Rattle.route_cell.specs.Coding.{coded_heard};
+    ghost use Rattle.cell_engine.specs.CellCoding.{coded_heard};
     ghost use Rattle.room.specs.Jobs.{Seen, AreTakenTogether};
 
     ghost Value = { List Seen };

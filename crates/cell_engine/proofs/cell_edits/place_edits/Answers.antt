@@ -5,8 +5,8 @@ use Rattle.std.proofs.lemmas.List.Elements.{All-head, All-tail}
 use Rattle.net_prefix.specs.declared.addr.Addr.{Addr}
 use Rattle.session_queue.specs.declared.message.Message.{Message}
 use Rattle.session_queue.specs.Waiting.{queue_at, spare_at}
-use Rattle.cell_network.specs.Sending.{told, told_from}
-use Rattle.cell_network.specs.Editing.{told_by_all}
+use Rattle.cell_engine.specs.Sending.{told, told_from}
+use Rattle.cell_engine.specs.Editing.{told_by_all}
 use Rattle.cell_engine.specs.Admitting.{AreAdmitted, AreAllAdmitted}
 use Rattle.cell_engine.specs.CellEdits.{CellEdit, edit_sends, edits_send, AreEditsThere, with_edits}
 use Rattle.cell_engine.proofs.Whole.{edits_there_still}

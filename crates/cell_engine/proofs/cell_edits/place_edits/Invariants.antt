@@ -1,7 +1,7 @@
 use Rattle.std.proofs.Common.{◌≡◌, ◌≤◌, ◌++◌, length}
 use Rattle.net_prefix.specs.declared.addr.Addr.{Addr}
 use Rattle.session_queue.specs.Waiting.{queue_at, spare_at}
-use Rattle.cell_network.specs.Editing.{told_by_all}
+use Rattle.cell_engine.specs.Editing.{told_by_all}
 use Rattle.cell_engine.specs.Admitting.{AreAllAdmitted}
 use Rattle.cell_engine.specs.CellEdits.{edits_send, AreEditsThere, with_edits}
 use Rattle.cell_engine.proofs.cell_edits.place_edits.Given as goal

@@ -2,8 +2,8 @@ use Rattle.std.proofs.Common.{◌≤◌, ap, sym, subst, ◌∙◌, ◌++◌, le
 use Rattle.session_queue.specs.Waiting.{queue_at, spare_at, IsAdmittedBy}
 use Rattle.net_prefix.specs.declared.addr.Addr.{Addr}
 use Rattle.session_queue.specs.declared.message.Message.{Message}
-use Rattle.cell_network.specs.Sending.{told, told_from}
-use Rattle.cell_network.proofs.Pushes.{pushed_queue, pushed_room, pushed_spare, place_for}
+use Rattle.cell_engine.specs.Sending.{told, told_from}
+use Rattle.cell_engine.proofs.Pushes.{pushed_queue, pushed_room, pushed_spare, place_for}
 use Rattle.std.proofs.lemmas.List.Elements.{All-head, All-tail}
 use Rattle.cell_engine.specs.Admitting.{AreAdmitted}
 use Rattle.cell_engine.proofs.deliveries.push_all.Goals as goal

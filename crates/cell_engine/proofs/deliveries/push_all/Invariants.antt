@@ -1,7 +1,7 @@
 use Rattle.std.proofs.Common.{◌≡◌, ◌≤◌, ◌+◌, ◌++◌, length}
 use Rattle.net_prefix.specs.declared.addr.Addr.{Addr}
 use Rattle.session_queue.specs.Waiting.{queue_at, spare_at}
-use Rattle.cell_network.specs.Sending.{told, told_from}
+use Rattle.cell_engine.specs.Sending.{told, told_from}
 use Rattle.cell_engine.specs.Admitting.{AreAdmitted}
 use Rattle.cell_engine.proofs.deliveries.push_all.Given as goal
 

@@ -1,7 +1,7 @@
 use Rattle.std.proofs.Common.{◌≡◌, ◌≤◌, length, max, drop}
 use Rattle.net_prefix.specs.declared.addr.Addr.{Addr}
 use Rattle.session_queue.specs.Waiting.{queue_at, spare_at}
-use Rattle.cell_network.specs.Sending.{told}
+use Rattle.cell_engine.specs.Sending.{told}
 use Rattle.cell_engine.proofs.deliveries.reserve_all.Given as goal
 
 -- the queues and what is admitted are as they were, and there is a place for each message but perhaps for those that are left

@@ -2,8 +2,8 @@ use Rattle.std.proofs.Common.{subst, sym, ◌∙◌}
 use Rattle.std.specs.List.Sorted.{IsStrictlySortedBy}
 use Rattle.session_queue.specs.Waiting.{direction_cmp}
 use Rattle.session_queue.proofs.Places.{direction_total}
-use Rattle.cell_network.proofs.Directions.{direction, direction_exact}
-use Rattle.cell_network.proofs.Picks.{sorted_inserted}
+use Rattle.cell_engine.proofs.Directions.{direction, direction_exact}
+use Rattle.cell_engine.proofs.Picks.{sorted_inserted}
 use Rattle.cell_engine.proofs.edits.directions_after.Goals as goal
 
 pub with_direction-requires-in-Join : goal.with_direction-requires-in-Join

@@ -2,7 +2,7 @@ use Rattle.std.proofs.Common.{◌++◌, ◌∷◌, [], filter, ap, sym, ◌∙�
 use Rattle.std.specs.Ordering.{is_gt, is_lt}
 use Rattle.session_queue.specs.Waiting.{direction_cmp}
 use Rattle.session_queue.proofs.Places.{direction_total}
-use Rattle.cell_network.proofs.Directions.{direction_exact}
+use Rattle.cell_engine.proofs.Directions.{direction_exact}
 use Rattle.cell_engine.proofs.Placing.{placed_between}
 use Rattle.cell_engine.proofs.edits.with_direction.Goals as goal
 

@@ -1,5 +1,5 @@
 use Rattle.std.proofs.Common.{ap, ◌∙◌}
-use Rattle.cell_engine.specs.Changes.{edit_at}
+use Rattle.cell_engine.specs.Becomings.{edit_at}
 use Rattle.cell_engine.proofs.Deciding.{made_all}
 use Rattle.cell_engine.proofs.moved_cells.decide_in_threads.Goals as goal
 

@@ -1,5 +1,5 @@
 use Rattle.std.proofs.Common.{◌≡◌, map, take}
-use Rattle.cell_engine.specs.Changes.{edit_at}
+use Rattle.cell_engine.specs.Becomings.{edit_at}
 use Rattle.cell_engine.proofs.moved_cells.decide_in_turn.Given as goal
 
 -- those of the cells so far have their edits

@@ -1,6 +1,6 @@
 use Rattle.std.proofs.Common.{◌≡◌, ◌+◌, length, take}
 use Rattle.net_prefix.specs.declared.addr.Addr.{Addr}
-use Rattle.cell_network.specs.Sending.{told_from}
+use Rattle.cell_engine.specs.Sending.{told_from}
 use Rattle.cell_engine.specs.Counts.{count_at}
 use Rattle.cell_engine.proofs.places.count_sends.Given as goal
 

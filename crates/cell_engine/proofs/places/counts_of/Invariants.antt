@@ -1,6 +1,6 @@
 use Rattle.std.proofs.Common.{◌≡◌, length, take}
 use Rattle.net_prefix.specs.declared.addr.Addr.{Addr}
-use Rattle.cell_network.specs.Editing.{told_by_all}
+use Rattle.cell_engine.specs.Editing.{told_by_all}
 use Rattle.cell_engine.specs.CellEdits.{edits_send}
 use Rattle.cell_engine.specs.Counts.{count_at}
 use Rattle.cell_engine.proofs.places.counts_of.Given as goal

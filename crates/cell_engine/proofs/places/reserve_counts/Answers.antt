@@ -5,8 +5,8 @@ use Rattle.net_prefix.specs.declared.addr.Addr.{Addr}
 use Rattle.net_prefix.specs.Address.{same_addr}
 use Rattle.session_queue.specs.declared.direction.Direction.{Direction}
 use Rattle.session_queue.specs.Waiting.{queue_at, spare_at, same_direction}
-use Rattle.cell_network.proofs.Offers.{same_addr_true}
-use Rattle.cell_network.proofs.Pushes.{queue_kept, spare_grows}
+use Rattle.cell_engine.proofs.Offers.{same_addr_true}
+use Rattle.cell_engine.proofs.Pushes.{queue_kept, spare_grows}
 use Rattle.cell_engine.specs.Counts.{count_at}
 use Rattle.cell_engine.proofs.Counts.{counts_covered}
 use Rattle.cell_engine.proofs.places.reserve_counts.Goals as goal

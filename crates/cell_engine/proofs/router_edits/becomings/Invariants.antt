@@ -1,5 +1,5 @@
 use Rattle.std.proofs.Common.{◌≡◌, map, take}
-use Rattle.cell_engine.specs.Changes.{edit_becoming}
+use Rattle.cell_engine.specs.Becomings.{edit_becoming}
 use Rattle.cell_engine.proofs.router_edits.becomings.Given as goal
 
 -- those of the routers so far

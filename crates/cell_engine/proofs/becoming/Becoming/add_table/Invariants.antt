@@ -1,6 +1,6 @@
 use Rattle.std.proofs.Common.{◌≡◌, ◌++◌, drop}
 use Rattle.prefix_table.specs.Tables.{all_seen}
-use Rattle.cell_engine.specs.Changes.{pair_of, moved_cells}
+use Rattle.cell_engine.specs.Becomings.{pair_of, moved_cells}
 use Rattle.cell_engine.proofs.becoming.Becoming.add_table.Given as goal
 
 -- with the cells that are left, all are added

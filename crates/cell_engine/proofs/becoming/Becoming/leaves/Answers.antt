@@ -1,6 +1,6 @@
 use Rattle.std.proofs.Common.{◌≡◌, false, option_copied, sym, subst, ◌∙◌}
-use Rattle.cell_network.specs.Moves.{is_moved_by}
-use Rattle.cell_engine.specs.Changes.{Becoming}
+use Rattle.cell_engine.specs.Moves.{is_moved_by}
+use Rattle.cell_engine.specs.Becomings.{Becoming}
 use Rattle.cell_engine.proofs.Remade.{pair_some}
 use Rattle.cell_engine.proofs.Skipped.{leaves_by, none_of_hops}
 use Rattle.cell_engine.proofs.becoming.Becoming.leaves.Goals as goal

@@ -1,7 +1,7 @@
 use Rattle.std.proofs.Common.{◌++◌, sym, ap, ◌∙◌}
 use Rattle.std.proofs.lemmas.List.{append-nil}
-use Rattle.cell_network.proofs.Unmoved.{none_of_router}
-use Rattle.cell_engine.specs.Changes.{all_changes}
+use Rattle.cell_engine.proofs.Unmoved.{none_of_router}
+use Rattle.cell_engine.specs.Becomings.{all_changes}
 use Rattle.cell_engine.proofs.state.State.add_concerned.Goals as goal
 
 pub returns-then-not-contains-clause-more : goal.returns-then-not-contains-clause-more

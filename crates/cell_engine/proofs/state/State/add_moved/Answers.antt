@@ -3,10 +3,10 @@ use Rattle.std.proofs.lemmas.List.{append-nil}
 use Rattle.std.specs.FinMap as finite
 use Rattle.std.specs.FinMap.Entries.{find}
 use Rattle.net_prefix.specs.Address.{addr_cmp}
-use Rattle.router_tables.specs.RouterTables.{table_at}
-use Rattle.cell_network.proofs.Flat.{no_cells}
-use Rattle.cell_network.specs.Engine.{Engine}
-use Rattle.cell_engine.specs.Changes.{moved_cells}
+use Rattle.cell_engine.specs.RouterTables.{table_at}
+use Rattle.cell_engine.proofs.Flat.{no_cells}
+use Rattle.cell_engine.specs.Engine.{Engine}
+use Rattle.cell_engine.specs.Becomings.{moved_cells}
 use Rattle.cell_engine.proofs.state.State.add_moved.Goals as goal
 
 pub returns-in-None : goal.returns-in-None

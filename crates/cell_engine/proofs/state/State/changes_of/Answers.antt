@@ -1,9 +1,9 @@
 use Rattle.std.proofs.Common.{map, ap, ◌∙◌}
 use Rattle.cell_engine.specs.CellEdits.{whole_changes}
-use Rattle.cell_engine.specs.Changes.{all_moved, edit_at}
+use Rattle.cell_engine.specs.Becomings.{all_moved, edit_at}
 use Rattle.cell_engine.proofs.Deciding.{decided_all}
 use Rattle.cell_engine.proofs.Whole.{whole_all}
-use Rattle.router_tables.proofs.Seen.{when_ok}
+use Rattle.cell_engine.proofs.Seen.{when_ok}
 use Rattle.cell_engine.proofs.state.State.changes_of.Goals as goal
 
 pub returns : goal.returns

@@ -1,12 +1,12 @@
 use Rattle.std.proofs.Common.{◌++◌, length, Some, ap, sym, subst, arith}
 use Rattle.std.specs.FinMap as finite
 use Rattle.net_conf.specs.declared.edit.Scope.TheVariants.{Network}
-use Rattle.router_tables.specs.RouterTables.{table_at}
-use Rattle.cell_network.specs.Changes.{router_changes, changes_in}
-use Rattle.cell_network.specs.Moves.{moves}
-use Rattle.cell_network.proofs.Chunks.{T_of}
-use Rattle.cell_engine.specs.Changes.{AreEditsOf, all_changes}
-use Rattle.cell_engine.proofs.Walks.{tables_past, tables_start, tables_step, tables_end}
+use Rattle.cell_engine.specs.RouterTables.{table_at}
+use Rattle.cell_engine.specs.Changes.{router_changes, changes_in}
+use Rattle.cell_engine.specs.Moves.{moves}
+use Rattle.cell_engine.proofs.Chunks.{T_of}
+use Rattle.cell_engine.specs.Becomings.{AreEditsOf, all_changes}
+use Rattle.cell_engine.proofs.WalksInOrder.{tables_past, tables_start, tables_step, tables_end}
 use Rattle.cell_engine.proofs.Remade.{gathered_more, gathered_all}
 use Rattle.cell_engine.proofs.state.State.concerned_routers.Goals as goal
 

@@ -1,8 +1,8 @@
 use Rattle.std.proofs.Common.{◌≡◌, ◌++◌, length}
 use Rattle.net_conf.specs.declared.edit.Scope.TheVariants.{Network}
-use Rattle.cell_network.specs.Changes.{changes_in}
-use Rattle.cell_engine.specs.Changes.{AreEditsOf, all_changes}
-use Rattle.cell_engine.proofs.Walks.{tables_past}
+use Rattle.cell_engine.specs.Changes.{changes_in}
+use Rattle.cell_engine.specs.Becomings.{AreEditsOf, all_changes}
+use Rattle.cell_engine.proofs.WalksInOrder.{tables_past}
 use Rattle.cell_engine.proofs.state.State.concerned_routers.Given as goal
 
 -- with the tables that are left, the cells of all routers

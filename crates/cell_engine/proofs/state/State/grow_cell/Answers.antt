@@ -1,6 +1,6 @@
 use Rattle.std.proofs.Common.{is_some, ap, subst, ◌∙◌}
-use Rattle.router_tables.specs.RouterTables.{value_at}
-use Rattle.cell_network.specs.Engine.{Engine}
+use Rattle.cell_engine.specs.RouterTables.{value_at}
+use Rattle.cell_engine.specs.Engine.{Engine}
 use Rattle.cell_engine.specs.Deliveries.{KeepsSame}
 use Rattle.cell_engine.proofs.Growth.{grown_sound, grown_prefixes, grown_same, grown_there, ups_kept}
 use Rattle.cell_engine.proofs.state.State.grow_cell.Goals as goal

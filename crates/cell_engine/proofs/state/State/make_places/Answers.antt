@@ -1,5 +1,5 @@
 use Rattle.std.proofs.Common.{subst}
-use Rattle.cell_network.specs.Engine.{Engine}
+use Rattle.cell_engine.specs.Engine.{Engine}
 use Rattle.cell_engine.specs.Deliveries.{KeepsSame}
 use Rattle.cell_engine.proofs.Growth.{same_with_places}
 use Rattle.cell_engine.proofs.state.State.make_places.Goals as goal

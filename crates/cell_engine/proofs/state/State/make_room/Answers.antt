@@ -1,9 +1,9 @@
 use Rattle.std.proofs.Common.{◌≤◌, List, length, ap, sym, subst, ◌∙◌}
 use Rattle.net_prefix.specs.declared.addr.Addr.{Addr}
 use Rattle.session_queue.specs.declared.message.Message.{Message}
-use Rattle.cell_network.specs.Engine.{Engine, network}
-use Rattle.cell_network.specs.Sending.{told}
-use Rattle.cell_network.proofs.Queues.{network_same}
+use Rattle.cell_engine.specs.Engine.{Engine, network}
+use Rattle.cell_engine.specs.Sending.{told}
+use Rattle.cell_engine.proofs.Queues.{network_same}
 use Rattle.cell_engine.proofs.Growth.{network_kept}
 use Rattle.cell_engine.proofs.state.State.make_room.Goals as goal
 

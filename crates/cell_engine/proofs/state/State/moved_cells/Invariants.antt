@@ -1,5 +1,5 @@
 use Rattle.std.proofs.Common.{◌≡◌, take}
-use Rattle.cell_engine.specs.Changes.{all_moved}
+use Rattle.cell_engine.specs.Becomings.{all_moved}
 use Rattle.cell_engine.proofs.state.State.moved_cells.Given as goal
 
 -- those of the routers so far

@@ -1,8 +1,8 @@
 use Rattle.std.proofs.Common.{◌≡◌, ap, sym, subst, ◌∙◌}
-use Rattle.cell_network.specs.Engine.{IsSound, network}
-use Rattle.cell_network.specs.Changes.{AreOverSessionsUp}
-use Rattle.cell_network.specs.Reporting.{AreOfPrefixes}
-use Rattle.cell_network.proofs.Matches.{no_tables}
+use Rattle.cell_engine.specs.Engine.{IsSound, network}
+use Rattle.cell_engine.specs.Changes.{AreOverSessionsUp}
+use Rattle.cell_engine.specs.Reporting.{AreOfPrefixes}
+use Rattle.cell_engine.proofs.Matches.{no_tables}
 use Rattle.cell_engine.proofs.Growth.{blank, blank_sound, blank_network, no_routes}
 use Rattle.cell_engine.proofs.state.State.new.Goals as goal
 

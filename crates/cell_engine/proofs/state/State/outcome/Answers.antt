@@ -1,5 +1,5 @@
 use Rattle.std.proofs.Common.{◌≤◌, length, sym, subst}
-use Rattle.cell_network.specs.Sending.{told}
+use Rattle.cell_engine.specs.Sending.{told}
 use Rattle.cell_engine.proofs.Delivered.{outcome_tells_one}
 use Rattle.cell_engine.proofs.state.State.outcome.Goals as goal
 

@@ -1,7 +1,7 @@
 use Rattle.std.proofs.Common.{ap, ◌∙◌}
 use Rattle.reference_machine.specs.Network.{with_message}
-use Rattle.cell_network.specs.Engine.{Engine, network}
-use Rattle.cell_network.proofs.Queues.{network_pushed}
+use Rattle.cell_engine.specs.Engine.{Engine, network}
+use Rattle.cell_engine.proofs.Queues.{network_pushed}
 use Rattle.cell_engine.proofs.state.State.push.Goals as goal
 
 pub returns : goal.returns

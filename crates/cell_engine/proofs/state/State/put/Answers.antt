@@ -3,12 +3,12 @@ use Rattle.net_conf.specs.Configuration.{has_session}
 use Rattle.net_conf.specs.Costs.{is_up}
 use Rattle.reference_machine.specs.Network.{messages_in}
 use Rattle.reference_machine.specs.Machine.{head_step}
-use Rattle.route_cell.specs.Cells.{Outcome}
-use Rattle.cell_network.specs.Engine.{Engine, IsSound, network}
-use Rattle.cell_network.specs.Changes.{AreOverSessionsUp}
-use Rattle.cell_network.specs.Reporting.{AreOfPrefixes}
-use Rattle.cell_network.proofs.Directions.{session_if_up}
-use Rattle.cell_network.proofs.Matches.{prefixes_with_cell}
+use Rattle.cell_engine.specs.Cells.{Outcome}
+use Rattle.cell_engine.specs.Engine.{Engine, IsSound, network}
+use Rattle.cell_engine.specs.Changes.{AreOverSessionsUp}
+use Rattle.cell_engine.specs.Reporting.{AreOfPrefixes}
+use Rattle.cell_engine.proofs.Directions.{session_if_up}
+use Rattle.cell_engine.proofs.Matches.{prefixes_with_cell}
 use Rattle.cell_engine.specs.Deliveries.{IsOfHead}
 use Rattle.cell_engine.proofs.Delivered.{sound_after_head, next_after_head, ups_after_head}
 use Rattle.cell_engine.proofs.state.State.put.Goals as goal

@@ -3,10 +3,10 @@ use Rattle.std.specs.Arc.{arc_value}
 use Rattle.net_conf.specs.Configured.{IsConfigured}
 use Rattle.reference_machine.specs.Machine.{after_edit, with_sent}
 use Rattle.session_queue.specs.Waiting.{queue_at, spare_at}
-use Rattle.cell_network.specs.Engine.{Engine, IsSound, network}
-use Rattle.cell_network.specs.Editing.{told_by_all}
-use Rattle.cell_network.specs.Changes.{with_changes, AreOverSessionsUp}
-use Rattle.cell_network.specs.Reporting.{AreOfPrefixes}
+use Rattle.cell_engine.specs.Engine.{Engine, IsSound, network}
+use Rattle.cell_engine.specs.Editing.{told_by_all}
+use Rattle.cell_engine.specs.Changes.{with_changes, AreOverSessionsUp}
+use Rattle.cell_engine.specs.Reporting.{AreOfPrefixes}
 use Rattle.cell_engine.specs.Admitting.{AreAllAdmitted}
 use Rattle.cell_engine.specs.CellEdits.{AreEditsThere, edits_send, whole_changes, with_edits}
 use Rattle.cell_engine.specs.Edits.{Planned, IsPlanned, HasPlaces, made_in}

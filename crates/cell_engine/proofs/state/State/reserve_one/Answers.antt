@@ -1,7 +1,7 @@
 use Rattle.std.proofs.Common.{ap, ◌∙◌}
-use Rattle.cell_network.specs.Engine.{Engine, network}
-use Rattle.cell_network.proofs.Pushes.{queue_kept}
-use Rattle.cell_network.proofs.Queues.{network_same}
+use Rattle.cell_engine.specs.Engine.{Engine, network}
+use Rattle.cell_engine.proofs.Pushes.{queue_kept}
+use Rattle.cell_engine.proofs.Queues.{network_same}
 use Rattle.cell_engine.proofs.state.State.reserve_one.Goals as goal
 
 pub returns-clause-network : goal.returns-clause-network

@@ -1,14 +1,14 @@
 use Rattle.std.proofs.Common.{◌≡◌, ◌∷◌, [], ◌++◌, map, Option, option_map, sym, ap, ◌∙◌}
 use Rattle.std.specs.Option.{option_to_list}
 use Rattle.net_conf.specs.Configuration.{Configuration}
-use Rattle.route_cell.specs.Cells.{Heard}
-use Rattle.cell_network.specs.Changes.{router_changes}
-use Rattle.cell_network.specs.Moves.{moves}
+use Rattle.cell_engine.specs.Cells.{Heard}
+use Rattle.cell_engine.specs.Changes.{router_changes}
+use Rattle.cell_engine.specs.Moves.{moves}
 use Rattle.cell_engine.specs.CellEdits.{whole_changes}
-use Rattle.cell_engine.specs.Changes.{Becoming, edit_at, moved_cell, becoming_of, edit_becoming}
+use Rattle.cell_engine.specs.Becomings.{Becoming, edit_at, moved_cell, becoming_of, edit_becoming}
 use Rattle.cell_engine.proofs.Deciding.{decided_cells}
 use Rattle.cell_engine.proofs.Whole.{whole_cells}
-use Rattle.router_tables.proofs.Seen.{when_ok}
+use Rattle.cell_engine.proofs.Seen.{when_ok}
 use Rattle.cell_engine.proofs.state.State.route_changes.Goals as goal
 
 pub returns : goal.returns

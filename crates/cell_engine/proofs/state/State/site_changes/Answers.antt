@@ -2,9 +2,9 @@ use Rattle.std.proofs.Common.{◌≡◌, None, option_map, option_copied, unwrap
 use Rattle.std.specs.FinMap as finite
 use Rattle.std.specs.FinMap.Entries.{find}
 use Rattle.net_prefix.specs.Address.{addr_cmp}
-use Rattle.cell_network.specs.Changes.{router_changes}
-use Rattle.cell_network.specs.Moves.{moves}
-use Rattle.cell_network.proofs.Flat.{no_cells}
+use Rattle.cell_engine.specs.Changes.{router_changes}
+use Rattle.cell_engine.specs.Moves.{moves}
+use Rattle.cell_engine.proofs.Flat.{no_cells}
 use Rattle.cell_engine.specs.CellEdits.{whole_changes}
 use Rattle.cell_engine.proofs.state.State.site_changes.Goals as goal
 

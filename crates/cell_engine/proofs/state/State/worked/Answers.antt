@@ -2,10 +2,10 @@ use Rattle.std.proofs.Common.{◌≡◌, Some, unwrap_or, ap, sym, ◌∙◌}
 use Rattle.session_queue.specs.Telling.{prefix_of}
 use Rattle.net_conf.specs.RouterSites.{router_site}
 use Rattle.net_conf.proofs.RouterLaws.{site_of_router, site_sessions_in_order}
-use Rattle.router_tables.specs.RouterTables.{value_at}
-use Rattle.route_cell.specs.Cells.{decided}
-use Rattle.cell_network.specs.Engine.{heard_at}
-use Rattle.cell_network.proofs.Decided.{heard_decided}
+use Rattle.cell_engine.specs.RouterTables.{value_at}
+use Rattle.cell_engine.specs.Cells.{decided}
+use Rattle.cell_engine.specs.Engine.{heard_at}
+use Rattle.cell_engine.proofs.Decided.{heard_decided}
 use Rattle.cell_engine.proofs.Growth.{shown_or}
 use Rattle.cell_engine.proofs.state.State.worked.Goals as goal
 

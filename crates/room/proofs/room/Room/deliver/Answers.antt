@@ -4,7 +4,7 @@ use Rattle.sim_event.specs.declared.entry.Entry.{Entry}
 use Rattle.sim_event.specs.declared.event.Event.TheVariants.{Deliver}
 use Rattle.sim_event.specs.declared.reply.Reply.TheVariants.{Took}
 use Rattle.reference_machine.specs.Machine.{step, delivery_refusal}
-use Rattle.cell_network.specs.Engine.{Engine, network}
+use Rattle.cell_engine.specs.Engine.{Engine, network}
 use Rattle.sim_core.specs.Installing.{IsOutcomeOfHead}
 use Rattle.room.specs.Books.{IsKept, version_of}
 use Rattle.room.specs.Commits.{delivery_of}

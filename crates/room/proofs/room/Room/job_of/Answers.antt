@@ -1,7 +1,7 @@
 use Rattle.std.proofs.Common.{rules, ◌≡◌, ap}
 use Rattle.net_conf.specs.RouterSites.{router_site}
 use Rattle.session_queue.specs.Telling.{prefix_of}
-use Rattle.cell_network.specs.Engine.{heard_at}
+use Rattle.cell_engine.specs.Engine.{heard_at}
 use Rattle.cell_engine.specs.Sharing.{conf_shown}
 use Rattle.room.specs.Jobs.{Seen}
 use Rattle.room.proofs.Taken.{can_decide}

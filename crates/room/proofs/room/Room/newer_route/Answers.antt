@@ -1,9 +1,9 @@
 use Rattle.std.proofs.Common.{rules, ◌≡◌, sym, ap, subst, ◌∙◌}
 use Rattle.session_queue.specs.Telling.{prefix_of}
-use Rattle.route_cell.specs.Cells.{route_of}
-use Rattle.cell_network.specs.Engine.{heard_at}
-use Rattle.cell_network.proofs.Taken.{heard_in_order}
-use Rattle.route_cell.specs.Senders.{AreInOrder}
+use Rattle.cell_engine.specs.Cells.{route_of}
+use Rattle.cell_engine.specs.Engine.{heard_at}
+use Rattle.cell_engine.proofs.Taken.{heard_in_order}
+use Rattle.cell_engine.specs.Senders.{AreInOrder}
 use Rattle.room.proofs.Differing.{same_lists, other_route}
 use Rattle.room.proofs.Taken.{route_in_network, same_heard}
 use Rattle.room.proofs.room.Room.newer_route.Goals as goal

@@ -1,5 +1,5 @@
 use Rattle.std.proofs.Common.{◌≡◌, drop}
-use Rattle.route_cell.specs.Cells.{route_of}
+use Rattle.cell_engine.specs.Cells.{route_of}
 use Rattle.room.proofs.room.committing.route_of.Given as goal
 
 -- what is left has the peer's route, if the whole has it

@@ -2,7 +2,7 @@ use Rattle.std.proofs.Common.{refl, subst}
 use Rattle.sim_event.specs.declared.event.Event.TheVariants.{Ask as AnAsk}
 use Rattle.sim_event.specs.declared.reply.Reply.TheVariants.{Report as AReport, Refused}
 use Rattle.reference_machine.specs.Machine.{IsStep}
-use Rattle.cell_network.specs.Engine.{Engine, network}
+use Rattle.cell_engine.specs.Engine.{Engine, network}
 use Rattle.sim_core.proofs.Answered.{answered, denied, counted}
 use Rattle.sim_core.proofs.event_machine.EventMachine.answer.Goals as goal
 

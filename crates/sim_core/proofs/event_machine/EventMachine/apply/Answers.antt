@@ -3,7 +3,7 @@ use Rattle.net_conf.specs.Configuration.{has_session}
 use Rattle.session_queue.specs.Waiting.{spare_at, IsAdmitted}
 use Rattle.reference_machine.specs.Network.{with_message}
 use Rattle.reference_machine.specs.Machine.{with_sent, after_edit}
-use Rattle.cell_network.specs.Engine.{network}
+use Rattle.cell_engine.specs.Engine.{network}
 use Rattle.cell_engine.specs.Edits.{IsPlanned, HasPlaces}
 use Rattle.sim_core.proofs.Carried.{editing, taking, pushing, nothing_done}
 use Rattle.sim_core.proofs.event_machine.EventMachine.apply.Goals as goal

@@ -2,7 +2,7 @@ use Rattle.std.proofs.Common.{◌≡◌, sym, subst}
 use Rattle.sim_event.specs.declared.event.Event.TheVariants.{Deliver}
 use Rattle.sim_event.specs.declared.reply.Reply.TheVariants.{Took}
 use Rattle.reference_machine.specs.Machine.{IsStep}
-use Rattle.cell_network.specs.Engine.{IsSound, network}
+use Rattle.cell_engine.specs.Engine.{IsSound, network}
 use Rattle.cell_engine.specs.Deliveries.{IsOfHead, outcome_at, KeepsSame}
 use Rattle.sim_core.proofs.Delivering.{counts, up_still, head_still, takes, wants}
 use Rattle.sim_core.proofs.event_machine.EventMachine.deliver.Goals as goal

@@ -3,7 +3,7 @@ use Rattle.net_conf.specs.Configuration.{has_session}
 use Rattle.sim_event.specs.declared.event.Event.TheVariants.{Feed as AFeed}
 use Rattle.reference_machine.specs.Network.{with_message}
 use Rattle.reference_machine.specs.Machine.{feed_refusal}
-use Rattle.cell_network.specs.Engine.{network}
+use Rattle.cell_engine.specs.Engine.{network}
 use Rattle.sim_core.specs.Plans.{fed_in}
 use Rattle.sim_core.proofs.Answered.{denied_by}
 use Rattle.sim_core.proofs.Refusals.{feed_denied}

@@ -2,7 +2,7 @@ use Rattle.std.proofs.Common.{slice_get, Some, refl, sym, ap, subst, option_map,
 use Rattle.session_queue.specs.Telling.{message_of}
 use Rattle.session_queue.specs.Waiting.{queue_at}
 use Rattle.reference_machine.specs.Machine.{delivery_refusal}
-use Rattle.cell_network.specs.Engine.{IsSound}
+use Rattle.cell_engine.specs.Engine.{IsSound}
 use Rattle.sim_core.proofs.Refusals.{delivery_denied, delivery_denied_empty, delivery_wants}
 use Rattle.sim_core.proofs.event_machine.EventMachine.head.Goals as goal
 

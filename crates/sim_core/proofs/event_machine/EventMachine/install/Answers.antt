@@ -4,7 +4,7 @@ use Rattle.session_queue.specs.Waiting.{queue_at}
 use Rattle.sim_event.specs.declared.reply.Reply.TheVariants.{Took}
 use Rattle.reference_machine.specs.Network.{messages_in}
 use Rattle.reference_machine.specs.Machine.{delivery_refusal, head_step}
-use Rattle.cell_network.specs.Engine.{IsSound, network}
+use Rattle.cell_engine.specs.Engine.{IsSound, network}
 use Rattle.sim_core.proofs.Accepted.{delivery_up, delivery_takes}
 use Rattle.sim_core.proofs.Installed.{next_is}
 use Rattle.sim_core.proofs.event_machine.EventMachine.install.Goals as goal

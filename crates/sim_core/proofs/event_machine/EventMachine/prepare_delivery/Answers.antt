@@ -1,5 +1,5 @@
 use Rattle.std.proofs.Common.{subst}
-use Rattle.cell_network.specs.Engine.{IsSound}
+use Rattle.cell_engine.specs.Engine.{IsSound}
 use Rattle.sim_core.proofs.Refusals.{delivery_wants}
 use Rattle.sim_core.proofs.event_machine.EventMachine.prepare_delivery.Goals as goal
 

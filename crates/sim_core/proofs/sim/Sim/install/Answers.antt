@@ -1,7 +1,7 @@
 use Rattle.std.proofs.Common.{rules, ◌≡◌, length, ap, sym, subst, ◌∙◌}
 use Rattle.sim_event.specs.declared.event.Event.TheVariants.{Deliver}
 use Rattle.reference_machine.specs.Machine.{step}
-use Rattle.cell_network.specs.Engine.{Engine, IsSound, network}
+use Rattle.cell_engine.specs.Engine.{Engine, IsSound, network}
 use Rattle.sim_core.specs.Counting.{decided_at, raised, Counts}
 use Rattle.sim_core.proofs.Installed.{counted}
 use Rattle.sim_core.proofs.sim.Sim.install.Goals as goal

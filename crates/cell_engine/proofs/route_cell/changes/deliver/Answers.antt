@@ -1,0 +1,26 @@
+use Rattle.std.proofs.Common.{◌≡◌, ap, subst, ◌∙◌}
+use Rattle.session_queue.specs.Telling.{prefix_of}
+use Rattle.route_select.specs.Selection.{best_of}
+use Rattle.cell_engine.specs.Cells.{with_news, standings_of, sends_of, delivered}
+use Rattle.cell_engine.specs.Senders.{AreInOrder}
+use Rattle.cell_engine.specs.Updates.{standings_after}
+use Rattle.cell_engine.proofs.StandingsAfter.{taken}
+use Rattle.cell_engine.proofs.route_cell.changes.deliver.Goals as goal
+
+pub returns : goal.returns
+unfolding delivered
+returns g c =
+    let site = c.args.site.now in
+    let u = c.args.from in
+    let m = c.args.message.now in
+    let held = c.args.cell.now.received in
+    let routes = c.in_ok-received.ensures.news ∙ ap (λ h. with_news u m h.received) c.cell.view_is in
+    let order : AreInOrder held = subst AreInOrder (ap (λ h. h.received) c.cell.view_is) c.with_news.ensures.order in
+    let stands : g.S.Chosen.standings c.take.new.chosen ≡ standings_of site (prefix_of m) (with_news u m held) =
+    c.in_ok-take.ensures
+    ∙ ap (standings_after site u m) (c.in_ok-chosen.ensures ∙ ap (λ h. h.standings) c.cell.view_is ∙ ap (λ h. h.standings) c.requires.decided)
+    ∙ taken site u m held c.requires.peers order in
+    let had = c.best.ensures ∙ ap (λ h. best_of h.standings) c.cell.view_is in
+    let has = c.best-2.ensures ∙ ap best_of stands in
+    let sends = c.in_ok-sends.ensures ∙ (λ i. sends_of site site (c.prefix.ensures i) (had i) (has i)) in
+    λ i. record { heard = record { received = routes i; standings = stands i }; sends = sends i }

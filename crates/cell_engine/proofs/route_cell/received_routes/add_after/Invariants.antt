@@ -1,0 +1,8 @@
+use Rattle.std.proofs.Common.{◌≡◌, ◌++◌, take, filter}
+use Rattle.std.specs.Ordering.{is_lt}
+use Rattle.net_prefix.specs.Address.{addr_cmp}
+use Rattle.cell_engine.proofs.route_cell.received_routes.add_after.Given as goal
+
+-- those of the routes so far are added
+abbrev pub invariant-loop-route : goal.invariant-loop-route
+invariant-loop-route l = l.kept.items ≡ l.fn.kept.items ++ filter (λ e. is_lt (addr_cmp l.sender e.0)) (take l.route-index l.routes)

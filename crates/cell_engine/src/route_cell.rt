@@ -1,0 +1,16 @@
+//! What one router has received for one prefix, how each route stands there, and what the router sends when that changes.
+
+mod cell;
+mod changes;
+mod keeping;
+mod moves;
+mod outcome;
+mod received_routes;
+mod sends;
+mod standings;
+
+pub use cell::Cell;
+pub use changes::{deliver, refresh, refresh_compared, store};
+pub use keeping::keep;
+pub use moves::SiteChange;
+pub use outcome::Outcome;

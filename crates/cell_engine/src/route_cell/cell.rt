@@ -1,0 +1,101 @@
+//! What one router has received for one prefix, and its choice.
+
+ghost use Rattle.std.specs.Prelude.{◌≡◌, IfOk};
+ghost use Rattle.std.specs.Option.{option_copied};
+ghost use Rattle.route_select.specs.Selection.{best_of};
+ghost use Rattle.cell_engine.specs.Cells.{nothing_heard, route_of};
+ghost use Rattle.cell_engine.specs.Recosting.{recosted};
+ghost use Rattle.cell_engine.specs.Senders.{AreInOrder, first_past, seen};
+
+use crate::route_cell::received_routes::ReceivedRoutes;
+use net_prefix::Addr;
+use path_attr::Attr;
+use route_select::{Candidate, Chosen, Selector};
+use seq::Copied;
+use std::alloc::{AllocError, Global};
+use std::marker::Model;
+
+/// The routes to one prefix that one router has received, by sender, and the choice among them and its own.
+#[derive(Drop)]
+pub struct Cell<S: Chosen> {
+    pub(crate) received: ReceivedRoutes,
+    pub(crate) chosen: S,
+}
+
+impl<S: Chosen> Model for Cell<S> {
+    ghost use Rattle.cell_engine.specs.Cells.{Heard};
+    ghost use Rattle.cell_engine.specs.CellCoding.{coded_heard};
+
+    ghost Value = { Heard };
+
+    ghost coded = { coded_heard };
+
+    ghost view = { λ c. record { received = c.received; standings = S.standings c.chosen } };
+}
+
+impl<S: Selector> Cell<S> {
+    /// Nothing was received. It takes no memory.
+    pub fn new(alloc: Global) -> Self
+        ensures { result ≡ nothing_heard }
+    {
+        Cell {
+            received: ReceivedRoutes::new(alloc),
+            chosen: S::new(alloc),
+        }
+    }
+
+    /// Gives the cell's route this cost, where it is the only one. Nothing else changes. It takes no memory.
+    pub fn set_cost(&mut self, cost: u32)
+        ensures { self.new ≡ recosted cost self.old }
+    {
+        self.chosen.set_cost(cost);
+    }
+}
+
+impl<S: Chosen> Cell<S> {
+    /// The choice, with the reason of each route.
+    pub fn chosen(&self) -> &S
+        ensures { S.standings result.now ≡ self.now.standings }
+    {
+        &self.chosen
+    }
+
+    /// The best of the routes that are considered. None where none is.
+    pub fn best(&self) -> Option<&Candidate>
+        ensures { option_copied result ≡ best_of self.now.standings }
+    {
+        self.chosen.best()
+    }
+
+    /// The route that was received from the peer, as it was received.
+    pub fn received_from(&self, peer: Addr) -> Option<&Attr>
+        ensures { option_copied result ≡ route_of self.now.received peer }
+    {
+        self.received.route_of(peer)
+    }
+
+    /// The routes that were received, as they were, each with its sender, by address.
+    pub fn received(&self) -> &[(Addr, Attr)]
+        ensures routes { result.now ≡ self.now.received }
+        ensures order { AreInOrder self.now.received }
+    {
+        self.received.routes()
+    }
+
+    /// The first sender past this one, or with none the first of all, and its route. The senders come in order of address.
+    pub fn next_received(&self, past: Option<Addr>) -> Option<(Addr, &Attr)>
+        ensures next { seen result ≡ first_past self.now.received past }
+        ensures order { AreInOrder self.now.received }
+    {
+        self.received.next(past)
+    }
+}
+
+impl<S: Selector + Drop> Copied for Cell<S> {
+    fn copy(&self, alloc: Global) -> Result<Self, AllocError> {
+        Ok(Cell {
+            received: self.received.copy(alloc)?,
+            chosen: self.chosen.copy(alloc)?,
+        })
+    }
+}

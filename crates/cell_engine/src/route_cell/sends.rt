@@ -1,0 +1,187 @@
+//! What is sent when a choice or a site changes.
+
+ghost use Rattle.std.specs.Prelude.{◌≡◌, ◌↔◌, map, IsTrue, IfOk};
+ghost use Rattle.std.specs.Bool.{OnTrue};
+ghost use Rattle.std.specs.List.{filter_map};
+ghost use Rattle.std.specs.List.Sorted.{IsStrictlySortedBy};
+ghost use Rattle.net_prefix.specs.Address.{addr_cmp};
+ghost use Rattle.std.specs.Option.{option_copied};
+ghost use Rattle.cell_engine.specs.Cells.{is_up_in, send_to, send_over, sends_of};
+ghost use Rattle.cell_engine.specs.Updates.{send_if_up, without_cost, costless};
+
+use crate::route_cell::moves::SiteChange;
+use net_conf::{SiteConf, SiteSession};
+use net_prefix::{Addr, Prefix};
+use reference_machine::{advert_of, change_of};
+use route_select::Candidate;
+use seq::push_some;
+use session_queue::Message;
+use std::alloc::{AllocError, Global};
+
+/// Whether the router has a session with the peer, and it is up.
+pub(crate) fn is_up_in(site: &SiteConf, peer: Addr) -> bool
+    ensures { result ≡ is_up_in site.now peer }
+{
+    match site.session(peer) {
+        None => false,
+        Some(session) => session.up,
+    }
+}
+
+fn send_to(peer: Addr, message: Option<Message>) -> Option<(Addr, Message)>
+    ensures { result ≡ send_to peer message }
+{
+    match message {
+        None => None,
+        Some(message) => Some((peer, message)),
+    }
+}
+
+/// What is sent over the session, which is up, where another route is advertised to its peer than before. An advert looks
+/// the session up again, by the address of its peer.
+fn send_over(
+    alloc: Global,
+    old: &SiteConf,
+    new: &SiteConf,
+    prefix: Prefix,
+    had: Option<&Candidate>,
+    has: Option<&Candidate>,
+    to: &SiteSession,
+) -> Result<Option<(Addr, Message)>, AllocError>
+    ensures { IfOk result (λ send. send ≡ send_over old.now new.now prefix (option_copied had.entry) (option_copied has.entry) to.now) }
+{
+    let peer = to.peer;
+    let before = advert_of(alloc, is_up_in(old, peer), Some(old), peer, prefix, had)?;
+    let after = advert_of(alloc, to.up, Some(new), peer, prefix, has)?;
+    Ok(send_to(peer, change_of(prefix, before, after)))
+}
+
+/// What is sent over the session: nothing while it is down.
+fn send_if_up(
+    alloc: Global,
+    old: &SiteConf,
+    new: &SiteConf,
+    prefix: Prefix,
+    had: Option<&Candidate>,
+    has: Option<&Candidate>,
+    to: &SiteSession,
+) -> Result<Option<(Addr, Message)>, AllocError>
+    ensures { IfOk result (λ send. send ≡ send_if_up old.now new.now prefix (option_copied had.entry) (option_copied has.entry) to.now) }
+{
+    if to.up {
+        send_over(alloc, old, new, prefix, had, has, to)
+    } else {
+        Ok(None)
+    }
+}
+
+/// What is sent over these sessions.
+fn sends_over(
+    alloc: Global,
+    old: &SiteConf,
+    new: &SiteConf,
+    prefix: Prefix,
+    had: Option<&Candidate>,
+    has: Option<&Candidate>,
+    sessions: &[SiteSession],
+) -> Result<Vec<(Addr, Message)>, AllocError>
+    ensures { IfOk result (λ sends. sends.items ≡ filter_map (send_if_up old.now new.now prefix (option_copied had.entry) (option_copied has.entry)) sessions.now) }
+{
+    let mut sends = Vec::new(alloc);
+    for to in sessions {
+        let send = send_if_up(alloc, old, new, prefix, had, has, to)?;
+        push_some(&mut sends, send)?;
+    }
+    Ok(sends)
+}
+
+/// A message to each peer to which another route is advertised than before, by address of the peer.
+pub(crate) fn sends_of(
+    alloc: Global,
+    old: &SiteConf,
+    new: &SiteConf,
+    prefix: Prefix,
+    had: Option<&Candidate>,
+    has: Option<&Candidate>,
+) -> Result<Vec<(Addr, Message)>, AllocError>
+    ensures { IfOk result (λ sends. sends.items ≡ sends_of old.now new.now prefix (option_copied had.entry) (option_copied has.entry)) }
+{
+    sends_over(alloc, old, new, prefix, had, has, new.sessions.as_slice())
+}
+
+/// What is sent where the site stays: no advert is made where the best route is the same.
+pub(crate) fn sends_at(
+    alloc: Global,
+    site: &SiteConf,
+    prefix: Prefix,
+    had: Option<&Candidate>,
+    has: Option<&Candidate>,
+) -> Result<Vec<(Addr, Message)>, AllocError>
+    requires { IsStrictlySortedBy addr_cmp (map (λ x. x.peer) site.now.sessions) }
+    ensures { IfOk result (λ sends. sends.items ≡ sends_of site.now site.now prefix (option_copied had.entry) (option_copied has.entry)) }
+{
+    if is_same_choice(had, has) {
+        Ok(Vec::new(alloc))
+    } else {
+        sends_of(alloc, site, site, prefix, had, has)
+    }
+}
+
+/// What is sent where both sites were compared: no advert is made where settings and sessions stay, and the best routes differ in their costs
+/// alone.
+pub(crate) fn sends_compared(
+    alloc: Global,
+    change: &SiteChange<'_>,
+    prefix: Prefix,
+    had: Option<&Candidate>,
+    has: Option<&Candidate>,
+) -> Result<Vec<(Addr, Message)>, AllocError>
+    requires { IsStrictlySortedBy addr_cmp (map (λ x. x.peer) change.now.new.sessions) }
+    ensures { IfOk result (λ sends. sends.items ≡ sends_of change.now.old change.now.new prefix (option_copied had.entry) (option_copied has.entry)) }
+{
+    if change.has_same_facts && is_same_choice_but_for_cost(had, has) {
+        Ok(Vec::new(alloc))
+    } else {
+        sends_of(alloc, change.old, change.new, prefix, had, has)
+    }
+}
+
+/// Whether both are the same route but for its cost, or none.
+fn is_same_choice_but_for_cost(one: Option<&Candidate>, other: Option<&Candidate>) -> bool
+    ensures { OnTrue result (costless (option_copied one.entry) ≡ costless (option_copied other.entry)) }
+{
+    match (one, other) {
+        (None, None) => true,
+        (Some(one), Some(other)) => is_same_but_for_cost(one, other),
+        _ => false,
+    }
+}
+
+/// Whether both are the same route, or none.
+fn is_same_choice(one: Option<&Candidate>, other: Option<&Candidate>) -> bool
+    ensures { IsTrue result ↔ (option_copied one.entry ≡ option_copied other.entry) }
+{
+    match (one, other) {
+        (None, None) => true,
+        (Some(one), Some(other)) => is_same(one, other),
+        _ => false,
+    }
+}
+
+/// Whether both are the same route.
+fn is_same(one: &Candidate, other: &Candidate) -> bool
+    ensures { IsTrue result ↔ (one.now ≡ other.now) }
+{
+    one.cost == other.cost && is_same_but_for_cost(one, other)
+}
+
+/// Whether both are the same route but for its cost.
+fn is_same_but_for_cost(one: &Candidate, other: &Candidate) -> bool
+    ensures { IsTrue result ↔ (without_cost one.now ≡ without_cost other.now) }
+{
+    one.source == other.source
+        && one.pref == other.pref
+        && one.external == other.external
+        && one.ident == other.ident
+        && one.attr.is_same(&other.attr)
+}

@@ -1,5 +1,0 @@
-use Rattle.hop_table.proofs.Knowing.{none_known}
-use Rattle.hop_table.proofs.hop_table.HopTablePrefixTableCell.new.Goals as goal
-
-pub invariant_of-result : goal.invariant_of-result
-invariant_of-result g c = none_known _ c.new.ensures

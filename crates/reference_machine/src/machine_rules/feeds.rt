@@ -1,0 +1,76 @@
+//! What a virtual peer feeds.
+
+ghost use Rattle.std.specs.Prelude.{◌≡◌, IfOk};
+ghost use Rattle.reference_machine.specs.Machine.{has_foreign_first, is_too_long, feed_refusal, fed_message};
+
+use crate::limits::MOST_FED_NUMBERS;
+use net_conf::{Conf, Refusal};
+use net_prefix::Addr;
+use path_attr::Attr;
+use seq::SharedSeq;
+use session_queue::Message;
+use sim_event::{Feed, News};
+use std::alloc::AllocError;
+
+/// Whether a fed path does not begin with the feeder's AS.
+fn has_foreign_first(conf: &Conf, feeder: Addr, news: &News) -> bool
+    ensures { result ≡ has_foreign_first conf.now feeder news.now }
+{
+    match news {
+        News::Update(_, path, _, _) => path.neighbour() != conf.as_of(feeder),
+        News::Withdraw(_) => false,
+    }
+}
+
+fn is_too_long(news: &News) -> bool
+    ensures { result ≡ is_too_long news.now }
+{
+    match news {
+        News::Update(_, path, _, _) => path.number_count() > MOST_FED_NUMBERS,
+        News::Withdraw(_) => false,
+    }
+}
+
+/// Why the feed is refused, if it is.
+#[tactic(auto, unfolding(crate::specs::Machine::feed_refusal))]
+pub fn feed_refusal(conf: &Conf, feed: &Feed) -> Option<Refusal>
+    ensures { result ≡ feed_refusal conf.now feed.now }
+{
+    if !(conf.has_node(feed.from) && conf.has_node(feed.to)) {
+        Some(Refusal::NoRouter)
+    } else if !conf.is_virtual(feed.from) || conf.is_virtual(feed.to) {
+        Some(Refusal::BadEnd)
+    } else if !conf.has_session(feed.from, feed.to) {
+        Some(Refusal::NoSession)
+    } else if !conf.is_up(feed.from, feed.to) {
+        Some(Refusal::SessionDown)
+    } else if has_foreign_first(conf, feed.from, &feed.news) {
+        Some(Refusal::FirstAs)
+    } else if is_too_long(&feed.news) {
+        Some(Refusal::Limit)
+    } else {
+        None
+    }
+}
+
+/// The message that is fed: a route has its feeder as next hop. It shares the path: the only fault is that 2^63 owners
+/// share it.
+pub fn fed_message(feeder: Addr, news: &News) -> Result<Message, AllocError>
+    ensures { IfOk result (λ message. message ≡ fed_message feeder news.now) }
+{
+    match news {
+        News::Update(prefix, path, origin, med) => Ok(Message::Update(
+            *prefix,
+            Attr {
+                path: path.share()?,
+                origin: *origin,
+                next: feeder,
+                med: *med,
+                pref: None,
+                oid: None,
+                clusters: SharedSeq::empty(),
+            },
+        )),
+        News::Withdraw(prefix) => Ok(Message::Withdraw(*prefix)),
+    }
+}

@@ -1,0 +1,43 @@
+//! Parts of the answers to questions.
+
+ghost use Rattle.std.specs.Prelude.{◌≡◌, true, IfOk};
+ghost use Rattle.net_conf.specs.Configuration.{has_node};
+ghost use Rattle.reference_machine.specs.Reports.{held_of, cost_and_hop};
+
+use net_conf::Conf;
+use net_prefix::{Addr, Prefix};
+use route_select::Candidate;
+use sim_event::Held;
+use std::alloc::{AllocError, Global};
+
+/// The route that was chosen for the prefix, if one was, as the Loc-RIB holds it (RFC 4271, 3.2).
+pub fn held_of(prefix: Prefix, route: Option<Candidate>) -> Option<Held>
+    ensures { result ≡ held_of prefix route }
+{
+    match route {
+        None => None,
+        Some(route) => Some(Held {
+            prefix,
+            source: route.source,
+            attr: route.attr,
+        }),
+    }
+}
+
+/// The router's cost to the address, and the address to which it forwards what is for it, where there is a way.
+#[tactic(auto, unfolding(crate::specs::Reports::cost_and_hop))]
+pub fn cost_and_hop(
+    alloc: Global,
+    conf: &Conf,
+    router: Addr,
+    target: Addr,
+) -> Result<Option<(u32, Addr)>, AllocError>
+    requires { has_node conf.now router ≡ true }
+    ensures { IfOk result (λ found. found ≡ cost_and_hop conf.now router target) }
+{
+    let tree = conf.costs(alloc, router)?;
+    match (tree.cost(target), tree.first_hop(target)) {
+        (Some(cost), Some(hop)) => Ok(Some((cost, hop))),
+        _ => Ok(None),
+    }
+}

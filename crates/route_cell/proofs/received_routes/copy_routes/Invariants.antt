@@ -1,6 +1,0 @@
-use Rattle.std.proofs.Common.{◌≡◌, take}
-use Rattle.route_cell.proofs.received_routes.copy_routes.Given as goal
-
--- the routes so far are copied
-abbrev pub invariant-loop-route : goal.invariant-loop-route
-invariant-loop-route l = l.copies.items ≡ take l.route-index l.routes

@@ -1,5 +1,0 @@
-mod Forwarding
-mod Lists
-mod Matching
-mod Questions
-mod Routers
