@@ -97,7 +97,7 @@ class Watch:
         return "leaked" if prefix not in self.told.get(way, {}) else "told otherwise"
 
 
-def shown(message: str) -> str:
+def message_text(message: str) -> str:
     """A message of a queue in few words."""
     word, rest = message.split(" ", 1)
     return message if word == "withdraw" else "update %s path %s" % (route(rest).prefix, route(rest).attributes.path)
@@ -105,9 +105,9 @@ def shown(message: str) -> str:
 
 def advice(passing: List[Passing], network: Network) -> List[str]:
     """How to avoid that something passes: for each policy that was changed."""
-    told = []
+    told, names = [], network.names
     for one, other in dict.fromkeys((each.line.words[1], each.line.words[2]) for each in passing):
-        again = "" if network.is_router(other) else "; then feed what %s tells again" % other
+        again = "" if network.is_router(other) else "; then feed what %s tells again" % names.shown(other)
         told.append("`stop %s %s` before the first line of the policy and `start %s %s` after the last, so that nothing passes in between%s"
                     % (one, other, one, other, again))
     return told

@@ -2,10 +2,10 @@
 from __future__ import annotations
 
 from dataclasses import dataclass, field
-from typing import Dict, List, Optional, Tuple
+from typing import Dict, List, Optional, Set, Tuple
 
-from .language import by_address, by_prefix, contains, prefix, show_address
-from .network import Direction, Network
+from .language import by_address, by_prefix, contains, prefix, show_address, words_of
+from .network import Direction, Network, Pair, pair
 from .output import Progress
 from .replies import Route, Trace, reasons, routes, trace
 from .run import Run
@@ -20,7 +20,7 @@ REASONS = {
 
 @dataclass
 class Change:
-    """A route before and after; `reason` says by what the old one loses now, where another was chosen in its place."""
+    """A route before and after; `reason` says by what the old one loses now, or why it is gone."""
     prefix: str
     before: Optional[Route]
     after: Optional[Route]
@@ -89,27 +89,34 @@ def _compare_routes(before: Run, after: Run, found: Difference) -> None:
     old, new = (_tables(run, run.network.routers()) for run in (before, after))
     for router in after.network.routers():
         changes = _changes(old.get(router, {}), new[router])
-        for change in changes:
-            change.reason = _why_now(after, router, change, found.down)
         if changes:
             found.routers[router] = changes
+    _tell_why(before, after, found)
 
 
-def _why_now(after: Run, router: str, change: Change, down: List[Direction]) -> str:
-    """By what the route that was chosen before loses now."""
-    if change.before is None or change.before.source is None:
-        return ""
-    if change.after and change.after.source == change.before.source:
-        return "it comes from the same, with other attributes"
-    source = change.before.source
-    if source == "self":
-        return "it is no longer originated here"
-    reason = dict(reasons(after.ask(["why %s %s" % (router, change.prefix)])[0])).get(source)
-    if reason is None and ((router, source) in down or (source, router) in down):
-        return "the session with %s is down" % source
-    if reason is None:
-        return "%s does not tell it any more" % source
-    return "%s: %s" % (reason, REASONS[reason])
+def _tell_why(before: Run, after: Run, found: Difference) -> None:
+    """By what each route that was chosen before loses now: as `why` says, or why it is not among what the router has."""
+    asked = [(router, change, change.before.source) for router, changes in found.routers.items() for change in changes
+             if change.before and change.before.source]
+    stopped = _stopped(after.lines[len(before.lines):])
+    for (router, change, source), reply in zip(asked, after.ask("why %s %s" % (router, change.prefix) for router, change, _ in asked)):
+        reason = dict(reasons(reply)).get(source)
+        shown = after.network.names.shown(source)
+        if reason:
+            change.reason = "it comes from the same, with other attributes" if reason == "best" else "%s: %s" % (reason, REASONS[reason])
+        elif source == "self":
+            change.reason = "it is no longer originated here"
+        elif (router, source) in found.down or (source, router) in found.down:
+            change.reason = "the session with %s is down" % shown
+        elif pair(router, source) in stopped and not after.network.is_router(source):
+            change.reason = "the session with %s was down for a while, and it was not fed again" % shown
+        else:
+            change.reason = "%s does not tell it any more" % shown
+
+
+def _stopped(lines: List[str]) -> Set[Pair]:
+    """The ends that lines of a change parted, if only for a while."""
+    return {pair(words[1], words[2]) for words in map(words_of, lines) if words[0] in ("stop", "fail")}
 
 
 def _compare_sessions(before: Run, after: Run, found: Difference) -> None:

@@ -9,8 +9,10 @@ from typing import Callable, Dict, List, Optional, Tuple
 from .compare import REASONS
 from .language import by_address, neighbour, prefix
 from .mistakes import CHANGED, Mistake
+from .names import Names
+from .orders import add_order, order_of
 from .replies import Attributes, Route, best, reasons, routes
-from .run import Run, unsettled
+from .run import Run, told_of
 from .script import read
 
 FILTERS = ("pref", "length", "origin", "med", "external", "cost", "ident", "clusters", "peer")
@@ -107,7 +109,7 @@ def winner(lost: Explained, among: List[Explained]) -> Optional[Explained]:
     return min(better, key=lambda each: (each.value(name), each.reason != "best")) if better else None
 
 
-def verdict(one: Explained, among: List[Explained]) -> str:
+def verdict(one: Explained, among: List[Explained], names: Names) -> str:
     """Why a route was chosen or not, in a few words."""
     if one.reason == "best":
         return "chosen"
@@ -117,16 +119,16 @@ def verdict(one: Explained, among: List[Explained]) -> str:
     if by is None:
         return "lost (%s): %s" % (one.reason, REASONS[one.reason])
     if one.reason == "external":
-        return "lost by external: it came from inside the AS, that of %s from another" % by.source
-    return "lost by %s: %s against %s of %s" % (NAMES[one.reason], one.shown(one.reason), by.shown(one.reason), by.source)
+        return "lost by external: it came from inside the AS, that of %s from another" % names.shown(by.source)
+    return "lost by %s: %s against %s of %s" % (NAMES[one.reason], one.shown(one.reason), by.shown(one.reason), names.shown(by.source))
 
 
-def text_of(router: str, to: str, found: List[Explained]) -> str:
+def text_of(router: str, to: str, found: List[Explained], names: Names) -> str:
     """The explanation for a reader."""
-    lines = ["%s at %s: %s" % (to, router, "no route" if not found else "1 route" if len(found) == 1 else "%d routes" % len(found))]
+    lines = ["%s at %s: %s" % (to, names.shown(router), "no route" if not found else "1 route" if len(found) == 1 else "%d routes" % len(found))]
     for one in found:
-        source = "its own" if one.source == "self" else "from " + one.source
-        lines.append("  %-20s %s" % (source, verdict(one, found)))
+        source = "its own" if one.source == "self" else "from " + names.shown(one.source)
+        lines.append("  %-20s %s" % (source, verdict(one, found, names)))
         if one.attributes:
             lines.append("      %s%s" % (one.attributes, " (as received)" if one.is_excluded else ", cost %d" % one.cost))
     return "\n".join(lines) + "\n"
@@ -139,29 +141,32 @@ def parser() -> argparse.ArgumentParser:
         epilog="Attributes are those after the import policy; of a route that is excluded, as received. Exit status: 0; 1 where the network "
                "does not settle; 2 a mistake.")
     made.add_argument("script", metavar="SCRIPT", help="the script; - is standard input")
-    made.add_argument("router", metavar="ROUTER", help="a router's address")
+    made.add_argument("router", metavar="ROUTER", help="a router's address, or its name")
     made.add_argument("prefix", metavar="PREFIX", help="a prefix, as 10.0.0.0/8")
     made.add_argument("--settle", action="store_true", help="empty all queues after the script")
+    add_order(made)
     return made
 
 
 def _check(run: Run, router: str, to: str) -> Tuple[str, str]:
-    if not run.network.is_router(router):
-        raise Mistake("there is no router %s in the script; it has %s" % (router, ", ".join(run.network.routers()[:8]) or "none"))
+    found = run.network.names.address_of(router)
+    if not run.network.is_router(found):
+        known = ", ".join(map(run.network.names.shown, run.network.routers()[:8]))
+        raise Mistake("there is no router %s in the script; it has %s" % (router, known or "none"))
     if prefix(to) is None:
         raise Mistake("`%s` is not a prefix with no bit set behind its length, as 10.0.0.0/8" % to)
-    return router, to
+    return found, to
 
 
 def main(words: Optional[List[str]] = None) -> int:
     """The tool."""
     chosen = parser().parse_args(words)
-    with Run() as run:
+    with Run(order_of(chosen), tries_others=True) as run:
         run.play(read(chosen.script))
         router, to = _check(run, chosen.router, chosen.prefix)
         done = run.settle() if chosen.settle else None
-        sys.stdout.write(text_of(router, to, explain(run, router, to)))
-    if done and not done.is_settled:
-        print("%s: %s" % (chosen.script, unsettled(done)), file=sys.stderr)
-        return CHANGED
-    return 0
+        names = run.network.names
+        sys.stdout.write(text_of(router, to, explain(run, router, to), names))
+    if done and told_of(done):
+        print("%s: %s" % (chosen.script, told_of(done, names)), file=sys.stderr)
+    return CHANGED if done and not done.is_settled else 0

@@ -6,6 +6,7 @@ import sys
 from typing import Dict, List, Optional, Set, Tuple
 
 from . import output
+from .counted import check_length
 from .language import number, show_address
 from .mistakes import Mistake
 from .sources import lines_in
@@ -113,20 +114,20 @@ class Writer:
         return lines + ["origin %s %s" % (self.routers[asn], self.prefixes[asn]) for asn in self.origins]
 
     def _policies(self, asn: int) -> List[str]:
+        """Towards peers and providers go its own routes and its customers', and nothing else.
+
+        Each of the others' routes is denied by its first AS. No rule can permit a router's own routes alone, since their path is empty: so nothing
+        is permitted by name, and the policy is right for whatever it originates later. With 256 sessions an AS there are never more than 255 rules."""
         known, here = self.known, self.routers[asn]
         lines = ["rule %s %s in any permit pref=%d" % (here, self.routers[other], pref)
                  for others, pref in ((known.peers[asn], 90), (known.providers[asn], 80)) for other in sorted(others)]
         upward = sorted(known.peers[asn] | known.providers[asn])
-        for other in upward:
-            lines += ["rule %s %s out %s" % (here, self.routers[other], rest) for rest in self._exports(asn, other, upward)]
-        return lines
+        return lines + ["rule %s %s out first %d deny" % (here, self.routers[to], other) for to in upward for other in upward if other != to]
 
-    def _exports(self, asn: int, to: int, upward: List[int]) -> List[str]:
-        """Towards a peer or provider: its own routes and its customers', in whichever words are fewer."""
-        denied = ["first %d deny" % other for other in upward if other != to]
-        permitted = ["first %d permit" % other for other in sorted(self.known.customers[asn])]
-        permitted += ["is %s permit" % self.prefixes[asn]] if asn in self.origins else []
-        return denied if len(denied) <= len(permitted) else permitted + ["any deny"]
+    def count(self) -> int:
+        """How many lines the script has."""
+        upward = [len(self.known.peers[asn] | self.known.providers[asn]) for asn in self.known.asns()]
+        return 1 + len(upward) + 2 * len(self.known.ties) + sum(count * count for count in upward) + len(self.origins)
 
 
 def _addresses(asns: List[int]) -> Dict[int, str]:
@@ -167,5 +168,7 @@ def main(words: Optional[List[str]] = None) -> int:
     if chosen.core is not None and chosen.core < 2:
         raise Mistake("--core %d: at least 2 are expected" % chosen.core)
     known = within_limits(core(relations(chosen.file), chosen.core), chosen.file)
-    output.write("".join(line + "\n" for line in Writer(known, _origins(known, chosen.origins, chosen.file)).lines()), chosen.out)
+    writer = Writer(known, _origins(known, chosen.origins, chosen.file))
+    check_length(writer.count(), chosen.file, "--core N keeps fewer ASes")
+    output.write("".join(line + "\n" for line in writer.lines()), chosen.out)
     return 0

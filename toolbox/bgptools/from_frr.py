@@ -1,277 +1,237 @@
-"""FRR configurations, one file a router, as a script."""
+"""FRR configurations as a script."""
 from __future__ import annotations
 
 import argparse
-import pathlib
-import re
 import sys
+from collections import Counter
 from typing import Dict, List, Optional, Set, Tuple
 
-from . import output
-from .frr_config import Config, Entry, Interface, Neighbour
-from .language import address, by_address, number, show_address
-from .mistakes import Mistake
+from . import frr_checks, frr_costs, frr_origins, frr_sessions, output
+from .frr_config import Config, Neighbour, Told, read, short
+from .frr_layout import routers_in
+from .frr_lists import Place, World, shown
+from .frr_network import Link, Network
+from .frr_policy import ANY, DENY, MOST_RULES, PERMIT, Action, Match, Rules, is_, shortened, without_covered
+from .frr_rules import policy
+from .language import address, by_address
+from .mistakes import CHANGED, WRONG, Mistake
+from .names import mark
+
+DEFAULT = (0, 0)
+MOST_SESSIONS = 256
+# Roles in which a route from the other end goes to customers alone (RFC 9234).
+UPWARDS = ("customer", "peer", "rs-client")
 
 
 class Translation:
-    """The script that is made of all files, and what could not be said."""
+    """The script that is made of all routers."""
 
-    def __init__(self, configs: List[Config]) -> None:
-        self.routers: Dict[str, Config] = {}
-        self.owners: Dict[str, str] = {}
+    def __init__(self, network: Network) -> None:
+        self.network = network
         self.lines: List[str] = []
-        for config in configs:
-            self._name(config)
-        self.virtuals: Dict[str, int] = {}
-        self.linked: Set[frozenset] = set()
-        for name in sorted(self.routers, key=by_address):
-            self.lines.append("router %s %d" % (name, self.routers[name].asn or 0))
-        self._links()
-        self._sessions()
-        for name, config in self.routers.items():
+        self.world = self._world()
+        self.policies: Dict[Tuple[str, str, str], Rules[Action]] = {}
+        self.owns = {name: frr_origins.origins_of(network, name) for name in network.routers}
+        frr_sessions.check(network)
+        self._routers()
+        self._links_and_sessions()
+        for name, config in network.routers.items():
             self._settings(name, config)
-            self._origins(name, config)
+        frr_checks.check(network)
+        frr_costs.check(network, {name for name, owns in self.owns.items() if owns})
+        frr_origins.tell_incomplete(network)
+        frr_origins.tell_gateways(network)
+        frr_origins.tell_weights(network, self.owns, self.policies)
 
-    def _name(self, config: Config) -> None:
-        if config.asn is None:
-            raise Mistake("a line `router bgp N` is expected, with an AS number", config.path)
-        name = config.own_name()
-        if name is None:
-            raise Mistake("`bgp router-id A` is expected, or an interface with an address", config.path)
-        if name in self.routers:
-            raise Mistake("the router-id %s is that of %s, too" % (name, self.routers[name].path), config.path)
-        self.routers[name] = config
-        for own in [name] + [a for interface in config.interfaces.values() for a, _ in interface.addresses]:
-            if self.owners.setdefault(own, name) != name:
-                config.note(0, "the address %s is that of %s, too" % (own, self.routers[self.owners[own]].path))
+    def _world(self) -> World:
+        network, world = self.network, World()
+        for name, other in network.peers:
+            if network.is_external(name, other):
+                world.neighbours.setdefault(network.asn_of(name), set()).add(network.asn_of(other))
+        world.fed.update(network.virtuals.values())
+        world.prepending.update(config.asn or 0 for config in network.routers.values()
+                                if any("prepend" in entry.settings for entries in config.maps.values()
+                                       for entry in entries.values()))
+        return world
 
-    # Links: two interfaces in one subnet
+    def _routers(self) -> None:
+        for name in sorted(self.network.routers, key=by_address):
+            config = self.network.routers[name]
+            self.lines.append("router %s %d" % (name, config.asn or 0))
+            self.lines += [mark(name, config.hostname)] if config.hostname and address(config.hostname) is None else []
 
-    def _links(self) -> None:
-        subnets: Dict[Tuple[int, int], List[Tuple[str, Interface]]] = {}
-        for name, config in self.routers.items():
-            for interface in config.interfaces.values():
-                for own, length in interface.addresses:
-                    if length < 32:
-                        subnets.setdefault(((address(own) or 0) >> (32 - length), length), []).append((name, interface))
-                for other in interface.opposite:
-                    if self.owners.get(other, name) != name and by_address(self.owners[other]) > by_address(name):
-                        self._link(name, self.owners[other], interface)
-        for ends in subnets.values():
-            for at, (one, here) in enumerate(ends):
-                for other, there in ends[at + 1:]:
-                    if one != other:
-                        self._link(one, other, here, there)
-
-    def _link(self, one: str, other: str, here: Interface, there: Optional[Interface] = None) -> None:
-        if frozenset((one, other)) in self.linked:
-            self.routers[one].note(here.line, "there is a second link to %s; two routers have one" % other)
-            return
-        if there and here.cost != there.cost:
-            self.routers[one].note(here.line, "the cost of the link to %s is %d here and %d there; a link has one cost, %d" % (other, here.cost, there.cost, here.cost))
-        self.linked.add(frozenset((one, other)))
-        self.lines.append("link %s %s %d" % (one, other, here.cost))
-        self.lines += ["fail %s %s" % (one, other)] if here.is_down or there and there.is_down else []
-
-    # Sessions
-
-    def _sessions(self) -> None:
-        self.peers: Dict[Tuple[str, str], Neighbour] = {}
-        for name, config in self.routers.items():
-            for each in map(config.settled, config.neighbours.values()):
-                other = self._other_end(name, config, each)
-                if other == "":
-                    continue
-                if (name, other) in self.peers:
-                    config.note(each.line, "neighbor %s is the router %s, with which there is a session already" % (each.name, other))
-                    continue
-                self.peers[name, other] = each
-        for name, other in list(self.peers):
-            if other in self.routers and (other, name) not in self.peers:
-                self.routers[name].note(self.peers[name, other].line, "%s has no neighbor that is %s" % (self.routers[other].path, name))
-                del self.peers[name, other]
-        joined = sorted({tuple(sorted(both, key=by_address)) for both in self.peers}, key=lambda both: [by_address(a) for a in both])
-        for one, other in joined:
+    def _links_and_sessions(self) -> None:
+        network = self.network
+        links = sorted(network.links.values(), key=lambda link: [by_address(each)
+            for each in ((link.other, link.one) if link.other in network.virtuals else (link.one, link.other))])
+        links.sort(key=lambda link: link.other in network.virtuals)
+        made: List[str] = []
+        for link in links:
+            if link.other in network.virtuals and link.other not in made:
+                made.append(link.other)
+                self.lines.append("virtual %s %d" % (link.other, network.virtuals[link.other]))
+            self._link(link)
+        for one, other in frr_sessions.pairs(network):
             self.lines.append("join %s %s" % (one, other))
-            if any(both in self.peers and self.peers[both].is_down for both in ((one, other), (other, one))):
-                self.lines.append("stop %s %s" % (one, other))
+            self.lines += ["stop %s %s" % (one, other)] if frozenset((one, other)) in network.stopped else []
 
-    def _other_end(self, name: str, config: Config, each: Neighbour) -> str:
-        """The router or virtual peer that a neighbour is; nothing where it cannot be said."""
-        other, own = self.owners.get(each.name, ""), config.asn or 0
-        asn = own if each.remote == "internal" else number(each.remote, 1)
-        if each.remote == "":
-            config.note(each.line, "neighbor %s has no remote-as" % each.name)
-        elif other == name:
-            config.note(each.line, "neighbor %s is this router itself" % each.name)
-        elif other:
-            there = self.routers[other].asn or 0
-            if there == asn or each.remote == "external" and there != own:
-                if there == own or frozenset((name, other)) in self.linked:
-                    return other
-                config.note(each.line, "neighbor %s is in another AS, and no subnet links the two" % each.name)
-            else:
-                config.note(each.line, "neighbor %s is %s of AS %d, and not of AS %s" % (each.name, other, there, each.remote))
-        elif asn is None or asn == own:
-            config.note(each.line, "no file belongs to neighbor %s, and a virtual peer needs %s" % (each.name, "its AS number" if asn is None else "another AS"))
-        elif self.virtuals.get(each.name, asn) != asn:
-            config.note(each.line, "neighbor %s is of AS %d for another router" % (each.name, self.virtuals[each.name]))
-        else:
-            self._virtual(name, config, each.name, asn)
-            return each.name
-        return ""
-
-    def _virtual(self, name: str, config: Config, peer: str, asn: int) -> None:
-        if peer not in self.virtuals:
-            self.virtuals[peer] = asn
-            self.lines.append("virtual %s %d" % (peer, asn))
-        interface = next((each for each in config.interfaces.values() if peer in each.opposite or any(
-            length < 32 and (address(own) or 0) >> (32 - length) == (address(peer) or 0) >> (32 - length) for own, length in each.addresses)), None)
-        self._link(name, peer, interface or Interface("", 0, 1))
+    def _link(self, link: Link) -> None:
+        self.lines.append("link %s %s %d" % (link.one, link.other, link.here.cost))
+        self.lines += ["fail %s %s" % (link.one, link.other)] if link.is_down else []
 
     # Settings of a router
 
     def _settings(self, name: str, config: Config) -> None:
+        """What a router says of itself and of its neighbours; raises Mistake where they are too many."""
+        how_many = len(self.network.peers_of(name))
+        if how_many > MOST_SESSIONS:
+            raise Mistake("it has %d sessions, and a router has at most %d" % (how_many, MOST_SESSIONS), config.name)
         self.lines += ["cluster %s %s" % (name, config.cluster)] if config.cluster else []
-        for (_, other), each in [(both, each) for both, each in self.peers.items() if both[0] == name]:
-            is_external = other in self.virtuals or self.routers[other].asn != config.asn
-            for is_set, word in ((each.is_client, "client"), (each.is_self, "self")):
-                if is_set and is_external and word == "client":
-                    config.note(each.line, "neighbor %s is in another AS, and no client" % each.name)
-                elif is_set and not is_external:
-                    self.lines.append("%s %s %s on" % (word, name, other))
-            for way in ("in", "out"):
-                self._policy(name, other, way, config, each, is_external)
+        for other, each in self.network.peers_of(name):
+            self._peer(name, config, other, each)
+        self.lines += ["origin %s %s" % (name, shown(own.where)) for own in self.owns[name]]
+        if self._tells_default(name) and DEFAULT not in [own.where for own in self.owns[name]]:
+            self.lines.append("origin %s 0.0.0.0/0" % name)
 
-    def _policy(self, name: str, other: str, way: str, config: Config, each: Neighbour, is_external: bool) -> None:
-        head = "rule %s %s %s " % (name, other, way)
-        if way not in each.maps:
-            # As FRR does where it requires a policy (RFC 8212).
-            self.lines += [head + "any deny"] if is_external and config.does_require_policy else []
-            return
-        wanted, at = each.maps[way]
-        if wanted not in config.maps:
-            config.note(at, "there is no route-map %s; all is denied, as FRR does" % wanted)
-            self.lines += [head + "any deny"]
-            return
-        rules = Rules(config, way, is_external)
-        for entry in sorted(config.maps[wanted], key=lambda entry: entry.sequence):
-            rules.add(entry)
-        self.lines += [head + rule for rule in rules.ended()]
+    def _peer(self, name: str, config: Config, other: str, each: Neighbour) -> None:
+        is_external = self.network.is_external(name, other)
+        for flag, word in (("route-reflector-client", "client"), ("next-hop-self", "self")):
+            if each.has(flag) and not is_external:
+                self.lines.append("%s %s %s on" % (word, name, other))
+            elif each.has(flag) and word == "client":
+                config.tell(each.at(flag), "%s: it is in another AS, and no client, in FRR neither" %
+                            short(each.at(flag).text), False)
+        for way in ("in", "out"):
+            rules = policy(config, each, way, Place(config.asn or 0, is_external, way), self.world)
+            rules = self._with_front(name, config, other, each, rules) if way == "out" else rules
+            if rules is not None:
+                self._rules(name, config, other, each, way, shortened(without_covered(rules)))
 
-    def _origins(self, name: str, config: Config) -> None:
-        found = []
-        for where, wanted, at in config.networks:
-            if any(set(entry.settings) - {"weight"} or entry.matches for entry in config.maps.get(wanted, [])):
-                config.note(at, "network %s: what its route-map %s sets" % (where, wanted))
-            found.append(where)
-        for at in config.redistributes:
-            for interface in config.interfaces.values():
-                found += [_subnet(own, length) for own, length in interface.addresses if not interface.is_down]
-        self.lines += ["origin %s %s" % (name, where) for where in dict.fromkeys(found)]
+    def _rules(self, name: str, config: Config, other: str, each: Neighbour, way: str, rules: Rules[Action]) -> None:
+        """Writes a policy; raises Mistake where it has too many rules."""
+        if len(rules) > MOST_RULES:
+            used = [(kind, *found) for (kind, at), found in each.filters.items() if at == way]
+            named = " and ".join("%s %s" % (kind, wanted) for kind, wanted, _ in used) or "the policy"
+            line = used[0][2] if used else each.line
+            raise Mistake("%s takes %d rules on the way %s, and a policy has at most %d; make its lists shorter" % (
+                named, len(rules), way, MOST_RULES), line.file, line.number)
+        self.policies[name, other, way] = rules
+        self.lines += ["rule %s %s %s %s %s" % (name, other, way, match, action) for match, action in rules]
 
+    def _with_front(self, name: str, config: Config, other: str, each: Neighbour,
+                    rules: Optional[Rules[Action]]) -> Optional[Rules[Action]]:
+        """The rules on the way out behind those that a default route and a role ask for."""
+        front: Rules[Action] = []
+        if self._tells_default(name) and DEFAULT not in [own.where for own in self.owns[name]]:
+            front.append((is_(DEFAULT), PERMIT if _tells(each) else DENY))
+        elif _tells(each):
+            front.append((is_(DEFAULT), PERMIT))
+        front += [(Match("first", asn), DENY) for asn in self._from_above(config, name, other, each)]
+        front += [(is_(where), DENY) for where in frr_origins.own_next_hops(self.network, self.owns, name, other)]
+        return front + (rules or [(ANY, PERMIT)]) if front else rules
 
-def _subnet(own: str, length: int) -> str:
-    return "%s/%d" % (show_address((address(own) or 0) >> (32 - length) << (32 - length)), length)
-
-
-class Rules:
-    """A route map as rules."""
-
-    def __init__(self, config: Config, way: str, is_external: bool) -> None:
-        self.config, self.way, self.is_external = config, way, is_external
-        self.rules: List[str] = []
-
-    def add(self, entry: Entry) -> None:
-        """An entry, where it can be said."""
-        if entry.is_broken:
-            self.config.note(entry.line, "the entry %d, which has a line that cannot be said" % entry.sequence)
-            return
-        if len(entry.matches) > 1:
-            self.config.note(entry.line, "the entry %d: two matches that have to hold both" % entry.sequence)
-            return
-        action = "permit" + self._settings(entry) if entry.is_permit else "deny"
-        self.rules += ["%s %s" % (match, action) for match in self._matches(entry)]
-
-    def ended(self) -> List[str]:
-        """All rules; what no entry matches is denied, as by FRR."""
-        is_closed = any(rule.startswith("any ") for rule in self.rules)
-        return self.rules if is_closed else self.rules + ["any deny"]
-
-    def _matches(self, entry: Entry) -> List[str]:
-        if not entry.matches:
-            return ["any"]
-        kind, name, at = entry.matches[0]
-        known: Dict[str, list] = dict(self.config.prefix_lists if kind == "prefix" else self.config.path_lists)
-        if name not in known:
-            self.config.note(at, "there is no %s list %s" % ("prefix" if kind == "prefix" else "as-path", name))
-        return [match for match in map(self._prefix_match if kind == "prefix" else self._path_match, known.get(name, [])) if match]
-
-    def _prefix_match(self, item: Tuple[bool, str, str, int]) -> Optional[str]:
-        is_permit, where, rest, at = item
-        if is_permit and rest in ("", "le 32"):
-            return "any" if where == "0.0.0.0/0" and rest else "%s %s" % ("under" if rest and not where.endswith("/32") else "is", where)
-        self.config.note(at, "a prefix-list entry %s%s; only `permit P` and `permit P le 32` can be said" % ("" if is_permit else "deny ", where + (" " + rest if rest else "")))
-        return None
-
-    def _path_match(self, item: Tuple[bool, str, int]) -> Optional[str]:
-        is_permit, said, at = item
-        found = re.fullmatch(r"(\^|_)([0-9]+)_", said)
-        if is_permit and found and number(found.group(2), 1):
-            return "%s %s" % ("first" if found.group(1) == "^" else "path", found.group(2))
-        if is_permit and said == ".*":
-            return "any"
-        self.config.note(at, "the as-path `%s%s`; only `permit _N_`, `permit ^N_` and `permit .*` can be said" % ("" if is_permit else "deny ", said))
-        return None
-
-    def _settings(self, entry: Entry) -> str:
-        """The settings that a rule of this session can have."""
-        found = {key: value for key, value in entry.settings.items() if key != "weight"}
-        if "weight" in entry.settings and entry.settings["weight"] != "0":
-            self.config.note(entry.line, "set weight %s" % entry.settings["weight"])
-        if found and not self.is_external:
-            self.config.note(entry.line, "the settings of entry %d, on an internal session" % entry.sequence)
-            return ""
-        if "prepend" in found:
-            numbers = found["prepend"].split(" ")
-            if self.way == "in" or set(numbers) != {str(self.config.asn)} or len(numbers) > 16:
-                self.config.note(entry.line, "set as-path prepend %s; only the own AS on the way out, 1 to 16 times, can be said" % found.pop("prepend"))
+    def _tells_default(self, name: str) -> bool:
+        """Whether the router tells a default route to a neighbour; the first time it is told what that is here."""
+        config, telling = self.network.routers[name], [each for _, each in self.network.peers_of(name)
+                                                       if each.has("default-originate")]
+        for each in telling:
+            line = each.at("default-originate")
+            if each.word("default-map"):
+                config.tell(line, "%s: FRR tells the default route while the route-map permits some route; here it is "
+                            "not told. Write `origin %s 0.0.0.0/0` with rules" % (short(line.text), name))
             else:
-                found["prepend"] = str(len(numbers))
-        if "pref" in found and self.way == "out":
-            self.config.note(entry.line, "set local-preference %s on the way out to another AS" % found.pop("pref"))
-        return "".join(" %s=%s" % (key, found[key]) for key in ("pref", "med", "prepend") if key in found)
+                config.tell(line, "%s: FRR tells the default route without having it; here %s originates it, has it "
+                            "in its own table, and tells it to no other" % (short(line.text), name))
+        return any(_tells(each) for each in telling)
+
+    def _from_above(self, config: Config, name: str, other: str, each: Neighbour) -> List[int]:
+        """The ASes whose routes do not go to this neighbour, by the roles of the sessions of this AS."""
+        network = self.network
+        if each.word("local-role").split(" ")[0] not in UPWARDS or not network.is_external(name, other):
+            return []
+        roles: Dict[int, Set[str]] = {}
+        for (one, there), said in network.peers.items():
+            if one in network.routers and network.routers[one].asn == config.asn and network.is_external(one, there):
+                roles.setdefault(network.asn_of(there), set()).add(said.word("local-role").split(" ")[0])
+        unknown = sorted(asn for asn, found in roles.items() if found != {"provider"} and not found <= set(UPWARDS))
+        if unknown:
+            config.tell(each.at("local-role"), "%s: routes of AS %d, towards which not all sessions have a role, may "
+                        "be marked for customers alone in FRR, and are told here" % (
+                short(each.at("local-role").text), unknown[0]))
+        return sorted(asn for asn, found in roles.items() if found and found <= set(UPWARDS))
 
 
-def configs_in(directory: str) -> List[Config]:
-    """The configurations in a directory: its files, and each frr.conf one folder below."""
-    place = pathlib.Path(directory)
-    if not place.is_dir():
-        raise Mistake("a directory of FRR configurations is expected, one file a router", directory)
-    files = sorted(path for path in place.iterdir() if path.is_file() and not path.name.startswith(".")) + sorted(place.glob("*/frr.conf"))
-    if not files:
-        raise Mistake("it has no file; one configuration a router is expected", directory)
-    return [Config(str(path)) for path in files]
+def _tells(each: Neighbour) -> bool:
+    return each.has("default-originate") and not each.word("default-map")
+
+
+def configs_in(directory: str) -> Tuple[List[Config], List[Told]]:
+    """The configurations in a directory, and what was left out of it: one bad file does not keep the others from being
+    read."""
+    found = routers_in(directory)
+    configs, told = [], list(found.told)
+    for name, files in found.routers.items():
+        try:
+            config = read(name, files)
+        except Mistake as mistake:
+            told.append(Told(mistake.file or name, mistake.line or 0, mistake.text))
+            continue
+        configs.append(config)
+    return configs, told
+
+
+def network_of(configs: List[Config], told: List[Told], directory: str) -> Network:
+    """The network of those that are a router's; raises Mistake where none is."""
+    good = [config for config in configs if config.own_name() and (config.asn or config.interfaces)]
+    if not good:
+        _first_mistake(configs, told, directory)
+    told += [Told(config.name, 0, "neither `router bgp N` with an address nor an interface with one is in it; no "
+                  "router is made of it") for config in configs if config not in good]
+    return Network(good)
+
+
+def _first_mistake(configs: List[Config], told: List[Told], directory: str) -> None:
+    if configs:
+        Network(configs[:1])
+    raise Mistake(told[0].text if told else "no router is in it", told[0].file if told else directory)
 
 
 def parser() -> argparse.ArgumentParser:
     """The words of the command line."""
     made = argparse.ArgumentParser(prog="from-frr", description=(
-        "Writes FRR configurations, one file a router, as a script. A router is named by its router-id, and a neighbor by any of its addresses "
-        "is that router; one that no file belongs to is a virtual peer. Two interfaces in one subnet are a link."),
-        epilog="What cannot be said is told on standard error, as `FILE:LINE: not taken over: ..`. Exit status: 0; 2 a mistake.")
-    made.add_argument("directory", metavar="DIRECTORY", help="the files, or folders with a frr.conf each")
+        "Writes FRR configurations as a script: one file a router, or a folder a router with frr.conf, or with "
+        "bgpd.conf, zebra.conf, ospfd.conf beside each other. "
+        "A router is named by its router-id, and a neighbor by any of its addresses is that router; one that no file "
+        "belongs to is a virtual peer, to be fed. "
+        "Two interfaces in one subnet are a link. docs/FRR.md says what is taken over."),
+        epilog="What is not taken over is told on standard error, as `FILE:LINE: not taken over: ..` with what comes "
+        "of it; the last line counts those that decide no route. "
+               "Exit status: 0 nothing was left out that may decide a route; 1 the script is written, and something "
+               "was; 2 a mistake, and nothing is written.")
+    made.add_argument("directory", metavar="DIRECTORY", help="the files, or a folder a router")
     made.add_argument("-o", dest="out", metavar="FILE", help="write to this file, and not to standard output")
+    made.add_argument("--strict", action="store_true", help="take each line that is told for a mistake")
     return made
 
 
 def main(words: Optional[List[str]] = None) -> int:
     """The tool."""
     chosen = parser().parse_args(words)
-    configs = configs_in(chosen.directory)
-    translation = Translation(configs)
-    for config in configs:
-        for line, text in sorted(set(config.notes)):
-            print("%s: not taken over: %s" % ("%s:%d" % (config.path, line) if line else config.path, text), file=sys.stderr)
+    configs, told = configs_in(chosen.directory)
+    network = network_of(configs, told, chosen.directory)
+    translation = Translation(network)
+    told += [each for config in network.read for each in sorted(config.told)]
+    for each in told:
+        print("%s: %s: %s" % ("%s:%d" % (each.file, each.line) if each.line else each.file, "not taken over"
+                              if each.decides else "note", each.text), file=sys.stderr)
+    counts: "Counter[str]" = sum((config.counts for config in network.read), Counter())
+    if counts:
+        print("%d lines that decide no route were left out: %s" % (sum(counts.values()),
+            ", ".join("%s %d" % each for each in sorted(counts.items(),
+                                                        key=lambda each: (-each[1], each[0].lower())))),
+                                                        file=sys.stderr)
+    if chosen.strict and any(each.decides for each in told):
+        print("nothing is written, since --strict takes each line that is told for a mistake", file=sys.stderr)
+        return WRONG
     output.write("".join(line + "\n" for line in translation.lines), chosen.out)
-    return 0
+    return CHANGED if any(each.decides for each in told) else 0

@@ -7,7 +7,7 @@ import sys
 from dataclasses import dataclass
 from typing import Dict, List, Optional
 
-from . import output
+from . import counted, output
 from .language import address, number, prefix
 from .mistakes import Mistake
 from .sources import lines_in
@@ -120,5 +120,10 @@ def main(words: Optional[List[str]] = None) -> int:
         print("%s: %d routes of IPv6 were left out" % (chosen.file, left_out), file=sys.stderr)
     if not reading.feeds:
         raise Mistake("it has no route that can be taken: " + FORM, chosen.file)
-    output.write("".join(line + "\n" for line in reading.lines()), chosen.out)
+    lines = reading.lines()
+    counted.check_length(len(lines), chosen.file, "{:,} of them are routes".format(len(reading.feeds)))
+    if len(lines) + len(reading.feeds) > counted.MOST_LINES:
+        print("{}: with a delivery for each of its {:,} routes it would have more than {:,} lines: it cannot be settled in one script".format(
+            chosen.file, len(reading.feeds), counted.MOST_LINES), file=sys.stderr)
+    output.write("".join(line + "\n" for line in lines), chosen.out)
     return 0

@@ -1,223 +1,262 @@
-"""An FRR configuration, read line by line. What is not understood is kept with its line, and told."""
+"""A router's FRR configuration, read line by line. What is not taken over is told with its line, or counted where it
+decides no route."""
 from __future__ import annotations
 
-import re
+from collections import Counter
 from dataclasses import dataclass, field
-from typing import Callable, Dict, List, Optional, Tuple
+from typing import Callable, Dict, List, NamedTuple, Optional, Pattern, Set, Tuple
 
-from .language import address, number, prefix, show_address
-from .sources import lines_in
+from .frr_known import category, consequence
+from .frr_lines import Block, Line, blocks_of
+from .language import address, number
 
-# Lines that decide no route here: names, logs, timers, how a session is carried, and what this machine always does.
-SILENT = re.compile(r"frr (version|defaults)|hostname|log |service |line vty|password|enable password|end$|exit|banner|agentx|ip forwarding|ipv6 forwarding|"
-                    r"no ipv6 forwarding|no bgp ebgp-requires-policy|description|ip ospf (area|network|hello|dead)|ospf router-id|no bgp default ipv4-unicast|"
-                    r"bgp log-neighbor-changes|no bgp network import-check|bgp deterministic-med|bgp bestpath compare-routerid|passive-interface|no shutdown$")
-SILENT_OF_NEIGHBOUR = ("update-source", "timers", "advertisement-interval", "passive", "ebgp-multihop", "disable-connected-check", "description",
-                       "password", "activate", "soft-reconfiguration", "send-community", "interface")
+Prefix = Tuple[int, int]
+NOWHERE = Line("", 0, "")
+ALL: Prefix = (0, 0)
+
+
+class Told(NamedTuple):
+    """What is not taken over, and whether it may decide a route."""
+    file: str
+    line: int
+    text: str
+    decides: bool = True
+
+
+@dataclass
+class Address:
+    """An address of an interface, with its subnet, and the address at the other end where that is named."""
+    own: str
+    length: int
+    line: Line
+    opposite: str = ""
+    subnet: Prefix = field(init=False)
+
+    def __post_init__(self) -> None:
+        value = address(self.opposite or self.own) or 0
+        self.subnet = masked(value, 32 if self.opposite else self.length)
 
 
 @dataclass
 class Interface:
-    """An interface with its addresses, each with the prefix behind it, and those at the other end that were named."""
+    """An interface. `interior` is the line that puts it into OSPF or IS-IS by itself; `six` are its subnets of IPv6,
+    each with its own address."""
     name: str
-    line: int
+    line: Line
     cost: int = 10
+    has_cost: bool = False
     is_down: bool = False
-    addresses: List[Tuple[str, int]] = field(default_factory=list)
-    opposite: List[str] = field(default_factory=list)
+    addresses: List[Address] = field(default_factory=list)
+    interior: Optional[Line] = None
+    six: List[Tuple[str, str]] = field(default_factory=list)
 
 
 @dataclass
 class Neighbour:
-    """A neighbour, or a group of them."""
+    """A neighbour, or a group of them. Flags that are not there are the group's; `filters` are by kind and
+    direction."""
     name: str
-    line: int
+    line: Line
     remote: str = ""
     group: str = ""
-    is_client: bool = False
-    is_self: bool = False
-    is_down: bool = False
-    maps: Dict[str, Tuple[str, int]] = field(default_factory=dict)
+    flags: Dict[str, Tuple[bool, Line]] = field(default_factory=dict)
+    filters: Dict[Tuple[str, str], Tuple[str, Line]] = field(default_factory=dict)
+    words: Dict[str, Tuple[str, Line]] = field(default_factory=dict)
+
+    def has(self, flag: str) -> bool:
+        """Whether the flag is set."""
+        return self.flags.get(flag, (False, self.line))[0]
+
+    def word(self, name: str) -> str:
+        """What a setting with a word says."""
+        return self.words.get(name, ("", self.line))[0]
+
+    def at(self, flag: str) -> Line:
+        """The line of a flag or a setting, or of the neighbour."""
+        return self.flags.get(flag, self.words.get(flag, (False, self.line)))[1]
 
 
 @dataclass
 class Entry:
-    """An entry of a route map."""
+    """An entry of a route map. Each kind of match counts once, the last one of it."""
     is_permit: bool
     sequence: int
-    line: int
-    matches: List[Tuple[str, str, int]] = field(default_factory=list)
-    settings: Dict[str, str] = field(default_factory=dict)
+    line: Line
+    matches: Dict[str, Tuple[str, Line]] = field(default_factory=dict)
+    settings: Dict[str, Tuple[str, Line]] = field(default_factory=dict)
     is_broken: bool = False
 
 
-class Config:
-    """One file."""
+@dataclass
+class Item:
+    """An entry of a prefix list or an access list (a prefix with the lengths that it is about; `wild` is any that has
+    the same first bits) or of
+    an as-path list (`said`)."""
+    is_permit: bool
+    line: Line
+    where: Prefix = ALL
+    least: int = 0
+    most: int = 32
+    said: str = ""
+    is_wild: bool = False
 
-    def __init__(self, path: str) -> None:
-        self.path = path
+
+@dataclass
+class Origin:
+    """A `network`, or a `redistribute` of a kind of routes."""
+    kind: str
+    line: Line
+    where: Prefix = ALL
+    map: str = ""
+
+
+@dataclass
+class Static:
+    """A static route: its prefix, and where it leads: an address, an interface, or nothing."""
+    where: Prefix
+    line: Line
+    way: str
+
+
+def masked(value: int, length: int) -> Prefix:
+    """The prefix of an address."""
+    return value >> (32 - length) << (32 - length), length
+
+
+def loose_prefix(text: str, mask: str = "") -> Optional[Prefix]:
+    """A prefix as FRR takes one: bits behind its length are dropped; a mask may follow, and without one the class of
+    the address counts."""
+    first, slash, last = text.partition("/")
+    at, wide = address(first), address(mask) if mask else None
+    if at is None:
+        return None
+    if mask and wide is not None:
+        length: Optional[int] = bin(wide).count("1")
+        return masked(at, length or 0) if masked(2 ** 32 - 1, length or 0)[0] == wide else None
+    length = number(last, 0, 32) if slash else 8 if at < 2 ** 31 else 16 if at < 3 * 2 ** 30 else 24
+    return None if length is None else masked(at, length)
+
+
+class Config:
+    """One router's files."""
+
+    def __init__(self, name: str, files: List[str]) -> None:
+        self.name, self.files = name, files
         self.asn: Optional[int] = None
-        self.identifier = self.cluster = ""
-        self.does_require_policy = True
+        self.line = Line(files[0], 1, "")
+        self.identifier = self.interior_identifier = self.cluster = self.hostname = ""
+        self.hostname_line = self.cluster_line = NOWHERE
+        self.flags: Dict[str, Tuple[bool, Line]] = {}
+        self.profile, self.version = "traditional", (99, 0)
         self.interfaces: Dict[str, Interface] = {}
         self.neighbours: Dict[str, Neighbour] = {}
         self.groups: Dict[str, Neighbour] = {}
-        self.networks: List[Tuple[str, str, int]] = []
-        self.redistributes: List[int] = []
-        self.maps: Dict[str, List[Entry]] = {}
-        self.prefix_lists: Dict[str, List[Tuple[bool, str, str, int]]] = {}
-        self.path_lists: Dict[str, List[Tuple[bool, str, int]]] = {}
-        self.notes: List[Tuple[int, str]] = []
-        self.block: Callable[[str, int], bool] = self.outside
-        self.interface, self.entry = Interface("", 0), Entry(True, 0, 0)
-        for at, text in lines_in(path):
-            self.take(text, at)
+        self.neighbours_six: Dict[str, Neighbour] = {}
+        self.origins: List[Origin] = []
+        self.statics: List[Static] = []
+        self.maps: Dict[str, Dict[int, Entry]] = {}
+        self.prefix_lists: Dict[str, Dict[int, Item]] = {}
+        self.access_lists: Dict[str, Dict[int, Item]] = {}
+        self.path_lists: Dict[str, Dict[int, Item]] = {}
+        self.has_ospf = self.has_isis = False
+        self.ospf_networks: List[Prefix] = []
+        self.areas: Dict[str, Line] = {}
+        self.passive: Dict[str, bool] = {}
+        self.ospf_redistributes: Dict[str, Line] = {}
+        self.told: Dict[Told, None] = {}
+        self.counts: "Counter[str]" = Counter()
+        self.counted: Set[Line] = set()
 
-    def note(self, line: int, text: str) -> None:
-        """Keeps what cannot be said."""
-        self.notes.append((line, text))
+    # What is told and counted
 
-    def take(self, text: str, at: int) -> None:
-        """One line."""
-        line = " ".join(text.split())
-        if not line or line[0] in "!#":
-            return
-        if line == "no bgp ebgp-requires-policy":
-            self.does_require_policy = False
-        if not (self.outside(line, at) or self.block(line, at) or SILENT.match(line)):
-            self.note(at, line)
+    def tell(self, line: Line, text: str, decides: bool = True) -> None:
+        """Keeps what is not taken over, with the line that it is about."""
+        self.told[Told(line.file, line.number, text, decides)] = None
 
-    def outside(self, line: str, at: int) -> bool:
-        """A line that begins a block, or stands outside all."""
-        words = line.split(" ")
-        if words[0] == "interface" and len(words) > 1:
-            self.interface = self.interfaces.setdefault(words[1], Interface(words[1], at))
-            self.block = self.in_interface
-        elif words[:2] == ["router", "bgp"] and len(words) == 3 and number(words[2], 1) is not None and self.asn in (None, number(words[2], 1)):
-            self.asn, self.block = number(words[2], 1), self.in_bgp
-        elif words[:2] == ["router", "ospf"]:
-            self.block = lambda line, _: line.startswith("network ")
-        elif words[0] == "router":
-            self.block = lambda *_: False
-            return False
-        elif words[0] == "address-family":
-            self.block = self.in_bgp if words[1:] in (["ipv4", "unicast"], ["ipv4"]) else lambda *_: False
-            return self.block == self.in_bgp
-        elif line == "exit-address-family":
-            self.block = self.in_bgp
-        elif words[0] == "route-map" and len(words) == 4 and words[2] in ("permit", "deny") and words[3].isdigit():
-            self.entry = Entry(words[2] == "permit", int(words[3]), at)
-            self.maps.setdefault(words[1], []).append(self.entry)
-            self.block = self.in_map
+    def count(self, said: str, how_many: int = 1) -> None:
+        """Counts lines that decide no route."""
+        self.counts[said] += how_many
+
+    def count_line(self, said: str, line: Line) -> None:
+        """Counts a line that is met several times once."""
+        if line not in self.counted:
+            self.counted.add(line)
+            self.count(said)
+
+    def leave_out(self, kind: str, line: Line, text: str, is_off: bool = False) -> None:
+        """A line that is not taken over: counted, or told with what comes of it. `is_off`: it says `no` to what is off
+        without it."""
+        positive = text[3:] if text.startswith("no ") else text
+        counted, comes = category(kind, positive), consequence(kind, text)
+        if comes is not None:
+            self.tell(line, "%s: %s" % (short(line.text), comes))
+        elif counted is not None:
+            self.count(counted)
+        elif positive != text and (is_off or line.undoes or consequence(kind, positive) is not None):
+            self.count("what is off by default")
         else:
-            return self._list(re.sub(r" seq [0-9]+ ", " ", line), at)
-        return True
+            self.tell(line, "%s: from-frr does not know this line" % short(line.text))
 
-    def _list(self, line: str, at: int) -> bool:
-        words = line.split(" ")
-        found = re.fullmatch(r"ip prefix-list (\S+) (permit|deny) (\S+)((?: (?:le|ge) [0-9]+)*)", line)
-        if found and (prefix(found.group(3)) is not None or found.group(3) == "any"):
-            where, rest = ("0.0.0.0/0", "le 32") if found.group(3) == "any" else (found.group(3), found.group(4).strip())
-            self.prefix_lists.setdefault(found.group(1), []).append((found.group(2) == "permit", where, rest, at))
-            return True
-        if words[:2] in (["bgp", "as-path"], ["ip", "as-path"]) and len(words) >= 6 and words[2] == "access-list":
-            self.path_lists.setdefault(words[3], []).append((words[4] == "permit", " ".join(words[5:]), at))
-            return True
-        return False
+    # Defaults, which follow the profile and the version
 
-    def in_interface(self, line: str, at: int) -> bool:
-        """A line of an interface."""
-        words, here = line.split(" "), self.interface
-        if words[:2] == ["ip", "address"] and "/" in words[-1] and address(words[2].split("/")[0]) is not None:
-            return self._address(words)
-        if words[:3] == ["ip", "ospf", "cost"] and len(words) == 4 and number(words[3], 1, 65535):
-            here.cost = int(words[3])
-        elif line == "shutdown":
-            here.is_down = True
-        else:
-            return False
-        return True
+    def is_on(self, flag: str) -> bool:
+        """Whether a setting of the router is on, by its line or by default."""
+        is_old, is_traditional = self.version < (7, 4), self.profile != "datacenter"
+        defaults = {"bgp ebgp-requires-policy": is_traditional and not is_old,
+                    "bgp network import-check": not (is_traditional and is_old),
+                    "bgp deterministic-med": not is_traditional, "bgp default ipv4-unicast": True}
+        return self.flags[flag][0] if flag in self.flags else defaults.get(flag, False)
 
-    def _address(self, words: List[str]) -> bool:
-        own, length = words[2].split("/")[0], number(words[-1].split("/")[1], 0, 32)
-        if length is None:
-            return False
-        self.interface.addresses.append((own, length if len(words) == 3 else 32))
-        if len(words) == 5 and words[3] == "peer":
-            self.interface.opposite.append(words[4].split("/")[0])
-        return len(words) in (3, 5)
+    # Names
 
-    def in_bgp(self, line: str, at: int) -> bool:
-        """A line of `router bgp`."""
-        words = line.split(" ")
-        if words[0] == "neighbor" and len(words) > 2:
-            return self._neighbour(words, at)
-        if words[:2] == ["bgp", "router-id"] and address(words[-1]) is not None:
-            self.identifier = words[-1]
-        elif words[:2] == ["bgp", "cluster-id"] and len(words) == 3:
-            asked = number(words[2])
-            self.cluster = words[2] if asked is None else show_address(asked)
-        elif words[0] == "network" and len(words) in (2, 4) and prefix(words[1]) is not None:
-            self.networks.append((words[1], words[3] if len(words) == 4 else "", at))
-        elif line == "redistribute connected":
-            self.redistributes.append(at)
-        else:
-            return False
-        return True
-
-    def _neighbour(self, words: List[str], at: int) -> bool:
-        name, said = words[1], words[2:]
-        if said == ["peer-group"]:
-            self.groups.setdefault(name, Neighbour(name, at))
-            return True
-        if name not in self.groups and address(name) is None:
-            return False
-        table = self.groups if name in self.groups else self.neighbours
-        here = table.setdefault(name, Neighbour(name, at))
-        if said[0] == "remote-as" and len(said) == 2 and (said[1] in ("internal", "external") or number(said[1], 1)):
-            here.remote = said[1]
-        elif said[0] == "peer-group" and len(said) == 2:
-            here.group = said[1]
-        elif said == ["route-reflector-client"]:
-            here.is_client = True
-        elif said == ["next-hop-self"]:
-            here.is_self = True
-        elif said == ["shutdown"]:
-            here.is_down = True
-        elif said[0] == "route-map" and len(said) == 3 and said[2] in ("in", "out"):
-            here.maps[said[2]] = (said[1], at)
-        else:
-            return said[0] in SILENT_OF_NEIGHBOUR
-        return True
-
-    def in_map(self, line: str, at: int) -> bool:
-        """A line of a route map. An entry with a line that cannot be said is not taken over."""
-        words, here = line.split(" "), self.entry
-        if words[:4] == ["match", "ip", "address", "prefix-list"] and len(words) == 5:
-            here.matches.append(("prefix", words[4], at))
-        elif words[:2] == ["match", "as-path"] and len(words) == 3:
-            here.matches.append(("path", words[2], at))
-        elif words[:2] in (["set", "local-preference"], ["set", "metric"]) and len(words) == 3 and number(words[2]) is not None:
-            here.settings["pref" if words[1] != "metric" else "med"] = words[2]
-        elif words[:3] == ["set", "as-path", "prepend"] and len(words) > 3:
-            here.settings["prepend"] = " ".join(words[3:])
-        elif words[:2] == ["set", "weight"]:
-            here.settings["weight"] = words[2]
-        elif line.startswith(("match ", "call ", "on-match ", "continue")):
-            here.is_broken = True
-            return False
-        else:
-            return False
-        return True
+    def own_name(self) -> str:
+        """The router's address: its router-id, else the highest of the loopback, else the highest of all, as FRR takes
+        it; empty where it has none."""
+        found = {name: [each.own for each in interface.addresses] for name, interface in self.interfaces.items()
+                 if not interface.is_down}
+        own = found.get("lo") or [each for addresses in found.values() for each in addresses]
+        return self.identifier or self.interior_identifier or max(own, key=lambda each: address(each) or 0, default="")
 
     def settled(self, neighbour: Neighbour) -> Neighbour:
         """A neighbour with what its group says."""
-        group = self.groups.get(neighbour.group, Neighbour("", 0))
-        return Neighbour(neighbour.name, neighbour.line, neighbour.remote or group.remote, neighbour.group, neighbour.is_client or group.is_client,
-                         neighbour.is_self or group.is_self, neighbour.is_down or group.is_down, {**group.maps, **neighbour.maps})
+        group = self.groups.get(neighbour.group, Neighbour("", neighbour.line))
+        return Neighbour(neighbour.name, neighbour.line, neighbour.remote or group.remote, neighbour.group,
+                         {**group.flags, **neighbour.flags},
+                         {**group.filters, **neighbour.filters}, {**group.words, **neighbour.words})
 
-    def own_name(self) -> Optional[str]:
-        """The router's address: its router-id, else the highest of `lo`, else the highest of all, as FRR takes it."""
-        found = {name: [a for a, _ in each.addresses] for name, each in self.interfaces.items()}
-        own = found.get("lo") or [a for addresses in found.values() for a in addresses]
-        return self.identifier or (max(own, key=lambda a: address(a) or 0) if own else None)
+    def subnet_of(self, where: str) -> Optional[Tuple[Interface, Address]]:
+        """The interface, and its address, in whose subnet an address is; nothing for what is no address."""
+        value = address(where)
+        if value is None:
+            return None
+        return next(((interface, each) for interface in self.interfaces.values() for each in interface.addresses
+                     if each.opposite == where or not each.opposite and each.length < 32
+                     and masked(value, each.length) == each.subnet), None)
+
+
+def short(text: str) -> str:
+    """A line as it is quoted: not too long, and what cannot be shown escaped."""
+    shown = "".join(each if each.isprintable() else each.encode("unicode_escape").decode() for each in text)
+    return shown if len(shown) <= 70 else shown[:67] + "..."
+
+
+Taker = Tuple[Pattern[str], Callable[..., Optional[bool]]]
+
+
+def taken(takers: List[Taker], line: Line, text: str, *given: object) -> bool:
+    """Whether one of the takers takes the line; one that finds it malformed gives False."""
+    for pattern, take in takers:
+        found = pattern.fullmatch(text)
+        if found:
+            return take(*given, line, *found.groups()) is not False
+    return False
+
+
+def read(name: str, files: List[str]) -> Config:
+    """The configuration in a router's files; raises Mistake where one cannot be read."""
+    from .frr_blocks import take_block
+    made = Config(name, files)
+    blocks: List[Block] = [block for path in files for block in blocks_of(path)]
+    for block in blocks:
+        take_block(made, block)
+    return made

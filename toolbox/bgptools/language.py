@@ -6,6 +6,8 @@ from dataclasses import dataclass
 from typing import Callable, Dict, List, Optional, Tuple
 
 LONGEST = 4096
+# What a terminal obeys or hides: control characters, marks of the writing direction and others without a shape, halves of characters.
+UNSEEN = re.compile("[\x00-\x1f\x7f-\x9f\xad\u061c\u180e\u200b-\u200f\u2028-\u202e\u2060-\u206f\ufeff\ufff9-\ufffb\ud800-\udfff]")
 REPORTS = frozenset(("routes", "why", "in", "out", "queue", "trace"))
 QUESTIONS = REPORTS | {"best", "quiet", "cost"}
 MAKES, CHANGES, TELLS, ASKS = "make a network", "change it", "tell and deliver", "ask"
@@ -70,6 +72,23 @@ def is_silent(line: str) -> bool:
 def ended(line: str) -> str:
     """The line with its end. One carriage return before a line feed belongs to the end, so a line that ends with one gets another."""
     return line + ("\r\n" if line.endswith("\r") else "\n")
+
+
+# What is shown
+
+def escaped(text: str, kept: str = "") -> str:
+    """Text as it can be shown: what a terminal would obey or hide stands as `\\x1b` or `\\u202e`. What is kept stays as it is."""
+    return UNSEEN.sub(lambda found: found.group() if found.group() in kept else _escape(found.group()), text)
+
+
+def _escape(one: str) -> str:
+    # A byte of a file's name that is no UTF-8 is such a half.
+    return "\\x%02x" % (ord(one) - 0xdc00) if "\udc80" <= one <= "\udcff" else one.encode("unicode_escape").decode("ascii")
+
+
+def readable(line: str) -> str:
+    """A script's line, whose characters are the bytes of the file, as text that can be shown."""
+    return escaped(line.encode("latin-1").decode("utf-8", "backslashreplace"))
 
 
 # The values

@@ -5,6 +5,7 @@ from dataclasses import dataclass
 from typing import Callable, Dict, FrozenSet, List, Optional, Set, Tuple
 
 from .language import by_address
+from .names import Names
 
 Pair = FrozenSet[str]
 Direction = Tuple[str, str]
@@ -48,6 +49,7 @@ class Network:
         self.rules: Dict[Tuple[str, str, str], List[str]] = {}
         self.origins: Dict[str, Set[str]] = {}
         self.prefixes: Set[str] = set()
+        self.names = Names()
 
     def routers(self) -> List[str]:
         """The routers in order of address."""

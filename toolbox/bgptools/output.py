@@ -1,13 +1,19 @@
 """Where a tool writes: standard output, or a file that is there whole or not at all; and how far it is."""
 from __future__ import annotations
 
+import contextlib
 import os
+import socket
+import stat
 import sys
 import tempfile
 import time
 from typing import Optional
 
+from .language import escaped
 from .mistakes import Mistake
+
+STANDARD = (None, "-", "/dev/stdout", "/dev/fd/1", "/proc/self/fd/1")
 
 
 def write(text: str, path: Optional[str]) -> None:
@@ -16,35 +22,72 @@ def write(text: str, path: Optional[str]) -> None:
 
 
 def write_bytes(content: bytes, path: Optional[str]) -> None:
-    """Writes to a new file beside the one that is named, and puts it in its place at the end."""
-    if path is None or path == "-":
+    """Writes to standard output, or to a file.
+
+    A regular file is replaced at the end by a new one, any other is opened and written to. Raises Mistake where it cannot be written;
+    then a regular file is as it was."""
+    if path in STANDARD or path is None:
+        _print(content)
+        return
+    try:
+        _write(content, path, os.path.realpath(path))
+    except (OSError, ValueError) as error:
+        raise Mistake("it cannot be written: %s" % (getattr(error, "strerror", None) or error), path) from None
+
+
+def _print(content: bytes) -> None:
+    """Writes to standard output: as it is, but to a terminal as text that cannot steer it."""
+    if sys.stdout.isatty():
+        sys.stdout.write(escaped(content.decode("utf-8", "backslashreplace"), "\n\t"))
+    else:
         sys.stdout.flush()
         sys.stdout.buffer.write(content)
-        sys.stdout.flush()
-        return
-    target = os.path.realpath(path)
+    sys.stdout.flush()
+
+
+def _write(content: bytes, path: str, target: str) -> None:
+    mode = _mode(path)
+    if not path:
+        raise Mistake("-o and `save` want the name of a file")
+    if stat.S_ISDIR(mode) or path.endswith("/"):
+        raise Mistake("it cannot be written: it is a folder", path)
+    if stat.S_ISSOCK(mode):
+        with socket.socket(socket.AF_UNIX) as line:
+            line.connect(path)
+            line.sendall(content)
+    elif not mode or stat.S_ISREG(mode) and os.path.exists(target) and os.path.samefile(path, target):
+        _replace(content, target, stat.S_IMODE(mode) if mode else _new_mode())
+    else:
+        with open(os.open(path, os.O_WRONLY | os.O_NOCTTY), "wb") as file:
+            file.write(content)
+
+
+def _replace(content: bytes, target: str, mode: int) -> None:
+    """Puts a new file in the place of the old one, or leaves no trace."""
+    handle, part = tempfile.mkstemp(prefix=".part-", dir=os.path.dirname(target))
     try:
-        handle, part = tempfile.mkstemp(prefix=".part-", dir=os.path.dirname(target))
-        try:
-            with os.fdopen(handle, "wb") as file:
-                file.write(content)
-            os.chmod(part, _mode(target))
-            os.replace(part, target)
-        except BaseException:
+        with open(handle, "wb") as file:
+            file.write(content)
+        os.chmod(part, mode)
+        os.replace(part, target)
+    except BaseException:
+        with contextlib.suppress(FileNotFoundError):
             os.unlink(part)
-            raise
-    except OSError as error:
-        raise Mistake("it cannot be written: " + error.strerror, path) from None
+        raise
 
 
-def _mode(target: str) -> int:
-    """The mode of the file that is there, or of a new one."""
+def _mode(path: str) -> int:
+    """The kind and mode of the file that is there; 0 where there is none."""
     try:
-        return os.stat(target).st_mode & 0o777
-    except OSError:
-        mask = os.umask(0)
-        os.umask(mask)
-        return 0o666 & ~mask
+        return os.stat(path).st_mode
+    except FileNotFoundError:
+        return 0
+
+
+def _new_mode() -> int:
+    mask = os.umask(0)
+    os.umask(mask)
+    return 0o666 & ~mask
 
 
 class Progress:
@@ -59,12 +102,15 @@ class Progress:
         now = time.monotonic()
         if self.asked and now - self.last > 0.2:
             self.last, self.shown = now, True
-            sys.stderr.write("\r\033[K" + text)
-            sys.stderr.flush()
+            self._show(text)
 
     def done(self) -> None:
         """Takes the text away."""
         if self.shown:
-            sys.stderr.write("\r\033[K")
-            sys.stderr.flush()
+            self._show("")
             self.shown = False
+
+    def _show(self, text: str) -> None:
+        sys.stderr.flush()
+        sys.stderr.buffer.write(b"\r\033[K" + escaped(text).encode("utf-8"))
+        sys.stderr.buffer.flush()

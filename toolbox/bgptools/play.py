@@ -5,12 +5,16 @@ import argparse
 import sys
 from typing import List, Optional
 
-from .mistakes import CHANGED
+from .counted import check_length
+from .language import readable
+from .mistakes import CHANGED, Mistake
+from .names import Names
 from .prompt import prompt
 from .refusals import sentence
 from .replies import refusal
-from .run import Run, unsettled
+from .run import Run
 from .script import Line, read
+from .telling import tell, tell_settling
 
 PAD = " " * 8
 
@@ -32,14 +36,13 @@ class Counts:
         return self.refused == self.expected and not self.missing
 
 
-def show(line: Line, reply: List[str]) -> None:
+def show(line: Line, reply: List[str], names: Names) -> None:
     """Prints a line of the script with its replies."""
     if not line.is_command:
-        print((PAD[:6] + line.text.strip(" ")).rstrip(" "))
+        print((PAD[:6] + readable(line.text).strip(" ")).rstrip(" "))
         return
-    print("%4d  %s" % (line.number, line.text))
-    for text in reply:
-        print(PAD + text)
+    print("%4d  %s" % (line.number, readable(line.text)))
+    tell(PAD, reply, names)
 
 
 def count(line: Line, reply: List[str], run: Run, counts: Counts) -> None:
@@ -50,32 +53,25 @@ def count(line: Line, reply: List[str], run: Run, counts: Counts) -> None:
     if number:
         is_expected = line.expected is not None and line.expected in (0, number)
         counts.expected += is_expected
-        print(PAD + "-- %s%s" % (sentence(line.text, number, run.network), " (expected)" if is_expected else ""))
+        tell(PAD, ["-- %s%s" % (sentence(line.text, number, run.network), " (expected)" if is_expected else "")], run.network.names)
     elif line.expected is not None and line.is_command:
         counts.missing += 1
         print(PAD + "-- it was expected to be refused")
 
 
-def settle(run: Run) -> bool:
-    """Delivers until all queues are empty, and prints each delivery."""
-    done = run.settle()
-    for way, took in zip(done.deliveries, done.taken):
-        print(PAD + "deliver %s %s: %s" % (way + (took,)))
-    if not done.is_settled:
-        print(PAD + "-- " + unsettled(done))
-    return done.is_settled
-
-
-def play(lines: List[Line], does_settle: bool) -> int:
+def play(lines: List[Line], does_settle: bool, most: Optional[int]) -> int:
     """Plays the lines; 1 where one was refused that was not expected to be, or the network does not settle."""
     counts, is_settled = Counts(), True
-    with Run() as run:
+    check_length(len(lines), lines[0].file if lines else None)
+    with Run(most=most, tries_others=True) as run:
         for line in lines:
             reply = run.say(line.text)
-            show(line, reply)
+            show(line, reply, run.network.names)
             count(line, reply, run, counts)
             if does_settle and is_settled:
-                is_settled = settle(run)
+                done = run.settle()
+                tell_settling(PAD, done, run.network.names)
+                is_settled = done.is_settled
     print(counts)
     return 0 if counts.is_as_expected and is_settled else CHANGED
 
@@ -85,16 +81,24 @@ def parser() -> argparse.ArgumentParser:
     made = argparse.ArgumentParser(prog="play", description=(
         "Plays a script: each command with its line number, its replies under it, and each refusal explained. "
         "Without SCRIPT, at a terminal, a prompt: `?` lists what can be typed there."),
-        epilog="A command that is meant to be refused has the comment `# expect refused` (or `# expect refused 13`) in the line before it, "
-               "or behind it. Exit status: 0; 1 where a command was refused that is not marked so, or one that is marked was not; 2 a mistake.")
+        epilog="A command that is meant to be refused has the comment `# expect refused` (or `# expect refused 13`) in the line before "
+               "it, or behind it. Exit status: 0; 1 where a command was refused that is not marked so, or one that is marked was not, or the "
+               "network does not settle; 2 a mistake. Of every tool: 4 where standard output cannot be written, 141 where its reader has "
+               "gone, 130 where it was stopped by Ctrl-C.")
     made.add_argument("script", nargs="?", metavar="SCRIPT", help="the script; - is standard input")
     made.add_argument("--settle", action="store_true", help="after each command, deliver until all queues are empty")
+    made.add_argument("--most", type=int, metavar="N", help=(
+        "a settle stops after so many deliveries (ten thousand and more, by the size of the network)"))
+    made.add_argument("--restore", nargs="?", const="", metavar="FILE", help=(
+        "a prompt that takes up the work of one that ended early, as by a crash: of the newest, or the one in this file"))
     return made
 
 
 def main(words: Optional[List[str]] = None) -> int:
     """The tool."""
     chosen = parser().parse_args(words)
+    if chosen.restore is not None and (chosen.script is not None or not sys.stdin.isatty()):
+        raise Mistake("--restore is for a prompt: at a terminal, and without SCRIPT")
     if chosen.script is None and sys.stdin.isatty():
-        return prompt()
-    return play(read(chosen.script or "-"), chosen.settle)
+        return prompt(chosen.most, chosen.restore)
+    return play(read(chosen.script or "-"), chosen.settle, chosen.most)

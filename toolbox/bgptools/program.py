@@ -2,33 +2,47 @@
 from __future__ import annotations
 
 import os
-import pathlib
+import signal
 import subprocess
-from typing import Iterable, List
+from typing import Callable, Iterable, List
 
-from .language import REPORTS, ended, is_silent, words_of
+from . import where
+from .language import REPORTS, ended, escaped, is_silent, words_of
 from .mistakes import Mistake
 
-TOP = pathlib.Path(__file__).resolve().parent.parent.parent
 LONGEST_READ = 65536
 # Fewer bytes than any pipe holds: so much is written before its replies are read.
 AT_ONCE = 8192
 
 
 class Program:
-    """A run of `bgpsim script`; PROGRAM= names another built program."""
+    """A run of `bgpsim script`; PROGRAM= names another built program.
+
+    It has a session of its own, so that Ctrl-C is for the tool alone. `before` is called before lines are given, where no reply is due; it
+    may raise. `heard` is told each line with its reply. `is_torn` says that lines were given whose replies were not all read: what stopped
+    that, as Ctrl-C may, leaves a program that can only be closed."""
 
     def __init__(self) -> None:
-        self.path = os.environ.get("PROGRAM") or str(TOP / "bgpsim")
+        self.before: Callable[[], None] = lambda: None
+        self.heard: Callable[[str, List[str]], None] = lambda line, reply: None
+        self.is_torn = False
+        self.path = where.program()
+        # Until the child has its session, Ctrl-C would be for it, too.
+        mask = signal.pthread_sigmask(signal.SIG_BLOCK, {signal.SIGINT})
         try:
-            self.process = subprocess.Popen([self.path, "script"], stdin=subprocess.PIPE, stdout=subprocess.PIPE, bufsize=-1)
+            self.process = subprocess.Popen([self.path, "script"], stdin=subprocess.PIPE, stdout=subprocess.PIPE, bufsize=-1,
+                                            start_new_session=True)
         except OSError as error:
             raise Mistake("the program cannot be run: %s" % error.strerror, self.path) from None
+        finally:
+            signal.pthread_sigmask(signal.SIG_SETMASK, mask)
         assert self.process.stdin and self.process.stdout
         self.given, self.told = self.process.stdin, self.process.stdout
 
     def say(self, line: str) -> List[str]:
-        """The lines of the reply to one line; none for a blank line or a comment."""
+        """The lines of the reply to one line; none for a blank line or a comment.
+
+        Raises Mistake for what is not one line, or is too long."""
         return self.say_all([line])[0]
 
     def say_all(self, lines: Iterable[str]) -> List[List[str]]:
@@ -36,7 +50,7 @@ class Program:
         replies: List[List[str]] = []
         part: List[str] = []
         size = 0
-        for line in lines:
+        for line in map(_one_line, list(lines)):
             if part and size + len(line) >= AT_ONCE:
                 replies += self._exchange(part)
                 part, size = [], 0
@@ -46,10 +60,9 @@ class Program:
 
     def close(self) -> None:
         """Ends the input and waits for the program."""
-        try:
-            self.given.close()
-        except OSError:
-            pass
+        if self.is_torn and self.process.poll() is None:
+            os.killpg(self.process.pid, signal.SIGKILL)
+        self._end_input()
         self.told.close()
         self.process.wait()
 
@@ -60,19 +73,24 @@ class Program:
         self.close()
 
     def _exchange(self, lines: List[str]) -> List[List[str]]:
+        self.before()
+        self.is_torn = True
         try:
             self.given.write("".join(map(ended, lines)).encode("latin-1"))
             self.given.flush()
         except BrokenPipeError:
             raise self._gone() from None
-        return [[] if is_silent(line) else self._reply(line) for line in lines]
+        replies = list(map(self._reply, lines))
+        self.is_torn = False
+        return replies
 
     def _reply(self, line: str) -> List[str]:
-        reply = [self._line()]
+        reply = [] if is_silent(line) else [self._line()]
         words = words_of(line)
-        if words and words[0] in REPORTS and not reply[0].startswith("refused "):
+        if reply and words and words[0] in REPORTS and not reply[0].startswith("refused "):
             while not reply[-1].startswith("end "):
                 reply.append(self._line())
+        self.heard(line, reply)
         return reply
 
     def _line(self) -> str:
@@ -82,4 +100,24 @@ class Program:
         return line[:-1].decode("latin-1")
 
     def _gone(self) -> Mistake:
-        return Mistake("the program ended before it had answered, with status %s" % self.process.wait(), self.path)
+        self._end_input()
+        status = self.process.wait()
+        how = "with status %d" % status if status >= 0 else "by signal %d, %s" % (-status, signal.strsignal(-status))
+        return Mistake("the program ended before it had answered, " + how, self.path)
+
+    def _end_input(self) -> None:
+        try:
+            self.given.close()
+        except OSError:
+            pass
+
+
+def _one_line(line: str) -> str:
+    """The line, if it is one and the program reads it."""
+    if "\n" in line:
+        raise Mistake("one line is expected, and this has a line end inside: `%s`" % escaped(line[:80]))
+    if len(line) > LONGEST_READ:
+        raise Mistake("a line of %d bytes; the program reads at most %d" % (len(line), LONGEST_READ))
+    if max(line, default="") > "\xff":
+        raise Mistake("a line is given by its bytes, and this has characters that are none: `%s`" % escaped(line[:80]))
+    return line

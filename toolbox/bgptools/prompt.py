@@ -1,53 +1,159 @@
-"""The prompt of `play`: commands as they are typed, with a history, completion, `settle`, `undo` and `save`."""
+"""The prompt of `play`: commands as they are typed, with a history, completion, and words of its own as `settle` and `save`."""
 from __future__ import annotations
 
-from typing import Callable, Dict, List
+import io
+import os
+import pathlib
+import sys
+import tempfile
+from typing import Callable, Dict, List, Optional, Tuple
 
-from . import output
-from .language import FORMS, NAMES, QUESTIONS, ended, is_silent, words_of
+from . import draw, explain, journal, output, what_if
+from .completion import ADDRESSES, Completion, complete_by
+from .keyboard import Keyboard
+from .language import FORMS, QUESTIONS, Form, address, by_address, escaped, is_silent, readable, words_of
 from .mistakes import Mistake
-from .network import Network
+from .names import MARK, mark
+from .network import Direction
 from .refusals import sentence
 from .replies import refusal
-from .run import Run, unsettled
+from .run import Run
+from .script import MARK as EXPECTED
+from .script import Line, read
+from .telling import tell, tell_settling
 
 PAD = "    "
-OWN = (("?", "this list; `? rule` shows one command"), ("settle", "deliver until all queues are empty"),
-       ("undo", "play all again but the last edit or feed and what came after it"), ("save FILE", "write the script so far"),
-       ("quit", "end (so does the end of input)"))
-ADDRESSES = ("A", "B", "V", "R", "X", "D", "ID")
+OWN = tuple(Form(spelling, meaning, "work at this prompt") for spelling, meaning in (
+    ("? [COMMAND]", "this list; or one command, as in `? rule`"),
+    ("next", "deliver the next waiting message: each queue gives one a round"),
+    ("settle", "deliver until all queues are empty"),
+    ("undo", "play all again but the last edit or feed and what came after it"),
+    ("name A N", "A has the name N: it is shown, and taken where a command wants an address"),
+    ("load FILE", "play a script into this network"),
+    ("explain R P", "against which route each other one lost, by which value"),
+    ("draw FILE [--prefix P] [--trace R D]", "a picture of the network"),
+    ("what-if FILE [--trace R D]", "what the commands of the file would do; they are tried on a copy"),
+    ("save FILE", "write the script so far"),
+    ("quit", "end (so does the end of input)")))
 
 
 class Prompt:
-    """What was typed and accepted so far, and the run that it made."""
+    """What was typed and accepted so far, and the run that it made. `lines` is always what the program has accepted."""
 
-    def __init__(self) -> None:
-        self.run = Run()
+    def __init__(self, most: Optional[int] = None) -> None:
+        self.most = most
         self.lines: List[str] = []
-        self.own: Dict[str, Callable[[List[str]], None]] = {"?": self.help, "help": self.help, "settle": self.settle, "undo": self.undo, "save": self.save}
+        self.round: List[Direction] = []
+        self.changes: List[Tuple[str, List[str]]] = []
+        self.keyboard = Keyboard()
+        self.journal: Optional[journal.Journal] = None
+        self.own: Dict[str, Callable[[List[str]], None]] = {
+            "?": self.help, "help": self.help, "next": self.next, "settle": self.settle, "undo": self.undo, "name": self.name,
+            "load": self.load, "explain": self.explain, "draw": self.draw, "what-if": self.what_if, "save": self.save}
+        self.run = self._played([])
+
+    # What is accepted
+
+    def _played(self, lines: List[str]) -> Run:
+        """A new run with these lines but the questions."""
+        run = Run(most=self.most)
+        try:
+            for line in _changes(lines):
+                run.say(line)
+        except BaseException:
+            run.close()
+            raise
+        run.program.heard, run.program.before = self._heard, self.keyboard.check
+        return run
+
+    def _heard(self, line: str, reply: List[str]) -> None:
+        """Keeps a change as soon as its reply is read, whoever gave it."""
+        if _is_change(reply):
+            self.changes.append((line, reply))
+            self._keep(line)
+
+    def _keep(self, line: str) -> None:
+        self.lines.append(line)
+        if self.journal:
+            self.journal.add(line)
+
+    def _say(self, line: str) -> List[str]:
+        with self.keyboard.held():
+            reply = self.run.say(line)
+            # What was meant to be refused is not kept, and neither is the mark that says so of the next command.
+            if not refusal(reply) and not _is_change(reply) and not EXPECTED.fullmatch(line):
+                self._keep(line)
+        return reply
+
+    def _replace(self, run: Run, lines: List[str]) -> None:
+        """Takes another run in the place of this one. It is not stopped midway."""
+        self.keyboard.end()
+        self.run.close()
+        self.run, self.lines, self.round = run, lines, []
+        if self.journal:
+            self.journal.replace(self.lines)
+
+    def mend(self) -> None:
+        """Makes right what a command left that was stopped, or whose program has ended."""
+        if self.run.program.is_torn:
+            print(PAD + "-- the network is made anew from what was accepted")
+            self.keyboard.end()
+            self._replace(self._played(self.lines), self.lines)
+        elif self.changes:
+            self.run.lines = [line for line in _changes(self.lines) if not is_silent(line) or MARK.fullmatch(line)]
+            for line, reply in self.changes:
+                self.run.settler.after(words_of(line), reply)
+        self.changes = []
+
+    # What is typed
 
     def take(self, line: str) -> None:
-        """One line that was typed."""
-        words = words_of(line)
-        if words and words[0] in self.own:
-            self.own[words[0]](words)
-        else:
-            self.command(line)
+        """One line that was typed, as the bytes of a script. Ctrl-C ends it, and keeps what it has done."""
+        self.mend()
+        self.keyboard.begin()
+        before = len(self.lines)
+        try:
+            words = words_of(line)
+            if words and words[0] in self.own:
+                self.own[words[0]](words)
+            else:
+                self.command(line)
+            self.changes = []
+        except Mistake as mistake:
+            print(PAD + "-- %s" % mistake)
+        except KeyboardInterrupt:
+            done = len(self.lines) - before
+            print("\n%s-- stopped%s" % (PAD, "; done until then, and kept: %d" % done if done > 0 else ""))
+        self.mend()
 
     def command(self, line: str) -> None:
         """A line for the program."""
-        reply = self.run.say(line)
-        number = refusal(reply)
-        for text in reply:
-            print(PAD + text)
-        if number:
-            print(PAD + "-- " + sentence(line, number, self.run.network))
-        else:
-            self.lines.append(line)
+        line = self._with_addresses(line)
+        reply = self._say(line)
+        tell(PAD, reply, self.run.network.names)
+        if refusal(reply):
+            tell(PAD, ["-- " + sentence(line, refusal(reply), self.run.network)], self.run.network.names)
+
+    def _with_addresses(self, line: str) -> str:
+        """The line with an address in the place of each name."""
+        parts = line.split(" ")
+        places = [at for at, part in enumerate(parts) if part]
+        words = [parts[at] for at in places]
+        forms = [form.words for form in FORMS if words[:1] == form.words[:1]]
+        for at, *wants in zip(places, *forms):
+            if set(wants) & set(ADDRESSES):
+                parts[at] = self._address(parts[at])
+        return " ".join(parts)
+
+    def _address(self, word: str) -> str:
+        found = self.run.network.names.address_of(readable(word))
+        return found if address(found) is not None else word
+
+    # Words of the prompt
 
     def help(self, words: List[str]) -> None:
         """The commands, in groups; or one of them."""
-        forms = [form for form in FORMS if words[1:2] in ([], [form.words[0]])]
+        forms = [form for form in FORMS + OWN if words[1:2] in ([], [form.words[0]])]
         group = ""
         for form in forms:
             if form.group != group and not words[1:]:
@@ -56,114 +162,205 @@ class Prompt:
             print("  %-38s %s" % (form.spelling, form.meaning))
         if words[1:2] in ([], ["rule"]):
             print("  MATCH is any, is P, under P, path N or first N; ACT is deny, or permit [pref=K] [med=K] [prepend=K]")
-        if not words[1:]:
-            print("At this prompt:")
-            for spelling, meaning in OWN:
-                print("  %-38s %s" % (spelling, meaning))
         elif not forms:
-            print(PAD + "-- there is no command `%s`" % words[1])
+            print(PAD + "-- there is no command `%s`" % readable(words[1]))
+
+    def waiting(self) -> List[Direction]:
+        """Where messages wait, in order."""
+        ways = sorted(self.run.settler.suspects, key=lambda way: (by_address(way[0]), by_address(way[1])))
+        with self.keyboard.held():
+            replies = self.run.ask("queue %s %s" % way for way in ways)
+        return [way for way, reply in zip(ways, replies) if len(reply) > 1]
+
+    def next(self, _: List[str]) -> None:
+        """Delivers one message. A round has each queue in which something waits at its beginning."""
+        self.round = self.round or self.waiting()
+        while self.round:
+            way = self.round.pop(0)
+            reply = self._say("deliver %s %s" % way)
+            if refusal(reply) not in (16, 17):
+                tell(PAD, ["deliver %s %s: %s" % (way + (reply[0],))], self.run.network.names)
+                return
+            self.round = self.round or self.waiting()
+        print(PAD + "quiet: no message waits")
 
     def settle(self, _: List[str]) -> None:
         """Delivers until all queues are empty."""
-        done = self.run.settle()
-        for way, took in zip(done.deliveries, done.taken):
-            print(PAD + "deliver %s %s: %s" % (way + (took,)))
-            self.lines.append("deliver %s %s" % way)
-        print(PAD + ("quiet after %d deliver%s" % (len(done.deliveries), "y" if len(done.deliveries) == 1 else "ies") if done.is_settled else "-- " + unsettled(done)))
+        with self.keyboard.held():
+            done = self.run.settle()
+        tell_settling(PAD, done, self.run.network.names)
+        if done.is_settled:
+            print(PAD + "quiet after %d deliver%s" % (len(done.deliveries), "y" if len(done.deliveries) == 1 else "ies"))
 
     def undo(self, _: List[str]) -> None:
         """Plays all again but the last edit or feed and what came after it."""
-        edits = [at for at, line in enumerate(self.lines) if not is_silent(line) and words_of(line)[0] not in QUESTIONS | {"deliver"}]
+        others = QUESTIONS | {"deliver"}
+        edits = [at for at, line in enumerate(self.lines) if not is_silent(line) and words_of(line)[0] not in others]
         if not edits:
-            print(PAD + "-- there is nothing to undo")
-            return
-        print(PAD + "undone: " + self.lines[edits[-1]])
-        self.lines = self.lines[:edits[-1]]
-        self.run.close()
-        self.run = Run()
-        for line in self.lines:
-            self.run.say(line)
+            raise Mistake("there is nothing to undo")
+        undone, lines = self.lines[edits[-1]], self.lines[:edits[-1]]
+        self._replace(self._played(lines), lines)
+        print(PAD + "undone: " + self.run.network.names.in_text(undone))
+
+    def name(self, words: List[str]) -> None:
+        """Gives a name, by the comment of a script that does."""
+        names = self.run.network.names
+        _expect(words, 3, 3, "name A N")
+        if words[1] not in self.run.network.nodes:
+            raise Mistake("there is no router or virtual peer %s" % readable(words[1]))
+        if address(words[2]) is not None:
+            raise Mistake("%s is an address, and is never taken for a name" % words[2])
+        others = [where for where, name in names.of.items() if name == readable(words[2]) and where != words[1]]
+        if others:
+            raise Mistake("the name %s is that of %s" % (readable(words[2]), others[0]))
+        self._say(mark(words[1], words[2]))
+
+    def load(self, words: List[str]) -> None:
+        """Plays a script; a line that is refused, and not marked so, is told."""
+        _expect(words, 2, 2, "load FILE")
+        lines = read(_path(words[1]))
+        refused = self.play(lines)
+        commands = sum(line.is_command for line in lines)
+        print(PAD + "%d command%s of %s, %d refused" % (commands, "" if commands == 1 else "s", readable(words[1]), refused))
+
+    def play(self, lines: List[Line]) -> int:
+        """Plays lines of a script, and tells what is refused; how many were."""
+        refused = 0
+        for line in lines:
+            reply = self._say(line.text)
+            refused += refusal(reply) > 0
+            if refusal(reply) and line.expected is None:
+                why = "%s: %s" % (reply[0], sentence(line.text, refusal(reply), self.run.network))
+                tell(PAD, [str(Mistake(why, escaped(line.file), line.number))], self.run.network.names)
+        return refused
+
+    def explain(self, words: List[str]) -> None:
+        """Tells all routes of a router to a prefix, and why each was chosen or not."""
+        _expect(words, 3, 3, "explain R P")
+        self._on_a_copy(explain.main, [None, self._address(words[1]), words[2]])
+
+    def draw(self, words: List[str]) -> None:
+        """Draws the network."""
+        _expect(words, 2, 9, "draw FILE [--prefix P] [--trace R D]")
+        self._on_a_copy(draw.main, [None, "-o", _path(words[1]), *self._options(words[2:])])
+        print(PAD + "drawn in " + readable(words[1]))
+
+    def what_if(self, words: List[str]) -> None:
+        """Tells what a change would do."""
+        _expect(words, 2, 99, "what-if FILE [--trace R D]")
+        self._on_a_copy(what_if.main, [None, _path(words[1]), *self._options(words[2:])])
+
+    def _options(self, words: List[str]) -> List[str]:
+        """Options of a tool, with an address in the place of a name."""
+        return [self._address(word) if before == "--trace" else word for before, word in zip([""] + words, words)]
+
+    def _on_a_copy(self, tool: Callable[[List[str]], int], words: List[Optional[str]]) -> None:
+        """Runs a tool on the network as it stands: in the place of None it gets the script so far, and plays that for itself."""
+        with tempfile.TemporaryDirectory() as place:
+            path = os.path.join(place, "typed.bgp")
+            output.write_bytes(journal.content_of(_changes(self.lines)), path)
+            try:
+                tool([path if word is None else word for word in words])
+            except SystemExit:
+                raise Mistake("nothing was done") from None
+            except Mistake as mistake:
+                raise Mistake(mistake.text, None if mistake.file == path else mistake.file, mistake.line) from None
 
     def save(self, words: List[str]) -> None:
         """Writes the script so far."""
-        if len(words) != 2:
-            print(PAD + "-- `save FILE` is expected")
-            return
-        try:
-            output.write_bytes("".join(map(ended, self.lines)).encode("latin-1"), words[1])
-            print(PAD + "%d lines in %s" % (len(self.lines), words[1]))
-        except Mistake as mistake:
-            print(PAD + "-- %s" % mistake)
+        _expect(words, 2, 2, "save FILE")
+        output.write_bytes(journal.content_of(self.lines), _path(words[1]))
+        print(PAD + "%d lines in %s" % (len(self.lines), readable(words[1])))
 
-    def candidates(self, begun: str) -> List[str]:
-        """What the next word can be after the words of the line that stand before it."""
-        words = words_of(begun)
-        if not words:
-            return list(NAMES) + [spelling.split()[0] for spelling, _ in OWN]
-        if words[0] == "rule":
-            return _rule_words(words, self.run.network)
-        found: List[str] = []
-        for form in (form for form in FORMS if form.words[0] == words[0] and len(form.words) > len(words)):
-            if all(want in (word, want.upper()) or "|" in want for word, want in zip(words, form.words)):
-                found += _of_kind(form.words[len(words)], self.run.network)
-        return found
+    def restore(self, path: pathlib.Path) -> None:
+        """Takes up the work of a prompt that has ended early. Raises Mistake where it cannot be read."""
+        kept = journal.Journal(_told)
+        lines = kept.take_up(path) if path.parent == journal.folder() else read(str(path))
+        refused = self.play(lines)
+        self.journal = kept
+        self.journal.replace(self.lines)
+        print("%d lines of %s%s" % (len(lines), escaped(str(path)), ", %d of them refused" % refused if refused else ""))
 
 
-def _of_kind(kind: str, network: Network) -> List[str]:
-    if kind in ADDRESSES:
-        return list(network.nodes)
-    if kind == "P":
-        return sorted(network.prefixes)
-    if kind == "ORIGIN":
-        return ["igp", "egp", "inc"]
-    return [] if kind.isupper() else kind.split("|")
+def _changes(lines: List[str]) -> List[str]:
+    """Lines but the questions."""
+    return [line for line in lines if is_silent(line) or words_of(line)[0] not in QUESTIONS]
 
 
-def _rule_words(words: List[str], network: Network) -> List[str]:
-    if len(words) < 3:
-        return list(network.nodes)
-    if len(words) < 5:
-        return ["in", "out"] if len(words) == 3 else ["any", "is", "under", "path", "first"]
-    if words[-1] in ("is", "under"):
-        return sorted(network.prefixes)
-    if words[-1] in ("path", "first"):
-        return sorted({str(node.asn) for node in network.nodes.values()})
-    return ["pref=", "med=", "prepend="] if "permit" in words else [] if "deny" in words else ["deny", "permit"]
+def _is_change(reply: List[str]) -> bool:
+    """Whether a command was accepted that changes something."""
+    return bool(reply) and (reply[0] == "ok" or reply[0].startswith("took "))
 
 
-def complete_by(prompt_now: Prompt) -> None:
-    """Completion and history by readline, where Python has it."""
+def _expect(words: List[str], least: int, most: int, spelling: str) -> None:
+    if not least <= len(words) <= most:
+        raise Mistake("`%s` is expected" % spelling)
+
+
+def _path(word: str) -> str:
+    """The file that a typed word names."""
+    return os.path.expanduser(word.encode("latin-1").decode("utf-8", "surrogateescape"))
+
+
+def _told(text: str) -> None:
+    print(PAD + "-- " + escaped(text))
+
+
+# The prompt itself
+
+def _found(given: str) -> pathlib.Path:
+    """The journal that is to be taken up: the one that is named, or the newest."""
+    if given:
+        return pathlib.Path(given).absolute()
+    left = journal.left_behind()
+    if not left:
+        raise Mistake("there is no work of a prompt that ended early", str(journal.folder()))
+    return left[0]
+
+
+def _tell_left() -> None:
+    left = journal.left_behind()
+    if left:
+        print("%s that ended early left work behind: `play --restore` takes up the newest, %s." % (
+            "A prompt" if len(left) == 1 else "%d prompts" % len(left), escaped(str(left[0]))))
+
+
+def _line() -> Optional[str]:
+    """A line that is typed, as the bytes of a script; nothing at the end."""
     try:
-        import readline
-    except ImportError:
-        return
-
-    def completed(text: str, state: int) -> "str | None":
-        begun = readline.get_line_buffer()[:readline.get_begidx()]
-        fitting = sorted({word for word in prompt_now.candidates(begun) if word.startswith(text)})
-        return fitting[state] + ("" if fitting[state].endswith("=") else " ") if state < len(fitting) else None
-
-    readline.set_completer_delims(" ")
-    readline.set_completer(completed)
-    readline.parse_and_bind("bind ^I rl_complete" if "libedit" in (readline.__doc__ or "") else "tab: complete")
+        line = input("bgpsim> ")
+    except EOFError:
+        print()
+        return None
+    return None if words_of(line)[:1] in (["quit"], ["exit"]) else line.encode("utf-8", "surrogateescape").decode("latin-1")
 
 
-def prompt() -> int:
-    """Reads lines at a terminal until the end of input."""
-    typed = Prompt()
-    complete_by(typed)
+def prompt(most: Optional[int] = None, restored: Optional[str] = None) -> int:
+    """Reads lines at a terminal until the end of input. `restored` is the journal to take up; empty for the newest."""
+    if isinstance(sys.stdin, io.TextIOWrapper):
+        sys.stdin.reconfigure(errors="surrogateescape")
+    typed = Prompt(most)
     print("bgpsim: `?` lists the commands, `quit` ends.")
+    if restored is None:
+        typed.journal = journal.Journal(_told)
+        _tell_left()
+    else:
+        typed.restore(_found(restored))
+    complete_by(Completion(OWN, lambda: typed.run.network, typed.waiting))
+    typed.keyboard.watch()
     while True:
         try:
-            line = input("bgpsim> ")
-        except EOFError:
-            print()
-            break
+            typed.keyboard.begin()
+            line = _line()
+            if line is None:
+                break
+            typed.take(line)
         except KeyboardInterrupt:
             print()
-            continue
-        if words_of(line)[:1] in (["quit"], ["exit"]):
-            break
-        typed.take(line.encode("utf-8", "surrogateescape").decode("latin-1"))
+            typed.mend()
+    typed.keyboard.end()
     typed.run.close()
+    # Where the terminal is gone, that was no end as it should be.
+    if typed.journal and os.isatty(0):
+        typed.journal.remove()
     return 0

@@ -5,6 +5,7 @@ from dataclasses import asdict, dataclass
 from typing import Dict, List, Optional, Tuple
 
 from .language import path_length
+from .names import Names
 
 
 @dataclass(frozen=True)
@@ -48,6 +49,13 @@ def route(line: str) -> Route:
     return Route(prefix, source, attributes(rest))
 
 
+def route_text(route: Route, names: Names) -> str:
+    """A route in few words, with the name of its source."""
+    told = route.attributes
+    words = "next %s, path %s, med %s" % (told.next, told.path, told.med)
+    return words if route.source is None else "from %s, %s, pref %s" % (names.shown(route.source), words, told.pref)
+
+
 def routes(reply: List[str]) -> Dict[str, Route]:
     """The reply to `routes`, `in` or `out`, by prefix."""
     return {found.prefix: found for found in map(route, reply[:-1])}
@@ -79,13 +87,15 @@ class Trace:
     def routers(self) -> List[str]:
         return [router for router, _ in self.hops] + [self.place]
 
-    def __str__(self) -> str:
-        words = {"reached": "reached", "noroute": "no route there", "loop": "a loop"}
-        return " > ".join(self.routers) + ": " + words[self.end]
-
 
 def trace(reply: List[str]) -> Trace:
     """The reply to `trace`."""
     hops = tuple((line.split(" ")[0], line.split(" ")[1]) for line in reply[:-2])
     end, place = reply[-2].split(" ")
     return Trace(hops, end, place)
+
+
+def trace_text(found: Trace, names: Names) -> str:
+    """A packet's way in few words, with the names of routers."""
+    words = {"reached": "reached", "noroute": "no route there", "loop": "a loop"}
+    return " > ".join(map(names.shown, found.routers)) + ": " + words[found.end]

@@ -40,8 +40,8 @@ def read(path: str) -> List[Line]:
         else:
             with open(path, "rb") as file:
                 content = file.read()
-    except OSError as error:
-        raise Mistake("it cannot be read: " + error.strerror, name) from None
+    except (OSError, ValueError) as error:
+        raise Mistake("it cannot be read: %s" % (getattr(error, "strerror", None) or error), name) from None
     return lines_of(content, name)
 
 

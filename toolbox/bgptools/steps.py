@@ -1,115 +1,149 @@
-"""One HTML page with a picture for each step of a script, its command and its replies, to click through in a lecture."""
+"""The steps of a script: each command with its replies, what is said before it, and what is to be seen after it."""
 from __future__ import annotations
 
-import html
-import json
+import re
 from dataclasses import dataclass
-from typing import Callable, Dict, List, Optional, Tuple
+from typing import Dict, List, Optional, Tuple
 
 from .language import QUESTIONS
+from .looking import Delivered, Known, View, look
+from .network import Direction
 from .output import Progress
-from .picture import dot_of
+from .overview import overview
 from .replies import refusal
-from .run import Run
-from .script import Line
+from .run import Run, told_of
+from .scene import Scene, readable
+from .script import MARK, Line
 
-PAGE = """<!DOCTYPE html>
-<html lang="en"><head><meta charset="utf-8"><title>%(title)s</title><style>
-body { font: 16px/1.4 Helvetica, Arial, sans-serif; margin: 0; display: flex; flex-direction: column; height: 100vh; color: #1a202c; }
-header { padding: .5em 1em; background: #edf2f7; display: flex; gap: .6em; align-items: center; }
-button { font: inherit; padding: .2em .9em; } #count { min-width: 7em; text-align: center; }
-main { flex: 1; display: flex; min-height: 0; } #picture { flex: 3; padding: .5em; display: flex; justify-content: center; min-width: 0; }
-#picture svg { width: 100%%; height: 100%%; } aside { flex: 2; padding: .5em 1em; border-left: 1px solid #cbd5e0; overflow: auto; max-width: 38em; }
-#says { color: #4a5568; white-space: pre-wrap; } #command { font: bold 17px monospace; overflow-wrap: anywhere; }
-#replies { font: 14px monospace; white-space: pre-wrap; overflow-wrap: anywhere; } .refused { color: #c53030; }
-</style></head><body>
-<header><button id="first">|&lt;</button><button id="back">&lt; Back</button><span id="count"></span><button id="next">Next &gt;</button>
-<button id="last">&gt;|</button><span>%(title)s</span></header>
-<main><div id="picture"></div><aside><p id="says"></p><p id="command"></p><div id="replies"></div></aside></main>
-<script>
-const pictures = %(pictures)s;
-const steps = %(steps)s;
-let now = 0;
-function show(step) {
-  now = Math.max(0, Math.min(steps.length - 1, step));
-  const at = steps[now];
-  document.getElementById("count").textContent = "Step " + (now + 1) + " of " + steps.length;
-  document.getElementById("picture").innerHTML = pictures[at.picture];
-  document.getElementById("says").textContent = at.says;
-  document.getElementById("command").textContent = at.command;
-  document.getElementById("replies").textContent = at.replies.join("\\n");
-  document.getElementById("replies").className = at.refused ? "refused" : "";
-  location.replace("#" + (now + 1));
-}
-for (const [name, to] of [["first", () => 0], ["back", () => now - 1], ["next", () => now + 1], ["last", () => steps.length - 1]])
-  document.getElementById(name).onclick = () => show(to());
-document.onkeydown = (key) => {
-  if (key.key === "ArrowRight" || key.key === " " || key.key === "PageDown") show(now + 1);
-  if (key.key === "ArrowLeft" || key.key === "PageUp") show(now - 1);
-  if (key.key === "Home") show(0);
-  if (key.key === "End") show(steps.length - 1);
-};
-show((parseInt(location.hash.slice(1)) || 1) - 1);
-</script></body></html>
-"""
+# So many deliveries are shown where they do not end.
+LAST = 20
+HEADING = re.compile(r" *# *step +(.*[^ ]) *")
 
 
 @dataclass
 class Step:
-    """A command of the script, with what is said before it."""
+    """A command of the script: what is said before it, the heading that it stands under, and the number of its
+    picture."""
     says: str
     command: str
+    named: str
     replies: List[str]
-    picture: int
     refused: bool
+    heading: str
+    picture: int
 
 
-class Pictures:
-    """The pictures, each drawn once."""
-
-    def __init__(self, draw: Callable[[str], str]) -> None:
-        self.draw, self.made, self.known = draw, [], {}  # type: Callable[[str], str], List[str], Dict[str, int]
-
-    def number_of(self, dot: str) -> int:
-        if dot not in self.known:
-            self.known[dot] = len(self.made)
-            made = self.draw(dot)
-            self.made.append(made[made.index("<svg"):])
-        return self.known[dot]
+def scene_of(run: Run, view: View, way: Optional[Direction], delivered: Delivered, known: Known) -> Scene:
+    """What the view shows of the run now: its routers, or its ASes."""
+    scene = look(run, view, way, delivered, known)
+    return overview(scene) if view.is_of_ases else scene
 
 
-def _steps(run: Run, lines: List[Line], prefix: Optional[str], way: Optional[Tuple[str, str]], does_settle: bool, pictures: Pictures) -> List[Step]:
-    steps: List[Step] = []
-    says: List[str] = []
-    progress, number = Progress(), 0
-    for line in lines:
+def _word(line: Line) -> str:
+    """The first word of a command; a line of spaces that is too long has none."""
+    return (line.words or [""])[0]
+
+
+class Steps:
+    """Plays a script step by step. Lines up to `start` are one step; pictures that are equal are one.
+
+    Where the network does not settle after a line, or settles in another order, `told` says so. Where it does not, nothing is
+    delivered after later lines."""
+
+    def __init__(self, run: Run, view: View, does_settle: bool, start: int = 0) -> None:
+        self.run, self.view, self.does_settle, self.start = run, view, does_settle, start
+        self.steps: List[Step] = []
+        self.scenes: List[Scene] = []
+        self.says: List[str] = []
+        self.heading = ""
+        self.folded: List[str] = []
+        self.count = 0
+        self.told: List[str] = []
+        self.is_settled = True
+        self.is_passing = False
+        self.known = Known()
+
+    def play(self, lines: List[Line]) -> None:
+        """Plays all lines."""
+        progress = Progress()
+        for line in lines:
+            if self.steps == [] and line.number > self.start > 0:
+                self._start()
+            self._line(line)
+            progress.tell("%d of %d lines played .." % (line.number, len(lines)))
+        progress.done()
+        if not self.steps:
+            self._start()
+
+    def _line(self, line: Line) -> None:
         if not line.is_command:
-            says += [line.text.strip(" ").lstrip("#").strip()] if line.words else []
-            continue
-        reply = run.say(line.text)
-        done = run.settle() if does_settle else None
-        extra = ["deliver %s %s: %s" % (way_of + (took,)) for way_of, took in zip(done.deliveries, done.taken)] if done else []
-        shown = (line.words[1], line.words[2]) if line.words[0] == "trace" and not refusal(reply) else way
-        if line.words[0] not in QUESTIONS or shown != way or not steps or steps[-1].picture != number:
-            number = pictures.number_of(dot_of(run, prefix, shown))
-        steps.append(Step("\n".join(says), "%d  %s" % (line.number, line.text), reply + extra, number, bool(refusal(reply))))
-        says = []
-        if line.words[0] == "trace":
-            number = pictures.number_of(dot_of(run, prefix, way))
-        progress.tell("%d of %d lines drawn .." % (line.number, len(lines)))
-    progress.done()
-    return steps
+            self.run.say(line.text)
+            self._comment(line.text)
+            return
+        reply = self.run.say(line.text)
+        if not refusal(reply):
+            self.known.after(line.words, self.run.network)
+        extra, delivered = self._deliveries(line, reply)
+        if line.number <= self.start:
+            self.count += 1
+            self.folded += ["%d  %s" % (line.number, readable(line.text))] + reply if refusal(reply) else []
+            return
+        self._step(line, reply, extra, delivered)
 
+    def _comment(self, text: str) -> None:
+        """Notes what is said, or a heading; a router's name, and the mark of a refusal, are not said."""
+        heading = HEADING.fullmatch(text)
+        if heading:
+            self.heading = readable(heading.group(1))
+        elif text.strip(" ") and not MARK.fullmatch(text) and not self.run.network.names.take(text):
+            self.says.append(readable(text.strip(" ").lstrip("#").strip(" ")))
 
-def _inside(value: object) -> str:
-    """A value as JSON that can stand inside a script element."""
-    return json.dumps(value).replace("<", "\\u003c")
+    def _start(self) -> None:
+        """The step that all lines before the first one shown are."""
+        self._look(self.view.way, {})
+        told = "lines 1 to %d: %d commands" % (self.start, self.count) if self.count else "no command yet"
+        self.steps.append(Step("", told, "", self.folded, bool(self.folded), "", len(self.scenes) - 1))
+        self.says = []
 
+    def _deliveries(self, line: Line, reply: List[str]) -> Tuple[List[str], Delivered]:
+        """What is told of the deliveries that follow the line, and all that was delivered with it."""
+        taken = [((line.words[1], line.words[2]), reply[0])] if _word(line) == "deliver" and not refusal(reply) else []
+        done = self.run.settle() if self.does_settle else None
+        after = list(zip(done.deliveries, done.taken)) if done else []
+        extra = ["deliver %s %s: %s" % (*way, took) for way, took in after]
+        if after:
+            self.known.forget()
+        if done and told_of(done):
+            self.told.append("line %d: %s" % (line.number, told_of(done, self.run.network.names)))
+        if done and not done.is_settled:
+            self.does_settle = self.is_settled = False
+            extra = [".."] * (len(extra) > LAST) + extra[-LAST:] + [told_of(done)]
+        delivered: Dict[Direction, List[str]] = {}
+        for way, took in taken + after:
+            _, to, kind = took.split(" ")
+            delivered.setdefault(way, []).append("%s %s" % (kind, to))
+        return extra, delivered
 
-def page_of(run: Run, lines: List[Line], prefix: Optional[str], way: Optional[Tuple[str, str]], does_settle: bool, draw: Callable[[str], str]) -> str:
-    """The page."""
-    pictures = Pictures(draw)
-    steps = _steps(run, lines, prefix, way, does_settle, pictures)
-    steps = steps or [Step("", "the script has no command", [], pictures.number_of(dot_of(run, prefix, way)), False)]
-    title = html.escape(lines[0].file if lines else "an empty script")
-    return PAGE % {"title": title, "pictures": _inside(pictures.made), "steps": _inside([vars(step) for step in steps])}
+    def _step(self, line: Line, reply: List[str], extra: List[str], delivered: Delivered) -> None:
+        way = self.view.way
+        if _word(line) == "trace" and not refusal(reply):
+            way = (line.words[1], line.words[2])
+        if _word(line) not in QUESTIONS or way != self.view.way or not self.steps or delivered:
+            self._look(way, delivered)
+        elif self.is_passing:
+            self._look(self.view.way, {})
+        self.is_passing = way != self.view.way or bool(delivered)
+        names = self.run.network.names.of
+        is_named = any(word in names for word in line.words)
+        named = readable(" ".join(names.get(word, word) for word in line.words)) if is_named else ""
+        command = "%d  %s" % (line.number, readable(line.text))
+        self.steps.append(Step("\n".join(self.says), command, named, reply + extra, bool(refusal(reply)), self.heading,
+                               len(self.scenes) - 1))
+        self.says = []
+
+    def _look(self, way: Optional[Direction], delivered: Delivered) -> None:
+        """Adds what is seen now, if that is another picture than the last."""
+        seen = scene_of(self.run, self.view, way, delivered, self.known)
+        if not self.scenes or self.scenes[-1] != seen:
+            self.scenes.append(seen)
+        self.is_passing = False

@@ -1,4 +1,5 @@
 """What the tests share: running a tool or the program, and the scripts that all tools are tried on."""
+import functools
 import importlib
 import io
 import os
@@ -8,13 +9,20 @@ import sys
 import tempfile
 import unittest
 
+from bgptools import where
+from bgptools.language import ended
 from bgptools.mistakes import Mistake
+from bgptools.program import Program
+from bgptools.replies import refusal
+from bgptools.script import lines_of
 
 TOP = pathlib.Path(__file__).resolve().parent.parent.parent
 TOOLBOX = TOP / "toolbox"
 DATA = TOOLBOX / "tests" / "data"
 EXAMPLES = sorted((TOP / "examples").rglob("*.bgp"))
 SCRIPTS = EXAMPLES + sorted((TOP / "cases").rglob("*.bgp"))
+# for simtools, which the commands of tools/ are made of
+sys.path.append(str(TOP / "tools"))
 
 
 def tool(name, *words, given=b"", status=None):
@@ -41,11 +49,29 @@ def inside(name, *words):
     return subprocess.CompletedProcess(words, status, told[0].buffer.getvalue().decode("latin-1"), told[1].getvalue())
 
 
+def alone(called, folder, given=b"", **surroundings):
+    """A run in a folder, with nothing of this process's surroundings but the variables that are named; outputs are bytes."""
+    some = {name: str(value) for name, value in surroundings.items()}
+    return subprocess.run(list(map(str, called)), cwd=str(folder), input=given, env=some, capture_output=True, timeout=200)
+
+
 def program(script):
     """The lines that the program replies to a script."""
     given = script.encode("latin-1") if isinstance(script, str) else script
-    ran = subprocess.run([os.environ["PROGRAM"], "script"], input=given, capture_output=True, timeout=300, check=True)
+    ran = subprocess.run([where.program(), "script"], input=given, capture_output=True, timeout=300, check=True)
     return ran.stdout.decode("latin-1").split("\n")[:-1]
+
+
+@functools.lru_cache(maxsize=None)
+def marked(content):
+    """A script with a mark before each line that is refused; and how many lines of it were refused without one."""
+    lines, made, count = lines_of(content, "a script"), [], 0
+    with Program() as asked:
+        replies = asked.say_all(line.text for line in lines)
+    for line, reply in zip(lines, replies):
+        count += refusal(reply) > 0 and line.expected is None
+        made.append(("# expect refused\n" if refusal(reply) else "") + ended(line.text))
+    return "".join(made).encode("latin-1"), count
 
 
 class Case(unittest.TestCase):

@@ -1,5 +1,5 @@
 """explain: each reason with the values that decide, and each script's own routes."""
-from common import SCRIPTS, Case, inside, program, tool
+from common import SCRIPTS, TOP, Case, inside, marked, program, tool
 
 from bgptools.network import Network
 from bgptools.script import lines_of
@@ -22,7 +22,9 @@ def configured(path):
 
 class Explain(Case):
     def test_each_script(self):
-        for path in SCRIPTS:
+        for given in SCRIPTS:
+            path = self.folder / given.name
+            path.write_bytes(marked(given.read_bytes())[0])
             network = configured(path)
             for router in network.routers()[:2]:
                 for prefix in sorted(network.prefixes)[:2]:
@@ -72,6 +74,25 @@ feed 2.0.0.1 9.0.0.1 update 198.51.100.0/24 2 igp 0""".split("\n")))
         told = tool("explain", "--settle", script, "9.0.0.1", "198.51.100.0/24", status=0).stdout
         self.assertIn("from 1.0.0.1         lost by MED: 10 against 5 of 1.0.0.2", told)
         self.assertIn("from 1.0.0.2         lost by cost to the next hop: 30 against 20 of 2.0.0.1", told)
+
+    def test_names_are_shown_and_taken(self):
+        names = "# name 5.0.0.1 west\n# name 7.0.0.1 left\n# name 7.0.0.2 right\n"
+        script = self.file("named.bgp", names + (TOP / "examples/tour.bgp").read_text())
+        told = tool("explain", script, "west", "10.6.0.0/16", status=0).stdout
+        self.assertEqual(told, tool("explain", script, "5.0.0.1", "10.6.0.0/16", status=0).stdout)
+        self.assertTrue(told.startswith("10.6.0.0/16 at west (5.0.0.1): 2 routes\n  from left (7.0.0.1)  chosen\n"), told)
+        self.assertIn("\n  from right (7.0.0.2) lost by MED: 10 against 5 of left (7.0.0.1)\n", told)
+        self.assertIn("there is no router left in the script; it has 3.0.0.1, 3.0.0.2", tool("explain", script, "left", "10.6.0.0/16", status=2).stderr)
+
+    def test_a_refused_line_is_a_mistake(self):
+        told = tool("explain", "-", "1.0.0.1", "10.0.0.0/8", given=b"router 1.0.0.1 1\norigin 2.0.0.1 10.0.0.0/8\n", status=2)
+        self.assertEqual((told.stdout, told.stderr), ("", "standard input:2: refused 2 no-router: there is no router or virtual peer 2.0.0.1\n"))
+
+    def test_another_order_is_told(self):
+        script = TOP / "toolbox/lessons/disagree.bgp"
+        told = tool("explain", "--settle", script, "left", "203.0.113.0/24", status=0)
+        self.assertRegex(told.stderr, "in the fair order .*; it settles router by router; .* in 2 stable states\n")
+        self.assertEqual(tool("explain", "--settle", "--router", script, "left", "203.0.113.0/24", status=0).stderr, "")
 
     def test_mistakes(self):
         self.assertIn("there is no router 9.9.9.9 in the script; it has 1.0.0.1, 2.0.0.1", tool("explain", "examples/hijack.bgp", "9.9.9.9", "10.0.0.0/8", status=2).stderr)

@@ -1,8 +1,14 @@
 """from-as-rel on small files and on 1,000 ASes, and from-rib."""
 import gzip
+import json
 import random
+from unittest import mock
 
-from common import Case, program, tool
+from common import Case, inside, program, tool
+
+from bgptools import counted
+from bgptools.run import Run
+from bgptools.script import read
 
 
 def relationships(count, seed):
@@ -32,7 +38,98 @@ def is_valley_free(path, kinds):
     return True
 
 
+def fixpoint(kinds, origins):
+    """The path that each AS chooses where these originate one prefix, by the rules of Gao and Rexford.
+
+    An AS prefers routes of customers to those of peers, these to those of providers, then shorter paths, then the neighbour of the lower
+    number. It tells customers all, others only its own routes and those of customers. Decided again and again until nothing changes."""
+    ways = [way for (one, other), kind in kinds.items() for way in ((one, other, 2 if kind else 1), (other, one, 0 if kind else 1))]
+    rank = {(here, to): kind for to, here, kind in ways}
+    chosen, before = {asn: () for asn in origins}, None
+    while chosen != before:
+        before, offers = chosen, {asn: [(-1, 0, 0, ())] for asn in origins}
+        for to, here, kind in ways:
+            path = before.get(to)
+            is_told = path is not None and here not in path and (kind == 2 or not path or rank[to, path[0]] == 0)
+            if is_told:
+                offers.setdefault(here, []).append((kind, len(path) + 1, to, (to,) + path))
+        chosen = {asn: min(found)[3] for asn, found in offers.items()}
+    return chosen
+
+
+class Hijacks(Case):
+    """A prefix of AS 1's customer cone is originated by another AS, in turn by ASes of all kinds."""
+    VICTIM, PREFIX = 40, "100.0.39.0/24"
+
+    def setUp(self):
+        super().setUp()
+        text = relationships(60, 5)
+        self.kinds = {tuple(map(int, line.split("|")[:2])): int(line.split("|")[2]) for line in text.split("\n")[1:-1]}
+        self.script = self.folder / "as.bgp"
+        tool("from-as-rel", self.file("rel.txt", text), "--origins", self.VICTIM, "-o", self.script, status=0)
+
+    def paths(self, run):
+        """What each AS chose."""
+        found = {}
+        for asn in range(1, 61):
+            reply = run.ask(["best 10.0.%d.1 %s" % (asn, self.PREFIX)])[0][0]
+            if reply != "none":
+                path = reply.split("path=")[1].split(" ")[0]
+                found[asn] = () if path == "-" else tuple(map(int, path.split(",")))
+        return found
+
+    def test_each_attacker_catches_whom_the_fixpoint_says(self):
+        caught = []
+        with Run() as run:
+            run.play(read(str(self.script)))
+            self.assertTrue(run.settle().is_settled)
+            self.assertEqual(self.paths(run), fixpoint(self.kinds, [self.VICTIM]))
+            for attacker in [asn for asn in range(1, 61, 3) if asn != self.VICTIM]:
+                run.say("origin 10.0.%d.1 %s" % (attacker, self.PREFIX))
+                self.assertTrue(run.settle().is_settled)
+                now = self.paths(run)
+                with self.subTest(attacker=attacker):
+                    self.assertEqual(now, fixpoint(self.kinds, [self.VICTIM, attacker]))
+                caught.append(sum(path[-1:] == (attacker,) for path in now.values()))
+                run.say("noorigin 10.0.%d.1 %s" % (attacker, self.PREFIX))
+                self.assertTrue(run.settle().is_settled)
+        self.assertEqual(len(caught), 19)
+        self.assertGreater(sum(count > 0 for count in caught), 15)
+
+    def test_what_if_tells_whom_an_attacker_catches(self):
+        attacker = 55
+        told = json.loads(tool("what-if", self.script, "-", "--json", given=("origin 10.0.%d.1 %s\n" % (attacker, self.PREFIX)).encode(), status=1).stdout)
+        now = {int(router.split(".")[2]): change["after"]["path"] for router, changes in told["routers"].items() for change in changes}
+        before, after = fixpoint(self.kinds, [self.VICTIM]), fixpoint(self.kinds, [self.VICTIM, attacker])
+        self.assertEqual(now, {asn: ",".join(map(str, path)) or "-" for asn, path in after.items() if path != before[asn]})
+
+
 class Relationships(Case):
+    def test_the_policies_name_no_customer_and_no_prefix(self):
+        """So whatever an AS originates later goes to all its neighbours. AS 4 originates nothing, and has the peer 5 and the providers 1 and 2."""
+        text = "1|4|-1\n2|4|-1\n4|5|0\n4|6|-1\n1|2|0\n"
+        made = tool("from-as-rel", self.file("rel", text), "--origins", "6", status=0).stdout
+        rules = [line.split(" ", 1)[1] for line in made.split("\n") if line.startswith("rule 10.0.4.1 ") and " out " in line]
+        self.assertEqual(sorted(rules), ["10.0.4.1 10.0.%d.1 out first %d deny" % way for way in ((1, 2), (1, 5), (2, 1), (2, 5), (5, 1), (5, 2))])
+
+    def test_a_policy_has_room_for_256_sessions(self):
+        """With 256 sessions, all to peers, 255 are to be denied to each of them; 256 rules are taken."""
+        big = "".join("1|%d|0\n" % asn for asn in range(2, 258))
+        made = tool("from-as-rel", "-", "--origins", "2", given=big.encode(), status=0).stdout.split("\n")
+        rules = [line for line in made if line.startswith("rule 10.0.1.1 10.0.2.1 out ")]
+        self.assertEqual(len(rules), 255)
+        short = [line for line in made if not line.startswith("rule 10.0.1.1 ")] + rules
+        self.assertEqual(set(program("\n".join(short))), {"ok"})
+
+    def test_more_lines_than_one_script_holds(self):
+        path = self.file("rel", "1|2|0\n1|3|0\n2|3|0\n")
+        lines = tool("from-as-rel", path, "--origins", "all", status=0).stdout.count("\n")
+        for most, status in ((lines, 0), (lines - 1, 2)):
+            with mock.patch.object(counted, "MOST_LINES", most):
+                told = inside("from-as-rel", path, "--origins", "all")
+            self.assertEqual(told.returncode, status)
+        self.assertEqual((told.stdout, told.stderr), ("", "%s: a script of %d lines; one run of the program reads %d; --core N keeps fewer ASes\n" % (path, lines, lines - 1)))
+
     def test_a_thousand_ases_settle_without_a_valley(self):
         text = relationships(1000, 3)
         kinds = {tuple(map(int, line.split("|")[:2])): int(line.split("|")[2]) for line in text.split("\n")[1:-1]}
@@ -94,6 +191,14 @@ class Rib(Case):
         self.assertIn("rib:4: not taken over: the path does not begin with AS 8", told.stderr)
         self.assertIn("1 routes of IPv6 were left out", told.stderr)
         self.assertFalse([line for line in program(told.stdout) if line != "ok"])
+
+    def test_more_routes_than_one_script_holds(self):
+        path = self.file("rib", RIB)
+        for most, status, said in ((10, 0, ""), (9, 0, "with a delivery for each of its 2 routes it would have more than"), (8, 2, "a script of 9 lines; one run of the program reads 8; 2 of them are routes")):
+            with self.subTest(most=most), mock.patch.object(counted, "MOST_LINES", most):
+                told = inside("from-rib", path)
+                self.assertEqual((told.returncode, told.stdout == ""), (status, status == 2))
+                self.assertIn(said, told.stderr)
 
     def test_mistakes(self):
         for text, said in (("x\n", ":1: TABLE_DUMP2|time|B|peer"), (RIB.replace("10.0.0.0/8|7", "10.0.0.1/8|7"), ":1: `10.0.0.1/8` is no prefix"),

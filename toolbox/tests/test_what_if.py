@@ -1,7 +1,8 @@
 """what-if: the lessons with their output as files, and what it answers to each script."""
 import json
+import re
 
-from common import SCRIPTS, TOOLBOX, Case, inside, program, tool
+from common import SCRIPTS, TOOLBOX, Case, inside, marked, tool
 
 LESSONS = sorted((TOOLBOX / "lessons").glob("*.change"))
 
@@ -40,7 +41,7 @@ class Changes(Case):
         for path in SCRIPTS:
             with self.subTest(path=path):
                 told = inside("what-if", path, self.file("empty", "# nothing\n"))
-                if any(line.startswith("refused ") for line in program(path.read_bytes())):
+                if marked(path.read_bytes())[1]:
                     self.assertEqual(told.returncode, 2)
                     self.assertRegex(told.stderr, r":\d+: refused \d+ [a-z-]+: ")
                 else:
@@ -83,6 +84,98 @@ feed 7.0.0.4 5.0.0.4 update 198.51.100.0/24 7 igp -
         self.assertIn("Router 5.0.0.2\n  moved   198.51.100.0/24\n", told)
         self.assertIn("Sessions that went down\n  5.0.0.1 and 5.0.0.2\nSessions that came up\n  5.0.0.2 and 5.0.0.4\n", told)
 
+    def test_each_reason_is_that_of_why(self):
+        """1 and 2 originate a prefix both, and 1 has a virtual peer that tells another one."""
+        base = self.file("base.bgp", """router 1.0.0.1 1
+router 2.0.0.1 2
+virtual 7.0.0.1 7
+link 1.0.0.1 2.0.0.1 1
+link 1.0.0.1 7.0.0.1 1
+join 1.0.0.1 2.0.0.1
+join 1.0.0.1 7.0.0.1
+origin 1.0.0.1 10.0.0.0/8
+origin 2.0.0.1 10.0.0.0/8
+origin 2.0.0.1 20.0.0.0/8
+feed 7.0.0.1 1.0.0.1 update 30.0.0.0/8 7 igp -
+""")
+        for change, prefix, reason in (
+                ("rule 1.0.0.1 2.0.0.1 in any permit pref=200", "10.0.0.0/8", "pref: another has a higher preference"),
+                ("noorigin 1.0.0.1 10.0.0.0/8", "10.0.0.0/8", "it is no longer originated here"),
+                ("rule 1.0.0.1 2.0.0.1 in any deny", "20.0.0.0/8", "denied: the import policy denies it"),
+                ("rule 2.0.0.1 1.0.0.1 out any permit prepend=2\nrule 2.0.0.1 1.0.0.1 out any deny", "20.0.0.0/8", "it comes from the same, with other attributes"),
+                ("noorigin 2.0.0.1 20.0.0.0/8", "20.0.0.0/8", "2.0.0.1 does not tell it any more"),
+                ("fail 1.0.0.1 2.0.0.1", "20.0.0.0/8", "the session with 2.0.0.1 is down"),
+                ("origin 1.0.0.1 20.0.0.0/8", "20.0.0.0/8", "length: another has a shorter path"),
+                ("feed 7.0.0.1 1.0.0.1 withdraw 30.0.0.0/8", "30.0.0.0/8", "7.0.0.1 does not tell it any more"),
+                ("stop 1.0.0.1 7.0.0.1\nstart 1.0.0.1 7.0.0.1", "30.0.0.0/8", "the session with 7.0.0.1 was down for a while, and it was not fed again")):
+            with self.subTest(change=change):
+                told = json.loads(tool("what-if", base, "-", "--json", given=change.encode(), status=1).stdout)
+                found = {each["prefix"]: each for each in told["routers"]["1.0.0.1"]}
+                self.assertEqual(found[prefix]["reason"], reason)
+
+    def test_a_long_answer_begins_with_a_summary_and_groups_equal_changes(self):
+        words = (TOOLBOX / "lessons/many-prefixes.bgp", TOOLBOX / "lessons/lost-upstream.change")
+        told = tool("what-if", *words, status=1).stdout
+        self.assertTrue(told.startswith("""In short
+  2 routers with other routes, to 30 prefixes: 0 moved, 60 lost, 0 gained
+  1 external neighbour told otherwise, of 1 prefix
+  1 session down, 0 up
+  0 new loops, 60 new black holes; 60 packets go another way
+Router west (5.0.0.1)
+  lost    100.64.0.0/24, 100.64.1.0/24, """), told)
+        self.assertIn("""100.64.11.0/24 and 18 more
+            was from upstream (7.0.0.1), next 7.0.0.1, path 7,64500, med -, pref 100
+            the old one: the session with upstream (7.0.0.1) is down
+Router east (5.0.0.2)
+""", told)
+        for begin, count in (("  lost    100", 2), ("  west (5.0.0.1) to 100", 1), ("            west (5.0.0.1) to east (5.0.0.2): withdraw 100", 1)):
+            self.assertEqual(told.count("\n" + begin), count)
+        whole = tool("what-if", *words, "--all", status=1).stdout
+        for router, at in (("west (5.0.0.1)", 1), ("east (5.0.0.2)", 2)):
+            part = whole.split("Router ")[at]
+            self.assertTrue(part.startswith(router + "\n"))
+            self.assertEqual(re.findall(r"^  lost    (\S+)$", part, re.M), ["100.64.%d.0/24" % n for n in range(30)])
+        self.assertEqual(re.findall(r"^  east \(5.0.0.2\) to (\S+)$", whole, re.M), ["100.64.%d.1" % n for n in range(30)])
+        self.assertEqual(whole.count(": withdraw "), 30)
+        self.assertNotRegex(whole, r"and \d+ more")
+
+    def test_a_change_at_many_routers_is_told_of_the_first_ones(self):
+        """A line of 30 ASes, and the first one originates a prefix."""
+        lines = ["router 1.0.0.%d %d" % (n, n) for n in range(1, 31)]
+        lines += ["%s 1.0.0.%d 1.0.0.%d%s" % (word, n, n + 1, more) for word, more in (("link", " 1"), ("join", "")) for n in range(1, 30)]
+        base = self.file("line.bgp", "\n".join(lines) + "\n")
+        told = tool("what-if", base, "-", given=b"origin 1.0.0.1 10.0.0.0/8\n", status=1).stdout
+        self.assertTrue(told.startswith("In short\n  30 routers with other routes, to 1 prefix: 0 moved, 0 lost, 30 gained\n"), told)
+        self.assertEqual(re.findall(r"^Router (\S+)$", told, re.M), ["1.0.0.%d" % n for n in range(1, 13)])
+        self.assertIn("path 11,10,9,8,7,6,5,4,3,2,1, med -, pref 100\nand 18 more routers (--all shows them)\n", told)
+        whole = tool("what-if", base, "-", "--all", given=b"origin 1.0.0.1 10.0.0.0/8\n", status=1).stdout
+        self.assertEqual(re.findall(r"^Router (\S+)$", whole, re.M), ["1.0.0.%d" % n for n in range(1, 31)])
+
+    def test_a_short_answer_tells_each_change_by_itself(self):
+        lines = (TOOLBOX / "lessons/many-prefixes.bgp").read_text().split("\n")
+        for fed, is_long in ((12, False), (13, True)):
+            base = self.file("few.bgp", "\n".join(line for line in lines if "origin" not in line and not re.search(r"100\.64\.(%s)\.0" % "|".join(map(str, range(fed, 30))), line)) + "\n")
+            told = tool("what-if", base, TOOLBOX / "lessons/lost-upstream.change", status=1).stdout
+            self.assertEqual((told.startswith("In short\n"), told.count("\n  lost    ")), (is_long, 2 if is_long else 2 * fed))
+
+    def test_names_are_shown_and_taken(self):
+        told = tool("what-if", TOOLBOX / "lessons/many-prefixes.bgp", "-", "--trace", "east", "100.64.0.1", "--trace", "5.0.0.1", "east", given=b"fail 5.0.0.1 5.0.0.2\n", status=1).stdout
+        self.assertIn("Sessions that went down\n  west (5.0.0.1) and east (5.0.0.2)\n", told)
+        self.assertIn("""Forwarding that was asked for
+  east (5.0.0.2) to 100.64.0.1
+            was east (5.0.0.2) > west (5.0.0.1) > upstream (7.0.0.1): reached
+            now east (5.0.0.2): no route there
+  west (5.0.0.1) to 5.0.0.2
+            as before west (5.0.0.1): no route there
+""", told)
+        self.assertIn("  west (5.0.0.1) to upstream (7.0.0.1)\n    lost    192.0.2.0/24\n", told)
+
+    def test_another_order_is_told(self):
+        told = tool("what-if", TOOLBOX / "lessons/disagree.bgp", "-", given=b"origin 3.0.0.1 20.0.0.0/8\n", status=1).stdout
+        for begin in ("The base: ", "With the change: "):
+            self.assertRegex(told, "(?m)^%sin the fair order the same state comes back every [0-9]+ deliveries; .*; it settles router by router; of 9 .* in 2 stable states[.]$" % begin)
+        self.assertNotIn("in the fair order", tool("what-if", TOOLBOX / "lessons/disagree.bgp", "-", "--router", given=b"origin 3.0.0.1 20.0.0.0/8\n", status=1).stdout)
+
     def test_each_settles_between_the_commands(self):
         change = b"clear 5.0.0.1 8.0.0.1 out\nrule 5.0.0.1 8.0.0.1 out any deny\n"
         whole, each = (json.loads(tool("what-if", "examples/lessons/leaking-policy.bgp", "-", "--json", *words, given=change, status=1).stdout)
@@ -91,7 +184,8 @@ feed 7.0.0.4 5.0.0.4 update 198.51.100.0/24 7 igp -
 
     def test_mistakes(self):
         for words, given, text in ((["examples/hijack.bgp", "-"], b"quiet\nfail 1.0.0.1 3.0.0.1\n", "standard input:2: refused 7 no-link: there is no link between 1.0.0.1 and 3.0.0.1"),
-                                   (["examples/tour.bgp", "-"], b"", "examples/tour.bgp:177: refused 16 session-down: the session of 4.0.0.2 and 8.0.0.4 is stopped"),
+                                   (["cases/whole/three-ases.bgp", "-"], b"", "three-ases.bgp:74: refused 16 session-down: the session of 5.0.0.3 and 5.0.0.2 is stopped"),
+                                   (["-", "toolbox/lessons/hijack.change"], b"router 1.0.0.1 1\n# expect refused 4\nrouter 1.0.0.1 1\n", "standard input:3: refused 3"),
                                    (["none.bgp", "-"], b"", "none.bgp: it cannot be read"),
                                    (["examples/hijack.bgp", "-", "--trace", "9.9.9.9", "1.2.3.4"], b"", "there is no router 9.9.9.9"),
                                    (["examples/hijack.bgp", "-", "--trace", "1.0.0.1", "x"], b"", "an address is expected")):

@@ -1,0 +1,106 @@
+"""What the next word at the prompt can be: commands, addresses, names, prefixes, files, and queues in which something waits."""
+from __future__ import annotations
+
+import os
+from typing import Callable, Iterable, List, Sequence
+
+from .language import FORMS, NAMES, Form, words_of
+from .network import Direction, Network
+
+ADDRESSES = ("A", "B", "V", "R", "X", "D", "ID")
+
+
+class Completion:
+    """The candidates at a prompt with this network and these full queues; `own` are the words that it has beside the commands."""
+
+    def __init__(self, own: Sequence[Form], network: Callable[[], Network], waiting: Callable[[], List[Direction]]) -> None:
+        self.own, self.network, self.waiting = own, network, waiting
+
+    def candidates(self, begun: str, text: str = "") -> List[str]:
+        """What the next word can be after the words of the line that stand before it, where this text of it is there."""
+        words = words_of(begun)
+        if words in ([], ["?"]):
+            return list(NAMES) + [form.words[0] for form in self.own]
+        if words[0] == "deliver":
+            return self._queues(words, text)
+        if words[0] == "rule":
+            return self._rule_words(words, text)
+        if words[0] in ("draw", "what-if") and len(words) > 1:
+            return self._options(words, text)
+        found: List[str] = []
+        for form in (form for form in (*FORMS, *self.own) if form.words[0] == words[0] and len(form.words) > len(words)):
+            if all(want in (word, want.upper()) or "|" in want for word, want in zip(words, form.words)):
+                found += self._of_kind(form.words[len(words)], text)
+        return found
+
+    def _named(self, addresses: Iterable[str], text: str) -> List[str]:
+        """Addresses as they can be typed: by name where there is one, and as they are, too, where something is typed already."""
+        names = self.network().names.of
+        return [names.get(each, each) for each in addresses] + (list(addresses) if text else [])
+
+    def _queues(self, words: List[str], text: str) -> List[str]:
+        """The senders, or the receivers of one, between which something waits."""
+        if len(words) > 2:
+            return []
+        sender = self.network().names.address_of(words[1]) if len(words) > 1 else None
+        return self._named([other if sender else one for one, other in self.waiting() if sender in (None, one)], text)
+
+    def _of_kind(self, kind: str, text: str) -> List[str]:
+        if kind in ADDRESSES:
+            return self._named(self.network().nodes, text)
+        if kind == "P":
+            return sorted(self.network().prefixes)
+        if kind == "FILE":
+            return files(text)
+        if kind == "ORIGIN":
+            return ["igp", "egp", "inc"]
+        return [] if kind.isupper() else kind.split("|")
+
+    def _options(self, words: List[str], text: str) -> List[str]:
+        if words[-1] == "--prefix":
+            return sorted(self.network().prefixes)
+        if "--trace" in words[-2:]:
+            return self._named(self.network().nodes, text)
+        return ["--prefix", "--trace"] if words[0] == "draw" else ["--trace", "--each", "--all"]
+
+    def _rule_words(self, words: List[str], text: str) -> List[str]:
+        if len(words) < 3:
+            return self._named(self.network().nodes, text)
+        if len(words) < 5:
+            return ["in", "out"] if len(words) == 3 else ["any", "is", "under", "path", "first"]
+        if words[-1] in ("is", "under"):
+            return sorted(self.network().prefixes)
+        if words[-1] in ("path", "first"):
+            return sorted({str(node.asn) for node in self.network().nodes.values()})
+        return ["pref=", "med=", "prepend="] if "permit" in words else [] if "deny" in words else ["deny", "permit"]
+
+
+def files(text: str) -> List[str]:
+    """The files whose names begin so; a folder ends with a slash."""
+    place, begun = os.path.split(text)
+    try:
+        with os.scandir(os.path.expanduser(place) or ".") as entries:
+            found = [(each.name, "/" if each.is_dir() else "") for each in entries if each.name.startswith(begun)]
+    except OSError:
+        return []
+    return sorted(os.path.join(place, name) + end for name, end in found)
+
+
+def complete_by(completion: Completion) -> None:
+    """Completion and history by readline, where Python has it."""
+    try:
+        import readline
+    except ImportError:
+        return
+
+    fitting: List[str] = []
+
+    def completed(text: str, state: int) -> "str | None":
+        if state == 0:
+            begun = readline.get_line_buffer()[:readline.get_begidx()]
+            fitting[:] = sorted({word for word in completion.candidates(begun, text) if word.startswith(text)})
+        return fitting[state] + ("" if fitting[state][-1] in "=/" else " ") if state < len(fitting) else None
+
+    readline.set_completer_delims(" ")
+    readline.set_completer(completed)
+    readline.parse_and_bind("bind ^I rl_complete" if "libedit" in (readline.__doc__ or "") else "tab: complete")

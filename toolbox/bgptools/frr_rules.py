@@ -1,0 +1,141 @@
+"""The policies of a session as rules, and what a route map says of a prefix that the router originates."""
+from __future__ import annotations
+
+from typing import Dict, NamedTuple, Optional, Tuple
+
+from .frr_config import Config, Entry, Neighbour, short
+from .frr_lines import Line
+from .frr_lists import Place, World, permits, region_of
+from .frr_policy import (
+    ALL, ANY, DENY, NOTHING, PERMIT, Action, Prefix, Region, Rules, Unsayable, chosen, of_both,
+    shortened
+)
+
+FILTERS = ("filter-list", "prefix-list", "distribute-list")
+# What a setting that reaches no neighbour is counted as.
+NO_NEIGHBOUR = "what goes to no neighbour"
+# Communities that FRR itself heeds.
+HEEDED = ("no-export", "no-advertise", "local-AS", "no-peer", "blackhole", "graceful-shutdown", "accept-own",
+          "llgr-stale", "no-llgr", "gshut", "65535:")
+
+
+def policy(config: Config, each: Neighbour, way: str, place: Place, world: World) -> Optional[Rules[Action]]:
+    """The rules for what comes from a neighbour, or goes to it; nothing where there is no policy."""
+    used = [(kind, *each.filters[kind, way]) for kind in ("route-map",) + FILTERS if (kind, way) in each.filters]
+    if not used:
+        # As FRR does where it requires a policy (RFC 8212).
+        return [(ANY, DENY)] if place.is_external and config.is_on("bgp ebgp-requires-policy") else None
+    rules: Rules[Action] = [(ANY, PERMIT)]
+    for kind, name, line in used:
+        rules = _map_rules(config, name, line, place, world) if kind == "route-map" else _filtered(config, kind, name,
+            line, rules, place, world)
+    rules = shortened(rules)
+    return rules
+
+
+def _filtered(config: Config, kind: str, name: str, line: Line, rules: Rules[Action], place: Place,
+              world: World) -> Rules[Action]:
+    """The rules behind a filter, which denies what it does not permit."""
+    region = region_of(config, kind, name, world, place)
+    if region is None:
+        config.tell(line, "%s: there is no %s %s; all is denied, as FRR does" % (short(line.text), kind, name), False)
+        return [(ANY, DENY)]
+    try:
+        return chosen(region, rules, [(ANY, DENY)])
+    except Unsayable as reason:
+        config.tell(line, "%s: no rule is about %s; what only this filter denies is let through here" % (
+            short(line.text), reason))
+        return rules
+
+
+def _map_rules(config: Config, name: str, line: Line, place: Place, world: World) -> Rules[Action]:
+    entries = config.maps.get(name)
+    if entries is None:
+        config.tell(line, "%s: there is no route-map %s; all is denied, as FRR does" % (short(line.text), name), False)
+        return [(ANY, DENY)]
+    rules: Rules[Action] = [(ANY, DENY)]
+    for sequence in sorted(entries, reverse=True):
+        rules = _with_entry(config, entries[sequence], rules, place, world)
+    return rules
+
+
+def _with_entry(config: Config, entry: Entry, rules: Rules[Action], place: Place, world: World) -> Rules[Action]:
+    """The rules with those of an entry before them, where it can be said."""
+    left = "routes that it %s go on to the next entry" % ("permits" if entry.is_permit else "denies")
+    if entry.is_broken:
+        config.tell(entry.line, "%s: it has a line that cannot be said, so it is left out; %s" % (
+            entry.line.text, left))
+        return rules
+    action = Action(True, settings_of(config, entry, place)) if entry.is_permit else DENY
+    try:
+        region = ALL
+        for kind, (name, line) in entry.matches.items():
+            region = of_both(region, _match_region(config, kind, name, line, place, world))
+        return chosen(region, [(ANY, action)], rules)
+    except Unsayable as reason:
+        config.tell(entry.line, "%s: no rule is about %s, so it is left out; %s" % (entry.line.text, reason, left))
+        return rules
+
+
+def _match_region(config: Config, kind: str, name: str, line: Line, place: Place, world: World) -> Region:
+    region = region_of(config, kind, name, world, place)
+    if region is None:
+        config.tell(line, "%s: there is no such list; it matches nothing, as in FRR" % line.text, False)
+    return NOTHING if region is None else region
+
+
+def settings_of(config: Config, entry: Entry, place: Place) -> Tuple[Tuple[str, str], ...]:
+    """The settings that a rule of this session has; what it cannot have is told, or counted where it decides
+    nothing."""
+    found: Dict[str, str] = {}
+    for name, (said, line) in entry.settings.items():
+        comes = _unset(config, name, said, place)
+        if comes == "":
+            found[name] = str(len(said.split(" "))) if name == "prepend" else said
+        elif comes in ("communities", NO_NEIGHBOUR):
+            config.count_line(comes, line)
+        else:
+            config.tell(line, "%s: %s" % (line.text, comes))
+    return tuple((name, found[name]) for name in ("pref", "med", "prepend") if name in found)
+
+
+def _unset(config: Config, name: str, said: str, place: Place) -> str:
+    """Why a setting is none of the rule, or nothing."""
+    if name == "community":
+        is_heeded = any(each in said for each in HEEDED)
+        return "FRR heeds it, and tells the route to fewer or prefers it less" if is_heeded else "communities"
+    if name == "weight":
+        is_nothing = said == "0" or place.way == "out"
+        return NO_NEIGHBOUR if is_nothing else "FRR prefers by weight before all; here preference decides first"
+    if name == "ip next-hop":
+        is_same = said == "peer-address" and place.is_from_outside
+        return NO_NEIGHBOUR if is_same else "the next hop is the session's, or the router with `self ROUTER PEER on`"
+    if not place.is_external:
+        return "a rule of an internal session sets nothing; preference and MED stay as the border set them"
+    if name == "pref" and place.way == "out":
+        return NO_NEIGHBOUR
+    numbers = said.split(" ")
+    if name == "prepend" and (place.way == "in" or set(numbers) != {str(config.asn)} or len(numbers) > 16):
+        return "a rule puts the own AS alone in front, on the way out, 1 to 16 times; here the path stays"
+    return ""
+
+
+class Judged(NamedTuple):
+    """What a route map says of an own route: whether it is permitted, nothing where that is not known, and what is
+    set."""
+    is_permit: Optional[bool]
+    settings: Dict[str, Tuple[str, Line]]
+
+
+def judged(config: Config, name: str, where: Prefix) -> Judged:
+    """What a route map says of the router's own route to a prefix. Without a map it is permitted; by one that is not
+    there it is denied."""
+    if not name:
+        return Judged(True, {})
+    entries = config.maps.get(name, {})
+    for entry in (entries[sequence] for sequence in sorted(entries)):
+        if entry.is_broken:
+            return Judged(None, {})
+        if all(permits(config, kind, wanted, where) for kind, (wanted, _) in entry.matches.items()):
+            return Judged(entry.is_permit, entry.settings)
+    return Judged(False, {})

@@ -1,0 +1,58 @@
+"""The tools by their names, and how one is run."""
+from __future__ import annotations
+
+import argparse
+import importlib
+import os
+import sys
+from types import ModuleType
+from typing import List
+
+from .mistakes import Mistake, ended
+
+# Each is the name of a launcher in toolbox/, a copy of `launch`, and with `_` for `-` of the module with its `parser`
+# and `main`. The list of tools, completion, manual pages, and what pip and the package install are made of these names.
+TOOLS = ("play", "settle", "what-if", "explain", "draw", "from-frr", "from-as-rel", "from-rib")
+# What stands before a tool's name where it is installed.
+PREFIX = "bgpsim-"
+
+
+def module_of(name: str) -> ModuleType:
+    """The module of a tool; Mistake where there is no such tool."""
+    if name not in TOOLS:
+        raise Mistake("there is no tool `%s`: there are %s" % (name, ", ".join(TOOLS)))
+    return importlib.import_module("." + name.replace("-", "_"), __package__)
+
+
+def sentence_of(name: str) -> str:
+    """What the tool does, in a sentence."""
+    return (module_of(name).__doc__ or "").strip().split("\n")[0]
+
+
+def run(name: str, called: str, words: List[str]) -> int:
+    """Runs a tool on the words of its command line; its usage and its mistakes of usage name it as it was called."""
+    module = module_of(name)
+    parser = module.parser
+
+    def named() -> argparse.ArgumentParser:
+        made: argparse.ArgumentParser = parser()
+        made.prog = called
+        return made
+
+    setattr(module, "parser", named)
+    status: int = module.main(words)
+    return status
+
+
+def launched() -> int:
+    """The exit status of the tool as which this was called: by its name, as `bgpsim-settle`, or by a link to it."""
+    return ended(lambda words: run(_tool_at(sys.argv[0]), os.path.basename(sys.argv[0]), words))
+
+
+def _tool_at(path: str) -> str:
+    """The tool that a launcher is named for; a link of another name is what it leads to."""
+    called = os.path.basename(path)
+    name = called[len(PREFIX):] if called.startswith(PREFIX) else called
+    if name not in TOOLS and os.path.islink(path):
+        return _tool_at(os.path.join(os.path.dirname(path), os.readlink(path)))
+    return name

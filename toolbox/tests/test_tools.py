@@ -1,0 +1,392 @@
+"""The commands of tools/ and bench/, and simtools, which they are made of: what each says of a program that is not
+there, or that does something else."""
+import contextlib
+import hashlib
+import io
+import os
+import pathlib
+import re
+import shutil
+import subprocess
+import sys
+import time
+import unittest
+import unittest.mock
+
+from common import TOP, Case
+from simtools import (bench_tables, commands, logs, planted, programs, random_interiors, random_scripts,
+                      refuse_allocations, refusing, run_toolbox_tests, running, teams)
+
+NOWHERE = "/nowhere/bgpsim"
+NOT_THERE = "there is no program %s: PROGRAM= names it\n" % NOWHERE
+NAMED = re.compile(r"(?<![\w/.~-])(?:tools|bench)/[\w./-]*\w")
+
+
+def command(name, *words, given=b"", **environment):
+    """A command's run: its standard output and standard error as text, and its exit status."""
+    ran = subprocess.run([sys.executable, "-B", str(TOP / name), *map(str, words)], input=given, capture_output=True,
+                         timeout=300, cwd=str(TOP), env={**os.environ, **environment})
+    out, err = ran.stdout.decode("latin-1"), ran.stderr.decode("latin-1")
+    return subprocess.CompletedProcess(ran.args, ran.returncode, out, err)
+
+
+def commands_of(folder):
+    """The commands of a folder that are made of simtools."""
+    files = [path for path in sorted((TOP / folder).iterdir()) if path.is_file()]
+    return [path for path in files if b"from simtools" in path.read_bytes()]
+
+
+def sha256(text):
+    return hashlib.sha256(text.encode("latin-1")).hexdigest()
+
+
+def called(main, *words):
+    """The exit status of a command's body in this process, and what it printed."""
+    with contextlib.redirect_stdout(io.StringIO()) as told:
+        status = main(list(map(str, words)))
+    return status, told.getvalue()
+
+
+class Commands(Case):
+    def test_each_has_help_and_stands_in_the_readme(self):
+        found = commands_of("tools") + commands_of("bench")
+        self.assertGreater(len(found), 15)
+        for path in found:
+            with self.subTest(path=path.name):
+                ran = command(path.relative_to(TOP), "--help")
+                self.assertEqual((ran.returncode, ran.stderr), (0, ""))
+                self.assertIn("usage: %s " % path.name, ran.stdout)
+                self.assertIn(str(path.relative_to(TOP)), ran.stdout)
+                self.assertIn("%s/%s" % (path.parent.name, path.name), (path.parent / "README.md").read_text())
+
+    def test_what_is_named_is_there(self):
+        texts = [TOP / "README.md", TOP / ".ci/run", TOP / "cases/README.md"]
+        texts += [*(TOP / "docs").glob("*.md"), *(TOP / "toolbox/tests").glob("*.py")]
+        texts += [path for folder in ("tools", "bench", "tools/simtools") for path in (TOP / folder).iterdir()]
+        texts = [path for path in texts if path.is_file()]
+        named = {(name, path.name) for path in texts for name in NAMED.findall(path.read_text())}
+        self.assertIn(("tools/run-cases", "run"), named)
+        self.assertEqual([pair for pair in named if not (TOP / pair[0]).exists()], [])
+
+    def test_parts_of_the_gate_count_a_program_that_is_not_there_as_failed(self):
+        for call in ("run-cases cases/lines", "refuse-allocations cases/memory", "teams faults", "run-toolbox-tests"):
+            with self.subTest(call=call):
+                name, *words = call.split()
+                ran = command("tools/" + name, *words, PROGRAM=NOWHERE)
+                self.assertEqual((ran.returncode, ran.stderr), (1, ""))
+                self.assertEqual(ran.stdout, NOT_THERE + "0 passed, 1 failed\n")
+
+    def test_others_say_that_a_program_is_not_there(self):
+        for call in ("tools/agree --scripts 1", "tools/logs agree --scripts 1", "tools/logs refuse",
+                     "tools/teams agree --scripts 1", "tools/refuse-allocations examples/hijack.bgp",
+                     "tools/real-routers examples/hijack.bgp", "bench/loads table 1", "bench/edits mesh 1",
+                     "bench/teams reflect 1"):
+            with self.subTest(call=call):
+                ran = command(*call.split(), PROGRAM=NOWHERE)
+                self.assertEqual((ran.returncode, ran.stdout, ran.stderr), (2, "", NOT_THERE))
+
+    def test_the_machines_that_are_not_there(self):
+        with unittest.mock.patch.object(programs, "MACHINE_SCRIPTS", self.folder / "machine_scripts"):
+            self.assertFalse(programs.has_machine_scripts())
+            said = "there is no program .*/machine_scripts: rt run in its crate builds it"
+            with self.assertRaisesRegex(commands.Missing, said):
+                programs.machine_scripts()
+
+    def test_mistakes_of_a_call(self):
+        for call, said in (("tools/loads table -1", "-1"), ("tools/loads tables 1", "invalid choice: 'tables'"),
+                           ("tools/random-scripts", "SEED"), ("bench/edits calm x", "expected, and not `x`"),
+                           ("bench/teams reflect", "is one of mesh, mesh-heard, policies, reflect, and its N"),
+                           ("bench/edits", "or --ratios"), ("tools/planted none", "crates.txt has no none"),
+                           ("tools/refuse-allocations gone.bgp", "there is no script gone.bgp")):
+            with self.subTest(call=call):
+                ran = command(*call.split())
+                self.assertEqual((ran.returncode, ran.stdout), (2, ""))
+                self.assertIn(said, ran.stderr)
+
+    def test_counts(self):
+        for counts, status in (((3, 0), 0), ((3, 1), 1), ((0, 0), 1), ((0, 0, 2), 0)):
+            told = called(lambda _: commands.counted(*counts))
+            self.assertEqual(told, (status, "%d passed, %d failed\n" % counts[:2]))
+
+    def test_work_that_is_not_begun_is_left_out(self):
+        done = []
+
+        def work(number):
+            time.sleep(0.01)
+            done.append(number)
+            return number
+
+        self.assertEqual(next(number for number in running.side_by_side(work, range(1000))), 0)
+        self.assertLess(len(done), 1000)
+
+
+class Cases(Case):
+    def test_what_differs_is_told(self):
+        for name in ("well", "other", "ends", "errs"):
+            self.file("cases/%s.bgp" % name, "quiet\n")
+            self.file("cases/%s.out" % name, "no\n" if name == "other" else "yes\n")
+        for name, text in (("ends.status", "3\n"), ("errs.err", "memory\n"), ("stray.txt", "")):
+            self.file("cases/" + name, text)
+        ran = command("tools/run-cases", self.folder / "cases")
+        self.assertEqual((ran.returncode, ran.stderr), (1, ""))
+        place = os.path.relpath(str(self.folder / "cases"), str(TOP))
+        self.assertEqual(ran.stdout, (
+            "FAILED {0}/stray.txt\n    no file of a case\nFAILED {0}/ends\n    status 0, and not 3\n"
+            "FAILED {0}/errs\n    standard error, wanted - and written +:\n      @@ -1 +0,0 @@\n      -memory\n"
+            "FAILED {0}/other\n    standard output, wanted - and written +:\n      @@ -1 +1 @@\n      -no\n      +yes\n"
+            "1 passed, 4 failed\n").format(place))
+        well = command("tools/run-cases", self.folder / "cases" / "well.out")
+        self.assertEqual((well.returncode, well.stdout), (0, "1 passed, 0 failed\n"))
+
+    def test_a_generator(self):
+        self.file("made.make", "import sys\nprint('yes' if sys.argv[1:] == ['replies'] else 'quiet')\n")
+        ran = command("tools/run-cases", self.folder / "made.make")
+        self.assertEqual((ran.returncode, ran.stdout), (0, "1 passed, 0 failed\n"))
+
+
+class RandomScripts(Case):
+    def test_a_seed_gives_the_script_that_it_always_gave(self):
+        ran = command("tools/random-scripts", 5, 300)
+        self.assertEqual(ran.stdout, random_scripts.script(5, 300))
+        self.assertEqual(sha256(ran.stdout), "06f9cb9d1873a8e68e129323e94a54e63c3b77079ed3516d5a0707ada30d50c9")
+
+    def test_a_seed_gives_the_changes_of_an_interior_that_it_always_gave(self):
+        text = "".join(random_interiors.script(seed, 17) for seed in (3, 4))
+        self.assertEqual(sha256(text), "f57db0e0647b68423fcccfb8f1ea3d415ca98f8be71599b601d4ef7dbc8b9a73")
+
+
+class Other(Case):
+    def other(self, text):
+        """Another program."""
+        path = self.file("other", "#!/bin/sh\n%s\n" % text)
+        path.chmod(0o755)
+        return str(path)
+
+
+class Comparing(Other):
+    """What is told of a program that does something else than the model."""
+
+    def test_a_script_that_is_answered_otherwise(self):
+        ran = command("tools/agree", "--scripts", 1, PROGRAM=self.other("%s %s | sed 's/^ok$/well/'" % programs.MODEL))
+        self.assertEqual((ran.returncode, ran.stderr), (1, ""))
+        self.assertRegex(ran.stdout, (r"\Aseed 1, script, line 1: .*\n    model: 'ok\\n'\n    script: 'well\\n'\n"
+                                      r"1 scripts, [0-9]+ lines, 1 differ\n\Z"))
+
+    def test_a_log_that_is_found_to_be_something_else(self):
+        ran = command("tools/logs", "agree", "--scripts", 1, PROGRAM=self.other("cat > /dev/null\necho ok 0"))
+        self.assertEqual(ran.returncode, 1)
+        self.assertRegex(ran.stdout, (r"\Aseed 1: ok 0, and by the model ok [1-9][0-9]*\n"
+                                      r"(?:seed 1: ok 0, and by the model .*\n){12}13 logs, 13 differ\n\Z"))
+
+    @unittest.skipUnless(shutil.which("cc"), "cc is not installed")
+    def test_a_program_that_refuses_no_line(self):
+        program = self.other("while read -r line; do echo ok; done")
+        ran = command("tools/refuse-allocations", "examples/hijack.bgp", PROGRAM=program)
+        self.assertEqual(ran.returncode, 1)
+        self.assertRegex(ran.stdout, r"\Aallocation [0-9]+ refused: status [1-9]")
+
+    @unittest.skipUnless(shutil.which("cc"), "cc is not installed")
+    def test_a_program_whose_allocations_cannot_be_refused(self):
+        ran = command("tools/refuse-allocations", "examples/hijack.bgp", PROGRAM=self.other("exec 2>&-"))
+        self.assertEqual((ran.returncode, ran.stdout), (2, ""))
+        self.assertEqual(ran.stderr, "the program tells no number of allocations: refusing.c is not loaded into it\n")
+
+
+@unittest.skipUnless(shutil.which("cc"), "cc is not installed")
+class Refusing(Case):
+    """A program that allocates once, and once for each line; well, or so that it forgets after a refusal."""
+    SOURCE = r"""
+        #include <stdlib.h>
+        #include <string.h>
+        #include <unistd.h>
+        static void *volatile kept;
+        static int allocates(void) { return (kept = malloc(1)) != 0; }
+        static int say(int to, const char *text) { return write(to, text, strlen(text)) < 0; }
+        int main(int count, char **words) {
+            char one;
+            const char *reply = "ok\n";
+            if (!allocates()) return say(2, "memory\n"), 5;
+            if (!strcmp(words[1], "team")) return allocates(), say(1, "bgpsim log 1\nend 0\n");
+            if (!strcmp(words[1], "replay")) return say(1, allocates() || WELL ? "ok 0\n" : "ok 1\n");
+            while (read(0, &one, 1) == 1)
+                if (one == '\n') {
+                    if (allocates()) say(1, reply);
+                    else { say(1, "refused 20 memory\n"); reply = WELL ? reply : "forgotten\n"; }
+                }
+            return count < 2;
+        }
+    """
+
+    def program(self, is_well):
+        """The program, which stands for the machines too."""
+        source, path = self.file("program.c", self.SOURCE), str(self.folder / ("well" if is_well else "forgets"))
+        subprocess.run(["cc", "-DWELL=%d" % is_well, "-o", path, str(source)], check=True)
+        return path
+
+    def refused(self, is_well, main, *words):
+        path = self.program(is_well)
+        machines = unittest.mock.patch.object(programs, "MACHINE_SCRIPTS", pathlib.Path(path))
+        with unittest.mock.patch.dict(os.environ, {"PROGRAM": path}), machines:
+            return called(main, *words)
+
+    def test_a_line_that_is_refused_and_done_when_asked_again(self):
+        script = self.file("three.bgp", "quiet\n" * 3)
+        self.assertEqual(self.refused(True, refuse_allocations.main, script), (
+            0, "4 allocations refused in turn: refused 20, and done when asked again: 3, status 5: 1\n"))
+        self.assertEqual(self.refused(True, refuse_allocations.main, script, 2, 2), (
+            0, "1 allocations refused in turn: refused 20, and done when asked again: 1\n"))
+
+    def test_a_line_that_is_not_done_when_asked_again(self):
+        status, told = self.refused(False, refuse_allocations.main, self.file("three.bgp", "quiet\n" * 3))
+        self.assertEqual(status, 1)
+        self.assertIn("allocation 2 refused: status 0, b'refused 20 memory\\nforgotten\\nforgotten\\n', b''", told)
+        # of one line alone it is only seen where it is asked again
+        self.assertEqual(self.refused(False, refuse_allocations.main, self.file("one.bgp", "quiet\n")), (
+            1, "allocation 2 refused: status 0, b'refused 20 memory\\n', b''\n"))
+
+    def test_a_folder(self):
+        self.file("scripts/three.bgp", "quiet\n" * 3)
+        each = ("three.bgp, well %s: 4 allocations refused in turn: "
+                "refused 20, and done when asked again: 3, status 5: 1\n")
+        said = "".join(each % on for on in ("script", "plain", "sorted", "trie")) + "4 passed, 0 failed\n"
+        self.assertEqual(self.refused(True, refuse_allocations.main, self.folder / "scripts"), (0, said))
+        status, told = self.refused(False, refuse_allocations.main, self.folder / "scripts")
+        self.assertEqual((status, told.split("\n")[-2]), (1, "0 passed, 4 failed"))
+
+    def test_a_log(self):
+        for is_well, status, said in ((True, 0, {"memory: 1", "as ever: 1"}),
+                                      (False, 1, {"memory: 1", "(0, b'ok 1\\n', b''): 1"})):
+            ran = command("tools/logs", "refuse", PROGRAM=self.program(is_well))
+            self.assertEqual((ran.returncode, ran.stdout[:33]), (status, "2 allocations refused in turn: me"))
+            self.assertEqual(set(ran.stdout.rstrip("\n").split(": ", 1)[1].split(", ", 1)), said)
+
+    def test_a_team(self):
+        with unittest.mock.patch.dict(os.environ, {"PROGRAM": self.program(True)}), refusing.refuser() as refuser:
+            self.assertEqual(list(teams.refused([], refuser)), [("2 allocations refused in turn", True, {5: 1, 0: 1})])
+        with unittest.mock.patch.dict(os.environ, {"PROGRAM": self.program(True)}), refusing.refuser() as refuser, \
+                unittest.mock.patch.object(teams, "is_well", lambda ran: ran.status == 0):
+            self.assertEqual([tried[:2] for tried in teams.refused([], refuser)], [
+                ("allocation 1 refused", False), ("2 allocations refused in turn", True)])
+
+
+class Teams(Case):
+    SCRIPT = "router 1.0.0.1 1\nquiet\n"
+
+    def wrong(self, log, told=b"", text=SCRIPT, workers=1):
+        """What is wrong with the log of a team of one engineer."""
+        return teams.wrong([text], workers, running.Ran(log.encode(), told, 0))
+
+    def test_a_team(self):
+        files = teams.written(str(self.folder), [self.SCRIPT + "router\n"])
+        ran = teams.team(files, 2)
+        self.assertEqual((teams.wrong([self.SCRIPT + "router\n"], 2, ran), ran.status), (None, 0))
+
+    def test_a_log_that_is_wrong_is_told(self):
+        log = logs.log_of(self.SCRIPT)
+        self.assertIsNone(self.wrong(log))
+        other_reply, other_seat = log.replace("yes", "no"), log.replace("@0 quiet", "@1 quiet")
+        other_order = logs.log_of("quiet\nrouter 1.0.0.1 1\n")
+        for found, said in (
+                (self.wrong(other_reply), "its log: differs at line 5, and by the model differs at line 5"),
+                (self.wrong(other_order), "the calls of seat 0 are not the commands of its file"),
+                (self.wrong(other_seat, text="router 1.0.0.1 1\n"), "seats [1] made other calls than deliveries"),
+                (self.wrong(log, text=self.SCRIPT + "router\n"), "of file 1 it told the lines [], and not [3]"),
+                (self.wrong(log, b"file 1 line 3: refused 1 syntax\n"), "of file 1 it told the lines [3], and not []"),
+                (self.wrong(log, b"memory\n"), "it told 'memory'")):
+            self.assertEqual(found, said)
+        self.assertEqual(teams.wrong([self.SCRIPT], 1, running.Ran(b"", b"memory\n", 5)), "status 5: memory\n")
+
+    def test_a_team_that_wants_memory(self):
+        log = logs.log_of(self.SCRIPT).encode()
+        told = b"file 1 line 2: refused 20 memory\n"
+        for out, err, status, is_well in ((b"", b"memory\n", 5, True), (log, b"memory\n", 5, False),
+                                          (log, b"", 0, True), (log, told, 0, True), (log[:-6], b"", 0, False)):
+            self.assertEqual(teams.is_well(running.Ran(out, err, status)), is_well)
+
+
+class Planted(Case):
+    """A repository of one crate, and an rt that proves whatever has no `wrong` in it."""
+
+    def test_each_edit_has_to_be_refused(self):
+        self.file("HANDLES", "")
+        self.file("crates.txt", "low: # none\n")
+        self.file("crates/low/src/lib.rt", "good\nfair\n")
+        for name, old, new in (("a", "good", "wrong"), ("b", "good", "better"), ("c", "bad", "wrong")):
+            self.file("crates/low/planted/%s.edit" % name, "file: src/lib.rt\nold: %s\nnew: %s\n" % (old, new))
+        proves = "#!/bin/sh\nif grep -q wrong src/lib.rt; then echo logic=not-proved; exit 1; fi\n"
+        self.file("bin/rt", proves).chmod(0o755)
+        with unittest.mock.patch.object(planted, "TOP", self.folder), \
+                unittest.mock.patch.dict(os.environ, {"PATH": "%s:%s" % (self.folder / "bin", os.environ["PATH"])}):
+            status, told = called(planted.main)
+        self.assertEqual((status, re.sub(r" \([0-9]+ s\)", "", told)), (1, (
+            "low/a: refused\nlow/b: PROVED: the crate is still proved with this edit\n"
+            "low/c: BAD: an 'old:' text stands in src/lib.rt 0 times\n"
+            "1 that show nothing\n1 refused, 1 proved\n")))
+        self.assertEqual((self.folder / "crates/low/src/lib.rt").read_text(), "good\nfair\n")
+
+
+class Toolbox(Case):
+    def test_a_test_counts_once_however_many_of_its_parts_fail(self):
+        class Tests(unittest.TestCase):
+            def test_parts(self):
+                for part in range(3):
+                    with self.subTest(part=part):
+                        self.assertEqual(part, 1)
+
+            def test_all(self):
+                pass
+
+            @unittest.skip("not here")
+            def test_none(self):
+                pass
+
+        result = run_toolbox_tests.Telling()
+        unittest.TestSuite(map(Tests, ("test_parts", "test_all", "test_none"))).run(result)
+        status, told = called(lambda _: run_toolbox_tests.told(result))
+        self.assertEqual((status, told.split("\n")[-2]), (1, "1 passed, 1 failed"))
+        self.assertEqual(len(re.findall(r"^FAILED .*\(part=[02]\)$", told, re.M)), 2)
+        self.assertEqual(len(re.findall("^skipped .*: not here$", told, re.M)), 1)
+
+
+class Bench(Other):
+    def test_a_program_that_ends_with_another_status(self):
+        program = self.other("exit 3")
+        for call in ("bench/edits origins 5", "bench/teams reflect 1"):
+            ran = command(*call.split(), PROGRAM=program)
+            said = "%s script ended with status 3\n" % program
+            self.assertEqual((ran.returncode, ran.stdout, ran.stderr), (1, "", said))
+
+    def test_a_load(self):
+        ran = command("bench/loads", "table", 3)
+        # A router and four peers of three lines each. Of each prefix four feeds, each of which is delivered and then
+        # chosen: it is told to the three others, and but for the first one withdrawn from who told it.
+        self.assertTrue(ran.stdout.startswith("table 3: 82 lines, 57 deliveries, 0 refused\n"), ran)
+        self.assertEqual((ran.returncode, ran.stdout.count("\n")), (0, 3))
+
+    def test_edits(self):
+        ran = command("bench/edits", "--runs", 1, "origins", 5, "rules", 2)
+        self.assertEqual(ran.returncode, 0, ran.stderr)
+        self.assertRegex(ran.stdout, (r"\Aorigins 5: [0-9]+ processors: \S+ \(\S+\) s of a processor, .*"
+                                      r" of one's time by the clock\nrules 2: .*\n\Z"))
+
+    def test_teams(self):
+        ran = command("bench/teams", "reflect", 1)
+        self.assertEqual(ran.returncode, 0, ran.stderr)
+        # Four who would make the reflector; a client of four lines and 20 prefixes; 20 deliveries, and none back to who
+        # told them.
+        self.assertEqual(re.findall("replay: (ok [0-9]+);", ran.stdout), ["ok 48"] * 3)
+
+    def test_tables(self):
+        self.file("table_bench/out/table_bench", "#!/bin/sh\n").chmod(0o755)
+        rt = self.file("bin/rt", "#!/bin/sh\n")
+        rt.chmod(0o755)
+        with unittest.mock.patch.object(bench_tables, "CRATE", self.folder / "table_bench"), \
+                unittest.mock.patch.dict(os.environ, {"PATH": "%s:%s" % (self.folder / "bin", os.environ["PATH"])}):
+            status, told = called(bench_tables.main, 5, 7)
+            rt.write_text("#!/bin/sh\nexit 3\n")
+            with self.assertRaisesRegex(commands.Missing, "rt run in crates/table_bench ended with status 3"):
+                called(bench_tables.main)
+        self.assertEqual(status, 0)
+        self.assertRegex(told, (r"\Atable, keys drawn: inserts a second; longest matches a second\n"
+                                r"sorted, 5: [^;]+; [^;]+\ntrie, 5: [^;]+; [^;]+\n\Z"))
+        self.assertEqual([bench_tables.a_second(10, used) for used in (0.5, 0)], ["20", "too fast to tell"])

@@ -1,0 +1,1 @@
+"""What the commands of tools/ and bench/ are made of: tools/README.md says how. tools/ is on sys.path."""

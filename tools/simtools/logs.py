@@ -1,0 +1,182 @@
+"""Logs by the model: writes them, tells what one is found to be, and compares `bgpsim replay` with that.
+
+    tools/logs write [--seats N]                the log of the script on standard input, its calls spread over N
+                                                seats (1)
+    tools/logs check                            what the log on standard input is found to be
+    tools/logs agree [--scripts N] [--seed S]   N random scripts (100), of the seeds from S (1) on: their logs, and
+                                                each a dozen times with one byte changed, added or left out or the
+                                                rest cut off, are replayed by the program
+    tools/logs refuse                           the log on standard input is replayed with each of its allocations
+                                                refused in turn: each run has to end with `memory` and status 5, or as
+                                                ever; it needs cc
+
+A line of a script that spells no command is no call, and is left out. `agree` ends with `N logs, K differ`, and
+with exit 1 where one differs; `refuse` with how many runs ended how, and with exit 1 where one ended otherwise.
+PROGRAM= is another program than crates/bgpsim/out/bgpsim.
+"""
+from __future__ import annotations
+
+import collections
+import random
+import re
+import sys
+from typing import Iterator, List, Sequence, Tuple
+
+import model
+
+from . import commands, programs, random_scripts
+from .language import LONGEST_COMMAND
+from .refusing import allocations, refuser
+from .running import Ran, run, side_by_side
+
+HEADER = "bgpsim log 1"
+MOST_BYTES = 1_048_576
+MOST_LINES = 16_000_000
+CHANGES = 12
+CALL = re.compile(r"@(0|[1-9][0-9]{0,2}) ([!-~]+(?: [!-~]+)*)")
+
+
+def is_command(line: str) -> bool:
+    """Whether the line, its words one space apart, spells a command."""
+    if len(line) > LONGEST_COMMAND or line.startswith("#"):
+        return False
+    try:
+        model.parse(line.split(" "))
+        return True
+    except model.Bad:
+        return False
+
+
+def calls_of(script: str) -> Iterator[str]:
+    """The commands of the script, their words one space apart."""
+    for line in script.split("\n"):
+        words = [word for word in line.rstrip("\r").split(" ") if word]
+        if words and len(line) <= LONGEST_COMMAND and is_command(" ".join(words)):
+            yield " ".join(words)
+
+
+def log_of(script: str, seats: int = 1) -> str:
+    """The log of the script's commands."""
+    net, lines, calls = model.Net(), [HEADER], 0
+    for command in calls_of(script):
+        lines.append("@%d %s" % (calls * 7 % seats, command))
+        lines += ["= " + reply for reply in model.answer(net, command)]
+        calls += 1
+    return "\n".join(lines + ["end %d" % calls]) + "\n"
+
+
+class Reading:
+    """A log that is read line by line: which replies are due, and how many calls there were."""
+
+    def __init__(self) -> None:
+        self.net = model.Net()
+        self.due: List[str] = []
+        self.calls = 0
+        self.state = "begins"
+
+    def fault(self, line: str) -> str:
+        """What is wrong with the next line: nothing, or `bad` or `differs`."""
+        if self.state == "begins":
+            self.state = "within"
+            return "" if line == HEADER else "bad"
+        if self.due:
+            return "" if line == "= " + self.due.pop(0) else "differs"
+        if self.state == "within" and line == "end %d" % self.calls:
+            self.state = "ended"
+            return ""
+        return "" if self.state == "within" and self.is_call(line) else "bad"
+
+    def is_call(self, line: str) -> bool:
+        """Makes the call of a line, where it is one."""
+        call = CALL.fullmatch(line)
+        if not call or int(call[1]) >= 256 or not is_command(call[2]):
+            return False
+        self.calls += 1
+        self.due = model.answer(self.net, call[2])
+        return True
+
+
+def verdict(log: str) -> str:
+    """What the log is found to be."""
+    reading = Reading()
+    *lines, rest = log.split("\n")
+    for number, line in enumerate(lines, 1):
+        if number > MOST_LINES:
+            return "read fault at line %d" % number
+        fault = "bad" if len(line) > MOST_BYTES else reading.fault(line)
+        if fault:
+            return "%s line %d" % ("bad" if fault == "bad" else "differs at", number)
+    if rest and len(lines) >= MOST_LINES:
+        return "read fault at line %d" % (len(lines) + 1)
+    if rest or reading.state != "ended":
+        return "bad line %d" % (len(lines) + 1)
+    return "ok %d" % reading.calls
+
+
+def replayed(log: str) -> str:
+    """What the program finds it to be."""
+    ran = run([programs.bgpsim(), "replay"], log.encode("latin-1"))
+    said = ran.out.decode("latin-1").rstrip("\n")
+    is_so = ran.status == (0 if said.startswith("ok ") else 1) and not ran.err
+    return said if is_so else "status %d: %s" % (ran.status, said)
+
+
+def changed(log: str, draw: random.Random) -> str:
+    """The log with a byte changed, added or left out, or without its end."""
+    at, byte = draw.randrange(len(log)), draw.choice("\n =@#019 \x00\xff.abc")
+    return draw.choice((log[:at] + byte + log[at + 1:], log[:at] + byte + log[at:], log[:at] + log[at + 1:], log[:at]))
+
+
+def compare(seed: int) -> Tuple[int, List[str]]:
+    """How many logs the seed has, and what is told of each that the program finds to be something else."""
+    draw = random.Random(seed)
+    log = log_of(random_scripts.script(seed), draw.choice((1, 3, 256)))
+    logs = [log] + [changed(log, draw) for _ in range(CHANGES)]
+    found = [(replayed(one), verdict(one)) for one in logs]
+    return len(logs), ["seed %d: %s, and by the model %s" % (seed, got, want) for got, want in found if got != want]
+
+
+def agree(seeds: range) -> int:
+    programs.bgpsim()
+    count = differ = 0
+    for logs, told in side_by_side(compare, seeds):
+        count += logs
+        differ += len(told)
+        print("".join(one + "\n" for one in told), end="", flush=True)
+    print("%d logs, %d differ" % (count, differ))
+    return 1 if differ else 0
+
+
+def refuse(log: bytes) -> int:
+    """Replays the log with each allocation refused in turn."""
+    program = programs.bgpsim()
+    with refuser() as refusing:
+        def replay(number: int) -> Ran:
+            return run([program, "replay"], log, env=refusing(number), timeout=None)
+
+        ever = replay(0)
+        came = collections.Counter(side_by_side(replay, range(1, allocations(ever) + 1)))
+    wanted = {ever._replace(err=b""): "as ever", Ran(b"", b"memory\n", 5): "memory"}
+    told = ", ".join("%s: %d" % (wanted.get(ran, (ran.status, ran.out, ran.err)), count) for ran, count in came.items())
+    print("%d allocations refused in turn: %s" % (sum(came.values()), told))
+    return 0 if came.keys() <= wanted.keys() else 1
+
+
+def main(words: Sequence[str]) -> int:
+    """The command."""
+    asked = commands.parser(__doc__)
+    asked.add_argument("what", choices=("write", "check", "agree", "refuse"))
+    asked.add_argument("--seats", type=int, default=1, metavar="N")
+    asked.add_argument("--scripts", type=commands.number, default=100, metavar="N")
+    asked.add_argument("--seed", type=int, default=1, metavar="S")
+    given = asked.parse_args(words)
+    if given.what == "agree":
+        return agree(range(given.seed, given.seed + given.scripts))
+    text = sys.stdin.buffer.read()
+    if given.what == "refuse":
+        return refuse(text)
+    if given.what == "check":
+        print(verdict(text.decode("latin-1")))
+    else:
+        sys.stdout.buffer.write(log_of(text.decode("latin-1"), given.seats).encode("latin-1"))
+    return 0

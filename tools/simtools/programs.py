@@ -1,0 +1,58 @@
+"""Where the programs are that the commands run: the one place that knows."""
+from __future__ import annotations
+
+import os
+import pathlib
+import subprocess
+import sys
+
+from .commands import Missing
+
+TOP = pathlib.Path(__file__).resolve().parent.parent.parent
+# The words that run the second machine, which stands alone: nothing here is a part of it.
+MODEL = (sys.executable, str(TOP / "tools" / "model.py"))
+# The machines that machine_scripts serves a script by.
+MACHINES = ("plain", "sorted", "trie")
+MACHINE_SCRIPTS = TOP / "crates" / "machine_scripts" / "out" / "machine_scripts"
+
+
+def is_chosen() -> bool:
+    """Whether PROGRAM= names a program, which is then run in place of this repository's."""
+    return bool(os.environ.get("PROGRAM"))
+
+
+def bgpsim() -> str:
+    """The path of the program: PROGRAM=, else what was built of crates/bgpsim. Missing where it is not there."""
+    if is_chosen():
+        return _found(os.environ["PROGRAM"], "PROGRAM= names it")
+    return _found(str(TOP / "crates" / "bgpsim" / "out" / "bgpsim"), "./bgpsim --version builds it")
+
+
+def built_bgpsim() -> str:
+    """The same, built first where it has to be; a PROGRAM= is taken as it is. Missing where that fails."""
+    if not is_chosen():
+        asked = subprocess.run([str(TOP / "bgpsim"), "--version"], stdin=subprocess.DEVNULL, stdout=subprocess.DEVNULL)
+        if asked.returncode:
+            raise Missing("./bgpsim --version ended with status %d and built no program" % asked.returncode)
+    return bgpsim()
+
+
+def machine_scripts() -> str:
+    """The path of the program that gives a script to the machines. Missing where it is not there."""
+    return _found(str(MACHINE_SCRIPTS), "rt run in its crate builds it")
+
+
+def has_machine_scripts() -> bool:
+    """Whether that program was built."""
+    return _is_program(str(MACHINE_SCRIPTS))
+
+
+def _is_program(path: str) -> bool:
+    return os.path.isfile(path) and os.access(path, os.X_OK)
+
+
+def _found(path: str, remedy: str) -> str:
+    whole = os.path.abspath(path)
+    if not _is_program(whole):
+        raise Missing("there is no program %s: %s" % (whole, remedy))
+    return whole
