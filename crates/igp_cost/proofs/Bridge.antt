@@ -1,4 +1,4 @@
--- Labels by places that are sound and closed are the costs and first hops of the tree.
+-- Labels by places that are backed and closed are the costs and first hops of the tree.
 use Rattle.std.proofs.Common.{◌≡◌, ℕ, ◌+◌, ◌<◌, ◌≢◌, ◌⊎◌, true, IsTrue, List, All, length, get_or, if◌then◌else◌, Some, None, Option, Contains, IfSome, IsSomeAnd, refl, sym, ap, ◌∙◌, subst, inl, inr, arith, option_map}
 use Rattle.std.specs.Prelude.{◌==◌}
 use Rattle.std.specs.Map.{lookup}
@@ -11,12 +11,12 @@ use Rattle.std.proofs.lemmas.Option.{none-some, same_Some}
 use Rattle.net_prefix.specs.declared.addr.Addr.{Addr}
 use Rattle.net_prefix.specs.Address.{addr_cmp}
 use Rattle.igp_cost.specs.declared.label.Label.{Label}
-use Rattle.igp_cost.specs.declared.link.Link.{Link}
+use Rattle.igp_cost.specs.declared.least_trees.link.Link.{Link}
 use Rattle.igp_cost.specs.Metric.{IsMetric}
 use Rattle.igp_cost.specs.Walks.{Nodes, Edges, HasEdge, asn_of, is_one_number, share_as}
 use Rattle.igp_cost.specs.Trees.{Reached, label_in, cost_in, first_hop_in, IsTreeOf, reached, tree_of}
 use Rattle.igp_cost.specs.Costs.{cost, first_hop}
-use Rattle.igp_cost.specs.Labels.{Labels, nowhere, addr_at, asn_at, label_at, extended, extension, IsNotAfter, IsClosed, IsSound}
+use Rattle.igp_cost.specs.Labels.{Labels, nowhere, addr_at, asn_at, label_at, extended, extension, IsNotAfter, IsClosed, AreBackedLabels}
 use Rattle.igp_cost.specs.Wired.{IsWired, IsRising, IsFound, no_row, rows_of}
 use Rattle.igp_cost.specs.Offers.{via}
 use Rattle.igp_cost.proofs.Certificate.{HasSource, IsCertified, certified_cost, certified_hop}
@@ -67,7 +67,7 @@ module _ (nodes : Nodes) (edges : Edges) (links : List Link) (wired : IsWired no
       let has = wired.has_links e.0 e.1 e.2 (inl (k, lt, get_or_default edges k e d lt)) in
       subst IsMetric has.metric (ends has.link has.among).2
 
-module _ (nodes : Nodes) (edges : Edges) (links : List Link) (wired : IsWired nodes edges links) (s : ℕ) (s_in : s < length nodes) (labels : Labels) (sound : IsSound nodes s links labels) (closed : IsClosed nodes s links labels) where
+module _ (nodes : Nodes) (edges : Edges) (links : List Link) (wired : IsWired nodes edges links) (s : ℕ) (s_in : s < length nodes) (labels : Labels) (backed : AreBackedLabels nodes s links labels) (closed : IsClosed nodes s links labels) where
   abbrev r : Addr
   r = addr_at nodes s
 
@@ -75,7 +75,7 @@ module _ (nodes : Nodes) (edges : Edges) (links : List Link) (wired : IsWired no
   L x = lookup (is_at (addr_cmp x)) (rows_of nodes labels)
 
   at_index : (i : ℕ) → i < length nodes → L (addr_at nodes i) ≡ label_at labels i
-  at_index i lt = row_at nodes labels wired.rising sound.same_length i lt
+  at_index i lt = row_at nodes labels wired.rising backed.same_length i lt
 
   same_index : (i j : ℕ) → i < length nodes → j < length nodes → addr_at nodes i ≡ addr_at nodes j → i ≡ j
   same_index i j i_in j_in same = one_place nowhere nodes wired.rising i j i_in j_in same
@@ -117,7 +117,7 @@ module _ (nodes : Nodes) (edges : Edges) (links : List Link) (wired : IsWired no
       let i = node.place in
       let here : addr_at nodes i ≡ x = node.same ∙ found.key in
       let label : label_at labels i ≡ Some l = sym (at_index i node.within) ∙ ap L here ∙ is in
-      elim (sound.backed i l label) [
+      elim (backed.backed i l label) [
         | inl start ↦ inl (sym here ∙ ap (addr_at nodes) start)
         | inr b ↦
             let from = extension_from nodes s labels b.link b.offer b.offered in
@@ -138,7 +138,7 @@ module _ (nodes : Nodes) (edges : Edges) (links : List Link) (wired : IsWired no
       ]
 
   certificate : IsCertified nodes edges r L
-  certificate = record { metrics = metrics nodes edges links wired; start = at_index s s_in ∙ sound.start; closed = closed_edge; backed = backed_row }
+  certificate = record { metrics = metrics nodes edges links wired; start = at_index s s_in ∙ backed.start; closed = closed_edge; backed = backed_row }
 
   abbrev tree : Reached
   tree = record { source = r; labels = rows_of nodes labels }
@@ -164,22 +164,22 @@ whole_tree nodes edges r labels rising same t is costs hops =
     (ap (option_map (λ l. l.cost)) (sym (found i lt)) ∙ costs (addr_at nodes i))
     (ap (option_map (λ l. l.hop)) (sym (found i lt)) ∙ hops (addr_at nodes i))))
 
-pub exact_tree : (nodes : Nodes) (edges : Edges) (links : List Link) → IsWired nodes edges links → (s : ℕ) → s < length nodes → (labels : Labels) → IsSound nodes s links labels → IsClosed nodes s links labels → (source : Addr) → addr_at nodes s ≡ source → (t : Reached) → t ≡ record { source = source; labels = rows_of nodes labels } → IsExactTree nodes edges source t
-exact_tree nodes edges links wired s s_in labels sound closed source same t is =
+pub exact_tree : (nodes : Nodes) (edges : Edges) (links : List Link) → IsWired nodes edges links → (s : ℕ) → s < length nodes → (labels : Labels) → AreBackedLabels nodes s links labels → IsClosed nodes s links labels → (source : Addr) → addr_at nodes s ≡ source → (t : Reached) → t ≡ record { source = source; labels = rows_of nodes labels } → IsExactTree nodes edges source t
+exact_tree nodes edges links wired s s_in labels backed closed source same t is =
     let tree : Reached = record { source = addr_at nodes s; labels = rows_of nodes labels } in
-    let least : IsTreeOf nodes edges (addr_at nodes s) tree = is_tree nodes edges links wired s s_in labels sound closed in
+    let least : IsTreeOf nodes edges (addr_at nodes s) tree = is_tree nodes edges links wired s s_in labels backed closed in
     let costs : (x : Addr) → cost_in tree x ≡ cost nodes edges (addr_at nodes s) x = λ x. one_cost nodes edges (addr_at nodes s) x (cost_in tree x) (cost nodes edges (addr_at nodes s) x) (least.costs x) (cost_exact nodes edges (addr_at nodes s) x) in
     let hops : (x : Addr) → first_hop_in tree x ≡ first_hop nodes edges (addr_at nodes s) x = λ x. one_first_hop nodes edges (addr_at nodes s) x (first_hop_in tree x) (first_hop nodes edges (addr_at nodes s) x) (least.first_hops x) (first_hop_exact nodes edges (metrics nodes edges links wired) (addr_at nodes s) x) in
     let exact : IsExactTree nodes edges (addr_at nodes s) tree = record {
       least = least;
       costs = costs;
       first_hops = hops;
-      whole = whole_tree nodes edges (addr_at nodes s) labels wired.rising sound.same_length tree refl costs hops;
+      whole = whole_tree nodes edges (addr_at nodes s) labels wired.rising backed.same_length tree refl costs hops;
     } in
     subst (IsExactTree nodes edges source) (sym is) (subst (λ (r : Addr). let u : Reached = record { source = r; labels = rows_of nodes labels } in IsExactTree nodes edges r u) same exact)
 
 -- the same, of nodes and labels as a function over a graph knows them
-pub exact_seen : (nodes : Nodes) (edges : Edges) (links : List Link) → IsWired nodes edges links → (s : ℕ) (source : Addr) → IsFound nodes source s → (labels : Labels) → IsSound nodes s links labels → IsClosed nodes s links labels → (given : Labels) → given ≡ labels → (inside : Nodes) → nodes ≡ inside → (t : Reached) → t ≡ record { source = source; labels = rows_of nodes given } → IsExactTree inside edges source t
-exact_seen nodes edges links wired s source found labels sound closed given same_labels inside same_nodes t is =
+pub exact_seen : (nodes : Nodes) (edges : Edges) (links : List Link) → IsWired nodes edges links → (s : ℕ) (source : Addr) → IsFound nodes source s → (labels : Labels) → AreBackedLabels nodes s links labels → IsClosed nodes s links labels → (given : Labels) → given ≡ labels → (inside : Nodes) → nodes ≡ inside → (t : Reached) → t ≡ record { source = source; labels = rows_of nodes given } → IsExactTree inside edges source t
+exact_seen nodes edges links wired s source found labels backed closed given same_labels inside same_nodes t is =
     let tree : Labels → Reached = λ l. record { source = source; labels = rows_of nodes l } in
-    subst (λ (n : Nodes). IsExactTree n edges source t) same_nodes (exact_tree nodes edges links wired s found.within labels sound closed source found.same t (is ∙ ap tree same_labels))
+    subst (λ (n : Nodes). IsExactTree n edges source t) same_nodes (exact_tree nodes edges links wired s found.within labels backed closed source found.same t (is ∙ ap tree same_labels))

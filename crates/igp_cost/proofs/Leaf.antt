@@ -6,7 +6,7 @@ use Rattle.std.proofs.lemmas.Option.{none-some}
 use Rattle.net_prefix.specs.declared.addr.Addr.{Addr}
 use Rattle.igp_cost.specs.declared.change.Change.{Change}
 use Rattle.igp_cost.specs.declared.label.Label.{Label}
-use Rattle.igp_cost.specs.declared.link.Link.{Link}
+use Rattle.igp_cost.specs.declared.least_trees.link.Link.{Link}
 use Rattle.igp_cost.specs.Metric.{IsMetric}
 use Rattle.igp_cost.specs.Walks.{Nodes, Edges, HasEdge, share_as}
 use Rattle.igp_cost.specs.Labels.{IsNotAfter, addr_at, nowhere}

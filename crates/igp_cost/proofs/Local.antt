@@ -6,7 +6,7 @@ use Rattle.igp_cost.specs.declared.change.Change.{Change}
 use Rattle.igp_cost.specs.declared.label.Label.{Label}
 use Rattle.igp_cost.specs.Metric.{IsMetric}
 use Rattle.igp_cost.specs.Walks.{Nodes, Edges, HasEdge, share_as}
-use Rattle.igp_cost.specs.declared.link.Link.{Link}
+use Rattle.igp_cost.specs.declared.least_trees.link.Link.{Link}
 use Rattle.igp_cost.specs.Labels.{Labels, IsNotAfter, addr_at, nowhere}
 use Rattle.igp_cost.specs.Trees.{Reached, source_of, label_in, IsTreeOf}
 use Rattle.igp_cost.specs.Wired.{IsWired, IsFound, rows_of, no_row}

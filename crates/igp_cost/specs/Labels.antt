@@ -2,7 +2,7 @@
 use Rattle.std.specs.Prelude.{◌≡◌, ℕ, ◌+◌, ◌*◌, ◌<◌, ◌≤◌, ◌⊎◌, ◌==◌, List, length, Contains, if◌then◌else◌, slice_index_or, Some, None, Option, IfSome, IsSomeAnd, sum_by, All}
 use Rattle.net_prefix.specs.declared.addr.Addr.{Addr}
 use Rattle.igp_cost.specs.declared.label.Label.{Label}
-use Rattle.igp_cost.specs.declared.link.Link.{Link}
+use Rattle.igp_cost.specs.declared.least_trees.link.Link.{Link}
 use Rattle.igp_cost.specs.Metric.{IsMetric}
 use Rattle.igp_cost.specs.Walks.{Nodes}
 
@@ -73,7 +73,8 @@ pub record IsBounded (nodes : Nodes) (labels : Labels) : Type 0 where
   pub same_length : length labels ≡ length nodes
   pub bounded : (v : ℕ) (l : Label) → label_at labels v ≡ Some l → l.cost ≤ 268435456 + 65535 * reached labels
 
-pub record IsSound (nodes : Nodes) (s : ℕ) (links : List Link) (labels : Labels) : Type 0 where
+-- labels with an edge behind each but the source's own, and costs that are bounded by how many nodes have one
+pub record AreBackedLabels (nodes : Nodes) (s : ℕ) (links : List Link) (labels : Labels) : Type 0 where
   pub same_length : length labels ≡ length nodes
   pub start : label_at labels s ≡ Some (record { cost = 0; hop = addr_at nodes s })
   pub backed : (v : ℕ) (l : Label) → label_at labels v ≡ Some l → (v ≡ s) ⊎ IsBacked nodes s links labels v l

@@ -3,7 +3,7 @@ use Rattle.std.specs.Prelude.{◌≡◌, ℕ, ◌+◌, ◌<◌, ◌==◌, ◌≢
 use Rattle.net_prefix.specs.declared.addr.Addr.{Addr}
 use Rattle.igp_cost.specs.declared.change.Change.{Change}
 use Rattle.igp_cost.specs.declared.label.Label.{Label}
-use Rattle.igp_cost.specs.declared.link.Link.{Link}
+use Rattle.igp_cost.specs.declared.least_trees.link.Link.{Link}
 use Rattle.igp_cost.specs.Walks.{Nodes, share_as}
 use Rattle.igp_cost.specs.Labels.{Labels, IsNotAfter, addr_at, label_at}
 use Rattle.igp_cost.specs.Wired.{IsFound, AreAscending, rows_of}

@@ -1,21 +1,17 @@
 //! A graph of routers and edges, and the trees of least costs in it.
 
-ghost use Rattle.std.specs.Prelude.{◌≡◌, IsTrue, IfOk, IfSome, is_some, None};
+ghost use Rattle.std.specs.Prelude.{◌≡◌, IsTrue, IfOk, IfSome, is_some};
 ghost use Rattle.std.specs.Bool.{OnTrue};
 ghost use Rattle.net_prefix.specs.declared.addr.Addr.{Addr};
 ghost use Rattle.igp_cost.specs.Costs.{cost, first_hop};
-ghost use Rattle.igp_cost.specs.Stays.{IsTree, WasTree, Stays, Follows};
+ghost use Rattle.igp_cost.specs.Stays.{Stays, Follows};
 ghost use Rattle.igp_cost.specs.Topology.{is_node, IsTopology};
 ghost use Rattle.igp_cost.specs.Trees.{source_of, cost_in, first_hop_in, IsTreeOf, tree_of};
 ghost use Rattle.igp_cost.specs.Wired.{IsFound, IsWired};
 
 use crate::change::Change;
-use crate::conditions::{has_node, place_of};
-use crate::link::Link;
+use crate::least_trees::{Link, RootedGraph, Tree, has_node, links_of, place_of, starts_of};
 use crate::metric::Metric;
-use crate::rooted::RootedGraph;
-use crate::tree::Tree;
-use crate::wiring::{links_of, starts_of};
 use net_prefix::Addr;
 use path_attr::Asn;
 use seq::Seq;
@@ -179,42 +175,6 @@ impl Graph {
         match self.grown(alloc, old, change)? {
             Some(made) => Ok(Some(made)),
             None => self.repaired(alloc, old, change),
-        }
-    }
-
-    /// The tree after one change, of a tree that was made before it: one that `mended` gives, and else one made afresh. None where `keeps`
-    /// says that the tree stays. It is what `tree` gives.
-    pub fn moved(
-        &self,
-        alloc: Global,
-        tree: &Tree,
-        change: &Change,
-    ) -> Result<Option<Tree>, AllocError>
-        requires node { IsTrue (is_node self.now.nodes (source_of tree.now)) }
-        requires was { WasTree change.now self.now.nodes self.now.edges tree.now }
-        ensures stays { IfOk result (λ o. o ≡ None → IsTree self.now.nodes self.now.edges tree.now) }
-        ensures source { IfOk result (λ o. IfSome o (λ t. source_of t ≡ source_of tree.now)) }
-        ensures made { IfOk result (λ o. IfSome o (IsTree self.now.nodes self.now.edges)) }
-    {
-        if self.keeps(tree, change) {
-            return Ok(None);
-        }
-        match self.mended(alloc, tree, change)? {
-            Some(made) => Ok(Some(made)),
-            None => Ok(Some(self.tree(alloc, tree.source())?)),
-        }
-    }
-
-    /// The tree after one change, of a tree that was made before it: the same one where `moved` says that it stays, else what `moved` gives.
-    pub fn touched(&self, alloc: Global, tree: Tree, change: Change) -> Result<Tree, AllocError>
-        requires node { IsTrue (is_node self.now.nodes (source_of tree)) }
-        requires was { WasTree change self.now.nodes self.now.edges tree }
-        ensures source { IfOk result (λ t. source_of t ≡ source_of tree) }
-        ensures made { IfOk result (IsTree self.now.nodes self.now.edges) }
-    {
-        match self.moved(alloc, &tree, &change)? {
-            Some(made) => Ok(made),
-            None => Ok(tree),
         }
     }
 }

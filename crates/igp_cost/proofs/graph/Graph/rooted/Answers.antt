@@ -1,5 +1,5 @@
 use Rattle.std.proofs.Common.{ℕ, List, ◌≤◌, All, length, sym, subst}
-use Rattle.igp_cost.specs.declared.link.Link.{Link}
+use Rattle.igp_cost.specs.declared.least_trees.link.Link.{Link}
 use Rattle.igp_cost.specs.Walks.{Nodes}
 use Rattle.igp_cost.specs.Labels.{IsWithin, StandsByStart}
 use Rattle.igp_cost.specs.Wired.{IsRising}

@@ -1,0 +1,15 @@
+use Rattle.std.proofs.Common.{◌≡◌, ℕ, ◌<◌, vec_len}
+use Rattle.std.specs.Prelude.{slice_index_or}
+use Rattle.igp_cost.specs.Labels.{AreLimited, addr_at, label_at}
+use Rattle.igp_cost.specs.Placed.{labels_of}
+use Rattle.igp_cost.specs.Trees.{label_in}
+use Rattle.igp_cost.specs.Wired.{no_row}
+use Rattle.igp_cost.proofs.least_trees.rooted.RootedGraph.rows_of_tree.Given as goal
+
+abbrev pub invariant-loop-at : goal.invariant-loop-at
+invariant-loop-at l = record {
+  same_length : vec_len l.rows ≡ l.at;
+  same : (v : ℕ) → v < l.at → (slice_index_or l.rows.items v no_row).0 ≡ addr_at l.self.nodes.now v;
+  limited : AreLimited (labels_of l.rows.items);
+  known : (v : ℕ) → v < l.at → label_at (labels_of l.rows.items) v ≡ label_in l.old (addr_at l.self.nodes.now v);
+}

@@ -1,0 +1,30 @@
+use Rattle.std.proofs.Common.{List, Ok, Err, rules, sym, ap, ◌∙◌, subst}
+use Rattle.std.specs.Map.{lookup}
+use Rattle.std.specs.BTreeMap.{is_at}
+use Rattle.std.proofs.lemmas.List.Sorted.{answers_always}
+use Rattle.net_prefix.specs.declared.addr.Addr.{Addr}
+use Rattle.net_prefix.specs.Address.{addr_cmp}
+use Rattle.igp_cost.specs.declared.label.Label.{Label}
+use Rattle.igp_cost.specs.Trees.{Reached, label_in}
+use Rattle.igp_cost.specs.Wired.{no_row, AreAscending}
+use Rattle.igp_cost.proofs.Exact.{same_addr}
+use Rattle.igp_cost.proofs.Places.{searched, lookup_at, lookup_none}
+use Rattle.igp_cost.proofs.least_trees.tree.Tree.label.Goals as goal
+
+pub returns-in-Ok : goal.returns-in-Ok
+returns-in-Ok c =
+    let rows = c.as_slice-rows.result.now in
+    let by_key = c.in-Ok.ensures.position (λ row. row.0.0) (answers_always _ _ _ (λ f a r g called. search rules)) in
+    let rising = subst AreAscending (sym c.as_slice-rows.ensures) c.self.invariant in
+    let place = (searched (λ (row : Addr × Label). row.0.0) no_row rows rising c.args.to.0 (Ok c.in-Ok.at) c.in-Ok.ensures.bound by_key).found in
+    let found = lookup_at no_row rows rising c.in-Ok.at c.args.to place.0 (same_addr _ _ place.1) in
+    sym found ∙ ap (λ (rows : List (Addr × Label)). lookup (is_at (addr_cmp c.args.to)) rows) c.as_slice-rows.ensures ∙ ap (λ (t : Reached). label_in t c.args.to) c.self.view_is
+
+pub returns-in-Err : goal.returns-in-Err
+returns-in-Err c =
+    let rows = c.as_slice-rows.result.now in
+    let by_key = c.in-Err.ensures.position (λ row. row.0.0) (answers_always _ _ _ (λ f a r g called. search rules)) in
+    let rising = subst AreAscending (sym c.as_slice-rows.ensures) c.self.invariant in
+    let none = (searched (λ (row : Addr × Label). row.0.0) no_row rows rising c.args.to.0 (Err c.in-Err.field-0) c.in-Err.ensures.bound by_key).absent in
+    let absent = lookup_none no_row rows c.args.to (λ i lt same. none i lt (ap (λ (y : Addr). y.0) same)) in
+    sym absent ∙ ap (λ (rows : List (Addr × Label)). lookup (is_at (addr_cmp c.args.to)) rows) c.as_slice-rows.ensures ∙ ap (λ (t : Reached). label_in t c.args.to) c.self.view_is

@@ -1,6 +1,0 @@
-use Rattle.std.proofs.Common.{◌<◌, length, All}
-use Rattle.std.specs.BinaryHeap.{heap_items}
-use Rattle.igp_cost.proofs.rooted.RootedGraph.enqueue_around.Given as goal
-
-abbrev pub invariant-loop-i : goal.invariant-loop-i
-invariant-loop-i l = All (λ e. e.0.2 < length l.self.nodes.now) (heap_items l.queue)

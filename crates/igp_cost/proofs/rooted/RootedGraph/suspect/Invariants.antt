@@ -1,5 +1,0 @@
-use Rattle.std.proofs.Common.{◌<◌, length, All}
-use Rattle.igp_cost.proofs.rooted.RootedGraph.suspect.Given as goal
-
-abbrev pub invariant-loop-i : goal.invariant-loop-i
-invariant-loop-i l = All (λ s. s < length l.self.nodes.now) l.suspects.items
