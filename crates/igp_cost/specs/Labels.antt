@@ -1,5 +1,6 @@
 -- Labels of nodes by their places in the list of nodes, and what holds of them while they are improved. No public contract cites this file.
-use Rattle.std.specs.Prelude.{◌≡◌, ℕ, ◌+◌, ◌*◌, ◌<◌, ◌≤◌, ◌⊎◌, ◌==◌, List, length, Contains, if◌then◌else◌, slice_index_or, Some, None, Option, IfSome, IsSomeAnd, sum_by, All}
+use Rattle.std.specs.Prelude.{◌≡◌, ℕ, ◌+◌, ◌*◌, ◌^◌, ◌<◌, ◌≤◌, ◌⊎◌, ◌==◌, List, length, Contains, if◌then◌else◌, slice_index_or, Some, None, Option, IfSome, IsSomeAnd, sum_by, All}
+use Rattle.std.specs.declared.cmp.Reverse.{Reverse}
 use Rattle.net_prefix.specs.declared.addr.Addr.{Addr}
 use Rattle.igp_cost.specs.declared.label.Label.{Label}
 use Rattle.igp_cost.specs.declared.least_trees.link.Link.{Link}
@@ -15,6 +16,32 @@ addr_at nodes i = let node = slice_index_or nodes i nowhere in node.0
 
 abbrev pub asn_at : Nodes → ℕ → ℕ
 asn_at nodes i = let node = slice_index_or nodes i nowhere in node.1
+
+-- a place in the list of nodes
+abbrev pub IsPlace : Nodes → ℕ → Type 0
+IsPlace nodes v = v < length nodes
+
+abbrev pub ArePlaces : Nodes → List ℕ → Type 0
+ArePlaces nodes places = All (λ p. p < length nodes) places
+
+-- a place in the list of links
+abbrev pub IsLinkPlace : List Link → ℕ → Type 0
+IsLinkPlace links k = k < length links
+
+abbrev pub AreLinkPlaces : List Link → List ℕ → Type 0
+AreLinkPlaces links places = All (λ k. k < length links) places
+
+-- what is queued, by cost and hop, is a place
+abbrev pub AreQueued : Nodes → List (Reverse (ℕ × Addr × ℕ)) → Type 0
+AreQueued nodes entries = All (λ (e : Reverse (ℕ × Addr × ℕ)). e.0.2 < length nodes) entries
+
+-- an edge from place to place, with its metric
+abbrev pub JoinsPlaces : Nodes → ℕ → ℕ → ℕ → Type 0
+JoinsPlaces nodes v w m = (v < length nodes) × (w < length nodes) × IsMetric m
+
+-- one item for each node
+abbrev pub HasOneEach : {A : Type 0} → Nodes → List A → Type 0
+HasOneEach nodes items = length items ≡ length nodes
 
 abbrev pub Labels : Type 0
 Labels = List (Option Label)
@@ -73,16 +100,24 @@ pub record IsBounded (nodes : Nodes) (labels : Labels) : Type 0 where
   pub same_length : length labels ≡ length nodes
   pub bounded : (v : ℕ) (l : Label) → label_at labels v ≡ Some l → l.cost ≤ 268435456 + 65535 * reached labels
 
+-- each label but the source's is backed
+abbrev pub AllBacked : Nodes → ℕ → List Link → Labels → Type 0
+AllBacked nodes s links labels = (v : ℕ) (l : Label) → label_at labels v ≡ Some l → (v ≡ s) ⊎ IsBacked nodes s links labels v l
+
+-- the source is at no cost
+abbrev pub Starts : Nodes → ℕ → Labels → Type 0
+Starts nodes s labels = label_at labels s ≡ Some (record { cost = 0; hop = addr_at nodes s })
+
 -- labels with an edge behind each but the source's own, and costs that are bounded by how many nodes have one
 pub record AreBackedLabels (nodes : Nodes) (s : ℕ) (links : List Link) (labels : Labels) : Type 0 where
   pub same_length : length labels ≡ length nodes
-  pub start : label_at labels s ≡ Some (record { cost = 0; hop = addr_at nodes s })
-  pub backed : (v : ℕ) (l : Label) → label_at labels v ≡ Some l → (v ≡ s) ⊎ IsBacked nodes s links labels v l
+  pub start : Starts nodes s labels
+  pub backed : AllBacked nodes s links labels
   pub bounded : (v : ℕ) (l : Label) → label_at labels v ≡ Some l → l.cost ≤ 268435456 + 65535 * reached labels
 
 -- the ends of the links are nodes, and their metrics are metrics
 abbrev pub IsWithin : Nodes → List Link → Type 0
-IsWithin nodes links = All (λ l. (l.from < length nodes) × (l.to < length nodes) × IsMetric l.metric) links
+IsWithin nodes links = All (λ l. JoinsPlaces nodes l.from l.to l.metric) links
 
 -- what falls with each improvement
 abbrev pub weight : Option Label → ℕ
@@ -110,12 +145,13 @@ pub record IsIndexed (nodes : Nodes) (links : List Link) (starts : List ℕ) : T
 abbrev pub AreLimited : Labels → Type 0
 AreLimited labels = (v : ℕ) (l : Label) → label_at labels v ≡ Some l → l.cost ≤ 268435456
 
--- each label but the source's is backed
-abbrev pub AllBacked : Nodes → ℕ → List Link → Labels → Type 0
-AllBacked nodes s links labels = (v : ℕ) (l : Label) → label_at labels v ≡ Some l → (v ≡ s) ⊎ IsBacked nodes s links labels v l
+-- a label or none for each node, within the limit
+abbrev pub AreUsable : Nodes → Labels → Type 0
+AreUsable nodes labels = HasOneEach nodes labels × AreLimited labels
 
-abbrev pub Starts : Nodes → ℕ → Labels → Type 0
-Starts nodes s labels = label_at labels s ≡ Some (record { cost = 0; hop = addr_at nodes s })
+-- a metric more still fits the number of a cost
+abbrev pub TakesMetric : ℕ → Type 0
+TakesMetric cost = cost + 65535 < 2 ^ 32
 
 -- the link offers its end a label at least as good as the one there
 pub record Backs (nodes : Nodes) (s : ℕ) (labels : Labels) (link : Link) : Type 0 where

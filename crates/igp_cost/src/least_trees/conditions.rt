@@ -1,6 +1,6 @@
 //! The tests of a graph's conditions, and where nodes stand.
 
-ghost use Rattle.std.specs.Prelude.{◌≡◌, ◌↔◌, ◌≤◌, IsTrue, MatchOption, All, length, None, is_some};
+ghost use Rattle.std.specs.Prelude.{◌≡◌, ◌↔◌, IsTrue, MatchOption, All, None, is_some};
 ghost use Rattle.std.specs.List.Sorted.{IsStrictlySortedBy};
 ghost use Rattle.std.specs.Map.{keys_of};
 ghost use Rattle.net_prefix.specs.Address.{addr_cmp};

@@ -2,7 +2,7 @@
 
 ghost use Rattle.std.specs.Prelude.{◌≡◌, ◌<◌, ◌≤◌, ◌+◌, All, length};
 ghost use Rattle.igp_cost.specs.declared.limits.TheConstants.{MAX_NODES};
-ghost use Rattle.igp_cost.specs.Labels.{IsWithin, StandsByStart, addr_at};
+ghost use Rattle.igp_cost.specs.Labels.{IsWithin, StandsByStart, addr_at, IsPlace};
 ghost use Rattle.igp_cost.specs.Walks.{share_as};
 ghost use Rattle.igp_cost.specs.Wired.{IsRising};
 
@@ -30,7 +30,7 @@ pub struct RootedGraph<'a> {
 impl<'a> RootedGraph<'a> {
     // The address at a place.
     pub fn addr(&self, at: usize) -> Addr
-        requires { at < length self.now.nodes.now }
+        requires { IsPlace self.now.nodes.now at }
         ensures { result ≡ addr_at self.now.nodes.now at }
     {
         self.nodes[at].0
@@ -38,7 +38,7 @@ impl<'a> RootedGraph<'a> {
 
     // Whether the node at a place is in the AS of the source.
     pub fn is_inside(&self, at: usize) -> bool
-        requires { at < length self.now.nodes.now }
+        requires { IsPlace self.now.nodes.now at }
         ensures { result ≡ share_as self.now.nodes.now (addr_at self.now.nodes.now self.now.source) (addr_at self.now.nodes.now at) }
     {
         self.nodes[self.source].1 == self.nodes[at].1

@@ -1,11 +1,10 @@
 //! The search of least labels: nearest first, then passes over all links until none makes a label better. The first keeps each label backed
 //! by a link, and is not proved to find the least ones; after the passes there is none better. Mostly one pass is made, which finds nothing.
 
-ghost use Rattle.std.specs.Prelude.{◌≡◌, ◌≢◌, ◌↔◌, ◌≤◌, ◌<◌, ◌+◌, ◌^◌, ℕ, length, IsTrue, IfSome, IfOk, All, None};
+ghost use Rattle.std.specs.Prelude.{◌≡◌, ◌≢◌, ◌↔◌, ◌≤◌, ◌<◌, ◌+◌, ℕ, IsTrue, IfSome, IfOk, None};
 ghost use Rattle.std.specs.BinaryHeap.{heap_items, heap_len};
 ghost use Rattle.std.specs.Bool.{OnTrue, OnFalse};
-ghost use Rattle.igp_cost.specs.Metric.{IsMetric};
-ghost use Rattle.igp_cost.specs.Labels.{extended, IsBefore, IsBounded, AreBackedLabels, IsClosed, weight_of, ClosesAt, Starts, label_at};
+ghost use Rattle.igp_cost.specs.Labels.{extended, IsBefore, IsBounded, AreBackedLabels, IsClosed, weight_of, ClosesAt, Starts, label_at, IsPlace, IsLinkPlace, AreQueued, JoinsPlaces, HasOneEach, TakesMetric};
 
 use crate::label::Label;
 use crate::least_trees::link::Link;
@@ -21,8 +20,8 @@ pub type Queue = BinaryHeap<Reverse<(u32, Addr, usize)>>;
 impl<'a> RootedGraph<'a> {
     // The label that a link offers its end, from the label at its start.
     pub fn offer(&self, link: Link, from: Option<Label>) -> Option<Label>
-        requires ends { (link.from < length self.now.nodes.now) × (link.to < length self.now.nodes.now) × IsMetric link.metric }
-        requires bounded { IfSome from (λ l. l.cost + 65535 < 2 ^ 32) }
+        requires ends { JoinsPlaces self.now.nodes.now link.from link.to link.metric }
+        requires bounded { IfSome from (λ l. TakesMetric l.cost) }
         ensures { result ≡ extended self.now.nodes.now self.now.source link from }
     {
         let from = from?;
@@ -40,7 +39,7 @@ impl<'a> RootedGraph<'a> {
 
     // Gives the end of a link what the link offers, if that is better; says whether it was.
     fn relax(&self, labels: &mut [Option<Label>], at: usize) -> bool
-        requires at { at < length self.now.links.now }
+        requires at { IsLinkPlace self.now.links.now at }
         requires bounded { IsBounded self.now.nodes.now labels.old }
         ensures bounded { IsBounded self.now.nodes.now labels.new }
         ensures backed { AreBackedLabels self.now.nodes.now self.now.source self.now.links.now labels.old → AreBackedLabels self.now.nodes.now self.now.source self.now.links.now labels.new }
@@ -92,12 +91,12 @@ impl<'a> RootedGraph<'a> {
         labels: &mut [Option<Label>],
         queue: &mut Queue,
     ) -> Result<(), AllocError>
-        requires from { from < length self.now.nodes.now }
+        requires from { IsPlace self.now.nodes.now from }
         requires bounded { IsBounded self.now.nodes.now labels.old }
-        requires queued { All (λ e. e.0.2 < length self.now.nodes.now) (heap_items queue.old) }
+        requires queued { AreQueued self.now.nodes.now (heap_items queue.old) }
         ensures bounded { IsBounded self.now.nodes.now labels.new }
         ensures backed { AreBackedLabels self.now.nodes.now self.now.source self.now.links.now labels.old → AreBackedLabels self.now.nodes.now self.now.source self.now.links.now labels.new }
-        ensures queued { All (λ e. e.0.2 < length self.now.nodes.now) (heap_items queue.new) }
+        ensures queued { AreQueued self.now.nodes.now (heap_items queue.new) }
         ensures falls { weight_of labels.new + heap_len queue.new ≤ weight_of labels.old + heap_len queue.old }
     {
         for at in self.starts[from]..self.starts[from + 1] {
@@ -114,7 +113,7 @@ impl<'a> RootedGraph<'a> {
     // Improves the labels, nearest first, from the nodes that are queued. An entry whose label got better since is passed over.
     pub fn explore(&self, labels: &mut [Option<Label>], queue: &mut Queue) -> Result<(), AllocError>
         requires bounded { IsBounded self.now.nodes.now labels.old }
-        requires queued { All (λ e. e.0.2 < length self.now.nodes.now) (heap_items queue.old) }
+        requires queued { AreQueued self.now.nodes.now (heap_items queue.old) }
         ensures bounded { IsBounded self.now.nodes.now labels.new }
         ensures backed { AreBackedLabels self.now.nodes.now self.now.source self.now.links.now labels.old → AreBackedLabels self.now.nodes.now self.now.source self.now.links.now labels.new }
     {
@@ -128,7 +127,7 @@ impl<'a> RootedGraph<'a> {
 
     // The labels before any link is looked at: the source's alone.
     fn first_labels(&self, alloc: Global) -> Result<Vec<Option<Label>>, AllocError>
-        ensures same_length { IfOk result (λ v. length v.items ≡ length self.now.nodes.now) }
+        ensures same_length { IfOk result (λ v. HasOneEach self.now.nodes.now v.items) }
         ensures start { IfOk result (λ v. Starts self.now.nodes.now self.now.source v.items) }
         ensures alone { IfOk result (λ v. (at : ℕ) → at ≢ self.now.source → label_at v.items at ≡ None) }
     {

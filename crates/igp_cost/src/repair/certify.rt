@@ -1,10 +1,9 @@
 //! The certificate: one look at each link tells whether labels are the least ones.
 
-ghost use Rattle.std.specs.Prelude.{◌≡◌, ◌≤◌, ◌<◌, ℕ, length, IfSome, IfOk, All};
+ghost use Rattle.std.specs.Prelude.{◌≡◌, ◌<◌, ℕ, length, IfSome, IfOk};
 ghost use Rattle.std.specs.Bool.{OnTrue};
-ghost use Rattle.igp_cost.specs.Metric.{IsMetric};
-ghost use Rattle.igp_cost.specs.Labels.{AreBackedLabels, IsClosed, IsBounded, Starts, addr_at};
-ghost use Rattle.igp_cost.specs.Codes.{IsCode, AreCodes, passed_on, ArePassed, offer_code, IsShutAt, AreMet, IsSettledAt, IsStill};
+ghost use Rattle.igp_cost.specs.Labels.{AreBackedLabels, IsClosed, IsBounded, Starts, addr_at, IsPlace, IsLinkPlace, JoinsPlaces, HasOneEach};
+ghost use Rattle.igp_cost.specs.Codes.{IsCode, AreCodes, passed_on, ArePassed, offer_code, IsShutAt, AreMet, IsSettledAt, IsStill, AreNodeCodes};
 
 use crate::label::{Label, number_of};
 use crate::least_trees::{Link, RootedGraph};
@@ -27,7 +26,7 @@ fn code_of(label: Option<Label>) -> u64
 impl<'a> RootedGraph<'a> {
     // Whether the source has its own label.
     fn starts_in(&self, labels: &[Option<Label>]) -> bool
-        requires { length labels.now ≡ length self.now.nodes.now }
+        requires { HasOneEach self.now.nodes.now labels.now }
         ensures { OnTrue result (Starts self.now.nodes.now self.now.source labels.now) }
     {
         match labels[self.source] {
@@ -38,7 +37,7 @@ impl<'a> RootedGraph<'a> {
 
     // The label that a node passes on: none outside the source's AS.
     fn passed_by(&self, at: usize, label: Option<Label>) -> Option<Label>
-        requires { at < length self.now.nodes.now }
+        requires { IsPlace self.now.nodes.now at }
         ensures { result ≡ passed_on self.now.nodes.now self.now.source at label }
     {
         if self.nodes[at].1 == self.nodes[self.source].1 {
@@ -74,9 +73,8 @@ impl<'a> RootedGraph<'a> {
 
     // What stands for a link's offer to its end.
     fn offered(&self, passed: &[u64], link: Link) -> u64
-        requires ends { (link.from < length self.now.nodes.now) × (link.to < length self.now.nodes.now) × IsMetric link.metric }
-        requires count { length passed.now ≡ length self.now.nodes.now }
-        requires passed { All (λ c. c ≤ 9223372036854775808) passed.now }
+        requires ends { JoinsPlaces self.now.nodes.now link.from link.to link.metric }
+        requires passed { AreNodeCodes self.now.nodes.now passed.now }
         ensures code { result ≡ offer_code self.now.nodes.now self.now.source passed.now link }
         ensures address { link.from ≡ self.now.source → (addr_at self.now.nodes.now link.to).0 < 4294967296 }
     {
@@ -90,11 +88,10 @@ impl<'a> RootedGraph<'a> {
 
     // Looks at one link: marks its end where its offer is what stands there. Says whether it offers nothing better.
     fn look(&self, codes: &[u64], passed: &[u64], at: usize, marks: &mut [bool]) -> bool
-        requires at { at < length self.now.links.now }
-        requires codes { length codes.now ≡ length self.now.nodes.now }
-        requires count { length passed.now ≡ length self.now.nodes.now }
-        requires passed { All (λ c. c ≤ 9223372036854775808) passed.now }
-        requires marks { length marks.old ≡ length self.now.nodes.now }
+        requires at { IsLinkPlace self.now.links.now at }
+        requires codes { HasOneEach self.now.nodes.now codes.now }
+        requires passed { AreNodeCodes self.now.nodes.now passed.now }
+        requires marks { HasOneEach self.now.nodes.now marks.old }
         requires met { AreMet self.now.nodes.now self.now.source self.now.links.now codes.now passed.now marks.old }
         ensures met { AreMet self.now.nodes.now self.now.source self.now.links.now codes.now passed.now marks.new }
         ensures shut { OnTrue result (IsShutAt self.now.nodes.now self.now.source self.now.links.now codes.now passed.now at) }
@@ -110,10 +107,9 @@ impl<'a> RootedGraph<'a> {
 
     // Looks at each link. Says whether none offers its end anything better.
     fn look_at_all(&self, codes: &[u64], passed: &[u64], marks: &mut [bool]) -> bool
-        requires codes { length codes.now ≡ length self.now.nodes.now }
-        requires count { length passed.now ≡ length self.now.nodes.now }
-        requires passed { All (λ c. c ≤ 9223372036854775808) passed.now }
-        requires marks { length marks.old ≡ length self.now.nodes.now }
+        requires codes { HasOneEach self.now.nodes.now codes.now }
+        requires passed { AreNodeCodes self.now.nodes.now passed.now }
+        requires marks { HasOneEach self.now.nodes.now marks.old }
         requires met { AreMet self.now.nodes.now self.now.source self.now.links.now codes.now passed.now marks.old }
         ensures met { AreMet self.now.nodes.now self.now.source self.now.links.now codes.now passed.now marks.new }
         ensures shut { OnTrue result ((k : ℕ) → k < length self.now.links.now → IsShutAt self.now.nodes.now self.now.source self.now.links.now codes.now passed.now k) }
@@ -134,9 +130,8 @@ impl<'a> RootedGraph<'a> {
         codes: &[u64],
         passed: &[u64],
     ) -> Result<bool, AllocError>
-        requires codes { length codes.now ≡ length self.now.nodes.now }
-        requires count { length passed.now ≡ length self.now.nodes.now }
-        requires passed { All (λ c. c ≤ 9223372036854775808) passed.now }
+        requires codes { HasOneEach self.now.nodes.now codes.now }
+        requires passed { AreNodeCodes self.now.nodes.now passed.now }
         ensures { IfOk result (λ b. OnTrue b (IsStill self.now.nodes.now self.now.source self.now.links.now codes.now passed.now)) }
     {
         let mut marks = vec![in alloc; false; self.nodes.len()]?;

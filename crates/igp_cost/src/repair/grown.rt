@@ -1,9 +1,8 @@
 //! A tree that grows by one node: a new edge leads to a node that no walk reached before.
 
-ghost use Rattle.std.specs.Prelude.{◌≡◌, ◌<◌, length, IfOk, IfSome};
+ghost use Rattle.std.specs.Prelude.{◌≡◌, IfOk, IfSome};
 ghost use Rattle.std.specs.Bool.{OnTrue};
-ghost use Rattle.igp_cost.specs.Metric.{IsMetric};
-ghost use Rattle.igp_cost.specs.Labels.{addr_at};
+ghost use Rattle.igp_cost.specs.Labels.{addr_at, IsPlace, JoinsPlaces};
 ghost use Rattle.igp_cost.specs.Trees.{source_of, label_in};
 ghost use Rattle.igp_cost.specs.Offers.{IsGrownOver, IsGrownTo, IsQuietOver, IsSettledAlone};
 ghost use Rattle.igp_cost.specs.Wired.{IsFound};
@@ -18,8 +17,7 @@ impl<'a> RootedGraph<'a> {
     // Whether a link from a place offers neither end anything better.
     fn is_quiet_over(&self, tree: &Tree, at: usize, link: Link) -> bool
         requires source { IsFound self.now.nodes.now (source_of tree.now) self.now.source }
-        requires at { at < length self.now.nodes.now }
-        requires ends { (link.to < length self.now.nodes.now) × IsMetric link.metric }
+        requires edge { JoinsPlaces self.now.nodes.now at link.to link.metric }
         ensures { OnTrue result (IsQuietOver self.now.nodes.now tree.now (addr_at self.now.nodes.now at) link) }
     {
         let other = link.to as usize;
@@ -31,7 +29,7 @@ impl<'a> RootedGraph<'a> {
     // Whether the links of the node at a place offer neither end anything better, and it is held.
     fn is_settled_alone(&self, tree: &Tree, at: usize) -> bool
         requires source { IsFound self.now.nodes.now (source_of tree.now) self.now.source }
-        requires at { at < length self.now.nodes.now }
+        requires at { IsPlace self.now.nodes.now at }
         ensures { OnTrue result (IsSettledAlone self.now.nodes.now self.now.links.now tree.now at) }
     {
         if !self.is_held(tree, at) {

@@ -1,17 +1,17 @@
 //! The labels of an old tree in the graph as it is now: brought to the places of their nodes, mended and certified, all of them or those
 //! that differ.
 
-ghost use Rattle.std.specs.Prelude.{◌≡◌, ◌<◌, ◌≤◌, length, IfOk, IfSome};
-ghost use Rattle.std.specs.Bool.{OnTrue};
-ghost use Rattle.igp_cost.specs.Labels.{AreBackedLabels, IsClosed, AreLimited, Starts};
+ghost use Rattle.std.specs.Prelude.{◌≤◌, IfOk, IfSome};
+ghost use Rattle.igp_cost.specs.Labels.{AreBackedLabels, HasOneEach, IsClosed, IsPlace, AreLimited, Starts};
 ghost use Rattle.igp_cost.specs.Trees.{source_of};
-ghost use Rattle.igp_cost.specs.Offers.{AreLabelsOf, IsMended, IsMendedOver};
-ghost use Rattle.igp_cost.specs.Placed.{labels_of, ArePlaced};
+ghost use Rattle.igp_cost.specs.Offers.{IsMended, IsMendedOver};
+ghost use Rattle.igp_cost.specs.Placed.{ArePlaced, AreRowsOf, HasEnds};
 ghost use Rattle.igp_cost.specs.Wired.{IsFound};
 
 use crate::change::Change;
 use crate::label::Label;
 use crate::least_trees::{RootedGraph, Tree, place_of};
+use crate::repair::ends::Ends;
 use crate::repair::placed::known_labels;
 use net_prefix::Addr;
 use std::alloc::{AllocError, Global};
@@ -28,10 +28,12 @@ impl<'a> RootedGraph<'a> {
         ensures closed { IfOk result (λ o. IfSome o (λ v. IsClosed self.now.nodes.now self.now.source self.now.links.now v.items)) }
     {
         let (one, other) = change.ends();
-        let one = self.place_or_source(one);
-        let other = self.place_or_source(other);
+        let ends = Ends {
+            one: self.place_or_source(one),
+            other: self.place_or_source(other),
+        };
         let mut labels = self.old_labels(alloc, old)?;
-        self.mend(alloc, &mut labels, one, other)?;
+        self.mend(alloc, &mut labels, ends)?;
         if self.are_least(alloc, &labels)? {
             Ok(Some(labels))
         } else {
@@ -51,7 +53,7 @@ impl<'a> RootedGraph<'a> {
     {
         let (one, other) = change.ends();
         match (place_of(self.nodes, one), place_of(self.nodes, other)) {
-            (Some(one), Some(other)) => self.mended_between(alloc, old, one, other),
+            (Some(one), Some(other)) => self.mended_between(alloc, old, Ends { one, other }),
             _ => Ok(None),
         }
     }
@@ -61,19 +63,17 @@ impl<'a> RootedGraph<'a> {
         &self,
         alloc: Global,
         old: &Tree,
-        one: usize,
-        other: usize,
+        ends: Ends,
     ) -> Result<Option<Tree>, AllocError>
         requires source { IsFound self.now.nodes.now (source_of old.now) self.now.source }
-        requires one { one < length self.now.nodes.now }
-        requires other { other < length self.now.nodes.now }
-        ensures { IfOk result (λ o. IfSome o (IsMended self.now.nodes.now self.now.links.now old.now one other)) }
+        requires ends { HasEnds self.now.nodes.now ends }
+        ensures { IfOk result (λ o. IfSome o (IsMended self.now.nodes.now self.now.links.now old.now ends.one ends.other)) }
     {
         if self.has_rows_in_order(old) {
-            return self.mended_rows(alloc, old, old.rows(), one, other);
+            return self.mended_rows(alloc, old, old.rows(), ends);
         }
         match self.rows_of_tree(alloc, old)? {
-            Some(before) => self.mended_rows(alloc, old, &before, one, other),
+            Some(before) => self.mended_rows(alloc, old, &before, ends),
             None => Ok(None),
         }
     }
@@ -85,25 +85,21 @@ impl<'a> RootedGraph<'a> {
         alloc: Global,
         old: &Tree,
         before: &[(Addr, Label)],
-        one: usize,
-        other: usize,
+        ends: Ends,
     ) -> Result<Option<Tree>, AllocError>
         requires source { IsFound self.now.nodes.now (source_of old.now) self.now.source }
-        requires one { one < length self.now.nodes.now }
-        requires other { other < length self.now.nodes.now }
-        requires placed { ArePlaced self.now.nodes.now before.now }
-        requires limited { AreLimited (labels_of before.now) }
-        requires known { AreLabelsOf self.now.nodes.now old.now (labels_of before.now) }
-        ensures { IfOk result (λ o. IfSome o (IsMended self.now.nodes.now self.now.links.now old.now one other)) }
+        requires ends { HasEnds self.now.nodes.now ends }
+        requires before { AreRowsOf self.now.nodes.now old.now before.now }
+        ensures { IfOk result (λ o. IfSome o (IsMended self.now.nodes.now self.now.links.now old.now ends.one ends.other)) }
     {
         let mut rows = Vec::from_slice(alloc, before)?;
-        if self.shift(alloc, before, &mut rows, one, other)? {
-            let made = self.tree_if_local(alloc, old, before, rows, one, other)?;
+        if self.shift(alloc, before, &mut rows, ends)? {
+            let made = self.tree_if_local(alloc, old, before, rows, ends)?;
             if made.is_some() {
                 return Ok(made);
             }
         }
-        self.searched_tree(alloc, old, before, one, other)
+        self.searched_tree(alloc, old, before, ends)
     }
 
     // The tree of the rows before, mended by a search. None where that did not do.
@@ -112,21 +108,17 @@ impl<'a> RootedGraph<'a> {
         alloc: Global,
         old: &Tree,
         before: &[(Addr, Label)],
-        one: usize,
-        other: usize,
+        ends: Ends,
     ) -> Result<Option<Tree>, AllocError>
         requires source { IsFound self.now.nodes.now (source_of old.now) self.now.source }
-        requires one { one < length self.now.nodes.now }
-        requires other { other < length self.now.nodes.now }
-        requires placed { ArePlaced self.now.nodes.now before.now }
-        requires limited { AreLimited (labels_of before.now) }
-        requires known { AreLabelsOf self.now.nodes.now old.now (labels_of before.now) }
-        ensures { IfOk result (λ o. IfSome o (IsMended self.now.nodes.now self.now.links.now old.now one other)) }
+        requires ends { HasEnds self.now.nodes.now ends }
+        requires before { AreRowsOf self.now.nodes.now old.now before.now }
+        ensures { IfOk result (λ o. IfSome o (IsMended self.now.nodes.now self.now.links.now old.now ends.one ends.other)) }
     {
         let mut labels = known_labels(alloc, before)?;
-        self.mend(alloc, &mut labels, one, other)?;
+        self.mend(alloc, &mut labels, ends)?;
         let rows = self.rows_of_labels(alloc, &labels)?;
-        self.tree_if_local(alloc, old, before, rows, one, other)
+        self.tree_if_local(alloc, old, before, rows, ends)
     }
 
     // The tree of rows, if they are certified where they differ from those before.
@@ -136,18 +128,15 @@ impl<'a> RootedGraph<'a> {
         old: &Tree,
         before: &[(Addr, Label)],
         rows: Vec<(Addr, Label)>,
-        one: usize,
-        other: usize,
+        ends: Ends,
     ) -> Result<Option<Tree>, AllocError>
         requires source { IsFound self.now.nodes.now (source_of old.now) self.now.source }
-        requires one { one < length self.now.nodes.now }
-        requires other { other < length self.now.nodes.now }
-        requires before { ArePlaced self.now.nodes.now before.now }
-        requires known { AreLabelsOf self.now.nodes.now old.now (labels_of before.now) }
+        requires ends { HasEnds self.now.nodes.now ends }
+        requires before { AreRowsOf self.now.nodes.now old.now before.now }
         requires placed { ArePlaced self.now.nodes.now rows.items }
-        ensures { IfOk result (λ o. IfSome o (IsMended self.now.nodes.now self.now.links.now old.now one other)) }
+        ensures { IfOk result (λ o. IfSome o (IsMended self.now.nodes.now self.now.links.now old.now ends.one ends.other)) }
     {
-        if !self.is_local(before, &rows, one, other) {
+        if !self.is_local(before, &rows, ends) {
             return Ok(None);
         }
         let made = Tree::from_rows(alloc, old.source(), self.nodes, rows)?;
@@ -156,7 +145,7 @@ impl<'a> RootedGraph<'a> {
 
     // The place of a node, or the source's where there is no such node.
     fn place_or_source(&self, addr: Addr) -> usize
-        ensures { result < length self.now.nodes.now }
+        ensures { IsPlace self.now.nodes.now result }
     {
         match place_of(self.nodes, addr) {
             Some(at) => at,
@@ -170,7 +159,7 @@ impl<'a> RootedGraph<'a> {
         alloc: Global,
         old: &[(Addr, Label)],
     ) -> Result<Vec<Option<Label>>, AllocError>
-        ensures same_length { IfOk result (λ v. length v.items ≡ length self.now.nodes.now) }
+        ensures same_length { IfOk result (λ v. HasOneEach self.now.nodes.now v.items) }
         ensures limited { IfOk result (λ v. AreLimited v.items) }
         ensures start { IfOk result (λ v. Starts self.now.nodes.now self.now.source v.items) }
     {

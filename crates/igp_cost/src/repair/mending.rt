@@ -1,13 +1,14 @@
 //! The mending of old labels near a change: forgets those that nothing backs, and then improves what is left.
 
-ghost use Rattle.std.specs.Prelude.{◌≡◌, ◌≢◌, ◌≤◌, ◌<◌, ◌+◌, ◌^◌, length, IfSome, IfOk, All};
+ghost use Rattle.std.specs.Prelude.{◌≢◌, ◌<◌, length, IfSome, IfOk, All};
 ghost use Rattle.std.specs.BinaryHeap.{heap_items};
 ghost use Rattle.std.specs.Bool.{OnTrue};
-ghost use Rattle.igp_cost.specs.Metric.{IsMetric};
-ghost use Rattle.igp_cost.specs.Labels.{IsBounded, AreLimited, Backs};
+ghost use Rattle.igp_cost.specs.Labels.{IsBounded, IsPlace, JoinsPlaces, AreLimited, ArePlaces, AreQueued, AreUsable, Backs, HasOneEach, TakesMetric};
+ghost use Rattle.igp_cost.specs.Placed.{HasEnds};
 
 use crate::label::Label;
 use crate::least_trees::{Link, Queue, RootedGraph, improves};
+use crate::repair::ends::Ends;
 use std::alloc::{AllocError, Global};
 use std::cmp::Reverse;
 use std::collections::BinaryHeap;
@@ -15,9 +16,8 @@ use std::collections::BinaryHeap;
 impl<'a> RootedGraph<'a> {
     // Whether a link offers its end a label at least as good as the one there.
     fn backs(&self, link: Link, labels: &[Option<Label>]) -> bool
-        requires ends { (link.from < length self.now.nodes.now) × (link.to < length self.now.nodes.now) × IsMetric link.metric }
-        requires labels { length labels.now ≡ length self.now.nodes.now }
-        requires limited { AreLimited labels.now }
+        requires ends { JoinsPlaces self.now.nodes.now link.from link.to link.metric }
+        requires usable { AreUsable self.now.nodes.now labels.now }
         ensures { OnTrue result (Backs self.now.nodes.now self.now.source labels.now link) }
     {
         match (
@@ -31,9 +31,8 @@ impl<'a> RootedGraph<'a> {
 
     // Whether some neighbour backs the label of a node: the links that leave it lead back as well.
     fn is_backed(&self, labels: &[Option<Label>], at: usize) -> bool
-        requires at { at < length self.now.nodes.now }
-        requires labels { length labels.now ≡ length self.now.nodes.now }
-        requires limited { AreLimited labels.now }
+        requires at { IsPlace self.now.nodes.now at }
+        requires usable { AreUsable self.now.nodes.now labels.now }
     {
         for i in self.starts[at]..self.starts[at + 1] {
             let link = self.links[i];
@@ -57,11 +56,11 @@ impl<'a> RootedGraph<'a> {
         cost: u32,
         suspects: &mut Vec<usize>,
     ) -> Result<(), AllocError>
-        requires at { at < length self.now.nodes.now }
-        requires labels { length labels.now ≡ length self.now.nodes.now }
-        requires bounded { cost + 65535 < 2 ^ 32 }
-        requires suspects { All (λ s. s < length self.now.nodes.now) suspects.old.items }
-        ensures suspects { All (λ s. s < length self.now.nodes.now) suspects.new.items }
+        requires at { IsPlace self.now.nodes.now at }
+        requires labels { HasOneEach self.now.nodes.now labels.now }
+        requires bounded { TakesMetric cost }
+        requires suspects { ArePlaces self.now.nodes.now suspects.old.items }
+        ensures suspects { ArePlaces self.now.nodes.now suspects.new.items }
     {
         for i in self.starts[at]..self.starts[at + 1] {
             let link = self.links[i];
@@ -76,10 +75,9 @@ impl<'a> RootedGraph<'a> {
 
     // The cost of a node that has a label, other than the source's, with nothing to back it.
     fn cut_off(&self, labels: &[Option<Label>], at: usize) -> Option<u32>
-        requires at { at < length self.now.nodes.now }
-        requires labels { length labels.now ≡ length self.now.nodes.now }
-        requires limited { AreLimited labels.now }
-        ensures bounded { IfSome result (λ c. c + 65535 < 2 ^ 32) }
+        requires at { IsPlace self.now.nodes.now at }
+        requires usable { AreUsable self.now.nodes.now labels.now }
+        ensures bounded { IfSome result TakesMetric }
         ensures elsewhere { IfSome result (λ _. at ≢ self.now.source) }
     {
         if at == self.source {
@@ -101,13 +99,12 @@ impl<'a> RootedGraph<'a> {
         cost: u32,
         suspects: &mut Vec<usize>,
     ) -> Result<(), AllocError>
-        requires at { at < length self.now.nodes.now }
-        requires same_length { length labels.old ≡ length self.now.nodes.now }
-        requires limited { AreLimited labels.old }
-        requires bounded { cost + 65535 < 2 ^ 32 }
-        requires suspects { All (λ s. s < length self.now.nodes.now) suspects.old.items }
+        requires at { IsPlace self.now.nodes.now at }
+        requires usable { AreUsable self.now.nodes.now labels.old }
+        requires bounded { TakesMetric cost }
+        requires suspects { ArePlaces self.now.nodes.now suspects.old.items }
         ensures limited { AreLimited labels.new }
-        ensures suspects { All (λ s. s < length self.now.nodes.now) suspects.new.items }
+        ensures suspects { ArePlaces self.now.nodes.now suspects.new.items }
     {
         labels[at] = None;
         self.suspect(labels, at, cost, suspects)
@@ -120,13 +117,12 @@ impl<'a> RootedGraph<'a> {
         suspects: &mut Vec<usize>,
         forgotten: &mut Vec<usize>,
     ) -> Result<bool, AllocError>
-        requires same_length { length labels.old ≡ length self.now.nodes.now }
-        requires limited { AreLimited labels.old }
-        requires suspects { All (λ s. s < length self.now.nodes.now) suspects.old.items }
-        requires forgotten { All (λ s. s < length self.now.nodes.now) forgotten.old.items }
+        requires usable { AreUsable self.now.nodes.now labels.old }
+        requires suspects { ArePlaces self.now.nodes.now suspects.old.items }
+        requires forgotten { ArePlaces self.now.nodes.now forgotten.old.items }
         ensures limited { AreLimited labels.new }
-        ensures suspects { All (λ s. s < length self.now.nodes.now) suspects.new.items }
-        ensures forgotten { All (λ s. s < length self.now.nodes.now) forgotten.new.items }
+        ensures suspects { ArePlaces self.now.nodes.now suspects.new.items }
+        ensures forgotten { ArePlaces self.now.nodes.now forgotten.new.items }
     {
         let Some(at) = suspects.pop() else {
             return Ok(false);
@@ -145,11 +141,10 @@ impl<'a> RootedGraph<'a> {
         labels: &mut [Option<Label>],
         mut suspects: Vec<usize>,
     ) -> Result<Vec<usize>, AllocError>
-        requires same_length { length labels.old ≡ length self.now.nodes.now }
-        requires limited { AreLimited labels.old }
-        requires suspects { All (λ s. s < length self.now.nodes.now) suspects.items }
+        requires usable { AreUsable self.now.nodes.now labels.old }
+        requires suspects { ArePlaces self.now.nodes.now suspects.items }
         ensures limited { AreLimited labels.new }
-        ensures within { IfOk result (λ v. All (λ s. s < length self.now.nodes.now) v.items) }
+        ensures within { IfOk result (λ v. ArePlaces self.now.nodes.now v.items) }
     {
         let mut forgotten = Vec::with_capacity(alloc, 64)?;
         // A label is forgotten once, so suspects are at most two more than links: the bound shows that the loop ends.
@@ -168,10 +163,10 @@ impl<'a> RootedGraph<'a> {
         at: usize,
         queue: &mut Queue,
     ) -> Result<(), AllocError>
-        requires at { at < length self.now.nodes.now }
-        requires labels { length labels.now ≡ length self.now.nodes.now }
-        requires queued { All (λ e. e.0.2 < length self.now.nodes.now) (heap_items queue.old) }
-        ensures queued { All (λ e. e.0.2 < length self.now.nodes.now) (heap_items queue.new) }
+        requires at { IsPlace self.now.nodes.now at }
+        requires labels { HasOneEach self.now.nodes.now labels.now }
+        requires queued { AreQueued self.now.nodes.now (heap_items queue.old) }
+        ensures queued { AreQueued self.now.nodes.now (heap_items queue.new) }
     {
         for i in self.starts[at]..self.starts[at + 1] {
             enqueue(labels, self.links[i].to as usize, queue)?;
@@ -186,9 +181,9 @@ impl<'a> RootedGraph<'a> {
         labels: &[Option<Label>],
         places: &[usize],
     ) -> Result<Queue, AllocError>
-        requires labels { length labels.now ≡ length self.now.nodes.now }
-        requires places { All (λ p. p < length self.now.nodes.now) places.now }
-        ensures { IfOk result (λ q. All (λ e. e.0.2 < length self.now.nodes.now) (heap_items q)) }
+        requires labels { HasOneEach self.now.nodes.now labels.now }
+        requires places { ArePlaces self.now.nodes.now places.now }
+        ensures { IfOk result (λ q. AreQueued self.now.nodes.now (heap_items q)) }
     {
         let mut queue: Queue = BinaryHeap::new(alloc);
         for at in places {
@@ -197,26 +192,23 @@ impl<'a> RootedGraph<'a> {
         Ok(queue)
     }
 
-    // Mends old labels, given the two places between which the graph has changed: from these, and from around what is forgotten, labels
+    // Mends old labels, given the ends of the edge that has changed: from these, and from around what is forgotten, labels
     // are improved, nearest first. Nothing is promised of what they say: a certificate tells.
     pub fn mend(
         &self,
         alloc: Global,
         labels: &mut [Option<Label>],
-        one: usize,
-        other: usize,
+        ends: Ends,
     ) -> Result<(), AllocError>
-        requires same_length { length labels.old ≡ length self.now.nodes.now }
-        requires limited { AreLimited labels.old }
-        requires one { one < length self.now.nodes.now }
-        requires other { other < length self.now.nodes.now }
+        requires usable { AreUsable self.now.nodes.now labels.old }
+        requires ends { HasEnds self.now.nodes.now ends }
         ensures { IsBounded self.now.nodes.now labels.new }
     {
-        let suspects = Vec::from_slice(alloc, &[one, other])?;
+        let suspects = Vec::from_slice(alloc, &[ends.one, ends.other])?;
         let forgotten = self.forget_cut_off(alloc, labels, suspects)?;
         let mut queue = self.border(alloc, labels, &forgotten)?;
-        enqueue(labels, one, &mut queue)?;
-        enqueue(labels, other, &mut queue)?;
+        enqueue(labels, ends.one, &mut queue)?;
+        enqueue(labels, ends.other, &mut queue)?;
         self.explore(labels, &mut queue)
     }
 }

@@ -2,7 +2,7 @@
 
 ghost use Rattle.std.specs.Prelude.{◌≡◌, ◌<◌, ◌≤◌, ℕ, length, slice_index_or, IfOk, IfSome};
 ghost use Rattle.std.specs.Bool.{OnTrue};
-ghost use Rattle.igp_cost.specs.Labels.{AreLimited};
+ghost use Rattle.igp_cost.specs.Labels.{AreLimited, IsPlace, HasOneEach};
 ghost use Rattle.igp_cost.specs.Offers.{AreLabelsOf};
 ghost use Rattle.igp_cost.specs.Placed.{known, labels_of, ArePlaced};
 ghost use Rattle.igp_cost.specs.Wired.{no_row};
@@ -103,7 +103,7 @@ impl<'a> RootedGraph<'a> {
         alloc: Global,
         labels: &[Option<Label>],
     ) -> Result<Vec<(Addr, Label)>, AllocError>
-        requires { length labels.now ≡ length self.now.nodes.now }
+        requires { HasOneEach self.now.nodes.now labels.now }
         ensures { IfOk result (λ v. ArePlaced self.now.nodes.now v.items) }
     {
         let mut rows = Vec::with_capacity(alloc, self.nodes.len())?;
@@ -116,7 +116,7 @@ impl<'a> RootedGraph<'a> {
     /// Puts a label into the row at a place.
     #[inline(always)]
     pub fn put(&self, rows: &mut [(Addr, Label)], at: usize, label: Label)
-        requires at { at < length self.now.nodes.now }
+        requires at { IsPlace self.now.nodes.now at }
         requires placed { ArePlaced self.now.nodes.now rows.old }
         ensures placed { ArePlaced self.now.nodes.now rows.new }
     {

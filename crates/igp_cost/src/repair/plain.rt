@@ -1,15 +1,13 @@
 //! The certificate of a plain node: one in the AS of the source, other than the source, with a label within the limit. What its links offer
 //! is compared by single numbers.
 
-ghost use Rattle.std.specs.Prelude.{◌≡◌, ◌≢◌, ◌<◌, ◌≤◌, ◌+◌, ◌*◌, length, Contains, IfSome, IsTrue, Some};
+ghost use Rattle.std.specs.Prelude.{◌≢◌, ◌<◌, ◌≤◌, ◌+◌, Contains, IsTrue};
 ghost use Rattle.std.specs.Bool.{OnTrue};
-ghost use Rattle.igp_cost.specs.declared.label.Label.{Label};
 ghost use Rattle.igp_cost.specs.Metric.{IsMetric};
-ghost use Rattle.igp_cost.specs.Labels.{IsNotAfter, addr_at};
-ghost use Rattle.igp_cost.specs.Trees.{label_in};
+ghost use Rattle.igp_cost.specs.Labels.{IsNotAfter, addr_at, IsPlace, JoinsPlaces, HasOneEach};
 ghost use Rattle.igp_cost.specs.Walks.{share_as};
-ghost use Rattle.igp_cost.specs.Placed.{tree_in};
-ghost use Rattle.igp_cost.specs.Offers.{Offers, OffersNoBetter, IsHeld, IsSettledAround, IsSettledOver};
+ghost use Rattle.igp_cost.specs.Placed.{tree_in, AreCompared, HasLabel, IsPlain, IsHeldAt};
+ghost use Rattle.igp_cost.specs.Offers.{Offers, OffersNoBetter, IsSettledAround, IsSettledOver};
 
 use crate::label::{Label, number_of};
 use crate::least_trees::{Link, RootedGraph};
@@ -18,7 +16,7 @@ use net_prefix::Addr;
 impl<'a> RootedGraph<'a> {
     // Whether the node at a place is in the AS of the source, and not the source.
     pub fn passes_on(&self, at: usize) -> bool
-        requires { at < length self.now.nodes.now }
+        requires { IsPlace self.now.nodes.now at }
         ensures inside { OnTrue result (IsTrue (share_as self.now.nodes.now (addr_at self.now.nodes.now self.now.source) (addr_at self.now.nodes.now at))) }
         ensures elsewhere { OnTrue result ((addr_at self.now.nodes.now at).0 ≢ (addr_at self.now.nodes.now self.now.source).0) }
     {
@@ -35,12 +33,10 @@ impl<'a> RootedGraph<'a> {
         to: usize,
         metric: u32,
     ) -> bool
-        requires to { to < length self.now.nodes.now }
+        requires to { IsPlace self.now.nodes.now to }
         requires metric { IsMetric metric }
-        requires same_length { length rows.now ≡ length self.now.nodes.now }
-        requires label { label_in (tree_in self.now.nodes.now self.now.source rows.now) (addr_at self.now.nodes.now at) ≡ Some label }
-        requires limited { label.cost ≤ 268435456 }
-        requires elsewhere { (addr_at self.now.nodes.now at).0 ≢ (addr_at self.now.nodes.now self.now.source).0 }
+        requires same_length { HasOneEach self.now.nodes.now rows.now }
+        requires plain { IsPlain self.now.nodes.now self.now.source rows.now at label }
         ensures { OnTrue result (OffersNoBetter self.now.nodes.now (tree_in self.now.nodes.now self.now.source rows.now) (addr_at self.now.nodes.now at) (addr_at self.now.nodes.now to) metric) }
     {
         is_not_after_plainly(rows[to].1, label, metric)
@@ -56,9 +52,9 @@ impl<'a> RootedGraph<'a> {
         metric: u32,
         label: Label,
     ) -> bool
-        requires from { from < length self.now.nodes.now }
+        requires from { IsPlace self.now.nodes.now from }
         requires metric { IsMetric metric }
-        requires same_length { length rows.now ≡ length self.now.nodes.now }
+        requires same_length { HasOneEach self.now.nodes.now rows.now }
         ensures { OnTrue result (Offers self.now.nodes.now (tree_in self.now.nodes.now self.now.source rows.now) (addr_at self.now.nodes.now from) (addr_at self.now.nodes.now at) metric label) }
     {
         is_plainly_not_after(rows[from].1, metric, label) && self.passes_on(from)
@@ -73,12 +69,11 @@ impl<'a> RootedGraph<'a> {
         label: Label,
         link: Link,
     ) -> bool
-        requires at { at < length self.now.nodes.now }
-        requires ends { (link.to < length self.now.nodes.now) × IsMetric link.metric }
+        requires edge { JoinsPlaces self.now.nodes.now at link.to link.metric }
         requires among { Contains self.now.links.now link }
-        requires same_length { length rows.now ≡ length self.now.nodes.now }
-        requires label { label_in (tree_in self.now.nodes.now self.now.source rows.now) (addr_at self.now.nodes.now at) ≡ Some label }
-        ensures { OnTrue result (IsHeld self.now.nodes.now self.now.links.now (tree_in self.now.nodes.now self.now.source rows.now) (addr_at self.now.nodes.now at)) }
+        requires same_length { HasOneEach self.now.nodes.now rows.now }
+        requires label { HasLabel self.now.nodes.now self.now.source rows.now at label }
+        ensures { OnTrue result (IsHeldAt self.now.nodes.now self.now.links.now self.now.source rows.now at) }
     {
         self.is_plain_source(rows, link.to as usize, at, link.metric as u32, label)
             && link.from as usize == at
@@ -94,13 +89,9 @@ impl<'a> RootedGraph<'a> {
         label: Label,
         link: Link,
     ) -> bool
-        requires at { at < length self.now.nodes.now }
-        requires ends { (link.to < length self.now.nodes.now) × IsMetric link.metric }
-        requires before { length before.now ≡ length self.now.nodes.now }
-        requires same_length { length rows.now ≡ length self.now.nodes.now }
-        requires label { label_in (tree_in self.now.nodes.now self.now.source rows.now) (addr_at self.now.nodes.now at) ≡ Some label }
-        requires limited { label.cost ≤ 268435456 }
-        requires elsewhere { (addr_at self.now.nodes.now at).0 ≢ (addr_at self.now.nodes.now self.now.source).0 }
+        requires edge { JoinsPlaces self.now.nodes.now at link.to link.metric }
+        requires compared { AreCompared self.now.nodes.now before.now rows.now }
+        requires plain { IsPlain self.now.nodes.now self.now.source rows.now at label }
         ensures { OnTrue result (IsSettledOver self.now.nodes.now self.now.links.now (tree_in self.now.nodes.now self.now.source before.now) (tree_in self.now.nodes.now self.now.source rows.now) (addr_at self.now.nodes.now at) link) }
     {
         let to = link.to as usize;
@@ -122,12 +113,9 @@ impl<'a> RootedGraph<'a> {
         at: usize,
         label: Label,
     ) -> bool
-        requires at { at < length self.now.nodes.now }
-        requires before { length before.now ≡ length self.now.nodes.now }
-        requires same_length { length rows.now ≡ length self.now.nodes.now }
-        requires label { label_in (tree_in self.now.nodes.now self.now.source rows.now) (addr_at self.now.nodes.now at) ≡ Some label }
-        requires limited { label.cost ≤ 268435456 }
-        requires elsewhere { (addr_at self.now.nodes.now at).0 ≢ (addr_at self.now.nodes.now self.now.source).0 }
+        requires at { IsPlace self.now.nodes.now at }
+        requires compared { AreCompared self.now.nodes.now before.now rows.now }
+        requires plain { IsPlain self.now.nodes.now self.now.source rows.now at label }
         ensures { OnTrue result (IsSettledAround self.now.nodes.now self.now.links.now (tree_in self.now.nodes.now self.now.source before.now) (tree_in self.now.nodes.now self.now.source rows.now) at) }
     {
         let mut held = false;

@@ -1,24 +1,24 @@
 //! A certificate of the rows of a tree after a change, by the labels that differ from those of the rows before it: a look at the links
 //! around these. Of most nodes `plain` tells sooner.
 
-ghost use Rattle.std.specs.Prelude.{◌≡◌, ◌↔◌, ◌<◌, ◌≤◌, ◌⊎◌, ℕ, length, Contains, IsTrue};
+ghost use Rattle.std.specs.Prelude.{◌≡◌, ◌↔◌, ◌<◌, ℕ, length, Contains, IsTrue};
 ghost use Rattle.std.specs.Bool.{OnTrue};
-ghost use Rattle.igp_cost.specs.Metric.{IsMetric};
-ghost use Rattle.igp_cost.specs.Labels.{addr_at};
+ghost use Rattle.igp_cost.specs.Labels.{IsPlace, JoinsPlaces, HasOneEach, addr_at};
 ghost use Rattle.igp_cost.specs.Trees.{label_in};
-ghost use Rattle.igp_cost.specs.Placed.{known, tree_in};
-ghost use Rattle.igp_cost.specs.Offers.{Offers, OffersNoBetter, IsHeld, SaySameOf, IsSameOrSettled, HasStart, IsLocal, IsSettledAround, IsSettledOver};
+ghost use Rattle.igp_cost.specs.Placed.{known, tree_in, AreCompared, HasEnds, IsHeldAt};
+ghost use Rattle.igp_cost.specs.Offers.{Offers, OffersNoBetter, SaySameOf, IsSameOrSettled, HasStart, IsLocal, IsSettledAround, IsSettledOver};
 
 use crate::label::{Label, NO_WALK, known, number_of};
 use crate::least_trees::{Link, RootedGraph};
+use crate::repair::ends::Ends;
 use crate::repair::stays::{is_not_after_offer, is_offer_not_after};
 use net_prefix::Addr;
 
 impl<'a> RootedGraph<'a> {
     // The label at a place.
     fn label_by(&self, rows: &[(Addr, Label)], at: usize) -> Option<Label>
-        requires at { at < length self.now.nodes.now }
-        requires same_length { length rows.now ≡ length self.now.nodes.now }
+        requires at { IsPlace self.now.nodes.now at }
+        requires same_length { HasOneEach self.now.nodes.now rows.now }
         ensures { result ≡ label_in (tree_in self.now.nodes.now self.now.source rows.now) (addr_at self.now.nodes.now at) }
     {
         known(rows[at].1)
@@ -26,10 +26,8 @@ impl<'a> RootedGraph<'a> {
 
     // Whether an edge with this metric offers its end nothing better than what is there.
     fn is_no_gain(&self, rows: &[(Addr, Label)], from: usize, to: usize, metric: u32) -> bool
-        requires from { from < length self.now.nodes.now }
-        requires to { to < length self.now.nodes.now }
-        requires metric { IsMetric metric }
-        requires same_length { length rows.now ≡ length self.now.nodes.now }
+        requires edge { JoinsPlaces self.now.nodes.now from to metric }
+        requires same_length { HasOneEach self.now.nodes.now rows.now }
         ensures { OnTrue result (OffersNoBetter self.now.nodes.now (tree_in self.now.nodes.now self.now.source rows.now) (addr_at self.now.nodes.now from) (addr_at self.now.nodes.now to) metric) }
     {
         let Some(start) = self.label_by(rows, from) else {
@@ -58,10 +56,8 @@ impl<'a> RootedGraph<'a> {
         metric: u32,
         label: Label,
     ) -> bool
-        requires from { from < length self.now.nodes.now }
-        requires to { to < length self.now.nodes.now }
-        requires metric { IsMetric metric }
-        requires same_length { length rows.now ≡ length self.now.nodes.now }
+        requires edge { JoinsPlaces self.now.nodes.now from to metric }
+        requires same_length { HasOneEach self.now.nodes.now rows.now }
         ensures { OnTrue result (Offers self.now.nodes.now (tree_in self.now.nodes.now self.now.source rows.now) (addr_at self.now.nodes.now from) (addr_at self.now.nodes.now to) metric label) }
     {
         let Some(start) = self.label_by(rows, from) else {
@@ -74,9 +70,9 @@ impl<'a> RootedGraph<'a> {
 
     // Whether the node at a place has no label, is the source, or is offered its label over one of its links.
     pub fn is_backed_by(&self, rows: &[(Addr, Label)], at: usize) -> bool
-        requires at { at < length self.now.nodes.now }
-        requires same_length { length rows.now ≡ length self.now.nodes.now }
-        ensures { OnTrue result (IsHeld self.now.nodes.now self.now.links.now (tree_in self.now.nodes.now self.now.source rows.now) (addr_at self.now.nodes.now at)) }
+        requires at { IsPlace self.now.nodes.now at }
+        requires same_length { HasOneEach self.now.nodes.now rows.now }
+        ensures { OnTrue result (IsHeldAt self.now.nodes.now self.now.links.now self.now.source rows.now at) }
     {
         let Some(label) = self.label_by(rows, at) else {
             return true;
@@ -97,20 +93,19 @@ impl<'a> RootedGraph<'a> {
 
     // Whether the node at a place has no label or is the source.
     fn needs_no_link(&self, rows: &[(Addr, Label)], at: usize) -> bool
-        requires at { at < length self.now.nodes.now }
-        requires same_length { length rows.now ≡ length self.now.nodes.now }
-        ensures { OnTrue result (IsHeld self.now.nodes.now self.now.links.now (tree_in self.now.nodes.now self.now.source rows.now) (addr_at self.now.nodes.now at)) }
+        requires at { IsPlace self.now.nodes.now at }
+        requires same_length { HasOneEach self.now.nodes.now rows.now }
+        ensures { OnTrue result (IsHeldAt self.now.nodes.now self.now.links.now self.now.source rows.now at) }
     {
         self.label_by(rows, at).is_none() || at == self.source
     }
 
     // Whether the node at a place has no label, or is offered its label over a link that leaves it.
     fn is_held_over(&self, rows: &[(Addr, Label)], at: usize, link: Link) -> bool
-        requires at { at < length self.now.nodes.now }
-        requires ends { (link.to < length self.now.nodes.now) × IsMetric link.metric }
+        requires edge { JoinsPlaces self.now.nodes.now at link.to link.metric }
         requires among { Contains self.now.links.now link }
-        requires same_length { length rows.now ≡ length self.now.nodes.now }
-        ensures { OnTrue result (IsHeld self.now.nodes.now self.now.links.now (tree_in self.now.nodes.now self.now.source rows.now) (addr_at self.now.nodes.now at)) }
+        requires same_length { HasOneEach self.now.nodes.now rows.now }
+        ensures { OnTrue result (IsHeldAt self.now.nodes.now self.now.links.now self.now.source rows.now at) }
     {
         let Some(label) = self.label_by(rows, at) else {
             return true;
@@ -121,9 +116,8 @@ impl<'a> RootedGraph<'a> {
 
     // Whether the label at a place is that of before.
     pub fn is_unmoved_at(&self, before: &[(Addr, Label)], rows: &[(Addr, Label)], at: usize) -> bool
-        requires at { at < length self.now.nodes.now }
-        requires before { length before.now ≡ length self.now.nodes.now }
-        requires same_length { length rows.now ≡ length self.now.nodes.now }
+        requires at { IsPlace self.now.nodes.now at }
+        requires compared { AreCompared self.now.nodes.now before.now rows.now }
         ensures { IsTrue result ↔ SaySameOf (tree_in self.now.nodes.now self.now.source before.now) (tree_in self.now.nodes.now self.now.source rows.now) (addr_at self.now.nodes.now at) }
     {
         is_same(rows[at].1, before[at].1)
@@ -138,10 +132,8 @@ impl<'a> RootedGraph<'a> {
         at: usize,
         link: Link,
     ) -> bool
-        requires at { at < length self.now.nodes.now }
-        requires ends { (link.to < length self.now.nodes.now) × IsMetric link.metric }
-        requires before { length before.now ≡ length self.now.nodes.now }
-        requires same_length { length rows.now ≡ length self.now.nodes.now }
+        requires edge { JoinsPlaces self.now.nodes.now at link.to link.metric }
+        requires compared { AreCompared self.now.nodes.now before.now rows.now }
         ensures { OnTrue result (IsSettledOver self.now.nodes.now self.now.links.now (tree_in self.now.nodes.now self.now.source before.now) (tree_in self.now.nodes.now self.now.source rows.now) (addr_at self.now.nodes.now at) link) }
     {
         let to = link.to as usize;
@@ -158,12 +150,10 @@ impl<'a> RootedGraph<'a> {
     // Whether an edge with this metric offers a place nothing better from its other end, and that is held. Few are asked this.
     #[inline(never)]
     pub fn is_settled_back(&self, rows: &[(Addr, Label)], at: usize, to: usize, metric: u32) -> bool
-        requires at { at < length self.now.nodes.now }
-        requires to { to < length self.now.nodes.now }
-        requires metric { IsMetric metric }
-        requires same_length { length rows.now ≡ length self.now.nodes.now }
+        requires edge { JoinsPlaces self.now.nodes.now at to metric }
+        requires same_length { HasOneEach self.now.nodes.now rows.now }
         ensures back { OnTrue result (OffersNoBetter self.now.nodes.now (tree_in self.now.nodes.now self.now.source rows.now) (addr_at self.now.nodes.now to) (addr_at self.now.nodes.now at) metric) }
-        ensures near { OnTrue result (IsHeld self.now.nodes.now self.now.links.now (tree_in self.now.nodes.now self.now.source rows.now) (addr_at self.now.nodes.now to)) }
+        ensures near { OnTrue result (IsHeldAt self.now.nodes.now self.now.links.now self.now.source rows.now to) }
     {
         self.is_no_gain(rows, to, at, metric) && self.is_backed_by(rows, to)
     }
@@ -171,9 +161,8 @@ impl<'a> RootedGraph<'a> {
     // Whether the node at a place is held, and all its links are settled.
     #[inline(never)]
     fn is_settled_around(&self, before: &[(Addr, Label)], rows: &[(Addr, Label)], at: usize) -> bool
-        requires at { at < length self.now.nodes.now }
-        requires before { length before.now ≡ length self.now.nodes.now }
-        requires same_length { length rows.now ≡ length self.now.nodes.now }
+        requires at { IsPlace self.now.nodes.now at }
+        requires compared { AreCompared self.now.nodes.now before.now rows.now }
         ensures { OnTrue result (IsSettledAround self.now.nodes.now self.now.links.now (tree_in self.now.nodes.now self.now.source before.now) (tree_in self.now.nodes.now self.now.source rows.now) at) }
     {
         let mut held = self.needs_no_link(rows, at);
@@ -195,9 +184,8 @@ impl<'a> RootedGraph<'a> {
         rows: &[(Addr, Label)],
         at: usize,
     ) -> bool
-        requires at { at < length self.now.nodes.now }
-        requires before { length before.now ≡ length self.now.nodes.now }
-        requires same_length { length rows.now ≡ length self.now.nodes.now }
+        requires at { IsPlace self.now.nodes.now at }
+        requires compared { AreCompared self.now.nodes.now before.now rows.now }
         ensures { OnTrue result (IsSameOrSettled self.now.nodes.now self.now.links.now (tree_in self.now.nodes.now self.now.source before.now) (tree_in self.now.nodes.now self.now.source rows.now) at) }
     {
         if self.is_unmoved_at(before, rows, at) {
@@ -214,8 +202,7 @@ impl<'a> RootedGraph<'a> {
     // Whether each node is.
     #[inline(never)]
     fn are_same_or_settled(&self, before: &[(Addr, Label)], rows: &[(Addr, Label)]) -> bool
-        requires before { length before.now ≡ length self.now.nodes.now }
-        requires same_length { length rows.now ≡ length self.now.nodes.now }
+        requires compared { AreCompared self.now.nodes.now before.now rows.now }
         ensures { OnTrue result ((v : ℕ) → v < length self.now.nodes.now → IsSameOrSettled self.now.nodes.now self.now.links.now (tree_in self.now.nodes.now self.now.source before.now) (tree_in self.now.nodes.now self.now.source rows.now) v) }
     {
         for at in 0..self.nodes.len() {
@@ -226,27 +213,19 @@ impl<'a> RootedGraph<'a> {
         true
     }
 
-    // Whether labels are settled where they are not those of before, and at two places.
-    pub fn is_local(
-        &self,
-        before: &[(Addr, Label)],
-        rows: &[(Addr, Label)],
-        one: usize,
-        other: usize,
-    ) -> bool
-        requires one { one < length self.now.nodes.now }
-        requires other { other < length self.now.nodes.now }
-        requires before { length before.now ≡ length self.now.nodes.now }
-        requires same_length { length rows.now ≡ length self.now.nodes.now }
-        ensures { OnTrue result (IsLocal self.now.nodes.now self.now.links.now (tree_in self.now.nodes.now self.now.source before.now) (tree_in self.now.nodes.now self.now.source rows.now) one other) }
+    // Whether labels are settled where they are not those of before, and at the ends of the edge.
+    pub fn is_local(&self, before: &[(Addr, Label)], rows: &[(Addr, Label)], ends: Ends) -> bool
+        requires ends { HasEnds self.now.nodes.now ends }
+        requires compared { AreCompared self.now.nodes.now before.now rows.now }
+        ensures { OnTrue result (IsLocal self.now.nodes.now self.now.links.now (tree_in self.now.nodes.now self.now.source before.now) (tree_in self.now.nodes.now self.now.source rows.now) ends.one ends.other) }
     {
         if !self.has_start(rows) {
             return false;
         }
-        if !self.is_settled_around(before, rows, one) {
+        if !self.is_settled_around(before, rows, ends.one) {
             return false;
         }
-        if !self.is_settled_around(before, rows, other) {
+        if !self.is_settled_around(before, rows, ends.other) {
             return false;
         }
         self.are_same_or_settled(before, rows)
@@ -254,7 +233,7 @@ impl<'a> RootedGraph<'a> {
 
     // Whether the source is at no cost.
     fn has_start(&self, rows: &[(Addr, Label)]) -> bool
-        requires { length rows.now ≡ length self.now.nodes.now }
+        requires { HasOneEach self.now.nodes.now rows.now }
         ensures { OnTrue result (HasStart (tree_in self.now.nodes.now self.now.source rows.now)) }
     {
         match self.label_by(rows, self.source) {

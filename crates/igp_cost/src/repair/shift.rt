@@ -1,12 +1,13 @@
 //! The mending of old rows by a shift: an edge with another metric moves all labels that lead over it by the same difference.
 
-ghost use Rattle.std.specs.Prelude.{◌≡◌, ◌<◌, length, IfSome, IfOk, All};
+ghost use Rattle.std.specs.Prelude.{◌≡◌, IfSome, IfOk};
 ghost use Rattle.std.specs.BinaryHeap.{heap_items};
-ghost use Rattle.igp_cost.specs.Metric.{IsMetric};
-ghost use Rattle.igp_cost.specs.Placed.{ArePlaced};
+ghost use Rattle.igp_cost.specs.Placed.{ArePlaced, HasEnds};
+ghost use Rattle.igp_cost.specs.Labels.{IsPlace, ArePlaces, IsLinkPlace, AreLinkPlaces, AreQueued, JoinsPlaces, HasOneEach};
 
 use crate::label::{Label, known, number_of};
 use crate::least_trees::{Link, Queue, RootedGraph, improves};
+use crate::repair::ends::Ends;
 use net_prefix::Addr;
 use std::alloc::{AllocError, Global};
 use std::cmp::Reverse;
@@ -15,8 +16,8 @@ use std::collections::BinaryHeap;
 impl<'a> RootedGraph<'a> {
     // The label that a link offers its end.
     fn offer_in(&self, rows: &[(Addr, Label)], link: Link) -> Option<Label>
-        requires ends { (link.from < length self.now.nodes.now) × (link.to < length self.now.nodes.now) × IsMetric link.metric }
-        requires rows { length rows.now ≡ length self.now.nodes.now }
+        requires ends { JoinsPlaces self.now.nodes.now link.from link.to link.metric }
+        requires rows { HasOneEach self.now.nodes.now rows.now }
     {
         let start = known(rows[link.from as usize].1)?;
         if !self.is_inside(link.from as usize) {
@@ -35,8 +36,8 @@ impl<'a> RootedGraph<'a> {
 
     // What a link offers its end, if that is better than what is there.
     fn gain(&self, rows: &[(Addr, Label)], link: Link) -> Option<Label>
-        requires ends { (link.from < length self.now.nodes.now) × (link.to < length self.now.nodes.now) × IsMetric link.metric }
-        requires rows { length rows.now ≡ length self.now.nodes.now }
+        requires ends { JoinsPlaces self.now.nodes.now link.from link.to link.metric }
+        requires rows { HasOneEach self.now.nodes.now rows.now }
     {
         let new = self.offer_in(rows, link)?;
         if improves(new, known(rows[link.to as usize].1)) {
@@ -53,22 +54,21 @@ impl<'a> RootedGraph<'a> {
         &self,
         before: &[(Addr, Label)],
         rows: &mut [(Addr, Label)],
-        at: usize,
         i: usize,
         moved: &mut Vec<usize>,
         border: &mut Vec<usize>,
     ) -> Result<(), AllocError>
-        requires at { at < length self.now.nodes.now }
-        requires i { i < length self.now.links.now }
-        requires before { length before.now ≡ length self.now.nodes.now }
+        requires i { IsLinkPlace self.now.links.now i }
+        requires before { HasOneEach self.now.nodes.now before.now }
         requires placed { ArePlaced self.now.nodes.now rows.old }
-        requires moved { All (λ p. p < length self.now.nodes.now) moved.old.items }
-        requires border { All (λ k. k < length self.now.links.now) border.old.items }
+        requires moved { ArePlaces self.now.nodes.now moved.old.items }
+        requires border { AreLinkPlaces self.now.links.now border.old.items }
         ensures placed { ArePlaced self.now.nodes.now rows.new }
-        ensures moved { All (λ p. p < length self.now.nodes.now) moved.new.items }
-        ensures border { All (λ k. k < length self.now.links.now) border.new.items }
+        ensures moved { ArePlaces self.now.nodes.now moved.new.items }
+        ensures border { AreLinkPlaces self.now.links.now border.new.items }
     {
         let link = self.links[i];
+        let at = link.from as usize;
         let to = link.to as usize;
         let there = number_of(before[to].1);
         if number_of(rows[to].1) != there {
@@ -95,17 +95,17 @@ impl<'a> RootedGraph<'a> {
         moved: &mut Vec<usize>,
         border: &mut Vec<usize>,
     ) -> Result<(), AllocError>
-        requires at { at < length self.now.nodes.now }
-        requires before { length before.now ≡ length self.now.nodes.now }
+        requires at { IsPlace self.now.nodes.now at }
+        requires before { HasOneEach self.now.nodes.now before.now }
         requires placed { ArePlaced self.now.nodes.now rows.old }
-        requires moved { All (λ p. p < length self.now.nodes.now) moved.old.items }
-        requires border { All (λ k. k < length self.now.links.now) border.old.items }
+        requires moved { ArePlaces self.now.nodes.now moved.old.items }
+        requires border { AreLinkPlaces self.now.links.now border.old.items }
         ensures placed { ArePlaced self.now.nodes.now rows.new }
-        ensures moved { All (λ p. p < length self.now.nodes.now) moved.new.items }
-        ensures border { All (λ k. k < length self.now.links.now) border.new.items }
+        ensures moved { ArePlaces self.now.nodes.now moved.new.items }
+        ensures border { AreLinkPlaces self.now.links.now border.new.items }
     {
         for i in self.starts[at]..self.starts[at + 1] {
-            self.shift_over(before, rows, at, i, moved, border)?;
+            self.shift_over(before, rows, i, moved, border)?;
         }
         Ok(())
     }
@@ -119,11 +119,11 @@ impl<'a> RootedGraph<'a> {
         rows: &mut [(Addr, Label)],
         mut moved: Vec<usize>,
     ) -> Result<Vec<usize>, AllocError>
-        requires before { length before.now ≡ length self.now.nodes.now }
+        requires before { HasOneEach self.now.nodes.now before.now }
         requires placed { ArePlaced self.now.nodes.now rows.old }
-        requires moved { All (λ p. p < length self.now.nodes.now) moved.items }
+        requires moved { ArePlaces self.now.nodes.now moved.items }
         ensures placed { ArePlaced self.now.nodes.now rows.new }
-        ensures border { IfOk result (λ v. All (λ k. k < length self.now.links.now) v.items) }
+        ensures border { IfOk result (λ v. AreLinkPlaces self.now.links.now v.items) }
     {
         let mut border = Vec::with_capacity(alloc, 8)?;
         // A node is moved once: the bound shows that the loop ends.
@@ -144,11 +144,11 @@ impl<'a> RootedGraph<'a> {
         link: Link,
         queue: &mut Queue,
     ) -> Result<(), AllocError>
-        requires ends { (link.from < length self.now.nodes.now) × (link.to < length self.now.nodes.now) × IsMetric link.metric }
+        requires ends { JoinsPlaces self.now.nodes.now link.from link.to link.metric }
         requires placed { ArePlaced self.now.nodes.now rows.old }
-        requires queued { All (λ e. e.0.2 < length self.now.nodes.now) (heap_items queue.old) }
+        requires queued { AreQueued self.now.nodes.now (heap_items queue.old) }
         ensures placed { ArePlaced self.now.nodes.now rows.new }
-        ensures queued { All (λ e. e.0.2 < length self.now.nodes.now) (heap_items queue.new) }
+        ensures queued { AreQueued self.now.nodes.now (heap_items queue.new) }
     {
         let Some(new) = self.gain(rows, link) else {
             return Ok(());
@@ -167,9 +167,9 @@ impl<'a> RootedGraph<'a> {
         border: &[usize],
     ) -> Result<Queue, AllocError>
         requires placed { ArePlaced self.now.nodes.now rows.old }
-        requires border { All (λ k. k < length self.now.links.now) border.now }
+        requires border { AreLinkPlaces self.now.links.now border.now }
         ensures placed { ArePlaced self.now.nodes.now rows.new }
-        ensures queued { IfOk result (λ q. All (λ e. e.0.2 < length self.now.nodes.now) (heap_items q)) }
+        ensures queued { IfOk result (λ q. AreQueued self.now.nodes.now (heap_items q)) }
     {
         let mut queue: Queue = BinaryHeap::new(alloc);
         for i in border {
@@ -187,11 +187,11 @@ impl<'a> RootedGraph<'a> {
         at: usize,
         queue: &mut Queue,
     ) -> Result<(), AllocError>
-        requires at { at < length self.now.nodes.now }
+        requires at { IsPlace self.now.nodes.now at }
         requires placed { ArePlaced self.now.nodes.now rows.old }
-        requires queued { All (λ e. e.0.2 < length self.now.nodes.now) (heap_items queue.old) }
+        requires queued { AreQueued self.now.nodes.now (heap_items queue.old) }
         ensures placed { ArePlaced self.now.nodes.now rows.new }
-        ensures queued { All (λ e. e.0.2 < length self.now.nodes.now) (heap_items queue.new) }
+        ensures queued { AreQueued self.now.nodes.now (heap_items queue.new) }
     {
         for i in self.starts[at]..self.starts[at + 1] {
             self.gain_over(rows, self.links[i], queue)?;
@@ -203,7 +203,7 @@ impl<'a> RootedGraph<'a> {
     #[inline(never)]
     fn gain_on(&self, rows: &mut [(Addr, Label)], mut queue: Queue) -> Result<(), AllocError>
         requires placed { ArePlaced self.now.nodes.now rows.old }
-        requires queued { All (λ e. e.0.2 < length self.now.nodes.now) (heap_items queue) }
+        requires queued { AreQueued self.now.nodes.now (heap_items queue) }
         ensures { ArePlaced self.now.nodes.now rows.new }
     {
         // Mostly a node is queued once; where there are more, the certificate tells. The bound shows that the loop ends.
@@ -220,8 +220,8 @@ impl<'a> RootedGraph<'a> {
 
     // A link from one place to another.
     fn link_between(&self, from: usize, to: usize) -> Option<usize>
-        requires { from < length self.now.nodes.now }
-        ensures { IfSome result (λ i. i < length self.now.links.now) }
+        requires { IsPlace self.now.nodes.now from }
+        ensures { IfSome result (IsLinkPlace self.now.links.now) }
     {
         for i in self.starts[from]..self.starts[from + 1] {
             if self.links[i].to as usize == to {
@@ -232,16 +232,15 @@ impl<'a> RootedGraph<'a> {
     }
 
     // The link of an edge that may lead to a label: to the end that is further from the source.
-    fn link_outward(&self, rows: &[(Addr, Label)], one: usize, other: usize) -> Option<usize>
-        requires rows { length rows.now ≡ length self.now.nodes.now }
-        requires one { one < length self.now.nodes.now }
-        requires other { other < length self.now.nodes.now }
-        ensures { IfSome result (λ i. i < length self.now.links.now) }
+    fn link_outward(&self, rows: &[(Addr, Label)], ends: Ends) -> Option<usize>
+        requires rows { HasOneEach self.now.nodes.now rows.now }
+        requires ends { HasEnds self.now.nodes.now ends }
+        ensures { IfSome result (IsLinkPlace self.now.links.now) }
     {
-        if known(rows[one].1)?.cost < known(rows[other].1)?.cost {
-            self.link_between(one, other)
+        if known(rows[ends.one].1)?.cost < known(rows[ends.other].1)?.cost {
+            self.link_between(ends.one, ends.other)
         } else {
-            self.link_between(other, one)
+            self.link_between(ends.other, ends.one)
         }
     }
 
@@ -253,16 +252,14 @@ impl<'a> RootedGraph<'a> {
         alloc: Global,
         before: &[(Addr, Label)],
         rows: &mut [(Addr, Label)],
-        one: usize,
-        other: usize,
+        ends: Ends,
     ) -> Result<bool, AllocError>
-        requires before { length before.now ≡ length self.now.nodes.now }
+        requires before { HasOneEach self.now.nodes.now before.now }
         requires placed { ArePlaced self.now.nodes.now rows.old }
-        requires one { one < length self.now.nodes.now }
-        requires other { other < length self.now.nodes.now }
+        requires ends { HasEnds self.now.nodes.now ends }
         ensures { ArePlaced self.now.nodes.now rows.new }
     {
-        let Some(i) = self.link_outward(before, one, other) else {
+        let Some(i) = self.link_outward(before, ends) else {
             return Ok(false);
         };
         let link = self.links[i];

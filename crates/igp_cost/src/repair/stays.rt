@@ -1,9 +1,9 @@
 //! Whether a tree stays as it was over a change: a look at the two ends of the edge, and at their links where an edge is gone.
 
-ghost use Rattle.std.specs.Prelude.{◌≡◌, ◌+◌, ◌==◌, ◌<◌, ◌≤◌, length, if◌then◌else◌};
+ghost use Rattle.std.specs.Prelude.{◌≡◌};
 ghost use Rattle.std.specs.Bool.{OnTrue};
 ghost use Rattle.igp_cost.specs.Metric.{IsMetric};
-ghost use Rattle.igp_cost.specs.Labels.{IsNotAfter, addr_at};
+ghost use Rattle.igp_cost.specs.Labels.{IsNotAfter, addr_at, IsPlace, JoinsPlaces};
 ghost use Rattle.igp_cost.specs.Trees.{source_of, label_in};
 ghost use Rattle.igp_cost.specs.Changes.{ends_of};
 ghost use Rattle.igp_cost.specs.Offers.{via, Offers, OffersNoBetter, IsHeld, LosesNothing, GainsNothing};
@@ -17,7 +17,7 @@ use net_prefix::Addr;
 impl<'a> RootedGraph<'a> {
     // The label of the node at a place. In a tree that reaches every node it stands in the row of that place.
     fn label_at(&self, tree: &Tree, at: usize) -> Option<Label>
-        requires { at < length self.now.nodes.now }
+        requires { IsPlace self.now.nodes.now at }
         ensures { result ≡ label_in tree.now (addr_at self.now.nodes.now at) }
     {
         tree.label_near(at, self.nodes[at].0)
@@ -26,9 +26,7 @@ impl<'a> RootedGraph<'a> {
     // Whether an edge with this metric offers its end nothing better than what is there.
     pub fn offers_no_better(&self, tree: &Tree, from: usize, to: usize, metric: u32) -> bool
         requires source { IsFound self.now.nodes.now (source_of tree.now) self.now.source }
-        requires from { from < length self.now.nodes.now }
-        requires to { to < length self.now.nodes.now }
-        requires metric { IsMetric metric }
+        requires edge { JoinsPlaces self.now.nodes.now from to metric }
         ensures { OnTrue result (OffersNoBetter self.now.nodes.now tree.now (addr_at self.now.nodes.now from) (addr_at self.now.nodes.now to) metric) }
     {
         let Some(start) = self.label_at(tree, from) else {
@@ -49,9 +47,7 @@ impl<'a> RootedGraph<'a> {
     // Whether an edge with this metric offers its end a label or better.
     fn offers_as_good(&self, tree: &Tree, from: usize, to: usize, metric: u32, label: Label) -> bool
         requires source { IsFound self.now.nodes.now (source_of tree.now) self.now.source }
-        requires from { from < length self.now.nodes.now }
-        requires to { to < length self.now.nodes.now }
-        requires metric { IsMetric metric }
+        requires edge { JoinsPlaces self.now.nodes.now from to metric }
         ensures { OnTrue result (Offers self.now.nodes.now tree.now (addr_at self.now.nodes.now from) (addr_at self.now.nodes.now to) metric label) }
     {
         let Some(start) = self.label_at(tree, from) else {
@@ -65,7 +61,7 @@ impl<'a> RootedGraph<'a> {
     // Whether the node at a place has no label, is the source, or is offered its label over one of its links.
     pub fn is_held(&self, tree: &Tree, at: usize) -> bool
         requires source { IsFound self.now.nodes.now (source_of tree.now) self.now.source }
-        requires at { at < length self.now.nodes.now }
+        requires at { IsPlace self.now.nodes.now at }
         ensures { OnTrue result (IsHeld self.now.nodes.now self.now.links.now tree.now (addr_at self.now.nodes.now at)) }
     {
         let Some(label) = self.label_at(tree, at) else {
