@@ -8,7 +8,7 @@ use Rattle.std.specs.FinMap.Entries.{put}
 use Rattle.std.specs.Ordering.{eq_by_cmp}
 use Rattle.route_select.specs.declared.candidate.Source.{Source}
 use Rattle.route_select.specs.declared.candidate.Candidate.{Candidate}
-use Rattle.route_select.specs.declared.candidate.Reason.{Reason}
+use Rattle.route_select.specs.declared.filter.Filter.{Filter}
 use Rattle.route_select.specs.declared.candidate.Standing.{Standing}
 use Rattle.route_select.specs.declared.candidate.Standing.TheVariants.{Excluded, Considered}
 use Rattle.route_select.specs.Selection.{source_cmp, Standings, IsFrom, filters, considered_in, same_neighbour}
@@ -95,7 +95,7 @@ standings_at k (e ∷ f ∷ es) d = sym (not_alone k (standings_of (e ∷ f ∷ 
     let same : map.len (standings_of (e ∷ f ∷ es)) ≡ length (map.entries (standings_of (e ∷ f ∷ es))) = map.len-entries (standings_of (e ∷ f ∷ es)) in
     absurd (omega arith)))
 
-never_ahead : (ks : List Reason) (c : Candidate) → ahead ks c c ≡ false
+never_ahead : (ks : List Filter) (c : Candidate) → ahead ks c c ≡ false
 never_ahead ks c = refuted (ahead ks c c) (λ t. ahead_asym ks c c t)
 
 -- a lone route is the best
