@@ -8,7 +8,6 @@ use Rattle.std.specs.FinMap.Entries.{put}
 use Rattle.std.specs.Ordering.{eq_by_cmp}
 use Rattle.route_select.specs.declared.candidate.Source.{Source}
 use Rattle.route_select.specs.declared.candidate.Candidate.{Candidate}
-use Rattle.route_select.specs.declared.filter.Filter.{Filter}
 use Rattle.route_select.specs.declared.candidate.Standing.{Standing}
 use Rattle.route_select.specs.declared.candidate.Standing.TheVariants.{Excluded, Considered}
 use Rattle.route_select.specs.Selection.{source_cmp, Standings, IsFrom, filters, considered_in, same_neighbour}
@@ -18,7 +17,7 @@ use Rattle.route_select.specs.Groups.{AreDistinct, AreGrouped, IsBest, standings
 use Rattle.route_select.specs.AtCost.{with_cost, lone_at_cost, at_cost}
 use Rattle.route_select.proofs.Ranks.{same_number-refl}
 use Rattle.path_attr.specs.Path.{neighbour}
-use Rattle.route_select.proofs.Filtering.{refuted, ahead_asym}
+use Rattle.route_select.proofs.Filtering.{never_ahead}
 use Rattle.route_select.proofs.EntryLemmas.{Entries, map_of, map_of_none, entries_of, put_of, tied, same_source, source_total}
 use Rattle.route_select.proofs.GroupMap.{shadowed, get_from}
 
@@ -94,9 +93,6 @@ standings_at k (e ∷ f ∷ es) d = sym (not_alone k (standings_of (e ∷ f ∷ 
     let count : map.len (standings_of (e ∷ f ∷ es)) ≡ length (e ∷ f ∷ es) = count_of (e ∷ f ∷ es) d in
     let same : map.len (standings_of (e ∷ f ∷ es)) ≡ length (map.entries (standings_of (e ∷ f ∷ es))) = map.len-entries (standings_of (e ∷ f ∷ es)) in
     absurd (omega arith)))
-
-never_ahead : (ks : List Filter) (c : Candidate) → ahead ks c c ≡ false
-never_ahead ks c = refuted (ahead ks c c) (λ t. ahead_asym ks c c t)
 
 -- a lone route is the best
 alone_leads : (c : Candidate) → Leads (c ∷ []) c

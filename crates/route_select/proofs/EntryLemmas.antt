@@ -1,5 +1,5 @@
 -- Entries in order of their sources, as the map that they make.
-use Rattle.std.proofs.Common.{◌≡◌, ℕ, zero, suc, ◌<◌, Bool, true, false, not, cond, T, List, [], ◌∷◌, length, set, get_or, Some, None, refl, sym, ap, subst, ◌∙◌, inl, inr, arith}
+use Rattle.std.proofs.Common.{◌≡◌, ℕ, zero, suc, ◌<◌, Bool, true, false, not, cond, T, List, [], ◌∷◌, length, set, get_or, Option, Some, None, refl, sym, ap, subst, ◌∙◌, inl, inr, arith}
 use Rattle.std.proofs.lemmas.Bool.{false≢true}
 use Rattle.std.proofs.lemmas.List.{get_or_read, get_or_default}
 use Rattle.std.specs.List.{insert, filter}
@@ -15,7 +15,7 @@ use Rattle.route_select.specs.declared.candidate.Candidate.{Candidate}
 use Rattle.route_select.specs.declared.candidate.Reason.TheVariants.{Loop}
 use Rattle.route_select.specs.declared.candidate.Standing.{Standing}
 use Rattle.route_select.specs.declared.candidate.Standing.TheVariants.{Excluded, Considered}
-use Rattle.route_select.specs.Selection.{source_cmp, Standings, IsFrom, considered_in}
+use Rattle.route_select.specs.Selection.{source_cmp, Standings, IsFrom, candidate_of, considered_in}
 use Rattle.route_select.specs.Entries.{candidate_at, AreEntries, EachIsFrom, IsPosition, IsGap, standing_at}
 use Rattle.route_select.specs.Leaders.{In, HaveOwnSources}
 use Rattle.route_select.proofs.Ranks.{both_true}
@@ -242,11 +242,22 @@ considered_at ((s, Considered c) ∷ es) zero n lt e = let e' : Some c ≡ Some 
 considered_at ((s, Excluded r) ∷ es) (suc k) n lt e = considered_at es k n (omega arith) e
 considered_at ((s, Considered c) ∷ es) (suc k) n lt e = inr (considered_at es k n (omega arith) e)
 
+-- a route that was read and is considered
+pub stands_at : (es : Entries) (i : ℕ) (e : Source × Standing) (n : Candidate) → i < length es → (get_or es i e).1 ≡ Considered n → standing_at es i ≡ Considered n
+stands_at es i e n lt at = sym (read_from es i e lt) ∙ at
+
+pub stands_in : (es : Entries) (i : ℕ) (e : Source × Standing) (n : Candidate) → i < length es → (get_or es i e).1 ≡ Considered n → In n (considered_in es)
+stands_in es i e n lt at = considered_at es i n lt (ap candidate_of (stands_at es i e n lt at))
+
 pub position_of : (es : Entries) (n : Candidate) → In n (considered_in es) → (k : ℕ) × (k < length es) × (candidate_at es k ≡ Some n)
 position_of [] n i = absurd i
 position_of ((s, Excluded r) ∷ es) n i = let p = position_of es n i in (suc p.0, omega arith, p.2)
 position_of ((s, Considered c) ∷ es) n (inl e) = (0, omega arith, ap Some e)
 position_of ((s, Considered c) ∷ es) n (inr i) = let p = position_of es n i in (suc p.0, omega arith, p.2)
+
+-- one route stands there
+pub one_there : (o : Option Candidate) (n c : Candidate) → o ≡ Some n → o ≡ Some c → n ≡ c
+one_there o n c e at = let m : Some n ≡ Some c = sym e ∙ at in cc
 
 -- no entries make the empty map
 pub map_of_none : map_of [] ≡ map.empty

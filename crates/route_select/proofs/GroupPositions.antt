@@ -14,8 +14,8 @@ use Rattle.route_select.specs.Selection.{candidate_of, considered_in, same_neigh
 use Rattle.route_select.specs.Entries.{candidate_at}
 use Rattle.route_select.specs.Leaders.{In, ahead, Leads}
 use Rattle.route_select.specs.Groups.{group_rank, stands_before, before, AreRanked, IsSlot, IsGroupStart, entry_at, is_below}
-use Rattle.route_select.proofs.Filtering.{or_false, cases_of, refuted, not_true, ahead_asym}
-use Rattle.route_select.proofs.EntryLemmas.{Entries, considered_at, position_of}
+use Rattle.route_select.proofs.Filtering.{or_false, cases_of, not_true, never_ahead}
+use Rattle.route_select.proofs.EntryLemmas.{Entries, considered_at, position_of, one_there}
 use Rattle.route_select.proofs.GroupOrder.{same_rank, same_of_rank, rank_of_same, before_chain}
 
 in_at : (es : Entries) (k : ℕ) → k < length es → In (entry_at es k) es
@@ -68,9 +68,6 @@ ranks_rise b a h =
     not_less : (x y : ℕ) → nat_lt x y ≡ false → y ≤ x
     not_less x y t = grind (arith, nat_tests)
 
-not_itself : (a : Candidate) → ahead filters a a ≡ false
-not_itself a = refuted (ahead filters a a) (λ t. ahead_asym filters a a t)
-
 data Apart (j k : ℕ) : Type 0 where
   less : j < k → Apart j k
   equal : j ≡ k → Apart j k
@@ -91,9 +88,8 @@ leads_at es i c r at none = record {
       elim (apart p.0 i) [
         | less h ↦ absurd (none p.0 h n p.2 s)
         | equal e ↦
-            let m : Some n ≡ Some c = sym p.2 ∙ ap (candidate_at es) e ∙ at in
-            let m' : n ≡ c = cc in
-            subst (λ z. ahead filters z c ≡ false) (sym m') (not_itself c)
+            let m' : n ≡ c = one_there _ n c p.2 (ap (candidate_at es) e ∙ at) in
+            subst (λ z. ahead filters z c ≡ false) (sym m') (never_ahead filters c)
         | more h ↦ not_ahead_of n c (in_order es i p.0 c n r h at p.2) s
       ];
 }
@@ -168,9 +164,7 @@ pub ranks_at : (es : Entries) (i k : ℕ) (c n : Candidate) → AreRanked es →
 ranks_at es i k c n r at up is = elim (apart i k) [
   | less h ↦ ranks_rise n c (in_order es i k c n r h at is)
   | equal m ↦
-      let w : Some c ≡ Some n = sym at ∙ ap (candidate_at es) m ∙ is in
-      let w' : c ≡ n = cc in
-      subst (λ z. group_rank c ≤ group_rank z) w' (omega arith)
+      subst (λ z. group_rank c ≤ group_rank z) (one_there _ c n at (ap (candidate_at es) m ∙ is)) (omega arith)
   | more h ↦ absurd (omega arith)
 ]
 
