@@ -1,12 +1,12 @@
 -- Each filter leaves a route, and the nine leave one.
-use Rattle.std.proofs.Common.{◌≡◌, Bool, true, false, cond, slice_get, Some, None, List, [], ◌∷◌, filter, refl, sym, ap, subst, ◌∙◌, inl, inr}
+use Rattle.std.proofs.Common.{◌≡◌, Bool, true, false, cond, slice_get, Some, None, List, [], ◌∷◌, filter, refl, sym, ap, subst, ◌∙◌, inl, inr, arith}
 use Rattle.std.proofs.lemmas.Bool.{false≢true}
 use Rattle.std.specs.FinMap as map
 use Rattle.route_select.specs.declared.candidate.Candidate.{Candidate}
 use Rattle.route_select.specs.declared.filter.Filter.{Filter}
-use Rattle.route_select.specs.declared.filter.Filter.TheVariants.{Peer}
+use Rattle.route_select.specs.declared.filter.Filter.TheVariants.{Pref, Length, Origin, Med, External, Cost, Ident, Clusters, Peer}
 use Rattle.route_select.specs.Selection.{beats, considered, filters, left_by, left_by_all, best_among}
-use Rattle.route_select.specs.Laws.{OneIsLeft, NoneIsLeft}
+use Rattle.route_select.specs.Laws.{OneIsLeft, NoneIsLeft, EachIsApplied}
 use Rattle.route_select.specs.Leaders.{In}
 use Rattle.route_select.proofs.Ranks.{weak, weak_within, plain_or_med, med_same, same_sym, beats_asym, peer_tie}
 use Rattle.route_select.proofs.Filtering.{before_peer, cases_of, refuted, in_filter, from_left, left_unbeaten, unbeaten_left}
@@ -102,3 +102,14 @@ one_is_left standings own b best =
     let es = map.entries standings in
     let sorted = of_T _ (map.entries_sorted standings) in
     only_best (considered standings) b (considered_apart es sorted (each_from es sorted (λ q w is. own q w (map.get-entries standings q ∙ is)))) best
+
+pub each_is_applied : EachIsApplied
+each_is_applied Pref = (0, omega arith, refl)
+each_is_applied Length = (1, omega arith, refl)
+each_is_applied Origin = (2, omega arith, refl)
+each_is_applied Med = (3, omega arith, refl)
+each_is_applied External = (4, omega arith, refl)
+each_is_applied Cost = (5, omega arith, refl)
+each_is_applied Ident = (6, omega arith, refl)
+each_is_applied Clusters = (7, omega arith, refl)
+each_is_applied Peer = (8, omega arith, refl)

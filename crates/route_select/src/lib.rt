@@ -15,4 +15,4 @@ pub use chosen::{Chosen, Selector};
 pub use filter::Filter;
 pub use filter_cell::FilterCell;
 pub use group_cell::GroupCell;
-pub use laws::{none_is_left, one_is_left};
+pub use laws::{each_is_applied, none_is_left, one_is_left};
