@@ -100,14 +100,6 @@ impl NumberedQueues {
         self.queue(from, to).map_or(0, |queue| queue.len())
     }
 
-    /// How many more messages the direction can take without memory.
-    #[tactic(auto, unfolding(crate::specs::Lines::spare_in))]
-    pub(crate) fn spare(&self, from: Addr, to: Addr) -> usize
-        ensures { result ≡ spare_in self.now from to }
-    {
-        self.queue(from, to).map_or(0, |queue| queue.spare())
-    }
-
     /// The message at the position of the direction's queue, the head's being 0.
     #[tactic(auto, unfolding(crate::specs::Lines::messages_at))]
     pub(crate) fn at(&self, from: Addr, to: Addr, n: usize) -> Option<Numbered>

@@ -89,13 +89,6 @@ impl Queue {
         self.messages.is_empty()
     }
 
-    /// How many more messages it can take without memory.
-    pub(crate) fn spare(&self) -> usize
-        ensures { result ≡ self.now.spare }
-    {
-        self.spare
-    }
-
     /// Whether there is neither a message nor spare memory.
     pub(crate) fn is_blank(&self) -> bool
         ensures { IsTrue result ↔ (length self.now.messages + self.now.spare ≡ 0) }

@@ -107,13 +107,6 @@ impl Queues {
         self.queues.len(from, to)
     }
 
-    /// How many more messages the direction can take without memory.
-    pub fn spare(&self, from: Addr, to: Addr) -> usize
-        ensures { result ≡ spare_at self.now from to }
-    {
-        self.queues.spare(from, to)
-    }
-
     /// The message at the position of the direction's queue, the head's being 0. Each is found at once, however far behind.
     pub fn at(&self, from: Addr, to: Addr, n: usize) -> Option<View<'_>>
         ensures { option_map message_of result ≡ slice_get (queue_at self.now from to) n }
