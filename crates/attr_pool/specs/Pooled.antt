@@ -1,4 +1,4 @@
--- A pool of attributes: each stands in it once, and its place is its number.
+-- A pool of attributes: each stands in it once, and its position is its number.
 use Rattle.std.specs.Prelude.{◌≡◌, ℕ, Bool, List, [], ◌∷◌, ◌++◌, Some, slice_get, if◌then◌else◌}
 use Rattle.std.specs.List.{list_any}
 use Rattle.path_attr.specs.declared.attr.Attr.{Attr}

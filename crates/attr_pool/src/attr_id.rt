@@ -4,10 +4,10 @@ ghost use Rattle.std.specs.Prelude.{◌≡◌, ◌<◌, ◌^◌};
 
 use std::marker::Model;
 
-/// The number of attributes in a pool: the place at which they came into it. It takes four bytes.
+/// The number of attributes in a pool: how many were in it before they came. It takes four bytes.
 #[derive(Clone, Copy, Debug, PartialEq, Eq, PartialOrd, Ord)]
 pub struct AttrId {
-    place: u32,
+    number: u32,
 }
 
 impl Model for AttrId {
@@ -15,26 +15,26 @@ impl Model for AttrId {
 
     ghost Value = { ℕ };
 
-    ghost view = { λ id. id.place };
+    ghost view = { λ id. id.number };
 
-    ghost inverse = { λ n. record { place = n } };
+    ghost inverse = { λ n. record { number = n } };
 }
 
 impl AttrId {
-    /// The number of what stands at the place.
-    pub(crate) fn at(place: usize) -> AttrId
-        requires { place < 2 ^ 32 }
-        ensures { result ≡ place }
+    /// This number.
+    pub(crate) fn of(number: usize) -> AttrId
+        requires { number < 2 ^ 32 }
+        ensures { result ≡ number }
     {
         AttrId {
-            place: place as u32,
+            number: number as u32,
         }
     }
 
-    /// The place in the pool.
-    pub(crate) fn place(self) -> usize
+    /// The number, counted from 0.
+    pub(crate) fn number(self) -> usize
         ensures { result ≡ self }
     {
-        self.place as usize
+        self.number as usize
     }
 }

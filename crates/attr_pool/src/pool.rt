@@ -101,8 +101,8 @@ impl Pool {
             return Err(key.into_attr());
         }
         match self.attrs.insert_full(key) {
-            Ok((place, _)) => {
-                let id = AttrId::at(place);
+            Ok((number, _)) => {
+                let id = AttrId::of(number);
                 self.last = Some(id);
                 return Ok(id);
             }
@@ -114,7 +114,7 @@ impl Pool {
     pub fn attr(&self, id: AttrId) -> Option<&Attr>
         ensures { option_copied result ≡ slice_get self.now id }
     {
-        let key = self.attrs.get_index(id.place())?;
+        let key = self.attrs.get_index(id.number())?;
         Some(key.attr())
     }
 }

@@ -121,7 +121,7 @@ module _ {V : Type 0} where
     absent = ap (λ r. cond (is_eq r) (Some e.1) (find block_cmp q es)) p ∙ is.absent;
   }
 
-  -- the keys of the entries before the place are below the key
+  -- the keys of the entries before the position are below the key
   abbrev pub AreBelow : List (Block × V) → Block → ℕ → Type 0
   AreBelow es q i = (k : ℕ) (d : Block × V) → k < i → block_cmp q (slice_index_or es k d).0 ≡ Greater
 
@@ -153,7 +153,7 @@ module _ {V : Type 0} where
   parted p (e ∷ es) low h (suc i) zero d le lt is = absurd (omega arith)
   parted p (e ∷ es) low h (suc i) (suc j) d le lt is = parted p es low (second (below_all block_cmp e.0 es) (is_sorted block_cmp es) h) i j d (omega arith) (omega arith) is
 
-  -- the first element that passes stands at the place before which none passes
+  -- the first element that passes stands at the position before which none passes
   pub find_at : (p : Block × V → Bool) (es : List (Block × V)) (i : ℕ) → IsPartitionPoint (λ e. not (p e) ≡ true) (λ e. not (p e) ≡ false) es i → list.find p es ≡ slice_get es i
   find_at p [] i at = refl
   find_at p (e ∷ es) zero at = ap (λ b. cond b (Some e) (list.find p es)) (from_not_false (p e) (at.1 0 e (omega arith) (omega arith)))

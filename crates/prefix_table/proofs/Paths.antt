@@ -11,7 +11,7 @@ use Rattle.prefix_table.specs.declared.node.NodeId.{NodeId}
 use Rattle.prefix_table.specs.Trie.{bit_at, IsUnder, prefix_at, value_at, child_at, IsTrie, IsNearer, IsLast, IsCover, IsDeepest, IsLater, IsFirstLater}
 use Rattle.prefix_table.proofs.Blocks.{covers_itself, covers_trans, comparable, same_bit, under_further, same_prefix, covered_not_before, upper_not_before}
 
--- a field of the node that is read at a place
+-- a field of the node that is read at an index
 pub read_field : {X Y : Type 0} (f : X → Y) (xs : List X) (i : ℕ) (x : X) (d : Y) → i < length xs → x ≡ get_or xs i x → f x ≡ get_or (map f xs) i d
 read_field f xs i x d lt is = ap f is ∙ sym (get_or-map f xs i x d lt)
 

@@ -50,7 +50,7 @@ module _ {V : Type 0} (ns new : List (Node V)) (i : ℕ) (b : Bool) (c : Block) 
   not_itself : (u : Bool) → IsUnder c u c → ⊥
   not_itself u h = omega (arith, h.longer)
 
-  -- a place of before, or the new one
+  -- an index of before, or the new one
   cases_at : (j : ℕ) → j < length new → ((j < length ns) × (prefix_at new j ≡ prefix_at ns j)) ⊎ ((j ≡ length ns) × (prefix_at new j ≡ c))
   cases_at j lt = elim (cases_lt j (length ns)) as (λ _. ((j < length ns) × (prefix_at new j ≡ prefix_at ns j)) ⊎ ((j ≡ length ns) × (prefix_at new j ≡ c))) [
     | inl less ↦ inl (less, s.old j less)

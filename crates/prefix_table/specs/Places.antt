@@ -1,23 +1,27 @@
 -- No public contract cites this file.
 -- Where a key's entry stands in a list in the order of its keys, and where it would go.
-use Rattle.std.specs.Prelude.{◌≡◌, ℕ, ◌*◌, ◌/◌, ◌<◌, ◌≤◌, List, length, Option, Some, None, slice_get}
+use Rattle.std.specs.Prelude.{◌≡◌, ℕ, ◌*◌, ◌/◌, ◌<◌, ◌≤◌, IsTrue, List, length, Option, Some, None, slice_get}
 use Rattle.std.proofs.Common.{set}
 use Rattle.std.specs.List.{insert}
-use Rattle.std.specs.FinMap.Entries.{put, find}
+use Rattle.std.specs.FinMap.Entries.{put, find, is_sorted}
 use Rattle.net_prefix.specs.declared.addr.Addr.{Addr}
 use Rattle.net_prefix.specs.Block.{Block, block_cmp, size}
 
--- the key's entry stands at this place
-pub record IsAt {V : Type 0} (es : List (Block × V)) (p : Block) (place : ℕ) : Type 0 where
-  pub in_range : place < length es
-  pub written : (v : V) → set es place (p, v) ≡ put block_cmp p v es
-  pub value : (e : Block × V) → slice_get es place ≡ Some e → find block_cmp p es ≡ Some e.1
-  pub key : (e : Block × V) → slice_get es place ≡ Some e → e.0 ≡ p
+-- the entries are in the order of their prefixes, each prefix once
+abbrev pub AreInOrder : {V : Type 0} → List (Block × V) → Type 0
+AreInOrder es = IsTrue (is_sorted block_cmp es)
 
--- the key has no entry, and would go to this place
-pub record IsFor {V : Type 0} (es : List (Block × V)) (p : Block) (place : ℕ) : Type 0 where
-  pub in_range : place ≤ length es
-  pub added : (v : V) → insert es place (p, v) ≡ put block_cmp p v es
+-- the key's entry stands at this position
+pub record IsAt {V : Type 0} (es : List (Block × V)) (p : Block) (position : ℕ) : Type 0 where
+  pub in_range : position < length es
+  pub written : (v : V) → set es position (p, v) ≡ put block_cmp p v es
+  pub value : (e : Block × V) → slice_get es position ≡ Some e → find block_cmp p es ≡ Some e.1
+  pub key : (e : Block × V) → slice_get es position ≡ Some e → e.0 ≡ p
+
+-- the key has no entry, and would go to this position
+pub record IsFor {V : Type 0} (es : List (Block × V)) (p : Block) (position : ℕ) : Type 0 where
+  pub in_range : position ≤ length es
+  pub added : (v : V) → insert es position (p, v) ≡ put block_cmp p v es
   pub absent : find block_cmp p es ≡ None
 
 -- the prefix of this length that contains the address

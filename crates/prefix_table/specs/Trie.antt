@@ -37,11 +37,11 @@ value_at ns i = get_or (map (λ n. n.value) ns) i None
 abbrev pub child_at : {V : Type 0} → List (Node V) → Bool → ℕ → Option NodeId
 child_at ns upper i = get_or (map (child_of upper) ns) i None
 
--- the node at this place lies in that half of p, and covers each node that does
-pub record IsBelow {V : Type 0} (ns : List (Node V)) (p : Block) (upper : Bool) (place : ℕ) : Type 0 where
-  pub in_range : place < length ns
-  pub under : IsUnder p upper (prefix_at ns place)
-  pub covers : (j : ℕ) → j < length ns → IsUnder p upper (prefix_at ns j) → Covers (prefix_at ns place) (prefix_at ns j)
+-- the node of this index lies in that half of p, and covers each node that does
+pub record IsBelow {V : Type 0} (ns : List (Node V)) (p : Block) (upper : Bool) (node : ℕ) : Type 0 where
+  pub in_range : node < length ns
+  pub under : IsUnder p upper (prefix_at ns node)
+  pub covers : (j : ℕ) → j < length ns → IsUnder p upper (prefix_at ns j) → Covers (prefix_at ns node) (prefix_at ns j)
 
 -- no two nodes have one prefix, the first covers all, and a child covers what lies in its half
 pub record IsTrie {V : Type 0} (ns : List (Node V)) : Type 0 where
@@ -80,45 +80,45 @@ abbrev pub entries_below : {V : Type 0} → List (Node V) → Option NodeId → 
 entries_below ns at = where_key block_cmp (is_in ns at) (entries_in ns)
 
 -- a node nearer to q: it covers q, and its prefix is longer
-pub record IsNearer {V : Type 0} (ns : List (Node V)) (q : Block) (from place : ℕ) : Type 0 where
-  pub in_range : place < length ns
-  pub longer : (prefix_at ns from).len < (prefix_at ns place).len
-  pub covers : Covers (prefix_at ns place) q
-  pub next : (j : ℕ) → j < length ns → Covers (prefix_at ns j) q → (prefix_at ns from).len < (prefix_at ns j).len → (prefix_at ns place).len ≤ (prefix_at ns j).len
+pub record IsNearer {V : Type 0} (ns : List (Node V)) (q : Block) (from node : ℕ) : Type 0 where
+  pub in_range : node < length ns
+  pub longer : (prefix_at ns from).len < (prefix_at ns node).len
+  pub covers : Covers (prefix_at ns node) q
+  pub next : (j : ℕ) → j < length ns → Covers (prefix_at ns j) q → (prefix_at ns from).len < (prefix_at ns j).len → (prefix_at ns node).len ≤ (prefix_at ns j).len
 
 -- no node that covers q has a longer prefix than this one
 abbrev pub IsLast : {V : Type 0} → List (Node V) → Block → ℕ → Type 0
-IsLast ns q place = (j : ℕ) → j < length ns → Covers (prefix_at ns j) q → (prefix_at ns j).len ≤ (prefix_at ns place).len
+IsLast ns q node = (j : ℕ) → j < length ns → Covers (prefix_at ns j) q → (prefix_at ns j).len ≤ (prefix_at ns node).len
 
 -- the node with the longest prefix that covers q
-pub record IsClosest {V : Type 0} (ns : List (Node V)) (q : Block) (place : ℕ) : Type 0 where
-  pub in_range : place < length ns
-  pub covers : Covers (prefix_at ns place) q
-  pub last : IsLast ns q place
+pub record IsClosest {V : Type 0} (ns : List (Node V)) (q : Block) (node : ℕ) : Type 0 where
+  pub in_range : node < length ns
+  pub covers : Covers (prefix_at ns node) q
+  pub last : IsLast ns q node
 
 -- a node with a value that covers q, from this length on
-pub record IsCover {V : Type 0} (ns : List (Node V)) (len : ℕ) (q : Block) (place : ℕ) : Type 0 where
-  pub in_range : place < length ns
-  pub valued : IsTrue (is_some (value_at ns place))
-  pub covers : Covers (prefix_at ns place) q
-  pub long : len ≤ (prefix_at ns place).len
+pub record IsCover {V : Type 0} (ns : List (Node V)) (len : ℕ) (q : Block) (node : ℕ) : Type 0 where
+  pub in_range : node < length ns
+  pub valued : IsTrue (is_some (value_at ns node))
+  pub covers : Covers (prefix_at ns node) q
+  pub long : len ≤ (prefix_at ns node).len
 
 -- of these the one with the longest prefix
-pub record IsDeepest {V : Type 0} (ns : List (Node V)) (len : ℕ) (q : Block) (place : ℕ) : Type 0 where
-  pub cover : IsCover ns len q place
-  pub longest : (j : ℕ) → IsCover ns len q j → (prefix_at ns j).len ≤ (prefix_at ns place).len
+pub record IsDeepest {V : Type 0} (ns : List (Node V)) (len : ℕ) (q : Block) (node : ℕ) : Type 0 where
+  pub cover : IsCover ns len q node
+  pub longest : (j : ℕ) → IsCover ns len q j → (prefix_at ns j).len ≤ (prefix_at ns node).len
 
 -- a node with a value that p covers and that comes after a prefix
-pub record IsLater {V : Type 0} (ns : List (Node V)) (p : Block) (after : Option Block) (place : ℕ) : Type 0 where
-  pub in_range : place < length ns
-  pub valued : IsTrue (is_some (value_at ns place))
-  pub covers : Covers p (prefix_at ns place)
-  pub later : is_after after (prefix_at ns place) ≡ true
+pub record IsLater {V : Type 0} (ns : List (Node V)) (p : Block) (after : Option Block) (node : ℕ) : Type 0 where
+  pub in_range : node < length ns
+  pub valued : IsTrue (is_some (value_at ns node))
+  pub covers : Covers p (prefix_at ns node)
+  pub later : is_after after (prefix_at ns node) ≡ true
 
 -- of these the first
-pub record IsFirstLater {V : Type 0} (ns : List (Node V)) (p : Block) (after : Option Block) (place : ℕ) : Type 0 where
-  pub is : IsLater ns p after place
-  pub first : (j : ℕ) → IsLater ns p after j → is_lt (block_cmp (prefix_at ns j) (prefix_at ns place)) ≡ false
+pub record IsFirstLater {V : Type 0} (ns : List (Node V)) (p : Block) (after : Option Block) (node : ℕ) : Type 0 where
+  pub is : IsLater ns p after node
+  pub first : (j : ℕ) → IsLater ns p after j → is_lt (block_cmp (prefix_at ns j) (prefix_at ns node)) ≡ false
 
 -- c can stand between p and all that lies in that half of p
 pub record IsGap {V : Type 0} (ns : List (Node V)) (p : Block) (upper : Bool) (c : Block) : Type 0 where
@@ -132,9 +132,9 @@ pub record IsLeafOf {V : Type 0} (ns : List (Node V)) (c q : Block) : Type 0 whe
   pub under : IsUnder c (bit_at q.addr c.len) q
   pub none : (j : ℕ) → j < length ns → IsUnder c (bit_at q.addr c.len) (prefix_at ns j) → ⊥
 
--- the node at this place has this prefix
+-- the node of this index has this prefix
 abbrev pub HasPrefix : {V : Type 0} → List (Node V) → ℕ → Block → Type 0
-HasPrefix ns place q = (place < length ns) × (prefix_at ns place ≡ q)
+HasPrefix ns node q = (node < length ns) × (prefix_at ns node ≡ q)
 
 abbrev pub prefixes : {V : Type 0} → List (Node V) → List Block
 prefixes ns = map (λ n. n.prefix) ns

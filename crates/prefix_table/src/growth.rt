@@ -77,7 +77,7 @@ fn splice<V: Drop>(
     ensures trie { IsTrie nodes.new.items }
     ensures entries { node_entries nodes.new.items ≡ node_entries nodes.old.items }
     ensures prefixes { OnOk result (prefixes nodes.new.items ≡ prefixes nodes.old.items ++ prefix ∷ []) }
-    ensures place { IfOk result (λ place. place.0 ≡ length nodes.old.items) }
+    ensures last { IfOk result (λ node. node.0 ≡ length nodes.old.items) }
     ensures found { IfOk result (λ at. HasPrefix nodes.new.items at.0 prefix) }
 {
     let id = NodeId(nodes.len());

@@ -6,7 +6,7 @@ ghost use Rattle.prefix_table.specs.Trie.{bit_at, child_of, prefix_at, value_at,
 
 use net_prefix::{Addr, Prefix};
 
-/// A node's place in the arena.
+/// A node's index in the arena.
 #[derive(Clone, Copy, Debug, PartialEq, Eq)]
 pub(crate) struct NodeId(pub(crate) usize);
 
@@ -55,9 +55,9 @@ pub(crate) fn child_below<V>(nodes: &[Node<V>], at: NodeId, upper: bool) -> Opti
 }
 
 /// Whether this bit of the address is set, from 0 for the highest.
-pub(crate) fn bit(addr: Addr, place: u8) -> bool
-    requires { place < MAX_LEN }
-    ensures { result ≡ bit_at addr place }
+pub(crate) fn bit(addr: Addr, index: u8) -> bool
+    requires { index < MAX_LEN }
+    ensures { result ≡ bit_at addr index }
 {
-    (addr.0 >> (31 - place)) % 2 == 1
+    (addr.0 >> (31 - index)) % 2 == 1
 }

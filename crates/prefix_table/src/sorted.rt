@@ -1,13 +1,13 @@
 //! The plain table: a vector in the order of the prefixes. Look-ups halve it; an insert moves what comes after.
 
-ghost use Rattle.std.specs.Prelude.{◌≡◌, Some, None, IfOk, IfErr, OnOk, OnErr, IsTrue, slice_get, is_some};
+ghost use Rattle.std.specs.Prelude.{◌≡◌, Some, None, IfOk, IfErr, OnOk, OnErr, slice_get, is_some};
 ghost use Rattle.std.specs.Option.{option_copied};
 ghost use Rattle.std.specs.FinMap as map;
-ghost use Rattle.std.specs.FinMap.Entries.{find, put, is_sorted};
+ghost use Rattle.std.specs.FinMap.Entries.{find, put};
 ghost use Rattle.std.specs.List as list;
 ghost use Rattle.net_prefix.specs.Block.{block_cmp};
 ghost use Rattle.prefix_table.specs.Tables.{seen, all_seen, is_after};
-ghost use Rattle.prefix_table.specs.Places.{IsAt, IsFor, changed};
+ghost use Rattle.prefix_table.specs.Places.{AreInOrder, IsAt, IsFor, changed};
 
 use crate::adjust::Adjust;
 use crate::cut::{comes_after, cut};
@@ -24,9 +24,8 @@ pub struct SortedTable<V> {
 }
 
 impl<V> Model for SortedTable<V> {
-    ghost use Rattle.std.specs.Prelude.{IsTrue};
     ghost use Rattle.std.specs.FinMap as map;
-    ghost use Rattle.net_prefix.specs.Block.{block_cmp};
+    ghost use Rattle.prefix_table.specs.Places.{AreInOrder};
     ghost use Rattle.prefix_table.specs.Tables.{Table, coded_block};
 
     ghost Value = { Table V };
@@ -35,12 +34,12 @@ impl<V> Model for SortedTable<V> {
 
     ghost view = { λ s. map.from_sorted s.entries.items };
 
-    ghost invariant = { λ s. IsTrue (map.is_sorted block_cmp s.entries.items) };
+    ghost invariant = { λ s. AreInOrder s.entries.items };
 }
 
-/// The place of the prefix's entry, or as an error the place where it would go.
-fn place<V>(entries: &[(Prefix, V)], prefix: Prefix) -> Result<usize, usize>
-    requires { IsTrue (is_sorted block_cmp entries.now) }
+/// The position of the prefix's entry, or as an error the position where it would go.
+fn entry_position<V>(entries: &[(Prefix, V)], prefix: Prefix) -> Result<usize, usize>
+    requires { AreInOrder entries.now }
     ensures found { IfOk result (IsAt entries.now prefix) }
     ensures absent { IfErr result (IsFor entries.now prefix) }
 {
@@ -53,10 +52,10 @@ fn place<V>(entries: &[(Prefix, V)], prefix: Prefix) -> Result<usize, usize>
 
 /// The prefix's value.
 fn find_in<V>(entries: &[(Prefix, V)], prefix: Prefix) -> Option<&V>
-    requires { IsTrue (is_sorted block_cmp entries.now) }
+    requires { AreInOrder entries.now }
     ensures { option_copied result ≡ find block_cmp prefix entries.now }
 {
-    match place(entries, prefix) {
+    match entry_position(entries, prefix) {
         Ok(at) => Some(&entries[at].1),
         Err(_) => None,
     }
@@ -64,7 +63,7 @@ fn find_in<V>(entries: &[(Prefix, V)], prefix: Prefix) -> Option<&V>
 
 /// The first entry after this prefix, or the first of all.
 fn next_in<V>(entries: &[(Prefix, V)], after: Option<Prefix>) -> Option<(Prefix, &V)>
-    requires { IsTrue (is_sorted block_cmp entries.now) }
+    requires { AreInOrder entries.now }
     ensures { seen result ≡ list.find (λ e. is_after after e.0) entries.now }
 {
     let at = entries.partition_point(|entry| !comes_after(entry.0, after));
@@ -87,14 +86,14 @@ fn refer_to<V>(alloc: Global, entries: &[(Prefix, V)]) -> Result<Vec<(Prefix, &V
 
 /// Gives the prefix this value.
 fn put_in<V: Drop>(entries: &mut Vec<(Prefix, V)>, prefix: Prefix, value: V) -> Result<Option<V>, V>
-    requires { IsTrue (is_sorted block_cmp entries.old.items) }
+    requires { AreInOrder entries.old.items }
     ensures before { IfOk result (λ before. before ≡ find block_cmp prefix entries.old.items) }
     ensures inserted { OnOk result (entries.new.items ≡ put block_cmp prefix value entries.old.items) }
     ensures absent { OnErr result (find block_cmp prefix entries.old.items ≡ None) }
     ensures back { IfErr result (λ back. back ≡ value) }
     ensures same { OnErr result (entries.new.items ≡ entries.old.items) }
 {
-    match place(entries, prefix) {
+    match entry_position(entries, prefix) {
         Ok(at) => {
             let entry = &mut entries[at];
             Ok(Some(std::mem::replace(&mut entry.1, value)))
@@ -108,14 +107,14 @@ fn put_in<V: Drop>(entries: &mut Vec<(Prefix, V)>, prefix: Prefix, value: V) -> 
 
 /// Gives a prefix that has a value this one.
 fn replace_in<V>(entries: &mut Vec<(Prefix, V)>, prefix: Prefix, value: V) -> Result<V, V>
-    requires { IsTrue (is_sorted block_cmp entries.old.items) }
+    requires { AreInOrder entries.old.items }
     ensures before { IfOk result (λ before. find block_cmp prefix entries.old.items ≡ Some before) }
     ensures replaced { OnOk result (entries.new.items ≡ put block_cmp prefix value entries.old.items) }
     ensures back { IfErr result (λ back. back ≡ value) }
     ensures absent { OnErr result (find block_cmp prefix entries.old.items ≡ None) }
     ensures same { OnErr result (entries.new.items ≡ entries.old.items) }
 {
-    match place(entries, prefix) {
+    match entry_position(entries, prefix) {
         Ok(at) => {
             let entry = &mut entries[at];
             Ok(std::mem::replace(&mut entry.1, value))
@@ -126,11 +125,11 @@ fn replace_in<V>(entries: &mut Vec<(Prefix, V)>, prefix: Prefix, value: V) -> Re
 
 /// Changes the prefix's value where it stands, and says whether it has one.
 fn adjust_in<V, A: Adjust<V>>(entries: &mut Vec<(Prefix, V)>, prefix: Prefix, change: &A) -> bool
-    requires { IsTrue (is_sorted block_cmp entries.old.items) }
+    requires { AreInOrder entries.old.items }
     ensures there { result ≡ is_some (find block_cmp prefix entries.old.items) }
     ensures changed { entries.new.items ≡ changed (A.after change.now) prefix entries.old.items (find block_cmp prefix entries.old.items) }
 {
-    match place(entries, prefix) {
+    match entry_position(entries, prefix) {
         Ok(at) => {
             let entry = &mut entries[at];
             change.adjust(&mut entry.1);

@@ -1,5 +1,5 @@
--- What comparisons answer, and what the answer means.
-use Rattle.std.proofs.Common.{◌≡◌, Bool, IsTrue, ◌↔◌, ◌&&◌, List, [], ◌∷◌, refl}
+-- What comparisons answer.
+use Rattle.std.proofs.Common.{◌≡◌, ◌&&◌, List, [], ◌∷◌, refl}
 use Rattle.std.specs.Cmp.Lexicographic.{pointwise}
 use Rattle.route_policy.specs.contracts.rule.MatchPartialEq.TheImpl.{eq-value as match_eq}
 use Rattle.route_policy.specs.contracts.rule.ActionPartialEq.TheImpl.{eq-value as action_eq}
@@ -9,9 +9,7 @@ use Rattle.route_policy.specs.declared.rule.Match.TheVariants.{Any, Is, Under, P
 use Rattle.route_policy.specs.declared.rule.Action.{Action}
 use Rattle.route_policy.specs.declared.rule.Action.TheVariants.{Deny, Permit}
 use Rattle.route_policy.specs.declared.rule.Rule.{Rule}
-use Rattle.path_attr.specs.Sameness.{told}
 use Rattle.route_policy.specs.Sameness.{same_match, same_action, same_rule, same_policy}
-use Rattle.route_policy.specs.SameLaws.{policies_exact}
 
 compared_match : (m n : Match) → match_eq.it m n ≡ same_match m n
 compared_match Any Any = refl
@@ -34,7 +32,3 @@ compared_rules [] [] = refl
 compared_rules [] (s ∷ others) = refl
 compared_rules (r ∷ rules) [] = refl
 compared_rules (r ∷ rules) (s ∷ others) = λ i. compared_rule r s i && compared_rules rules others i
-
--- what the answer of the test means
-pub told_policies : (rules others : List Rule) (r : Bool) → r ≡ same_policy rules others → IsTrue r ↔ (rules ≡ others)
-told_policies rules others r e = told policies_exact rules others r e

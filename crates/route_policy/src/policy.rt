@@ -105,15 +105,6 @@ impl Policy {
         self.len() >= MAX_RULES
     }
 
-    /// Whether both have the same rules in the same order.
-    #[tactic(auto, using(crate::proofs::Comparing::told_policies))]
-    pub fn is_same(&self, other: &Policy) -> bool
-        ensures value { result ≡ same_policy self.now other.now }
-        ensures meaning { IsTrue result ↔ (self.now ≡ other.now) }
-    {
-        self == other
-    }
-
     /// Adds a rule at the end. A fault changes nothing: the limit where there are 256 rules, else want of memory.
     pub fn add(&mut self, rule: Rule) -> Result<(), AddFault>
         ensures ok { OnOk result (self.new ≡ self.old ++ rule ∷ []) }

@@ -1,5 +1,5 @@
 -- A lone route whose cost becomes another, in the entries and in the map that they make.
-use Rattle.std.proofs.Common.{◌≡◌, ℕ, zero, suc, ◌+◌, true, false, cond, List, [], ◌∷◌, length, Option, Some, None, is_some, refl, sym, ap, subst, ◌∙◌, inl, inr, arith}
+use Rattle.std.proofs.Common.{◌≡◌, ℕ, zero, suc, ◌+◌, true, false, cond, [], ◌∷◌, length, Option, Some, None, is_some, refl, sym, ap, subst, ◌∙◌, inl, inr, arith}
 use Rattle.std.proofs.lemmas.List.{with_items_is}
 use Rattle.std.specs.Global.{Vec}
 use Rattle.std.specs.Vec.{with_items}
@@ -8,7 +8,6 @@ use Rattle.std.specs.FinMap.Entries.{put}
 use Rattle.std.specs.Ordering.{eq_by_cmp}
 use Rattle.route_select.specs.declared.candidate.Source.{Source}
 use Rattle.route_select.specs.declared.candidate.Candidate.{Candidate}
-use Rattle.route_select.specs.declared.candidate.Reason.{Reason}
 use Rattle.route_select.specs.declared.candidate.Standing.{Standing}
 use Rattle.route_select.specs.declared.candidate.Standing.TheVariants.{Excluded, Considered}
 use Rattle.route_select.specs.Selection.{source_cmp, Standings, IsFrom, filters, considered_in, same_neighbour}
@@ -18,7 +17,7 @@ use Rattle.route_select.specs.Groups.{AreDistinct, AreGrouped, IsBest, standings
 use Rattle.route_select.specs.AtCost.{with_cost, lone_at_cost, at_cost}
 use Rattle.route_select.proofs.Ranks.{same_number-refl}
 use Rattle.path_attr.specs.Path.{neighbour}
-use Rattle.route_select.proofs.Filtering.{refuted, ahead_asym}
+use Rattle.route_select.proofs.Filtering.{never_ahead}
 use Rattle.route_select.proofs.EntryLemmas.{Entries, map_of, map_of_none, entries_of, put_of, tied, same_source, source_total}
 use Rattle.route_select.proofs.GroupMap.{shadowed, get_from}
 
@@ -94,9 +93,6 @@ standings_at k (e ∷ f ∷ es) d = sym (not_alone k (standings_of (e ∷ f ∷ 
     let count : map.len (standings_of (e ∷ f ∷ es)) ≡ length (e ∷ f ∷ es) = count_of (e ∷ f ∷ es) d in
     let same : map.len (standings_of (e ∷ f ∷ es)) ≡ length (map.entries (standings_of (e ∷ f ∷ es))) = map.len-entries (standings_of (e ∷ f ∷ es)) in
     absurd (omega arith)))
-
-never_ahead : (ks : List Reason) (c : Candidate) → ahead ks c c ≡ false
-never_ahead ks c = refuted (ahead ks c c) (λ t. ahead_asym ks c c t)
 
 -- a lone route is the best
 alone_leads : (c : Candidate) → Leads (c ∷ []) c

@@ -1,5 +1,5 @@
 -- Entries in order of their sources, as the map that they make.
-use Rattle.std.proofs.Common.{◌≡◌, ℕ, zero, suc, ◌<◌, Bool, true, false, not, cond, T, List, [], ◌∷◌, length, set, get_or, Some, None, refl, sym, ap, subst, ◌∙◌, inl, inr, arith}
+use Rattle.std.proofs.Common.{◌≡◌, ℕ, zero, suc, ◌<◌, Bool, true, false, not, cond, T, List, [], ◌∷◌, length, set, get_or, Option, Some, None, refl, sym, ap, subst, ◌∙◌, inl, inr, arith}
 use Rattle.std.proofs.lemmas.Bool.{false≢true}
 use Rattle.std.proofs.lemmas.List.{get_or_read, get_or_default}
 use Rattle.std.specs.List.{insert, filter}
@@ -15,8 +15,8 @@ use Rattle.route_select.specs.declared.candidate.Candidate.{Candidate}
 use Rattle.route_select.specs.declared.candidate.Reason.TheVariants.{Loop}
 use Rattle.route_select.specs.declared.candidate.Standing.{Standing}
 use Rattle.route_select.specs.declared.candidate.Standing.TheVariants.{Excluded, Considered}
-use Rattle.route_select.specs.Selection.{source_cmp, Standings, IsFrom, considered_in}
-use Rattle.route_select.specs.Entries.{candidate_at, AreEntries, EachIsFrom, IsPlace, IsGap, standing_at}
+use Rattle.route_select.specs.Selection.{source_cmp, Standings, IsFrom, candidate_of, considered_in}
+use Rattle.route_select.specs.Entries.{candidate_at, AreEntries, EachIsFrom, IsPosition, IsGap, standing_at}
 use Rattle.route_select.specs.Leaders.{In, HaveOwnSources}
 use Rattle.route_select.proofs.Ranks.{both_true}
 
@@ -83,7 +83,7 @@ are_put es s v f are = record {
 }
 
 -- writing over the entry of a source puts the new one in its place
-pub put_set : (es : Entries) (s : Source) (v : Standing) (i : ℕ) → IsPlace es s i → set es i (s, v) ≡ put source_cmp s v es
+pub put_set : (es : Entries) (s : Source) (v : Standing) (i : ℕ) → IsPosition es s i → set es i (s, v) ≡ put source_cmp s v es
 put_set [] s v i is = absurd (omega (arith, is.in_range))
 put_set (e ∷ es) s v zero is = rw is.here (ap (λ k. (k, v) ∷ es) (same_source s e.0 is.here))
 put_set (e ∷ es) s v (suc i) is =
@@ -127,12 +127,12 @@ others_of es s are = map.same_map source_total same_source _ _ (λ q.
     ∙ sym (map.get-remove source_total (map_of es) s q))
 
 -- what the map has at a source
-pub find_place : (es : Entries) (s : Source) (i : ℕ) → IsPlace es s i → find source_cmp s es ≡ Some (standing_at es i)
-find_place [] s i is = absurd (omega (arith, is.in_range))
-find_place (e ∷ es) s zero is = rw is.here refl
-find_place (e ∷ es) s (suc i) is =
+pub find_position : (es : Entries) (s : Source) (i : ℕ) → IsPosition es s i → find source_cmp s es ≡ Some (standing_at es i)
+find_position [] s i is = absurd (omega (arith, is.in_range))
+find_position (e ∷ es) s zero is = rw is.here refl
+find_position (e ∷ es) s (suc i) is =
     let first : source_cmp s e.0 ≡ Greater = is.after 0 (omega arith) in
-    rw first (find_place es s i (record { in_range = omega (arith, is.in_range); after = λ j lt. is.after (suc j) (omega arith); here = is.here }))
+    rw first (find_position es s i (record { in_range = omega (arith, is.in_range); after = λ j lt. is.after (suc j) (omega arith); here = is.here }))
 
 pub less_of : (o : Ordering) → is_lt o ≡ true → o ≡ Less
 less_of Less e = refl
@@ -234,7 +234,7 @@ read_at es i e lt is = ap (λ (x : Source × Standing). x.1) (get_or_read es i e
 pub read_from : (es : Entries) (i : ℕ) (e : Source × Standing) → i < length es → (get_or es i e).1 ≡ standing_at es i
 read_from es i e lt = ap (λ (x : Source × Standing). x.1) (get_or_default es i e (Own, Excluded Loop) lt)
 
--- what is considered, by its place
+-- what is considered, by its position
 pub considered_at : (es : Entries) (k : ℕ) (n : Candidate) → k < length es → candidate_at es k ≡ Some n → In n (considered_in es)
 considered_at [] k n lt e = absurd (omega arith)
 considered_at ((s, Excluded r) ∷ es) zero n lt e = let e' : None ≡ Some n = e in absurd (cc)
@@ -242,11 +242,22 @@ considered_at ((s, Considered c) ∷ es) zero n lt e = let e' : Some c ≡ Some 
 considered_at ((s, Excluded r) ∷ es) (suc k) n lt e = considered_at es k n (omega arith) e
 considered_at ((s, Considered c) ∷ es) (suc k) n lt e = inr (considered_at es k n (omega arith) e)
 
-pub place_of : (es : Entries) (n : Candidate) → In n (considered_in es) → (k : ℕ) × (k < length es) × (candidate_at es k ≡ Some n)
-place_of [] n i = absurd i
-place_of ((s, Excluded r) ∷ es) n i = let p = place_of es n i in (suc p.0, omega arith, p.2)
-place_of ((s, Considered c) ∷ es) n (inl e) = (0, omega arith, ap Some e)
-place_of ((s, Considered c) ∷ es) n (inr i) = let p = place_of es n i in (suc p.0, omega arith, p.2)
+-- a route that was read and is considered
+pub stands_at : (es : Entries) (i : ℕ) (e : Source × Standing) (n : Candidate) → i < length es → (get_or es i e).1 ≡ Considered n → standing_at es i ≡ Considered n
+stands_at es i e n lt at = sym (read_from es i e lt) ∙ at
+
+pub stands_in : (es : Entries) (i : ℕ) (e : Source × Standing) (n : Candidate) → i < length es → (get_or es i e).1 ≡ Considered n → In n (considered_in es)
+stands_in es i e n lt at = considered_at es i n lt (ap candidate_of (stands_at es i e n lt at))
+
+pub position_of : (es : Entries) (n : Candidate) → In n (considered_in es) → (k : ℕ) × (k < length es) × (candidate_at es k ≡ Some n)
+position_of [] n i = absurd i
+position_of ((s, Excluded r) ∷ es) n i = let p = position_of es n i in (suc p.0, omega arith, p.2)
+position_of ((s, Considered c) ∷ es) n (inl e) = (0, omega arith, ap Some e)
+position_of ((s, Considered c) ∷ es) n (inr i) = let p = position_of es n i in (suc p.0, omega arith, p.2)
+
+-- one route stands there
+pub one_there : (o : Option Candidate) (n c : Candidate) → o ≡ Some n → o ≡ Some c → n ≡ c
+one_there o n c e at = let m : Some n ≡ Some c = sym e ∙ at in cc
 
 -- no entries make the empty map
 pub map_of_none : map_of [] ≡ map.empty

@@ -10,11 +10,11 @@ use Rattle.route_select.specs.Groups.{group_rank, AreRanked, IsBest, IsGroupStar
 use Rattle.route_select.proofs.Ranks.{same_trans, same_number-refl}
 use Rattle.route_select.proofs.Filtering.{cases_of}
 use Rattle.route_select.proofs.Scan.{BestUpTo, best_step}
-use Rattle.route_select.proofs.EntryLemmas.{Entries, place_of}
+use Rattle.route_select.proofs.EntryLemmas.{Entries, position_of}
 use Rattle.route_select.proofs.GroupOrder.{same_of_rank, rank_of_same}
-use Rattle.route_select.proofs.GroupPlaces.{leads_at, none_behind, ranks_at}
+use Rattle.route_select.proofs.GroupPositions.{leads_at, none_behind, ranks_at}
 
--- at is behind whole groups, and best is the place of the best of their leaders
+-- at is behind whole groups, and best is the position of the best of their leaders
 pub record LeadersUpTo (es : Entries) (at best : ℕ) : Type 0 where
   pub best_of : BestUpTo es at (candidate_at es best)
   pub starts : (k : ℕ) → k < at → (n : Candidate) → candidate_at es k ≡ Some n → (c : Candidate) → candidate_at es at ≡ Some c → same_neighbour n c ≡ true → ⊥
@@ -58,9 +58,9 @@ best_more es at best c r is here = go (candidate_at es at) (candidate_at es best
           | inr f ↦ rw f (subst (BestUpTo es (at + 1)) (sym y) (rw f at step))
         ]
 
-place_of_better : (b : Bool) (at best : ℕ) → best ≤ at → cond b at best ≤ at
-place_of_better true at best le = omega arith
-place_of_better false at best le = le
+position_of_better : (b : Bool) (at best : ℕ) → best ≤ at → cond b at best ≤ at
+position_of_better true at best le = omega arith
+position_of_better false at best le = le
 
 pub goes_on : (es : Entries) (at next : ℕ) (c : Candidate) → candidate_at es at ≡ Some c → IsGroupStart es (group_rank c + 1) next → at < next
 goes_on es at next c here start = elim (cases_of (nat_lt at next)) [
@@ -81,7 +81,7 @@ leaders_more es at best next c r is here start = record {
       let same = rank_of_same n d s in
       omega arith;
   behind_best =
-      let le = place_of_better (is_better (candidate_at es at) (candidate_at es best)) at best is.behind_best in
+      let le = position_of_better (is_better (candidate_at es at) (candidate_at es best)) at best is.behind_best in
       let lt = goes_on es at next c here start in
       omega arith;
 }
@@ -93,8 +93,8 @@ best_all es at o r none is = go o is
     before_end k n e = elim (cases_of (nat_lt k at)) [ inl t ↦ grind (arith, nat_tests) | inr f ↦ absurd (none_behind es at k n r none (grind (arith, nat_tests)) e) ]
 
     go : (o : Option Candidate) → BestUpTo es at o → IsBest (considered_in es) o
-    go None is = λ n j. let p = place_of es n j in is p.0 (before_end p.0 n p.2) n p.2
-    go (Some b) is = (is.0, λ n j. let p = place_of es n j in is.1 p.0 (before_end p.0 n p.2) n p.2)
+    go None is = λ n j. let p = position_of es n j in is p.0 (before_end p.0 n p.2) n p.2
+    go (Some b) is = (is.0, λ n j. let p = position_of es n j in is.1 p.0 (before_end p.0 n p.2) n p.2)
 
 pub leaders_all : (es : Entries) (at best : ℕ) → AreRanked es → LeadersUpTo es at best → candidate_at es at ≡ None → IsBest (considered_in es) (candidate_at es best)
 leaders_all es at best r is none = best_all es at (candidate_at es best) r none is.best_of

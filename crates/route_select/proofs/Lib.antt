@@ -4,7 +4,7 @@ mod Filtering
 mod GroupLeaders
 mod GroupMap
 mod GroupOrder
-mod GroupPlaces
+mod GroupPositions
 mod Leading
 mod Ranks
 pub mod Sole

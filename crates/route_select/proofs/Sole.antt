@@ -1,19 +1,19 @@
 -- Each filter leaves a route, and the nine leave one.
-use Rattle.std.proofs.Common.{◌≡◌, Bool, true, false, cond, slice_get, Some, None, List, [], ◌∷◌, filter, refl, sym, ap, subst, ◌∙◌, inl, inr}
+use Rattle.std.proofs.Common.{◌≡◌, Bool, true, false, cond, slice_get, Some, None, List, [], ◌∷◌, filter, refl, sym, ap, subst, ◌∙◌, inl, inr, arith}
 use Rattle.std.proofs.lemmas.Bool.{false≢true}
 use Rattle.std.specs.FinMap as map
 use Rattle.route_select.specs.declared.candidate.Candidate.{Candidate}
-use Rattle.route_select.specs.declared.candidate.Reason.{Reason}
-use Rattle.route_select.specs.declared.candidate.Reason.TheVariants.{Pref, Length, Origin, Med, External, Cost, Ident, Clusters, Peer}
+use Rattle.route_select.specs.declared.filter.Filter.{Filter}
+use Rattle.route_select.specs.declared.filter.Filter.TheVariants.{Pref, Length, Origin, Med, External, Cost, Ident, Clusters, Peer}
 use Rattle.route_select.specs.Selection.{beats, considered, filters, left_by, left_by_all, best_among}
-use Rattle.route_select.specs.Laws.{OneIsLeft, NoneIsLeft}
+use Rattle.route_select.specs.Laws.{OneIsLeft, NoneIsLeft, EachIsApplied}
 use Rattle.route_select.specs.Leaders.{In}
 use Rattle.route_select.proofs.Ranks.{weak, weak_within, plain_or_med, med_same, same_sym, beats_asym, peer_tie}
-use Rattle.route_select.proofs.Filtering.{cases_of, refuted, in_filter, from_left, left_unbeaten, unbeaten_left}
+use Rattle.route_select.proofs.Filtering.{before_peer, cases_of, refuted, in_filter, from_left, left_unbeaten, unbeaten_left}
 use Rattle.route_select.proofs.EntryLemmas.{of_T, AreApart, considered_apart, each_from}
 
 -- what beats one that beats m beats m
-beats_trans : (k : Reason) (p n m : Candidate) → beats k p n ≡ true → beats k n m ≡ true → beats k p m ≡ true
+beats_trans : (k : Filter) (p n m : Candidate) → beats k p n ≡ true → beats k n m ≡ true → beats k p m ≡ true
 beats_trans k p n m h g = elim (cases_of (beats k p m)) [
   | inl t ↦ t
   | inr f ↦
@@ -24,14 +24,14 @@ beats_trans k p n m h g = elim (cases_of (beats k p m)) [
       absurd (false≢true (sym (beats_asym k n m g) ∙ back))
 ]
 
-not_itself : (k : Reason) (m : Candidate) → beats k m m ≡ false
+not_itself : (k : Filter) (m : Candidate) → beats k m m ≡ false
 not_itself k m = refuted (beats k m m) (λ t. beats_asym k m m t)
 
 -- one of the routes that none of them beats
-abbrev Unbeaten : Reason → List Candidate → Type 0
+abbrev Unbeaten : Filter → List Candidate → Type 0
 Unbeaten k ms = (b : Candidate) × In b ms × ((n : Candidate) → In n ms → beats k n b ≡ false)
 
-unbeaten : (k : Reason) (m : Candidate) (ms : List Candidate) → Unbeaten k (m ∷ ms)
+unbeaten : (k : Filter) (m : Candidate) (ms : List Candidate) → Unbeaten k (m ∷ ms)
 unbeaten k m [] = (m, inl refl, λ n i. elim i [ inl e ↦ subst (λ q. beats k q m ≡ false) e (not_itself k m) | inr none ↦ absurd none ])
 unbeaten k m (x ∷ xs) =
     let r = unbeaten k x xs in
@@ -48,11 +48,11 @@ unbeaten k m (x ∷ xs) =
     ]
 
 -- so each filter leaves one of some routes, and so do all
-one_left : (k : Reason) (ms : List Candidate) (m : Candidate) → In m ms → (b : Candidate) × In b (left_by k ms)
+one_left : (k : Filter) (ms : List Candidate) (m : Candidate) → In m ms → (b : Candidate) × In b (left_by k ms)
 one_left k [] m i = absurd i
 one_left k (x ∷ xs) m i = let r = unbeaten k x xs in (r.0, unbeaten_left k (x ∷ xs) r.0 r.1 r.2)
 
-some_left : (ks : List Reason) (ms : List Candidate) (m : Candidate) → In m ms → (b : Candidate) × In b (left_by_all ks ms)
+some_left : (ks : List Filter) (ms : List Candidate) (m : Candidate) → In m ms → (b : Candidate) × In b (left_by_all ks ms)
 some_left [] ms m i = (m, i)
 some_left (k ∷ ks) ms m i = let r = one_left k ms m i in some_left ks (left_by k ms) r.0 r.1
 
@@ -80,7 +80,7 @@ apart_filter p (m ∷ ms) a = elim (p m) as (λ b. AreApart (cond b (m ∷ filte
   | false ↦ apart_filter p ms a.1
 ]
 
-apart_left : (ks : List Reason) (ms : List Candidate) → AreApart ms → AreApart (left_by_all ks ms)
+apart_left : (ks : List Filter) (ms : List Candidate) → AreApart ms → AreApart (left_by_all ks ms)
 apart_left [] ms a = a
 apart_left (k ∷ ks) ms a = apart_left ks (left_by k ms) (apart_filter _ ms a)
 
@@ -93,7 +93,7 @@ only (x ∷ y ∷ ys) b a tie first = absurd (a.0 y (inl refl) (tie x y (inl ref
 only_best : (ms : List Candidate) (b : Candidate) → AreApart ms → best_among ms ≡ Some b → left_by_all filters ms ≡ b ∷ []
 unfolding best_among
 only_best ms b a best =
-    let ws = left_by_all (Pref ∷ Length ∷ Origin ∷ Med ∷ External ∷ Cost ∷ Ident ∷ Clusters ∷ []) ms in
+    let ws = left_by_all (before_peer filters) ms in
     only (left_by_all filters ms) b (apart_left filters ms a) (λ m n i j.
     peer_tie m n (left_unbeaten Peer ws n m j (from_left Peer ws m i)) (left_unbeaten Peer ws m n i (from_left Peer ws n j))) best
 
@@ -102,3 +102,14 @@ one_is_left standings own b best =
     let es = map.entries standings in
     let sorted = of_T _ (map.entries_sorted standings) in
     only_best (considered standings) b (considered_apart es sorted (each_from es sorted (λ q w is. own q w (map.get-entries standings q ∙ is)))) best
+
+pub each_is_applied : EachIsApplied
+each_is_applied Pref = (0, omega arith, refl)
+each_is_applied Length = (1, omega arith, refl)
+each_is_applied Origin = (2, omega arith, refl)
+each_is_applied Med = (3, omega arith, refl)
+each_is_applied External = (4, omega arith, refl)
+each_is_applied Cost = (5, omega arith, refl)
+each_is_applied Ident = (6, omega arith, refl)
+each_is_applied Clusters = (7, omega arith, refl)
+each_is_applied Peer = (8, omega arith, refl)

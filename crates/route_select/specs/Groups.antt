@@ -62,7 +62,7 @@ abbrev pub IsBest : List Candidate → Option Candidate → Type 0
 IsBest set None = (n : Candidate) → In n set → ⊥
 IsBest set (Some b) = Leads set b × ((n : Candidate) → In n set → Led set b n)
 
--- the groups and what is excluded, and the place of the best
+-- the groups and what is excluded, and the position of the best
 pub record AreGrouped (es : List (Source × Standing)) (at : ℕ) : Type 0 where
   pub ranked : AreRanked es
   pub distinct : AreDistinct es
@@ -74,8 +74,8 @@ pub record SameMembers (xs ys : List Candidate) : Type 0 where
   pub into : (n : Candidate) → In n xs → In n ys
   pub back : (n : Candidate) → In n ys → In n xs
 
--- the source's entry is at place i
-pub record IsPlaceOf (es : List (Source × Standing)) (source : Source) (i : ℕ) : Type 0 where
+-- the source's entry is at position i
+pub record IsPositionOf (es : List (Source × Standing)) (source : Source) (i : ℕ) : Type 0 where
   pub in_range : i < length es
   pub tied : source_cmp source (key_at es i) ≡ Equal
   pub found : find source_cmp source es ≡ Some (standing_at es i)
@@ -83,7 +83,7 @@ pub record IsPlaceOf (es : List (Source × Standing)) (source : Source) (i : ℕ
 abbrev pub entry_at : List (Source × Standing) → ℕ → Source × Standing
 entry_at es i = slice_index_or es i (Own, Excluded Loop)
 
--- the entry goes to place i
+-- the entry goes to position i
 pub record IsSlot (es : List (Source × Standing)) (e : Source × Standing) (i : ℕ) : Type 0 where
   pub in_range : i ≤ length es
   pub after : (j : ℕ) → j < i → before e (entry_at es j) ≡ false
@@ -97,7 +97,7 @@ below_by rank (Some c) = nat_lt (group_rank c) rank
 abbrev pub is_below : ℕ → Source × Standing → Bool
 is_below rank e = below_by rank (candidate_of e.1)
 
--- the groups of lower rank lie before place i, and the others from there on
+-- the groups of lower rank lie before position i, and the others from there on
 pub record IsGroupStart (es : List (Source × Standing)) (rank : ℕ) (i : ℕ) : Type 0 where
   pub below : (j : ℕ) → j < i → (n : Candidate) → candidate_at es j ≡ Some n → group_rank n < rank
   pub from : (k : ℕ) → i ≤ k → (n : Candidate) → candidate_at es k ≡ Some n → rank ≤ group_rank n

@@ -1,9 +1,10 @@
 -- What holds of the nine filters, whatever the routes.
-use Rattle.std.specs.Prelude.{◌≡◌, [], ◌∷◌, Some, None}
+use Rattle.std.specs.Prelude.{◌≡◌, [], ◌∷◌, Contains, Some, None}
 use Rattle.std.specs.FinMap as map
 use Rattle.route_select.specs.declared.candidate.Source.{Source}
 use Rattle.route_select.specs.declared.candidate.Standing.{Standing}
 use Rattle.route_select.specs.declared.candidate.Candidate.{Candidate}
+use Rattle.route_select.specs.declared.filter.Filter.{Filter}
 use Rattle.route_select.specs.Selection.{Standings, IsFrom, considered, filters, left_by_all, best_of}
 
 -- each route that is considered is its source's own
@@ -17,3 +18,7 @@ OneIsLeft = (standings : Standings) → AreFromTheirSources standings → (best 
 -- there is no best just where no route is considered
 abbrev pub NoneIsLeft : Type 0
 NoneIsLeft = (standings : Standings) → (best_of standings ≡ None → considered standings ≡ []) × (considered standings ≡ [] → best_of standings ≡ None)
+
+-- each filter is one of those that are applied
+abbrev pub EachIsApplied : Type 0
+EachIsApplied = (k : Filter) → Contains filters k

@@ -11,11 +11,11 @@ use crate::candidate::{Candidate, Reason, Source, Standing};
 use crate::chosen::{Chosen, Selector};
 use crate::entries::{copy_entries, set_lone_cost};
 use crate::filter::FILTERS;
-use crate::groups::{best_place, candidate_at, leader, place_of, slot};
+use crate::groups::{best_position, candidate_at, leader, position_of, slot};
 use std::alloc::{AllocError, Global};
 use std::marker::Model;
 
-/// Standings in groups of one neighbouring AS, and the place of the best one.
+/// Standings in groups of one neighbouring AS, and the position of the best one.
 ///
 /// One vector holds all: the groups one behind the other, each in the order of all filters, and behind them what is excluded. So
 /// taking out or putting in is one search and one shift, memory is asked for in one place, before anything is changed, and there are no
@@ -42,7 +42,7 @@ impl Model for GroupCell {
     ghost invariant = { λ a. AreGrouped a.entries.items a.best };
 }
 
-/// Why the route at a place is not the best, or that it is. Three routes tell: it, the best, and the leader of its group.
+/// Why the route at a position is not the best, or that it is. Three routes tell: it, the best, and the leader of its group.
 fn reason_at(entries: &[(Source, Standing)], best: usize, at: usize) -> Reason
     requires in_range { at < length entries.now }
     requires ranked { AreRanked entries.now }
@@ -66,7 +66,7 @@ fn make_way(entries: &mut Vec<(Source, Standing)>, source: Source) -> Result<(),
     ensures err { OnErr result (entries.new.items ≡ entries.old.items) }
     ensures absent { OnErr result (find source_cmp source entries.old.items ≡ None) }
 {
-    match place_of(entries, source) {
+    match position_of(entries, source) {
         Some(at) => {
             entries.remove(at);
             Ok(())
@@ -84,7 +84,7 @@ impl Chosen for GroupCell {
     }
 
     fn reason(&self, source: Source) -> Option<Reason> {
-        match place_of(&self.entries, source) {
+        match position_of(&self.entries, source) {
             Some(at) => Some(reason_at(&self.entries, self.best, at)),
             None => None,
         }
@@ -104,7 +104,7 @@ impl Selector for GroupCell {
         let at = slot(&self.entries, source, &standing);
         match self.entries.insert(at, (source, standing)) {
             Ok(()) => {
-                self.best = best_place(&self.entries);
+                self.best = best_position(&self.entries);
                 Ok(())
             }
             Err(_) => unreachable!(),
@@ -112,9 +112,9 @@ impl Selector for GroupCell {
     }
 
     fn drop_source(&mut self, source: Source) {
-        if let Some(at) = place_of(&self.entries, source) {
+        if let Some(at) = position_of(&self.entries, source) {
             self.entries.remove(at);
-            self.best = best_place(&self.entries);
+            self.best = best_position(&self.entries);
         }
     }
 

@@ -7,12 +7,12 @@ ghost use Rattle.std.specs.FinMap.{find};
 ghost use Rattle.route_select.specs.Selection.{considered_in, same_neighbour, source_cmp};
 ghost use Rattle.route_select.specs.Entries.{candidate_at};
 ghost use Rattle.route_select.specs.Leaders.{In, Leads};
-ghost use Rattle.route_select.specs.Groups.{group_rank, stands_before, before, AreRanked, IsBest, IsPlaceOf, IsSlot, IsGroupStart, is_below, is_better};
+ghost use Rattle.route_select.specs.Groups.{group_rank, stands_before, before, AreRanked, IsBest, IsPositionOf, IsSlot, IsGroupStart, is_below, is_better};
 
 use crate::candidate::{Candidate, Source, Standing};
 use crate::filter::{FILTERS, UNMED};
 
-/// The route at a place, where there is one that is considered.
+/// The route at a position, where there is one that is considered.
 pub(crate) fn candidate_at(entries: &[(Source, Standing)], at: usize) -> Option<&Candidate>
     ensures { option_copied result ≡ candidate_at entries.now at }
 {
@@ -53,9 +53,9 @@ fn goes_before(source: Source, standing: &Standing, other: &(Source, Standing)) 
     }
 }
 
-/// The place of the source's entry.
-pub(crate) fn place_of(entries: &[(Source, Standing)], source: Source) -> Option<usize>
-    ensures found { IfSome result (IsPlaceOf entries.now source) }
+/// The position of the source's entry.
+pub(crate) fn position_of(entries: &[(Source, Standing)], source: Source) -> Option<usize>
+    ensures found { IfSome result (IsPositionOf entries.now source) }
     ensures absent { IfNone result (find source_cmp source entries.now ≡ None) }
 {
     for (i, entry) in entries.iter().enumerate() {
@@ -66,7 +66,7 @@ pub(crate) fn place_of(entries: &[(Source, Standing)], source: Source) -> Option
     None
 }
 
-/// The place where an entry goes.
+/// The position where an entry goes.
 pub(crate) fn slot(entries: &[(Source, Standing)], source: Source, standing: &Standing) -> usize
     requires { AreRanked entries.now }
     ensures { IsSlot entries.now (source, standing.now) result }
@@ -84,7 +84,7 @@ fn is_below(entry: &(Source, Standing), rank: u64) -> bool
     }
 }
 
-/// The place behind the groups of lower rank.
+/// The position behind the groups of lower rank.
 fn group_start(entries: &[(Source, Standing)], rank: u64) -> usize
     requires { AreRanked entries.now }
     ensures { IsGroupStart entries.now rank result }
@@ -92,7 +92,7 @@ fn group_start(entries: &[(Source, Standing)], rank: u64) -> usize
     entries.partition_point(|entry| is_below(entry, rank))
 }
 
-/// Whether the route at a place is ahead of the best so far in the order without MED.
+/// Whether the route at a position is ahead of the best so far in the order without MED.
 fn is_better(entries: &[(Source, Standing)], at: usize, best: usize) -> bool
     ensures { result ≡ is_better (candidate_at entries.now at) (candidate_at entries.now best) }
 {
@@ -102,8 +102,8 @@ fn is_better(entries: &[(Source, Standing)], at: usize, best: usize) -> bool
     }
 }
 
-/// The place of the best: of the leaders the first in the order without MED. Where nothing is considered, no route is there.
-pub(crate) fn best_place(entries: &[(Source, Standing)]) -> usize
+/// The position of the best: of the leaders the first in the order without MED. Where nothing is considered, no route is there.
+pub(crate) fn best_position(entries: &[(Source, Standing)]) -> usize
     requires { AreRanked entries.now }
     ensures { IsBest (considered_in entries.now) (candidate_at entries.now result) }
 {

@@ -12,6 +12,7 @@ mod laws;
 
 pub use candidate::{Candidate, Reason, Source, Standing};
 pub use chosen::{Chosen, Selector};
+pub use filter::Filter;
 pub use filter_cell::FilterCell;
 pub use group_cell::GroupCell;
-pub use laws::{none_is_left, one_is_left};
+pub use laws::{each_is_applied, none_is_left, one_is_left};

@@ -18,7 +18,7 @@ use Rattle.session_queue.specs.declared.numbered.Numbered.{Numbered}
 use Rattle.session_queue.specs.declared.numbered.Numbered.TheVariants.{Update as NumberedUpdate, Withdraw as NumberedWithdrawal}
 use Rattle.session_queue.specs.declared.message.Message.{Message}
 use Rattle.session_queue.specs.declared.message.Message.TheVariants.{Update}
-use Rattle.session_queue.specs.Lines.{Waiting, Lines, direction_cmp, waiting_at, messages_of, spare_of, messages_at, places_at, KeepsOtherLines, PassNone}
+use Rattle.session_queue.specs.Lines.{Waiting, Lines, direction_cmp, waiting_at, messages_of, spare_of, messages_at, spare_in, KeepsOtherLines, PassNone}
 use Rattle.session_queue.specs.Waiting.{WaitingByDirection, queue_at, spare_at, KeepsOthers, SkipsNone}
 use Rattle.session_queue.specs.Numbers.{no_attr, message_by, waiting_by, shown, IsGiven, AreGiven}
 use Rattle.session_queue.proofs.Places.{key}
@@ -39,8 +39,8 @@ module _ (pool : List Attr) where
   unfolding queue_at messages_at
   queue_shown ls f t = ap messages_of (lookup-map_values (waiting_by pool) (is_at (direction_cmp (key f t))) ls) ∙ messages_by (waiting_at ls f t)
 
-  pub spare_shown : (ls : Lines Numbered) (f t : Addr) → spare_at (shown pool ls) f t ≡ places_at ls f t
-  unfolding spare_at places_at
+  pub spare_shown : (ls : Lines Numbered) (f t : Addr) → spare_at (shown pool ls) f t ≡ spare_in ls f t
+  unfolding spare_at spare_in
   spare_shown ls f t = ap spare_of (lookup-map_values (waiting_by pool) (is_at (direction_cmp (key f t))) ls) ∙ spare_by (waiting_at ls f t)
 
   pub queue_shown_empty : (ls : Lines Numbered) (f t : Addr) → messages_at ls f t ≡ [] → queue_at (shown pool ls) f t ≡ []
@@ -58,7 +58,7 @@ module _ (pool : List Attr) (ls ms : Lines Numbered) (q : WaitingByDirection) (s
   pub queue_was : (f t : Addr) → queue_at q f t ≡ map (message_by pool) (messages_at ls f t)
   queue_was f t = ap (λ w. queue_at w f t) (sym seen) ∙ queue_shown pool ls f t
 
-  pub spare_was : (f t : Addr) → spare_at q f t ≡ places_at ls f t
+  pub spare_was : (f t : Addr) → spare_at q f t ≡ spare_in ls f t
   spare_was f t = ap (λ w. spare_at w f t) (sym seen) ∙ spare_shown pool ls f t
 
   pub queue_stays : (f t : Addr) → messages_at ms f t ≡ messages_at ls f t → queue_at (shown pool ms) f t ≡ queue_at q f t
@@ -97,11 +97,11 @@ module _ (pool : List Attr) (ls ms : Lines Numbered) (q : WaitingByDirection) (s
   skips_none past None none = λ f t is. empty_seen f t (none f t is)
   skips_none past (Some d) none = λ f t is before. empty_seen f t (none f t is before)
 
-  pub spare_stays : (f t : Addr) → places_at ms f t ≡ places_at ls f t → spare_at (shown pool ms) f t ≡ spare_at q f t
+  pub spare_stays : (f t : Addr) → spare_in ms f t ≡ spare_in ls f t → spare_at (shown pool ms) f t ≡ spare_at q f t
   spare_stays f t is = spare_shown pool ms f t ∙ is ∙ sym (spare_was f t)
 
   pub others_stay : (from to : Addr) → KeepsOtherLines from to ls ms → KeepsOthers from to q (shown pool ms)
-  others_stay from to others = record { queue = λ f t h. queue_stays f t (others.messages f t h); spare = λ f t h. spare_stays f t (others.places f t h) }
+  others_stay from to others = record { queue = λ f t h. queue_stays f t (others.messages f t h); spare = λ f t h. spare_stays f t (others.spare f t h) }
 
 -- NUMBERS THAT WERE GIVEN
 

@@ -1,4 +1,4 @@
--- Lines of messages: in each direction of a session the messages on their way, the head first, and its spare places (own).
+-- Lines of messages: in each direction of a session the messages on their way, the head first, and how many more it can take (own).
 use Rattle.std.specs.Prelude.{◌≡◌, ℕ, Bool, false, ◌&&◌, List, [], Option, Some, None}
 use Rattle.std.specs.Map.{lookup}
 use Rattle.std.specs.BTreeMap.{is_at}
@@ -9,7 +9,7 @@ use Rattle.net_prefix.specs.declared.addr.Addr.{Addr}
 use Rattle.net_prefix.specs.Address.{same_addr, addr_cmp}
 use Rattle.session_queue.specs.declared.direction.Direction.{Direction}
 
--- what one direction holds: its messages, the head first, and for how many more it has places
+-- what one direction holds: its messages, the head first, and how many more it can take without memory
 pub record Waiting (M : Type 0) : Type 0 where
   pub messages : List M
   pub spare : ℕ
@@ -18,7 +18,7 @@ pub record Waiting (M : Type 0) : Type 0 where
 abbrev pub direction_cmp : Direction → Direction → Ordering
 direction_cmp d e = ordering_then (addr_cmp d.from e.from) (addr_cmp d.to e.to)
 
--- what each direction holds, by sender and receiver: only those with a message or a spare place
+-- what each direction holds, by sender and receiver: only those with a message or spare memory
 abbrev pub Lines : Type 0 → Type 0
 Lines M = List (Direction × Waiting M)
 
@@ -52,14 +52,14 @@ module _ {M : Type 0} where
   unfoldable pub messages_at : Lines M → Addr → Addr → List M
   messages_at ls from to = messages_of (waiting_at ls from to)
 
-  -- how many more messages the direction has places for
-  unfoldable pub places_at : Lines M → Addr → Addr → ℕ
-  places_at ls from to = spare_of (waiting_at ls from to)
+  -- how many more messages the direction can take without memory
+  unfoldable pub spare_in : Lines M → Addr → Addr → ℕ
+  spare_in ls from to = spare_of (waiting_at ls from to)
 
-  -- each other direction keeps its messages and its spare places
+  -- each other direction keeps its messages and how many more it can take
   pub record KeepsOtherLines (from to : Addr) (ls ms : Lines M) : Type 0 where
     pub messages : (f t : Addr) → same_direction from to f t ≡ false → messages_at ms f t ≡ messages_at ls f t
-    pub places : (f t : Addr) → same_direction from to f t ≡ false → places_at ms f t ≡ places_at ls f t
+    pub spare : (f t : Addr) → same_direction from to f t ≡ false → spare_in ms f t ≡ spare_in ls f t
 
   -- no message is on its way in any direction
   abbrev pub AreEmpty : Lines M → Type 0

@@ -1,4 +1,4 @@
--- The queues of sessions: in each direction the messages on their way, the head first, and its spare places (own).
+-- The queues of sessions: in each direction the messages on their way, the head first, and how many more it can take (own).
 -- Messages are received in the order in which they were sent (RFC 4271, 3), and none is merged with another (own).
 use Rattle.std.specs.Prelude.{◌≡◌, ℕ, true, false, List, [], Option, Some, None}
 use Rattle.net_prefix.specs.declared.addr.Addr.{Addr}
@@ -6,10 +6,10 @@ use Rattle.path_attr.specs.declared.attr.Attr.{Attr}
 use Rattle.attr_pool.specs.Pooled.{has_attr}
 use Rattle.session_queue.specs.declared.message.Message.{Message}
 use Rattle.session_queue.specs.declared.message.Message.TheVariants.{Update, Withdraw}
-use Rattle.session_queue.specs.Lines.{Lines, messages_at, places_at, same_direction, IsBefore, IsPast}
+use Rattle.session_queue.specs.Lines.{Lines, messages_at, spare_in, same_direction, IsBefore, IsPast}
 pub use Rattle.session_queue.specs.Lines.{direction_cmp, same_direction, IsBefore, IsPast}
 
--- lines: the messages of each direction, and its spare places; admitted: the attributes that an update may have, each once (own)
+-- lines: the messages of each direction, and how many more it can take; admitted: the attributes that an update may have, each once (own)
 pub record WaitingByDirection : Type 0 where
   pub lines : Lines Message
   pub admitted : List Attr
@@ -22,9 +22,9 @@ nothing_waits = record { lines = []; admitted = [] }
 unfoldable pub queue_at : WaitingByDirection → Addr → Addr → List Message
 queue_at q from to = messages_at q.lines from to
 
--- how many more messages the direction has places for
+-- how many more messages the direction can take without memory
 unfoldable pub spare_at : WaitingByDirection → Addr → Addr → ℕ
-spare_at q from to = places_at q.lines from to
+spare_at q from to = spare_in q.lines from to
 
 -- an update's attributes are among these; a withdrawal has none
 abbrev pub IsAdmittedBy : List Attr → Message → Type 0
@@ -39,7 +39,7 @@ IsAdmitted q m = IsAdmittedBy q.admitted m
 abbrev pub KeepsAdmitted : WaitingByDirection → WaitingByDirection → Type 0
 KeepsAdmitted q r = (attr : Attr) → has_attr q.admitted attr ≡ true → has_attr r.admitted attr ≡ true
 
--- each other direction keeps its messages and its spare places
+-- each other direction keeps its messages and how many more it can take
 pub record KeepsOthers (from to : Addr) (q r : WaitingByDirection) : Type 0 where
   pub queue : (f t : Addr) → same_direction from to f t ≡ false → queue_at r f t ≡ queue_at q f t
   pub spare : (f t : Addr) → same_direction from to f t ≡ false → spare_at r f t ≡ spare_at q f t

@@ -11,11 +11,11 @@ use std::collections::BTreeMap;
 use std::marker::Model;
 use std::ops::Bound;
 
-/// In each direction of a session the messages on their way, the head first, and how many more it has places for.
+/// In each direction of a session the messages on their way, the head first, and how many more it can take without memory.
 #[derive(Debug, Drop)]
 pub(crate) struct NumberedQueues {
     alloc: Global,
-    /// The directions with a message or a spare place.
+    /// The directions with a message or spare memory.
     queues: BTreeMap<Direction, Queue>,
     /// How many directions have a message.
     full: usize,
@@ -39,13 +39,13 @@ impl NumberedQueues {
     ghost use Rattle.std.specs.Map.{keys_of};
     ghost use Rattle.session_queue.specs.Tidy.{has_message, start_past};
     ghost use Rattle.session_queue.specs.Shards.{shard_of, is_in_shard};
-    ghost use Rattle.session_queue.specs.Lines.{direction_cmp, messages_at, places_at, waiting_at, KeepsOtherLines, AreEmpty, IsPast, PassNone};
+    ghost use Rattle.session_queue.specs.Lines.{direction_cmp, messages_at, spare_in, waiting_at, KeepsOtherLines, AreEmpty, IsPast, PassNone};
 
-    /// No message, and no spare place, in any direction. It takes no memory.
-    #[tactic(auto, unfolding(crate::specs::Lines::messages_at, crate::specs::Lines::places_at))]
+    /// No message, and no spare memory, in any direction. It takes no memory.
+    #[tactic(auto, unfolding(crate::specs::Lines::messages_at, crate::specs::Lines::spare_in))]
     pub(crate) fn new(alloc: Global) -> Self
         ensures messages { AreEmpty result }
-        ensures spare { (from to : Addr) → places_at result from to ≡ 0 }
+        ensures spare { (from to : Addr) → spare_in result from to ≡ 0 }
     {
         NumberedQueues {
             alloc,
@@ -54,14 +54,14 @@ impl NumberedQueues {
         }
     }
 
-    /// Sees to it that the direction has places for n more messages. Only this call takes memory, and only where fewer places
+    /// Sees to it that the direction can take n more messages. Only this call takes memory, and only where fewer
     /// are spare: where n are, it changes nothing and cannot fail. An error changes nothing.
     pub(crate) fn reserve(&mut self, from: Addr, to: Addr, n: usize) -> Result<(), AllocError>
-        ensures spare { OnOk result (places_at self.new from to ≡ max n (places_at self.old from to)) }
+        ensures spare { OnOk result (spare_in self.new from to ≡ max n (spare_in self.old from to)) }
         ensures queue { messages_at self.new from to ≡ messages_at self.old from to }
         ensures others { KeepsOtherLines from to self.old self.new }
-        ensures enough { n ≤ places_at self.old from to → self.new ≡ self.old }
-        ensures short { OnErr result (places_at self.old from to < n) }
+        ensures enough { n ≤ spare_in self.old from to → self.new ≡ self.old }
+        ensures short { OnErr result (spare_in self.old from to < n) }
         ensures err { OnErr result (self.new ≡ self.old) }
     {
         if n == 0 {
@@ -76,11 +76,11 @@ impl NumberedQueues {
         Ok(())
     }
 
-    /// Adds a message at the end of the direction's queue. It takes one of the spare places, and no memory.
+    /// Adds a message at the end of the direction's queue. It takes no memory: one fewer is spare then.
     pub(crate) fn push(&mut self, from: Addr, to: Addr, message: Numbered)
-        requires { 0 < places_at self.old from to }
+        requires { 0 < spare_in self.old from to }
         ensures queue { messages_at self.new from to ≡ messages_at self.old from to ++ message ∷ [] }
-        ensures spare { places_at self.new from to + 1 ≡ places_at self.old from to }
+        ensures spare { spare_in self.new from to + 1 ≡ spare_in self.old from to }
         ensures others { KeepsOtherLines from to self.old self.new }
     {
         // No more directions have a message than there are, so one more can be counted.
@@ -100,15 +100,7 @@ impl NumberedQueues {
         self.queue(from, to).map_or(0, |queue| queue.len())
     }
 
-    /// How many more messages the direction has places for.
-    #[tactic(auto, unfolding(crate::specs::Lines::places_at))]
-    pub(crate) fn spare(&self, from: Addr, to: Addr) -> usize
-        ensures { result ≡ places_at self.now from to }
-    {
-        self.queue(from, to).map_or(0, |queue| queue.spare())
-    }
-
-    /// The message at the place of the direction's queue, the head's being 0.
+    /// The message at the position of the direction's queue, the head's being 0.
     #[tactic(auto, unfolding(crate::specs::Lines::messages_at))]
     pub(crate) fn at(&self, from: Addr, to: Addr, n: usize) -> Option<Numbered>
         ensures { result ≡ slice_get (messages_at self.now from to) n }
@@ -120,7 +112,7 @@ impl NumberedQueues {
     pub(crate) fn pop(&mut self, from: Addr, to: Addr) -> bool
         ensures had { IsTrue result ↔ (0 < length (messages_at self.old from to)) }
         ensures queue { messages_at self.new from to ≡ drop 1 (messages_at self.old from to) }
-        ensures spare { places_at self.new from to ≡ places_at self.old from to }
+        ensures spare { spare_in self.new from to ≡ spare_in self.old from to }
         ensures others { KeepsOtherLines from to self.old self.new }
     {
         let served = Direction { from, to };
@@ -138,7 +130,7 @@ impl NumberedQueues {
     /// Removes all messages of the direction.
     pub(crate) fn clear(&mut self, from: Addr, to: Addr)
         ensures queue { messages_at self.new from to ≡ [] }
-        ensures spare { places_at self.new from to ≡ places_at self.old from to }
+        ensures spare { spare_in self.new from to ≡ spare_in self.old from to }
         ensures others { KeepsOtherLines from to self.old self.new }
     {
         let silenced = Direction { from, to };
@@ -218,7 +210,7 @@ impl NumberedQueues {
         None
     }
 
-    /// The queue of the direction, where it has a message or a spare place.
+    /// The queue of the direction, where it has a message or spare memory.
     fn queue(&self, from: Addr, to: Addr) -> Option<&Queue>
         ensures { option_copied result ≡ waiting_at self.now from to }
     {

@@ -7,7 +7,7 @@ use std::alloc::{AllocError, Global};
 use std::collections::VecDeque;
 use std::marker::Model;
 
-/// The messages of one direction, the head first, and how many more it has places for.
+/// The messages of one direction, the head first, and how many more it can take without memory.
 #[derive(Debug, Drop)]
 pub(crate) struct Queue {
     messages: VecDeque<Numbered>,
@@ -28,7 +28,7 @@ impl Model for Queue {
 }
 
 impl Queue {
-    /// No message, and places for n.
+    /// No message, and memory for n.
     pub(crate) fn with_spare(alloc: Global, n: usize) -> Result<Self, AllocError>
         ensures { IfOk result (λ q. q ≡ record { messages = []; spare = n }) }
     {
@@ -38,7 +38,7 @@ impl Queue {
         })
     }
 
-    /// Sees to it that there are places for n more. It takes memory only where fewer are spare. An error changes nothing.
+    /// Sees to it that there is memory for n more. It takes memory only where fewer are spare. An error changes nothing.
     pub(crate) fn reserve(&mut self, n: usize) -> Result<(), AllocError>
         ensures ok { OnOk result (self.new ≡ record self.old { spare = max n self.old.spare }) }
         ensures short { OnErr result (self.old.spare < n) }
@@ -51,7 +51,7 @@ impl Queue {
         Ok(())
     }
 
-    /// Adds a message at the end. It takes a place.
+    /// Adds a message at the end. One fewer is spare then.
     pub(crate) fn push(&mut self, message: Numbered)
         requires { 0 < self.old.spare }
         ensures { self.new ≡ record { messages = self.old.messages ++ message ∷ []; spare = self.old.spare - 1 } }
@@ -89,21 +89,14 @@ impl Queue {
         self.messages.is_empty()
     }
 
-    /// How many more messages it has places for.
-    pub(crate) fn spare(&self) -> usize
-        ensures { result ≡ self.now.spare }
-    {
-        self.spare
-    }
-
-    /// Whether there is neither a message nor a spare place.
+    /// Whether there is neither a message nor spare memory.
     pub(crate) fn is_blank(&self) -> bool
         ensures { IsTrue result ↔ (length self.now.messages + self.now.spare ≡ 0) }
     {
         self.messages.is_empty() && self.spare == 0
     }
 
-    /// The message at the place, the head's being 0.
+    /// The message at the position, the head's being 0.
     pub(crate) fn at(&self, n: usize) -> Option<Numbered>
         ensures { result ≡ slice_get self.now.messages n }
     {

@@ -15,7 +15,7 @@ use std::alloc::{AllocError, Global};
 use std::hash::RandomState;
 use std::marker::Model;
 
-/// In each direction of a session the messages on their way, the head first, and how many more it has places for; and the attributes
+/// In each direction of a session the messages on their way, the head first, and how many more it can take without memory; and the attributes
 /// that updates may have. These are kept once each, and for good; a message takes 16 bytes beside them.
 #[derive(Debug, Drop)]
 pub struct Queues {
@@ -40,7 +40,7 @@ impl Queues {
     ghost use Rattle.session_queue.specs.Telling.{message_of};
     ghost use Rattle.session_queue.specs.Waiting.{queue_at, spare_at, IsAdmitted, KeepsAdmitted, KeepsOthers, IsQuiet, IsPast, SkipsNone};
 
-    /// No message and no spare place in any direction, and no attributes. It takes no memory. Nobody who does not know the keys can make
+    /// No message and no spare memory in any direction, and no attributes. It takes no memory. Nobody who does not know the keys can make
     /// `admit` and `push` slow by a choice of attributes; with none, whoever knows the program can.
     pub fn new(alloc: Global, keys: Option<RandomState>) -> Self
         ensures messages { IsQuiet result }
@@ -53,7 +53,7 @@ impl Queues {
         }
     }
 
-    /// Sees to it that the direction has places for n more messages. It takes memory only where fewer places
+    /// Sees to it that the direction can take n more messages. It takes memory only where fewer
     /// are spare: where n are, it changes nothing and cannot fail. An error changes nothing.
     pub fn reserve(&mut self, from: Addr, to: Addr, n: usize) -> Result<(), AllocError>
         ensures spare { OnOk result (spare_at self.new from to ≡ max n (spare_at self.old from to)) }
@@ -87,7 +87,7 @@ impl Queues {
         }
     }
 
-    /// Adds a message at the end of the direction's queue. It takes one of the spare places, and no memory.
+    /// Adds a message at the end of the direction's queue. It takes no memory: one fewer is spare then.
     pub fn push(&mut self, from: Addr, to: Addr, message: Message)
         requires room { 0 < spare_at self.old from to }
         requires admitted { IsAdmitted self.old message }
@@ -107,14 +107,7 @@ impl Queues {
         self.queues.len(from, to)
     }
 
-    /// How many more messages the direction has places for.
-    pub fn spare(&self, from: Addr, to: Addr) -> usize
-        ensures { result ≡ spare_at self.now from to }
-    {
-        self.queues.spare(from, to)
-    }
-
-    /// The message at the place of the direction's queue, the head's being 0. Each place is found at once, however far behind.
+    /// The message at the position of the direction's queue, the head's being 0. Each is found at once, however far behind.
     pub fn at(&self, from: Addr, to: Addr, n: usize) -> Option<View<'_>>
         ensures { option_map message_of result ≡ slice_get (queue_at self.now from to) n }
     {

@@ -14,7 +14,7 @@ use Rattle.std.specs.BTreeSet.{insert_key}
 use Rattle.std.proofs.lemmas.Bool.{ltb-true, ltb-false}
 use Rattle.std.proofs.Math.Dec.{ltb}
 use Rattle.std.proofs.lemmas.Option.{slice_get_read, slice_get_past, get_or_from_slice_get, slice_get_within}
-use Rattle.shared_map.specs.Places.{IsAt, IsFor, IsKeyAt, IsKeyFor}
+use Rattle.shared_map.specs.Positions.{IsAt, IsFor, IsKeyAt, IsKeyFor}
 
 less_from : (o : Ordering) → is_gt o ≡ false → is_eq o ≡ false → o ≡ Less
 less_from Less g e = refl
@@ -63,7 +63,7 @@ module _ {K : Type 0} {cmp : K → K → Ordering} (total : IsTotalOrder cmp) wh
     parted q (x ∷ xs) h (suc i) zero d le lt is = absurd (omega arith)
     parted q (x ∷ xs) h (suc i) (suc j) d le lt is = parted q xs h.1 i j d (omega arith) (omega arith) is
 
-    -- the keys of the elements before the place are below the key
+    -- the keys of the elements before the position are below the key
     abbrev pub AreBelow : List X → K → ℕ → Type 0
     AreBelow xs q i = (j : ℕ) (d : X) → j < i → cmp q (key (slice_index_or xs j d)) ≡ Greater
 

@@ -174,9 +174,9 @@ module _ {K : Type 0} (cmp : K → K → Ordering) where
         subst (λ x. IsSplit cmp x q [] chunk after) (sym is) (first_chunk q chunk after are' (all_back (λ k. cmp q k ≡ Less) chunk (keys_in after) above))
 
     -- where the search ended, with what is read there
-    pub place_at : (q : K) (cs : List (List K)) (past : ℕ) → AreChunks cmp cs → Starts q cs past → StartsNot q cs past → (before rest : List (List K)) → before ≡ take (past - 1) cs → rest ≡ drop (past - 1) cs → (chunk : List K) (after : List (List K)) → rest ≡ chunk ∷ after → IsSplit cmp cs q before chunk after
-    place_at q cs zero are starts stop before rest front back chunk after is = subst (λ b. IsSplit cmp cs q b chunk after) (sym front) (none_started q cs chunk after (sym back ∙ is) are stop)
-    place_at q cs (suc past) are starts stop before rest front back chunk after is =
+    pub chunk_at : (q : K) (cs : List (List K)) (past : ℕ) → AreChunks cmp cs → Starts q cs past → StartsNot q cs past → (before rest : List (List K)) → before ≡ take (past - 1) cs → rest ≡ drop (past - 1) cs → (chunk : List K) (after : List (List K)) → rest ≡ chunk ∷ after → IsSplit cmp cs q before chunk after
+    chunk_at q cs zero are starts stop before rest front back chunk after is = subst (λ b. IsSplit cmp cs q b chunk after) (sym front) (none_started q cs chunk after (sym back ∙ is) are stop)
+    chunk_at q cs (suc past) are starts stop before rest front back chunk after is =
         let at : suc past - 1 ≡ past = omega arith in
         let next : suc past ≡ past + 1 = omega arith in
         let back' : drop past cs ≡ chunk ∷ after = ap (λ n. drop n cs) (sym at) ∙ sym back ∙ is in
@@ -184,13 +184,13 @@ module _ {K : Type 0} (cmp : K → K → Ordering) where
         (last_started q cs past chunk after back' are (λ j d lt. starts j d (omega arith)) (λ j d le lt. stop j d (omega arith) lt))
 
     -- where nothing is read there, there is no chunk
-    pub no_place : (q : K) (cs : List (List K)) (past : ℕ) → past ≤ length cs → (before rest : List (List K)) → before ≡ take (past - 1) cs → rest ≡ drop (past - 1) cs → length rest + (past - 1) ≡ length cs → length rest ≡ 0 → IsSplit cmp cs q before [] rest
-    no_place q [] past le before rest front back lengths none =
+    pub no_chunk : (q : K) (cs : List (List K)) (past : ℕ) → past ≤ length cs → (before rest : List (List K)) → before ≡ take (past - 1) cs → rest ≡ drop (past - 1) cs → length rest + (past - 1) ≡ length cs → length rest ≡ 0 → IsSplit cmp cs q before [] rest
+    no_chunk q [] past le before rest front back lengths none =
         let z : past ≡ 0 = omega (arith, le) in
         let front' : before ≡ [] = front ∙ ap (λ n. take (n - 1) []) z in
         let back' : rest ≡ [] = back ∙ ap (λ n. drop (n - 1) []) z in
         subst (λ b. IsSplit cmp [] q b [] rest) (sym front') (subst (λ r. IsSplit cmp [] q [] [] r) (sym back') (no_chunks q))
-    no_place q (c ∷ cs) past le before rest front back lengths none = absurd (omega (arith, le, lengths, none))
+    no_chunk q (c ∷ cs) past le before rest front back lengths none = absurd (omega (arith, le, lengths, none))
 
   -- A KEY PUT IN, TAKEN OUT, LOOKED FOR
 

@@ -109,11 +109,11 @@ impl<K: Copy + Ord> ChunkedSet<K> {
         ensures ok { OnOk result (self.new ≡ insert_key K.cmp self.old key) }
         ensures err { OnErr result (self.new ≡ self.old) }
     {
-        let place = split(self.chunks.as_slice(), &key);
-        let mut keys = owned_keys(alloc, place.chunk)?;
+        let parts = split(self.chunks.as_slice(), &key);
+        let mut keys = owned_keys(alloc, parts.chunk)?;
         put_key(&mut keys, key)?;
-        let len = len_with(self.len, place.chunk.len(), keys.len())?;
-        let chunks = joined(alloc, place.before, &keys, place.after)?;
+        let len = len_with(self.len, parts.chunk.len(), keys.len())?;
+        let chunks = joined(alloc, parts.before, &keys, parts.after)?;
         *self = ChunkedSet {
             len,
             chunks: SharedSeq::of(alloc, chunks)?,
@@ -126,11 +126,11 @@ impl<K: Copy + Ord> ChunkedSet<K> {
         ensures ok { OnOk result (self.new ≡ remove_key (is_at (K.cmp key.now)) self.old) }
         ensures err { OnErr result (self.new ≡ self.old) }
     {
-        let place = split(self.chunks.as_slice(), key);
-        let mut keys = owned_keys(alloc, place.chunk)?;
+        let parts = split(self.chunks.as_slice(), key);
+        let mut keys = owned_keys(alloc, parts.chunk)?;
         take_key(&mut keys, key);
-        let len = len_with(self.len, place.chunk.len(), keys.len())?;
-        let chunks = joined(alloc, place.before, &keys, place.after)?;
+        let len = len_with(self.len, parts.chunk.len(), keys.len())?;
+        let chunks = joined(alloc, parts.before, &keys, parts.after)?;
         *self = ChunkedSet {
             len,
             chunks: SharedSeq::of(alloc, chunks)?,

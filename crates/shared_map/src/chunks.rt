@@ -6,7 +6,7 @@ ghost use Rattle.std.specs.Set.{remove_key};
 ghost use Rattle.std.specs.BTreeMap.{is_at};
 ghost use Rattle.shared_map.specs.Chunks.{keys_in, has_key, AreChunks, starts_by, IsSplit};
 
-use crate::place::key_place;
+use crate::position::key_position;
 use seq::SharedSeq;
 use std::alloc::{AllocError, Global};
 
@@ -15,7 +15,7 @@ pub(crate) const CHUNK: usize = 256;
 
 /// The chunk in which a key can stand alone, with those before it and those after it.
 #[derive(Drop)]
-pub(crate) struct Place<'a, K> {
+pub(crate) struct Parts<'a, K> {
     pub(crate) before: &'a [SharedSeq<K>],
     pub(crate) chunk: &'a [K],
     pub(crate) after: &'a [SharedSeq<K>],
@@ -32,19 +32,19 @@ fn starts_by<K: Ord>(chunk: &[K], key: &K) -> bool
 }
 
 /// The chunk in which the key can stand, which is looked for by halves; no keys where there is no chunk.
-pub(crate) fn split<'a, K: Ord>(chunks: &'a [SharedSeq<K>], key: &K) -> Place<'a, K>
+pub(crate) fn split<'a, K: Ord>(chunks: &'a [SharedSeq<K>], key: &K) -> Parts<'a, K>
     requires { AreChunks K.cmp chunks.now }
     ensures { IsSplit K.cmp chunks.now key.now result.before.now result.chunk.now result.after.now }
 {
     let past = chunks.partition_point(|chunk| starts_by(chunk.as_slice(), key));
     let (before, rest) = chunks.split_at(past.saturating_sub(1));
     match rest.split_first() {
-        Some((chunk, after)) => Place {
+        Some((chunk, after)) => Parts {
             before,
             chunk: chunk.as_slice(),
             after,
         },
-        None => Place {
+        None => Parts {
             before,
             chunk: &[],
             after: rest,
@@ -57,8 +57,8 @@ pub(crate) fn holds<K: Ord>(chunks: &[SharedSeq<K>], key: &K) -> bool
     requires { AreChunks K.cmp chunks.now }
     ensures { result ≡ list_any (is_at (K.cmp key.now)) (keys_in chunks.now) }
 {
-    let place = split(chunks, key);
-    match key_place(place.chunk, key) {
+    let parts = split(chunks, key);
+    match key_position(parts.chunk, key) {
         Ok(_) => true,
         Err(_) => false,
     }

@@ -6,7 +6,7 @@ ghost use Rattle.std.specs.List.Sorted.{IsStrictlySortedBy};
 ghost use Rattle.std.specs.Map.{keys_of, lookup, remove_entry};
 ghost use Rattle.std.specs.BTreeMap.{insert_entry, is_at};
 
-use crate::place::place;
+use crate::position::entry_position;
 use seq::Copied;
 use std::alloc::{AllocError, Global};
 
@@ -15,7 +15,7 @@ pub(crate) fn value_of<'a, K: Ord, V>(entries: &'a [(K, V)], key: &K) -> Option<
     requires { IsStrictlySortedBy K.cmp (keys_of entries.now) }
     ensures { option_copied result ≡ lookup (is_at (K.cmp key.now)) entries.now }
 {
-    match place(entries, key) {
+    match entry_position(entries, key) {
         Ok(at) => Some(&entries[at].1),
         Err(_) => None,
     }
@@ -32,7 +32,7 @@ pub(crate) fn put<K: Ord + Drop, V: Drop>(
     ensures err { OnErr result (entries.new.items ≡ entries.old.items) }
     ensures ordered { IsStrictlySortedBy K.cmp (keys_of entries.new.items) }
 {
-    match place(entries, &key) {
+    match entry_position(entries, &key) {
         Ok(at) => {
             let entry = &mut entries[at];
             entry.1 = value;
@@ -51,7 +51,7 @@ pub(crate) fn take_out<K: Ord + Drop, V: Drop>(entries: &mut Vec<(K, V)>, key: &
     ensures entries { entries.new.items ≡ remove_entry (is_at (K.cmp key.now)) entries.old.items }
     ensures ordered { IsStrictlySortedBy K.cmp (keys_of entries.new.items) }
 {
-    if let Ok(at) = place(entries, key) {
+    if let Ok(at) = entry_position(entries, key) {
         entries.remove(at);
     }
 }

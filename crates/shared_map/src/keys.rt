@@ -6,7 +6,7 @@ ghost use Rattle.std.specs.Set.{remove_key};
 ghost use Rattle.std.specs.BTreeMap.{is_at};
 ghost use Rattle.std.specs.BTreeSet.{insert_key};
 
-use crate::place::key_place;
+use crate::position::key_position;
 use std::alloc::{AllocError, Global};
 
 /// Puts the key in, unless it is there. An error changes nothing.
@@ -16,7 +16,7 @@ pub(crate) fn put_key<K: Ord + Drop>(keys: &mut Vec<K>, key: K) -> Result<(), Al
     ensures err { OnErr result (keys.new.items ≡ keys.old.items) }
     ensures ordered { IsStrictlySortedBy K.cmp keys.new.items }
 {
-    if let Err(at) = key_place(keys, &key) {
+    if let Err(at) = key_position(keys, &key) {
         keys.insert(at, key)?;
     }
     Ok(())
@@ -28,7 +28,7 @@ pub(crate) fn take_key<K: Ord + Drop>(keys: &mut Vec<K>, key: &K)
     ensures keys { keys.new.items ≡ remove_key (is_at (K.cmp key.now)) keys.old.items }
     ensures ordered { IsStrictlySortedBy K.cmp keys.new.items }
 {
-    if let Ok(at) = key_place(keys, key) {
+    if let Ok(at) = key_position(keys, key) {
         keys.remove(at);
     }
 }

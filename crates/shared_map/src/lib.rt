@@ -7,7 +7,7 @@ mod chunks;
 mod entries;
 mod keys;
 mod map;
-mod place;
+mod position;
 mod same_keys;
 mod set;
 

@@ -93,15 +93,6 @@ impl<K: Ord, V> SharedMap<K, V> {
     }
 }
 
-impl<K: Copy + Ord, V> SharedMap<K, V> {
-    /// The keys, in order.
-    pub fn keys(&self, alloc: Global) -> Result<Vec<K>, AllocError>
-        ensures { IfOk result (λ keys. keys.items ≡ keys_of self.now) }
-    {
-        self.as_slice().iter().map(|entry| entry.0).collect(alloc)
-    }
-}
-
 impl<K: Ord + Drop, V: Drop> SharedMap<K, V> {
     /// The map of these entries, from now on shared.
     fn of(alloc: Global, entries: Vec<(K, V)>) -> Result<Self, AllocError>

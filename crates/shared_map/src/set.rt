@@ -8,7 +8,7 @@ ghost use Rattle.std.specs.BTreeMap.{is_at};
 ghost use Rattle.std.specs.BTreeSet.{insert_key};
 
 use crate::keys::{owned_keys, put_key, take_key};
-use crate::place::key_place;
+use crate::position::key_position;
 use seq::Copied;
 use std::alloc::{AllocError, Global};
 use std::marker::Model;
@@ -71,7 +71,7 @@ impl<K: Ord> SharedSet<K> {
     pub fn contains(&self, key: &K) -> bool
         ensures { result ≡ list_any (is_at (K.cmp key.now)) self.now }
     {
-        match key_place(self.as_slice(), key) {
+        match key_position(self.as_slice(), key) {
             Ok(_) => true,
             Err(_) => false,
         }

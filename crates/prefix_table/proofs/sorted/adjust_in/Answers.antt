@@ -1,4 +1,4 @@
--- The entry is changed at its place.
+-- The entry is changed at its position.
 use Rattle.std.proofs.Common.{Some, is_some, ap, sym, ◌∙◌, set}
 use Rattle.std.proofs.lemmas.Option.{slice_get-get_or}
 use Rattle.prefix_table.specs.Places.{changed}

@@ -1,4 +1,4 @@
--- The prefix's entry is at its place.
+-- The prefix's entry is at its position.
 use Rattle.std.proofs.Common.{sym, arith}
 use Rattle.std.proofs.lemmas.Option.{slice_get-get_or}
 use Rattle.prefix_table.proofs.sorted.find_in.Goals as goal

@@ -1,4 +1,4 @@
--- The entry is written at its place.
+-- The entry is written at its position.
 use Rattle.std.proofs.Common.{Some, ap, sym, ◌∙◌, set}
 use Rattle.std.proofs.lemmas.Option.{slice_get-get_or}
 use Rattle.prefix_table.proofs.sorted.put_in.Goals as goal

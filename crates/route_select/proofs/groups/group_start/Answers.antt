@@ -1,7 +1,7 @@
 use Rattle.std.proofs.Common.{rules}
 use Rattle.std.proofs.lemmas.List.Sorted.{IsPartitionPoint-from_clause}
 use Rattle.route_select.specs.Groups.{is_below}
-use Rattle.route_select.proofs.GroupPlaces.{start_parted, start_of}
+use Rattle.route_select.proofs.GroupPositions.{start_parted, start_of}
 use Rattle.route_select.proofs.groups.group_start.Goals as goal
 
 pub returns : goal.returns

@@ -1,5 +1,5 @@
 use Rattle.std.proofs.Common.{sym}
-use Rattle.route_select.proofs.GroupPlaces.{start_some, start_same, start_leads}
+use Rattle.route_select.proofs.GroupPositions.{start_some, start_same, start_leads}
 use Rattle.route_select.proofs.groups.leader.Goals as goal
 
 pub unreachable-requires : goal.unreachable-requires

@@ -3,7 +3,7 @@ use Rattle.std.proofs.lemmas.List.Sorted.{IsPartitionPoint-from_clause}
 use Rattle.route_select.specs.declared.candidate.Source.{Source}
 use Rattle.route_select.specs.declared.candidate.Standing.{Standing}
 use Rattle.route_select.specs.Groups.{before}
-use Rattle.route_select.proofs.GroupPlaces.{slot_parted, slot_of}
+use Rattle.route_select.proofs.GroupPositions.{slot_parted, slot_of}
 use Rattle.route_select.proofs.groups.slot.Goals as goal
 
 pub returns : goal.returns

@@ -10,7 +10,7 @@ returns-then-not-contains-clause-one_number c = subst HaveOneNumber c.self.view_
 pub returns-in-Ok-clause-numbered : goal.returns-in-Ok-clause-numbered
 returns-in-Ok-clause-numbered c =
     let stored = c.in-Ok.ensures.stored in
-    ap (λ n. slice_get c.insert_full.new.self.keys n) c.at-id.ensures ∙ stored.1 ∙ ap Some (sym ((attrs_exact _ _).0 stored.2) ∙ c.new-key.ensures)
+    ap (λ n. slice_get c.insert_full.new.self.keys n) c.of-id.ensures ∙ stored.1 ∙ ap Some (sym ((attrs_exact _ _).0 stored.2) ∙ c.new-key.ensures)
 
 pub returns-in-Ok-clause-keeps : goal.returns-in-Ok-clause-keeps
 returns-in-Ok-clause-keeps c =

@@ -7,8 +7,8 @@ use Rattle.route_select.proofs.GroupMap.{remove_without, distinct_without, drop_
 use Rattle.route_select.proofs.GroupOrder.{ranked_without, each_without}
 use Rattle.route_select.proofs.group_cell.GroupCellSelector.drop_source.Goals as goal
 
-pub best_place-self-inside-requires : goal.best_place-self-inside-requires
-best_place-self-inside-requires c =
+pub best_position-self-inside-requires : goal.best_position-self-inside-requires
+best_position-self-inside-requires c =
     let es = c.self.inside.entries.items in
     let is = rw c.deref.ensures.value at c.in-Some.ensures.found in
     let left = c.remove.ensures.items ∙ remove_without es c.args.source c.in-Some.at c.self.invariant.distinct is.in_range is.tied in
@@ -17,14 +17,14 @@ best_place-self-inside-requires c =
 pub invariant_of-self : goal.invariant_of-self
 invariant_of-self c =
     let es = c.self.inside.entries.items in
-    let b = c.best_place-self-inside.result in
+    let b = c.best_position-self-inside.result in
     let is = rw c.deref.ensures.value at c.in-Some.ensures.found in
     let left = c.remove.ensures.items ∙ remove_without es c.args.source c.in-Some.at c.self.invariant.distinct is.in_range is.tied in
     subst (λ xs. AreGrouped xs b) (sym left) (record {
       ranked = ranked_without c.args.source es c.self.invariant.ranked;
       distinct = distinct_without c.args.source es c.self.invariant.distinct;
       own = each_without c.args.source es c.self.invariant.own;
-      best = subst (λ xs. IsBest (considered_in xs) (candidate_at xs b)) (c.deref-in-Some.ensures.value ∙ left) c.best_place-self-inside.ensures;
+      best = subst (λ xs. IsBest (considered_in xs) (candidate_at xs b)) (c.deref-in-Some.ensures.value ∙ left) c.best_position-self-inside.ensures;
     })
 
 pub returns-in-Some : goal.returns-in-Some

@@ -19,8 +19,8 @@ placed es left read new e i gone_from same slot put_there =
 pub slot-at-requires : goal.slot-at-requires
 slot-at-requires c = subst AreRanked (sym (c.deref.ensures.value ∙ c.in_ok-make_way.ensures.ok)) (ranked_without c.args.source c.self.inside.entries.items c.self.invariant.ranked)
 
-pub best_place-self-inside-requires : goal.best_place-self-inside-requires
-best_place-self-inside-requires c =
+pub best_position-self-inside-requires : goal.best_position-self-inside-requires
+best_position-self-inside-requires c =
     let items = placed c.self.inside.entries.items _ _ _ (c.args.source, c.args.standing) _ c.in_ok-make_way.ensures.ok c.deref.ensures.value c.slot-at.ensures c.in-Ok.ensures.items in
     let es = c.self.inside.entries.items in
     subst AreRanked (sym (c.deref-in-Ok.ensures.value ∙ items)) (ranked_put (c.args.source, c.args.standing) (without c.args.source es) (ranked_without c.args.source es c.self.invariant.ranked))
@@ -31,12 +31,12 @@ invariant_of-self-in-Ok c =
     let s = c.args.source in
     let e : Source × Standing = (s, c.args.standing) in
     let es = c.self.inside.entries.items in
-    let b = c.best_place-self-inside.result in
+    let b = c.best_position-self-inside.result in
     subst (λ xs. AreGrouped xs b) (sym items) (record {
       ranked = ranked_put e (without s es) (ranked_without s es c.self.invariant.ranked);
       distinct = distinct_put e (without s es) (gone s es) (distinct_without s es c.self.invariant.distinct);
       own = each_put_in e (without s es) c.requires (each_without s es c.self.invariant.own);
-      best = subst (λ xs. IsBest (considered_in xs) (candidate_at xs b)) (c.deref-in-Ok.ensures.value ∙ items) c.best_place-self-inside.ensures;
+      best = subst (λ xs. IsBest (considered_in xs) (candidate_at xs b)) (c.deref-in-Ok.ensures.value ∙ items) c.best_position-self-inside.ensures;
     })
 
 pub returns-clause-ok : goal.returns-clause-ok

@@ -3,7 +3,7 @@ use Rattle.std.specs.Int.{from_bool}
 use Rattle.std.proofs.lemmas.Bool.{false≢true}
 use Rattle.net_prefix.specs.declared.addr.Addr.{Addr}
 use Rattle.session_queue.specs.declared.numbered.Numbered.{Numbered}
-use Rattle.session_queue.specs.Lines.{Waiting, Lines, messages_at, places_at, waiting_at}
+use Rattle.session_queue.specs.Lines.{Waiting, Lines, messages_at, spare_in, waiting_at}
 use Rattle.session_queue.specs.Tidy.{one_if_any}
 use Rattle.session_queue.proofs.Places.{Becomes, placed, removed, queue_held, queue_from, spare_from}
 use Rattle.session_queue.proofs.Tidiness.{less_fits, kept_tidy, removed_tidy, one_if_last}
@@ -14,7 +14,7 @@ module _ (from to : Addr) (p q r : Lines Numbered) (v w : Waiting Numbered) (who
   queue_popped : messages_at r from to ≡ drop 1 (messages_at q from to)
   queue_popped = queue_from from to p q r v w whole found b (drop 1) (ap (λ u. u.messages) rest)
 
-  spare_popped : places_at r from to ≡ places_at q from to
+  spare_popped : spare_in r from to ≡ spare_in q from to
   spare_popped = spare_from from to p q r v w whole found b (ap (λ u. u.spare) rest)
 
   had_popped : (popped : Bool) → IsTrue popped ↔ (0 < length v.messages) → IsTrue popped ↔ (0 < length (messages_at q from to))

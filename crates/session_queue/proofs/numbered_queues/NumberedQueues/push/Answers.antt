@@ -2,7 +2,7 @@ use Rattle.std.proofs.Common.{◌≡◌, ◌==◌, ℕ, Bool, length-append, ◌
 use Rattle.std.specs.Map.{set_value}
 use Rattle.net_prefix.specs.declared.addr.Addr.{Addr}
 use Rattle.session_queue.specs.declared.numbered.Numbered.{Numbered}
-use Rattle.session_queue.specs.Lines.{Waiting, Lines, messages_at, places_at, waiting_at, KeepsOtherLines}
+use Rattle.session_queue.specs.Lines.{Waiting, Lines, messages_at, spare_in, waiting_at, KeepsOtherLines}
 use Rattle.session_queue.proofs.Places.{at, Changes, put, queue_here, spare_here, others_keep, queue_held, spare_held}
 use Rattle.session_queue.proofs.Tidiness.{full_small, put_tidy, one_if_not, one_if_any-push}
 use Rattle.session_queue.specs.Tidy.{one_if_any, IsKept, IsTidy}
@@ -17,10 +17,10 @@ module _ (from to : Addr) (p q r : Lines Numbered) (v w : Waiting Numbered) (m :
   queue_pushed : messages_at r from to ≡ messages_at q from to ++ m ∷ []
   queue_pushed = queue_here from to q r (Some w) changed ∙ ap (λ u. u.messages) pushed ∙ ap (λ ms. ms ++ m ∷ []) (sym (queue_held from to p q whole (Some v) found))
 
-  spare_pushed : 0 < places_at q from to → places_at r from to + 1 ≡ places_at q from to
+  spare_pushed : 0 < spare_in q from to → spare_in r from to + 1 ≡ spare_in q from to
   spare_pushed room =
-      let before : places_at q from to ≡ v.spare = spare_held from to p q whole (Some v) found in
-      let after : places_at r from to ≡ w.spare = spare_here from to q r (Some w) changed in
+      let before : spare_in q from to ≡ v.spare = spare_held from to p q whole (Some v) found in
+      let after : spare_in r from to ≡ w.spare = spare_here from to q r (Some w) changed in
       let less : w.spare ≡ v.spare - 1 = ap (λ u. u.spare) pushed in
       omega (arith, room, before, after, less)
 
@@ -38,8 +38,8 @@ module _ (from to : Addr) (p q r : Lines Numbered) (v w : Waiting Numbered) (m :
 
 pub push-requires : goal.push-requires
 push-requires c =
-    let room : 0 < places_at c.args.self.now c.args.from c.args.to = c.requires in
-    let before : places_at c.args.self.now c.args.from c.args.to ≡ c.in-Some.queue.now.spare = spare_held _ _ _ _ c.self.view_is (Some c.in-Some.queue.now) c.in-Some.ensures.value in
+    let room : 0 < spare_in c.args.self.now c.args.from c.args.to = c.requires in
+    let before : spare_in c.args.self.now c.args.from c.args.to ≡ c.in-Some.queue.now.spare = spare_held _ _ _ _ c.self.view_is (Some c.in-Some.queue.now) c.in-Some.ensures.value in
     omega (arith, room, before)
 
 pub returns-clause-queue : goal.returns-clause-queue
@@ -59,8 +59,8 @@ prove-unreachable-requires c =
 
 pub unreachable-requires : goal.unreachable-requires
 unreachable-requires c =
-    let room : 0 < places_at c.args.self.now c.args.from c.args.to = c.requires in
-    let before : places_at c.args.self.now c.args.from c.args.to ≡ 0 = spare_held _ _ _ _ c.self.view_is None c.in_default.ensures.value in
+    let room : 0 < spare_in c.args.self.now c.args.from c.args.to = c.requires in
+    let before : spare_in c.args.self.now c.args.from c.args.to ≡ 0 = spare_held _ _ _ _ c.self.view_is None c.in_default.ensures.value in
     omega (arith, room, before)
 
 pub invariant_of-self : goal.invariant_of-self

@@ -12,10 +12,10 @@ pub invariant_of-self : goal.invariant_of-self
 invariant_of-self g c =
     let cmp = g.K.Ord.cmp in
     let cs = c.as_slice.result.now in
-    let before = c.split-place.result.before.now in
-    let chunk = c.split-place.result.chunk.now in
-    let after = c.split-place.result.after.now in
-    let split = c.split-place.ensures in
+    let before = c.split-parts.result.before.now in
+    let chunk = c.split-parts.result.chunk.now in
+    let after = c.split-parts.result.after.now in
+    let split = c.split-parts.ensures in
     let new : c.deref.result.now ≡ insert_key cmp chunk c.args.key = c.deref.ensures.value ∙ c.in_ok-put_key.ensures.ok ∙ ap (λ ks. insert_key cmp ks c.args.key) c.in_ok-keys.ensures in
     let held : keys_in c.in_ok-of.field-0 ≡ keys_in before ++ c.deref.result.now ++ keys_in after = ap keys_in c.in_ok-of.ensures ∙ c.in_ok-chunks.ensures.keys in
     let all : keys_in c.in_ok-of.field-0 ≡ insert_key cmp (keys_in cs) c.args.key =
@@ -34,11 +34,11 @@ invariant_of-self g c =
 pub returns-clause-ok : goal.returns-clause-ok
 returns-clause-ok g c =
     let cmp = g.K.Ord.cmp in
-    let split = c.split-place.ensures in
-    let new : c.deref.result.now ≡ insert_key cmp c.split-place.result.chunk.now c.args.key = c.deref.ensures.value ∙ c.in_ok-put_key.ensures.ok ∙ ap (λ ks. insert_key cmp ks c.args.key) c.in_ok-keys.ensures in
+    let split = c.split-parts.ensures in
+    let new : c.deref.result.now ≡ insert_key cmp c.split-parts.result.chunk.now c.args.key = c.deref.ensures.value ∙ c.in_ok-put_key.ensures.ok ∙ ap (λ ks. insert_key cmp ks c.args.key) c.in_ok-keys.ensures in
     ap keys_in c.in_ok-of.ensures
     ∙ c.in_ok-chunks.ensures.keys
-    ∙ ap (λ ks. keys_in c.split-place.result.before.now ++ ks ++ keys_in c.split-place.result.after.now) new
-    ∙ sym (put_in_one cmp c.as_slice.result.now c.args.key c.split-place.result.before.now c.split-place.result.chunk.now c.split-place.result.after.now split)
+    ∙ ap (λ ks. keys_in c.split-parts.result.before.now ++ ks ++ keys_in c.split-parts.result.after.now) new
+    ∙ sym (put_in_one cmp c.as_slice.result.now c.args.key c.split-parts.result.before.now c.split-parts.result.chunk.now c.split-parts.result.after.now split)
     ∙ ap (λ cs. insert_key cmp (keys_in cs) c.args.key) c.as_slice.ensures
     ∙ ap (λ ks. insert_key cmp ks c.args.key) c.self.view_is

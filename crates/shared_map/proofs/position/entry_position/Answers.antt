@@ -3,7 +3,7 @@ use Rattle.std.proofs.Common.{rules, sym, ap, ◌∙◌, is_some}
 use Rattle.std.specs.Ordering.{is_eq, is_gt}
 use Rattle.std.proofs.lemmas.List.Sorted.{IsPartitionPoint-from_clause}
 use Rattle.shared_map.proofs.Halving.{ascend, parted, are_below, here_less, found, gap, gap_end, read_some, read_none}
-use Rattle.shared_map.proofs.place.place.Goals as goal
+use Rattle.shared_map.proofs.position.entry_position.Goals as goal
 
 pub returns-in-Some-clause-found : goal.returns-in-Some-clause-found
 returns-in-Some-clause-found g c =

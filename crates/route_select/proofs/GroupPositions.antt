@@ -1,4 +1,4 @@
--- Where groups start and who leads them, by places.
+-- Where groups start and who leads them, by positions.
 use Rattle.std.proofs.Common.{◌≡◌, ℕ, zero, suc, ◌<◌, ◌≤◌, Bool, true, false, not, ◌&&◌, ◌==◌, nat_lt, [], ◌∷◌, length, get_or, Some, None, refl, sym, ap, subst, ◌∙◌, inl, inr, arith}
 use Rattle.std.proofs.lemmas.Bool.{false≢true}
 use Rattle.std.proofs.lemmas.Bool.Decides.{nat_tests}
@@ -14,8 +14,8 @@ use Rattle.route_select.specs.Selection.{candidate_of, considered_in, same_neigh
 use Rattle.route_select.specs.Entries.{candidate_at}
 use Rattle.route_select.specs.Leaders.{In, ahead, Leads}
 use Rattle.route_select.specs.Groups.{group_rank, stands_before, before, AreRanked, IsSlot, IsGroupStart, entry_at, is_below}
-use Rattle.route_select.proofs.Filtering.{or_false, cases_of, refuted, not_true, ahead_asym}
-use Rattle.route_select.proofs.EntryLemmas.{Entries, considered_at, place_of}
+use Rattle.route_select.proofs.Filtering.{or_false, cases_of, not_true, never_ahead}
+use Rattle.route_select.proofs.EntryLemmas.{Entries, considered_at, position_of, one_there}
 use Rattle.route_select.proofs.GroupOrder.{same_rank, same_of_rank, rank_of_same, before_chain}
 
 in_at : (es : Entries) (k : ℕ) → k < length es → In (entry_at es k) es
@@ -34,10 +34,10 @@ ranked_read es j k d r lt in_range =
     let same = λ (i : ℕ) (h : i < length es). get_or_default es i (Own, Excluded Loop) d h in
     subst (λ e. before e (get_or es j d) ≡ false) (same k in_range) (subst (λ e. before (entry_at es k) e ≡ false) (same j (omega arith)) (ranked_at es j k r lt in_range))
 
-pub has_place : (es : Entries) (k : ℕ) (n : Candidate) → candidate_at es k ≡ Some n → k < length es
-has_place [] k n e = absurd (cc)
-has_place (e ∷ es) zero n is = omega arith
-has_place (e ∷ es) (suc k) n is = let lt = has_place es k n is in omega arith
+pub has_position : (es : Entries) (k : ℕ) (n : Candidate) → candidate_at es k ≡ Some n → k < length es
+has_position [] k n e = absurd (cc)
+has_position (e ∷ es) zero n is = omega arith
+has_position (e ∷ es) (suc k) n is = let lt = has_position es k n is in omega arith
 
 both_considered : (e f : Source × Standing) (b a : Candidate) → before e f ≡ false → candidate_of e.1 ≡ Some b → candidate_of f.1 ≡ Some a → stands_before b a ≡ false
 both_considered (s, Excluded r) f b a h p q = absurd (cc)
@@ -48,7 +48,7 @@ both_considered (s, Considered c) (t, Considered d) b a h p q =
     subst (λ z. stands_before b z ≡ false) k (subst (λ z. stands_before z d ≡ false) m h)
 
 in_order : (es : Entries) (j k : ℕ) (a b : Candidate) → AreRanked es → j < k → candidate_at es j ≡ Some a → candidate_at es k ≡ Some b → stands_before b a ≡ false
-in_order es j k a b r lt p q = both_considered (entry_at es k) (entry_at es j) b a (ranked_at es j k r lt (has_place es k b q)) q p
+in_order es j k a b r lt p q = both_considered (entry_at es k) (entry_at es j) b a (ranked_at es j k r lt (has_position es k b q)) q p
 
 none_before : (e f : Source × Standing) (b : Candidate) → before e f ≡ false → candidate_of e.1 ≡ Some b → candidate_of f.1 ≡ None → ⊥
 none_before (s, Excluded r) f b h p q = absurd (cc)
@@ -68,9 +68,6 @@ ranks_rise b a h =
     not_less : (x y : ℕ) → nat_lt x y ≡ false → y ≤ x
     not_less x y t = grind (arith, nat_tests)
 
-not_itself : (a : Candidate) → ahead filters a a ≡ false
-not_itself a = refuted (ahead filters a a) (λ t. ahead_asym filters a a t)
-
 data Apart (j k : ℕ) : Type 0 where
   less : j < k → Apart j k
   equal : j ≡ k → Apart j k
@@ -85,15 +82,14 @@ apart (suc j) (suc k) = elim (apart j k) [ less h ↦ less (omega arith) | equal
 -- the first of its neighbour leads
 pub leads_at : (es : Entries) (i : ℕ) (c : Candidate) → AreRanked es → candidate_at es i ≡ Some c → ((k : ℕ) → k < i → (n : Candidate) → candidate_at es k ≡ Some n → same_neighbour n c ≡ true → ⊥) → Leads (considered_in es) c
 leads_at es i c r at none = record {
-  member = considered_at es i c (has_place es i c at) at;
+  member = considered_at es i c (has_position es i c at) at;
   first = λ n j s.
-      let p = place_of es n j in
+      let p = position_of es n j in
       elim (apart p.0 i) [
         | less h ↦ absurd (none p.0 h n p.2 s)
         | equal e ↦
-            let m : Some n ≡ Some c = sym p.2 ∙ ap (candidate_at es) e ∙ at in
-            let m' : n ≡ c = cc in
-            subst (λ z. ahead filters z c ≡ false) (sym m') (not_itself c)
+            let m' : n ≡ c = one_there _ n c p.2 (ap (candidate_at es) e ∙ at) in
+            subst (λ z. ahead filters z c ≡ false) (sym m') (never_ahead filters c)
         | more h ↦ not_ahead_of n c (in_order es i p.0 c n r h at p.2) s
       ];
 }
@@ -153,13 +149,13 @@ is_not_lower rank (s, Considered c) n t e =
 pub start_of : (es : Entries) (rank i : ℕ) → i ≤ length es → IsPartitionPoint (λ x. is_below rank x ≡ true) (λ x. is_below rank x ≡ false) es i → IsGroupStart es rank i
 start_of es rank i le point = record {
   below = λ j lt n e. is_lower rank (entry_at es j) n (point.0 j (Own, Excluded Loop) (omega arith) lt) e;
-  from = λ k up n e. is_not_lower rank (entry_at es k) n (point.1 k (Own, Excluded Loop) up (has_place es k n e)) e;
+  from = λ k up n e. is_not_lower rank (entry_at es k) n (point.1 k (Own, Excluded Loop) up (has_position es k n e)) e;
 }
 
 -- behind an entry that is excluded none is considered
 pub none_behind : (es : Entries) (i k : ℕ) (n : Candidate) → AreRanked es → candidate_at es i ≡ None → i ≤ k → candidate_at es k ≡ Some n → ⊥
 none_behind es i k n r none up is = elim (apart i k) [
-  | less h ↦ none_before (entry_at es k) (entry_at es i) n (ranked_at es i k r h (has_place es k n is)) is none
+  | less h ↦ none_before (entry_at es k) (entry_at es i) n (ranked_at es i k r h (has_position es k n is)) is none
   | equal m ↦ let w : None ≡ Some n = sym none ∙ ap (candidate_at es) m ∙ is in cc
   | more h ↦ absurd (omega arith)
 ]
@@ -168,16 +164,14 @@ pub ranks_at : (es : Entries) (i k : ℕ) (c n : Candidate) → AreRanked es →
 ranks_at es i k c n r at up is = elim (apart i k) [
   | less h ↦ ranks_rise n c (in_order es i k c n r h at is)
   | equal m ↦
-      let w : Some c ≡ Some n = sym at ∙ ap (candidate_at es) m ∙ is in
-      let w' : c ≡ n = cc in
-      subst (λ z. group_rank c ≤ group_rank z) w' (omega arith)
+      subst (λ z. group_rank c ≤ group_rank z) (one_there _ c n at (ap (candidate_at es) m ∙ is)) (omega arith)
   | more h ↦ absurd (omega arith)
 ]
 
 -- the route where its own group starts
 pub start_some : (es : Entries) (i : ℕ) (like : Candidate) → AreRanked es → In like (considered_in es) → IsGroupStart es (group_rank like) i → candidate_at es i ≡ None → ⊥
 start_some es i like r member start none =
-    let p = place_of es like member in
+    let p = position_of es like member in
     elim (cases_of (nat_lt p.0 i)) [
       | inl t ↦ let low = start.below p.0 (grind (arith, nat_tests)) like p.2 in omega arith
       | inr f ↦ none_behind es i p.0 like r none (grind (arith, nat_tests)) p.2
@@ -185,7 +179,7 @@ start_some es i like r member start none =
 
 pub start_same : (es : Entries) (i : ℕ) (like l : Candidate) → AreRanked es → In like (considered_in es) → IsGroupStart es (group_rank like) i → candidate_at es i ≡ Some l → same_neighbour like l ≡ true
 start_same es i like l r member start at =
-    let p = place_of es like member in
+    let p = position_of es like member in
     let high = start.from i (omega arith) l at in
     elim (cases_of (nat_lt p.0 i)) [
       | inl t ↦ let low = start.below p.0 (grind (arith, nat_tests)) like p.2 in absurd (omega arith)

@@ -3,10 +3,10 @@
 ghost use Rattle.std.specs.Prelude.{◌≡◌, IfOk, IfErr};
 ghost use Rattle.std.specs.List.Sorted.{IsStrictlySortedBy};
 ghost use Rattle.std.specs.Map.{keys_of};
-ghost use Rattle.shared_map.specs.Places.{IsAt, IsFor, IsKeyAt, IsKeyFor};
+ghost use Rattle.shared_map.specs.Positions.{IsAt, IsFor, IsKeyAt, IsKeyFor};
 
-/// The place of the key's entry, or as an error the place where it would go.
-pub(crate) fn place<K: Ord, V>(entries: &[(K, V)], key: &K) -> Result<usize, usize>
+/// The position of the key's entry, or as an error the position where it would go.
+pub(crate) fn entry_position<K: Ord, V>(entries: &[(K, V)], key: &K) -> Result<usize, usize>
     requires { IsStrictlySortedBy K.cmp (keys_of entries.now) }
     ensures found { IfOk result (IsAt K.cmp entries.now key.now) }
     ensures absent { IfErr result (IsFor K.cmp entries.now key.now) }
@@ -18,8 +18,8 @@ pub(crate) fn place<K: Ord, V>(entries: &[(K, V)], key: &K) -> Result<usize, usi
     }
 }
 
-/// The place of the key, or as an error the place where it would go.
-pub(crate) fn key_place<K: Ord>(keys: &[K], key: &K) -> Result<usize, usize>
+/// The position of the key, or as an error the position where it would go.
+pub(crate) fn key_position<K: Ord>(keys: &[K], key: &K) -> Result<usize, usize>
     requires { IsStrictlySortedBy K.cmp keys.now }
     ensures found { IfOk result (IsKeyAt K.cmp keys.now key.now) }
     ensures absent { IfErr result (IsKeyFor K.cmp keys.now key.now) }

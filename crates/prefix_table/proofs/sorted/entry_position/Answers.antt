@@ -4,7 +4,7 @@ use Rattle.std.specs.Ordering.{is_eq, is_gt}
 use Rattle.std.proofs.lemmas.List.Sorted.{IsPartitionPoint-from_clause}
 use Rattle.net_prefix.specs.Block.{block_cmp}
 use Rattle.prefix_table.proofs.Entries.{T_of, parted, low_greater, placed, missing, past_end, read_some, read_none}
-use Rattle.prefix_table.proofs.sorted.place.Goals as goal
+use Rattle.prefix_table.proofs.sorted.entry_position.Goals as goal
 
 pub returns-in-Some-clause-found : goal.returns-in-Some-clause-found
 returns-in-Some-clause-found g c =

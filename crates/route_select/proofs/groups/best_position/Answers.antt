@@ -2,11 +2,11 @@ use Rattle.std.proofs.Common.{◌≡◌, ◌<◌, length, cond, true, false, ref
 use Rattle.route_select.specs.Entries.{candidate_at}
 use Rattle.route_select.specs.Groups.{is_better}
 use Rattle.route_select.proofs.GroupLeaders.{LeadersUpTo, leaders_start, leaders_more, leaders_all, goes_on}
-use Rattle.route_select.proofs.GroupPlaces.{has_place}
-use Rattle.route_select.proofs.groups.best_place.Goals as goal
-use Rattle.route_select.proofs.groups.best_place.Goals.{then-is_better, else-is_better}
+use Rattle.route_select.proofs.GroupPositions.{has_position}
+use Rattle.route_select.proofs.groups.best_position.Goals as goal
+use Rattle.route_select.proofs.groups.best_position.Goals.{then-is_better, else-is_better}
 
--- a choice between a place and itself
+-- a choice between a position and itself
 chosen_same : (b : Bool) (n : ℕ) → cond b n n ≡ n
 chosen_same true n = refl
 chosen_same false n = refl
@@ -40,7 +40,7 @@ loop-leader-smaller c =
     let at = c.loop-leader.at in
     let here : candidate_at es at ≡ Some c.in-Some-candidate_at.leader.now = sym c.in-Some-candidate_at.ensures in
     let on : at < c.group_start-at-in-Some-candidate_at.result = goes_on es at _ _ here (rw c.group_rank-in-Some-candidate_at.ensures.value at c.group_start-at-in-Some-candidate_at.ensures) in
-    let within : at < length es = has_place es at _ here in
+    let within : at < length es = has_position es at _ here in
     omega arith
 
 pub returns : goal.returns

@@ -1,6 +1,6 @@
 use Rattle.std.proofs.Common.{length, ◌-◌}
 use Rattle.route_select.proofs.GroupLeaders.{LeadersUpTo}
-use Rattle.route_select.proofs.groups.best_place.Given as goal
+use Rattle.route_select.proofs.groups.best_position.Given as goal
 
 abbrev pub invariant-loop-leader : goal.invariant-loop-leader
 invariant-loop-leader l = LeadersUpTo l.entries l.at l.best
