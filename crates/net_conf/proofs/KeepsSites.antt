@@ -107,9 +107,6 @@ site_after_link c d r is =
     ∙ site_with_links c d.links r
     ∙ ap (λ x. option_map (relinked x r) (router_site c r)) (sym is)
 
-pub ends_after_link : (c d : Configuration) (r : Addr) → IsRelinked c d → ends_session d r ≡ ends_session c r
-ends_after_link c d r is = ap (λ x. ends_session x r) is
-
 -- where the router's sessions stay up or down, they are what is asked
 module _ (c d : Configuration) (r : Addr) (same : (u : Addr) → is_up d u r ≡ is_up c u r) where
   one_asked : (u : Addr) → asked d r (session_of c r u) ≡ session_of c r u

@@ -25,3 +25,4 @@ pub mod DownSessions
 pub mod Pieces
 pub mod SiteSettings
 pub mod SiteJoins
+pub mod SiteEffects

@@ -10,7 +10,6 @@ use Rattle.std.specs.Set.{remove_key}
 use Rattle.std.specs.BTreeMap.{is_at}
 use Rattle.std.specs.BTreeSet.{insert_key}
 use Rattle.std.proofs.lemmas.Cmp.{on_total, then_total}
-use Rattle.std.proofs.lemmas.Option.{none-some, same_Some}
 use Rattle.net_prefix.specs.declared.addr.Addr.{Addr}
 use Rattle.net_prefix.specs.Address.{addr_cmp}
 use Rattle.net_prefix.specs.Block.{Block, block_cmp}
@@ -20,10 +19,10 @@ use Rattle.net_conf.specs.declared.edit.Edit.TheVariants.{Origin, NoOrigin}
 use Rattle.net_conf.specs.declared.site.SiteConf.{SiteConf}
 use Rattle.net_conf.specs.declared.tables.Node.{Node}
 use Rattle.net_conf.specs.declared.tables.Origination.{Origination}
-use Rattle.net_conf.specs.Configuration.{Configuration, node_at, is_virtual, ends_session, cluster_id, is_reflector, origins_of, origination_cmp}
+use Rattle.net_conf.specs.Configuration.{Configuration, node_at, is_virtual, cluster_id, is_reflector, origins_of, origination_cmp}
 use Rattle.net_conf.specs.Costs.{costs_of}
 use Rattle.net_conf.specs.Edits.{edited}
-use Rattle.net_conf.specs.Kept.{origin_in, origins_after, reoriginated}
+use Rattle.net_conf.specs.Kept.{origins_after, reoriginated}
 use Rattle.net_conf.specs.RouterSites.{router_site}
 use Rattle.net_conf.specs.Sites.{site_of, sessions_of}
 use Rattle.net_conf.proofs.KeptTrees.{same_address, equal_when}
@@ -155,20 +154,14 @@ module _ (c : Configuration) (r : Addr) (sorted : IsStrictlySortedBy origination
       ∙ ap (λ ps. option_map (λ (s : SiteConf). record s { origins = ps }) (router_site c r)) is
       ∙ has_origins c r (origins_after e)
 
-  -- the site after an edit of what its router originates
-  pub site_after_origin : (e : Edit) → origin_in e ≡ Some r → router_site (edited c e) r ≡ option_map (reoriginated e) (router_site c r)
-  site_after_origin (Origin a p) is =
-      let same : a ≡ r = same_Some a r is in
-      subst (λ x. router_site (edited c (Origin x p)) r ≡ option_map (reoriginated (Origin x p)) (router_site c r)) (sym same)
+  -- the site of a router that comes to originate a prefix
+  pub site_with_origin : (a : Addr) (p : Block) → r ≡ a → router_site (edited c (Origin a p)) r ≡ option_map (reoriginated (Origin a p)) (router_site c r)
+  site_with_origin a p same =
+      subst (λ x. router_site (edited c (Origin x p)) r ≡ option_map (reoriginated (Origin x p)) (router_site c r)) same
       (with_origins_after (Origin r p) p (put_one r p c.origins sorted) (origins_alone c (Origin r p) r p refl))
-  site_after_origin (NoOrigin a p) is =
-      let same : a ≡ r = same_Some a r is in
-      subst (λ x. router_site (edited c (NoOrigin x p)) r ≡ option_map (reoriginated (NoOrigin x p)) (router_site c r)) (sym same)
-      (with_origins_after (NoOrigin r p) p (left_one r p c.origins) (origins_alone c (NoOrigin r p) r p refl))
-  site_after_origin _ is = absurd (none-some r is)
 
-  -- it is an end of a session still, or still is none
-  pub ends_after_origin : (e : Edit) → origin_in e ≡ Some r → ends_session (edited c e) r ≡ ends_session c r
-  ends_after_origin (Origin a p) is = refl
-  ends_after_origin (NoOrigin a p) is = refl
-  ends_after_origin _ is = absurd (none-some r is)
+  -- and of one that ceases to
+  pub site_without_origin : (a : Addr) (p : Block) → r ≡ a → router_site (edited c (NoOrigin a p)) r ≡ option_map (reoriginated (NoOrigin a p)) (router_site c r)
+  site_without_origin a p same =
+      subst (λ x. router_site (edited c (NoOrigin x p)) r ≡ option_map (reoriginated (NoOrigin x p)) (router_site c r)) same
+      (with_origins_after (NoOrigin r p) p (left_one r p c.origins) (origins_alone c (NoOrigin r p) r p refl))

@@ -9,7 +9,6 @@ use Rattle.std.specs.BTreeMap.{is_at, insert_entry}
 use Rattle.std.proofs.lemmas.Bool.Decides.{nat_tests}
 use Rattle.std.proofs.lemmas.List.{map-append}
 use Rattle.std.proofs.lemmas.List.Elements.{filter-append}
-use Rattle.std.proofs.lemmas.Option.{none-some}
 use Rattle.net_prefix.specs.declared.addr.Addr.{Addr}
 use Rattle.net_prefix.specs.Address.{addr_cmp}
 use Rattle.net_conf.specs.declared.tables.Ends.{Ends}
@@ -23,12 +22,12 @@ use Rattle.net_conf.specs.Configured.{IsConfigured}
 use Rattle.net_conf.specs.Costs.{costs_of}
 use Rattle.net_conf.specs.Sites.{peer_in, session_of, sessions_of, peers_of, site_of}
 use Rattle.net_conf.specs.Edits.{edited, refusal_of, tests_of, repeats_session, with_session}
-use Rattle.net_conf.specs.Kept.{IsExtended, extended, is_below, is_above, joined_peer}
+use Rattle.net_conf.specs.Kept.{IsExtended, extended, is_below, is_above}
 use Rattle.net_conf.proofs.Inserted.{IsSplit, split}
 use Rattle.net_conf.proofs.KeptTrees.{ends_exact, ends_total, first_of_two, same_address}
 use Rattle.net_conf.proofs.OthersStay.{mapped}
 use Rattle.net_conf.proofs.Peers.{peers_in_order}
-use Rattle.net_conf.proofs.SiteSettings.{other_is, other_session}
+use Rattle.net_conf.proofs.SiteSettings.{other_session}
 use Rattle.net_conf.proofs.Soundness.{all_fail}
 use Rattle.net_conf.proofs.TreesAfter.{none_there}
 
@@ -154,14 +153,9 @@ no_session : (c : Configuration) (e : Edit) → refusal_of c e ≡ None → repe
 unfolding refusal_of
 no_session c e none = let all = all_fail (tests_of c e) none in all.1.1.1.1.1.1.1.1.1.0
 
-joined_by : (c : Configuration) (e : Edit) (r u : Addr) → IsConfigured c → IsConfigured (edited c e) → repeats_session c e ≡ false → joined_peer e r ≡ Some u → IsExtended c (edited c e) r u
-joined_by c (Join a b) r u before after none is =
-    let ends = other_is r a b u is in
+-- a session that is made is one more of each of its ends
+pub extended_after : (c : Configuration) (a b r u : Addr) → IsConfigured c → IsConfigured (edited c (Join a b)) → refusal_of c (Join a b) ≡ None → ends_of a b ≡ ends_of r u → IsExtended c (edited c (Join a b)) r u
+extended_after c a b r u before after none ends =
     let with_ends : Ends → Configuration = λ e. record c { sessions = insert_entry ends_cmp c.sessions e true } in
-    let new : session_between c r u ≡ None = none_there (session_between c r u) (subst (λ e. is_some (lookup (is_at (ends_cmp e)) c.sessions) ≡ false) ends none) in
+    let new : session_between c r u ≡ None = none_there (session_between c r u) (subst (λ e. is_some (lookup (is_at (ends_cmp e)) c.sessions) ≡ false) ends (no_session c (Join a b) none)) in
     subst (λ e. IsExtended c (with_ends e) r u) (sym ends) (extended_site c r u true new before (subst (λ e. IsConfigured (with_ends e)) ends after))
-joined_by c _ r u before after none is = absurd (none-some u is)
-
--- a session that is made is one more of its router
-pub extended_after : (c : Configuration) (e : Edit) (r u : Addr) → IsConfigured c → IsConfigured (edited c e) → refusal_of c e ≡ None → joined_peer e r ≡ Some u → IsExtended c (edited c e) r u
-extended_after c e r u before after none is = joined_by c e r u before after (no_session c e none) is

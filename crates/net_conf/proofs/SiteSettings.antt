@@ -1,5 +1,5 @@
 -- The site of a router, after an edit of one of its sessions, or of its CLUSTER_ID.
-use Rattle.std.proofs.Common.{◌≡◌, Bool, true, false, cond, ◌==◌, ◌&&◌, ◌||◌, nat_le, List, [], ◌∷◌, ◌++◌, map, filter, Option, Some, None, option_map, is_some, if◌then◌else◌, refl, sym, ap, subst, ◌∙◌}
+use Rattle.std.proofs.Common.{◌≡◌, Bool, true, false, cond, ◌==◌, ◌&&◌, nat_le, List, [], ◌∷◌, ◌++◌, map, filter, Option, Some, None, option_map, is_some, if◌then◌else◌, refl, sym, ap, subst, ◌∙◌}
 use Rattle.std.specs.Option.{unwrap_or}
 use Rattle.std.specs.Cmp.{both_tied, unsigned_ties, unsigned_Decides}
 use Rattle.std.specs.List.{list_any}
@@ -7,28 +7,27 @@ use Rattle.std.specs.List.Sorted.{IsStrictlySortedBy}
 use Rattle.std.specs.Map.{keys_of, lookup}
 use Rattle.std.specs.BTreeMap.{is_at, insert_entry}
 use Rattle.std.proofs.lemmas.Bool.{true≢false, and_right, not-false}
-use Rattle.std.proofs.lemmas.Option.{none-some, same_Some}
 use Rattle.net_prefix.specs.declared.addr.Addr.{Addr}
 use Rattle.net_prefix.specs.Address.{addr_cmp}
 use Rattle.route_policy.specs.declared.rule.Rule.{Rule}
 use Rattle.net_conf.specs.declared.tables.End.{End}
 use Rattle.net_conf.specs.declared.tables.Ends.{Ends}
 use Rattle.net_conf.specs.declared.tables.Node.{Node}
+use Rattle.net_conf.specs.declared.tables.PolicySide.{PolicySide}
 use Rattle.net_conf.specs.declared.tables.PolicySide.TheVariants.{Import, Export}
 use Rattle.net_conf.specs.declared.edit.Edit.{Edit}
 use Rattle.net_conf.specs.declared.edit.Edit.TheVariants.{Stop, Start, Client, OwnNext, Cluster, Rule as AddRule, Clear}
 use Rattle.net_conf.specs.declared.site.SiteConf.{SiteConf}
-use Rattle.net_conf.specs.Configuration.{Configuration, node_at, is_virtual, ends_of, ends_cmp, end_of, end_cmp, is_end, ends_session, session_between, has_session, rules_at, is_reflector, cluster_id, origins_of}
+use Rattle.net_conf.specs.Configuration.{Configuration, node_at, is_virtual, ends_of, ends_cmp, end_of, end_cmp, is_end, session_between, has_session, rules_at, is_reflector, cluster_id, origins_of}
 use Rattle.net_conf.specs.Costs.{costs_of, session_up, is_connected}
 use Rattle.net_conf.specs.Sites.{peer_in, session_of, sessions_of, peers_of, site_of}
 use Rattle.net_conf.specs.RouterSites.{router_site}
 use Rattle.net_conf.specs.Edits.{edited, refusal_of, tests_of, lacks_session, switched, with_rule, without_rules, with_session}
-use Rattle.net_conf.specs.Kept.{IsResettled, IsReclustered, settled, resettled, reclustered, sets_client, touched_peer, second_of, other_of, cluster_in}
+use Rattle.net_conf.specs.Kept.{IsResettled, IsReclustered, settled, resettled, reclustered}
 use Rattle.net_conf.proofs.Inserted.{IsSplit, split}
-use Rattle.net_conf.proofs.KeptTrees.{ends_exact, ends_total, ends_turned, same_ends, same_address, session_ends, or_right}
+use Rattle.net_conf.proofs.KeptTrees.{ends_exact, ends_total, same_ends, same_address}
 use Rattle.net_conf.proofs.OthersStay.{end_exact, mapped}
 use Rattle.net_conf.proofs.Soundness.{all_fail}
-use Rattle.net_conf.proofs.TreesAfter.{ends_joined}
 use Rattle.net_conf.proofs.Unseen.{any_with, any_without, lookup_with, lookup_without}
 
 -- ONE SESSION
@@ -88,23 +87,23 @@ module _ (c : Configuration) (a b r : Addr) where
   rules_without : (v : Addr) → (v.0 == b.0) ≡ false → (policies : List (End × List Rule)) → rules_at (without_rules (end_of a b) policies) (end_of r v) ≡ rules_at policies (end_of r v)
   rules_without v other policies = ap (λ rules. unwrap_or rules []) (lookup_without end_cmp end_exact (is_at (end_cmp (end_of r v))) (end_of a b) (end_apart r v a b other) policies)
 
-  by_client : (on : Bool) → IsResettled c (edited c (Client a b on)) r b true
+  pub by_client : (on : Bool) → IsResettled c (edited c (Client a b on)) r b true
   unfolding session_up
   by_client on =
       let seen : SeesOthersSame c (edited c (Client a b on)) r b = record {
         peers = refl;
         others = λ v other. ap (λ (x : Bool). record (session_of c r v) { client = x }) (switched_apart on v other c.clients);
       } in
-      record { site = settled_site c c.sessions (switched on (end_of a b) c.clients) c.own_next c.imports c.exports r b seen true refl; ends = refl }
+      record { site = settled_site c c.sessions (switched on (end_of a b) c.clients) c.own_next c.imports c.exports r b seen true refl }
 
-  by_own_next : (on : Bool) → IsResettled c (edited c (OwnNext a b on)) r b false
+  pub by_own_next : (on : Bool) → IsResettled c (edited c (OwnNext a b on)) r b false
   unfolding session_up
   by_own_next on =
       let seen : SeesOthersSame c (edited c (OwnNext a b on)) r b = record {
         peers = refl;
         others = λ v other. ap (λ (x : Bool). record (session_of c r v) { own_next = x }) (switched_apart on v other c.own_next);
       } in
-      record { site = settled_site c c.sessions c.clients (switched on (end_of a b) c.own_next) c.imports c.exports r b seen false refl; ends = refl }
+      record { site = settled_site c c.sessions c.clients (switched on (end_of a b) c.own_next) c.imports c.exports r b seen false refl }
 
   by_imports : (imports : List (End × List Rule)) → ((v : Addr) → (v.0 == b.0) ≡ false → rules_at imports (end_of r v) ≡ rules_at c.imports (end_of r v)) → IsResettled c (record c { imports = imports }) r b false
   unfolding session_up
@@ -113,7 +112,7 @@ module _ (c : Configuration) (a b r : Addr) where
         peers = refl;
         others = λ v other. ap (λ (x : List Rule). record (session_of c r v) { policy_in = x }) (same v other);
       } in
-      record { site = settled_site c c.sessions c.clients c.own_next imports c.exports r b seen false refl; ends = refl }
+      record { site = settled_site c c.sessions c.clients c.own_next imports c.exports r b seen false refl }
 
   by_exports : (exports : List (End × List Rule)) → ((v : Addr) → (v.0 == b.0) ≡ false → rules_at exports (end_of r v) ≡ rules_at c.exports (end_of r v)) → IsResettled c (record c { exports = exports }) r b false
   unfolding session_up
@@ -122,7 +121,7 @@ module _ (c : Configuration) (a b r : Addr) where
         peers = refl;
         others = λ v other. ap (λ (x : List Rule). record (session_of c r v) { policy_out = x }) (same v other);
       } in
-      record { site = settled_site c c.sessions c.clients c.own_next c.imports exports r b seen false refl; ends = refl }
+      record { site = settled_site c c.sessions c.clients c.own_next c.imports exports r b seen false refl }
 
 -- WHETHER IT IS ENABLED
 
@@ -182,58 +181,39 @@ module _ (c : Configuration) (r u : Addr) (on : Bool) where
         peers = peers_by_keys r d.sessions ∙ ap (λ ks. map (peer_in r) (filter (is_end r) ks)) keys ∙ sym (peers_by_keys r c.sessions);
         others = other_session;
       } in
-      let was : ends_session c r ≡ true = session_ends c r u there in
-      let ends : ends_session d r ≡ true = ends_joined c d r u (record { enabled = on; is = refl }) r ∙ or_right (is_at (addr_cmp r) r || is_at (addr_cmp r) u) was in
-      record { site = settled_site c d.sessions c.clients c.own_next c.imports c.exports r u seen false refl; ends = ends ∙ sym was }
+      record { site = settled_site c d.sessions c.clients c.own_next c.imports c.exports r u seen false refl }
 
 -- EDITS
-
-second_is : (r a b u : Addr) → second_of r a b ≡ Some u → (r ≡ a) × (b ≡ u)
-second_is r a b u is = by (r.0 == a.0) refl is
-  where
-    by : (t : Bool) → (r.0 == a.0) ≡ t → (if t then Some b else None) ≡ Some u → (r ≡ a) × (b ≡ u)
-    by true at found = (same_address r a at, same_Some b u found)
-    by false at found = absurd (none-some u found)
-
--- the ends are those of the router and its peer
-pub other_is : (r a b u : Addr) → other_of r a b ≡ Some u → ends_of a b ≡ ends_of r u
-other_is r a b u is = by (r.0 == a.0) refl is
-  where
-    by : (t : Bool) → (r.0 == a.0) ≡ t → (if t then Some b else second_of r b a) ≡ Some u → ends_of a b ≡ ends_of r u
-    by true at found = λ i. ends_of (sym (same_address r a at) i) (same_Some b u found i)
-    by false at found = let both = second_is r b a u found in ends_turned a b ∙ (λ i. ends_of (sym both.0 i) (both.1 i))
 
 session_there : (c : Configuration) (e : Edit) → refusal_of c e ≡ None → lacks_session c e ≡ false
 unfolding refusal_of
 session_there c e none = let all = all_fail (tests_of c e) none in all.1.1.1.1.1.1.1.1.0
 
--- an edit of a session that is there
-enabled_after : (c : Configuration) (a b r u : Addr) (on : Bool) → IsStrictlySortedBy ends_cmp (keys_of c.sessions) → has_session c a b ≡ true → other_of r a b ≡ Some u → IsResettled c (with_session c a b on) r u false
-enabled_after c a b r u on sorted there found =
-    let is = other_is r a b u found in
+-- a session that is there, enabled or disabled
+enabled_after : (c : Configuration) (a b r u : Addr) (on : Bool) → IsStrictlySortedBy ends_cmp (keys_of c.sessions) → has_session c a b ≡ true → ends_of a b ≡ ends_of r u → IsResettled c (with_session c a b on) r u false
+enabled_after c a b r u on sorted there is =
     let there' : has_session c r u ≡ true = subst (λ e. is_some (lookup (is_at (ends_cmp e)) c.sessions) ≡ true) is there in
     subst (λ e. IsResettled c (record c { sessions = insert_entry ends_cmp c.sessions e on }) r u false) (sym is) (by_session c r u on sorted there')
 
-resettled_by : (c : Configuration) (e : Edit) (r u : Addr) → IsStrictlySortedBy ends_cmp (keys_of c.sessions) → lacks_session c e ≡ false → touched_peer e r ≡ Some u → IsResettled c (edited c e) r u (sets_client e)
-resettled_by c (Stop a b) r u sorted lacks is = enabled_after c a b r u false sorted (not-false (has_session c a b) lacks) is
-resettled_by c (Start a b) r u sorted lacks is = enabled_after c a b r u true sorted (not-false (has_session c a b) lacks) is
-resettled_by c (Client a b on) r u sorted lacks is = subst (λ x. IsResettled c (edited c (Client a b on)) r x true) (second_is r a b u is).1 (by_client c a b r on)
-resettled_by c (OwnNext a b on) r u sorted lacks is = subst (λ x. IsResettled c (edited c (OwnNext a b on)) r x false) (second_is r a b u is).1 (by_own_next c a b r on)
-resettled_by c (AddRule a b Import rule) r u sorted lacks is = subst (λ x. IsResettled c (edited c (AddRule a b Import rule)) r x false) (second_is r a b u is).1 (by_imports c a b r _ (λ v other. rules_with c a b r v other rule c.imports))
-resettled_by c (AddRule a b Export rule) r u sorted lacks is = subst (λ x. IsResettled c (edited c (AddRule a b Export rule)) r x false) (second_is r a b u is).1 (by_exports c a b r _ (λ v other. rules_with c a b r v other rule c.exports))
-resettled_by c (Clear a b Import) r u sorted lacks is = subst (λ x. IsResettled c (edited c (Clear a b Import)) r x false) (second_is r a b u is).1 (by_imports c a b r _ (λ v other. rules_without c a b r v other c.imports))
-resettled_by c (Clear a b Export) r u sorted lacks is = subst (λ x. IsResettled c (edited c (Clear a b Export)) r x false) (second_is r a b u is).1 (by_exports c a b r _ (λ v other. rules_without c a b r v other c.exports))
-resettled_by c _ r u sorted lacks is = absurd (none-some u is)
+pub stopped_after : (c : Configuration) (a b r u : Addr) → IsStrictlySortedBy ends_cmp (keys_of c.sessions) → refusal_of c (Stop a b) ≡ None → ends_of a b ≡ ends_of r u → IsResettled c (edited c (Stop a b)) r u false
+stopped_after c a b r u sorted none is = enabled_after c a b r u false sorted (not-false (has_session c a b) (session_there c (Stop a b) none)) is
 
-pub resettled_after : (c : Configuration) (e : Edit) (r u : Addr) → IsStrictlySortedBy ends_cmp (keys_of c.sessions) → refusal_of c e ≡ None → touched_peer e r ≡ Some u → IsResettled c (edited c e) r u (sets_client e)
-resettled_after c e r u sorted none is = resettled_by c e r u sorted (session_there c e none) is
+pub started_after : (c : Configuration) (a b r u : Addr) → IsStrictlySortedBy ends_cmp (keys_of c.sessions) → refusal_of c (Start a b) ≡ None → ends_of a b ≡ ends_of r u → IsResettled c (edited c (Start a b)) r u false
+started_after c a b r u sorted none is = enabled_after c a b r u true sorted (not-false (has_session c a b) (session_there c (Start a b) none)) is
+
+pub ruled_after : (c : Configuration) (a b r : Addr) (side : PolicySide) (rule : Rule) → IsResettled c (edited c (AddRule a b side rule)) r b false
+ruled_after c a b r Import rule = by_imports c a b r _ (λ v other. rules_with c a b r v other rule c.imports)
+ruled_after c a b r Export rule = by_exports c a b r _ (λ v other. rules_with c a b r v other rule c.exports)
+
+pub cleared_after : (c : Configuration) (a b r : Addr) (side : PolicySide) → IsResettled c (edited c (Clear a b side)) r b false
+cleared_after c a b r Import = by_imports c a b r _ (λ v other. rules_without c a b r v other c.imports)
+cleared_after c a b r Export = by_exports c a b r _ (λ v other. rules_without c a b r v other c.exports)
 
 -- THE CLUSTER_ID
 
 other_cluster : (c : Configuration) (clusters : List (Addr × Addr)) (r : Addr) → IsReclustered c (record c { clusters = clusters }) r
 unfolding site_of session_up
-other_cluster c clusters r = record { site = mapped _ (reclustered (record c { clusters = clusters }) r) _ (λ n. refl) (is_virtual c r) (node_at c r); ends = refl }
+other_cluster c clusters r = record { site = mapped _ (reclustered (record c { clusters = clusters }) r) _ (λ n. refl) (is_virtual c r) (node_at c r) }
 
-pub reclustered_after : (c : Configuration) (e : Edit) (r : Addr) → cluster_in e ≡ Some r → IsReclustered c (edited c e) r
-reclustered_after c (Cluster a id) r is = other_cluster c _ r
-reclustered_after c _ r is = absurd (none-some r is)
+pub reclustered_after : (c : Configuration) (a id r : Addr) → IsReclustered c (edited c (Cluster a id)) r
+reclustered_after c a id r = other_cluster c _ r

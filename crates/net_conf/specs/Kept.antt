@@ -20,9 +20,11 @@ use Rattle.net_conf.specs.declared.site.SiteSession.{SiteSession}
 use Rattle.net_conf.specs.declared.tables.Ends.{Ends}
 use Rattle.net_conf.specs.declared.tables.Link.{Link as TheLink}
 use Rattle.net_conf.specs.declared.edit.Edit.{Edit}
+use Rattle.net_conf.specs.declared.edit.SiteEffect.{SiteEffect}
+use Rattle.net_conf.specs.declared.edit.SiteEffect.TheVariants.{Costs, Origins, Session, NewSession, ClusterId, Other}
 use Rattle.net_conf.specs.declared.edit.Edit.TheVariants.{Router, Virtual, Link, Metric, Fail, Mend, Join, Stop, Start, Client, OwnNext, Cluster, Rule, Clear, Origin, NoOrigin}
 use Rattle.net_conf.specs.Configuration.{Configuration, ends_of, ends_session, link_between, is_reflector, cluster_id}
-use Rattle.net_conf.specs.Edits.{with_link, with_session}
+use Rattle.net_conf.specs.Edits.{refusal_of, edited, with_link, with_session}
 use Rattle.net_conf.specs.Costs.{costs_of, is_up, down_sessions}
 use Rattle.net_conf.specs.Sites.{session_of}
 use Rattle.net_conf.specs.RouterSites.{router_site, site_kept}
@@ -86,6 +88,12 @@ pub record IsTurned (c d : Configuration) (moved : List Addr) (down : List Ends)
   pub ends : EndsStayBut c d turned
   pub alone : (r : Addr) → is_among r moved ≡ false → is_among r turned ≡ false → StaysAt c d r
 
+-- the edit is not refused and makes the other configuration, and no session but of these comes up or goes down
+pub record IsMadeBy (c d : Configuration) (e : Edit) (turned : List Addr) : Type 0 where
+  pub passes : refusal_of c e ≡ None
+  pub made : d ≡ edited c e
+  pub sessions : SessionsStayBut c d turned
+
 -- THE SITES OF THE ENDS OF SESSIONS
 
 -- each router that has a session has its site here, and nobody else has one
@@ -125,7 +133,6 @@ resettled d r u clients s = record s { reflector = if clients then is_reflector 
 -- of the router's part its session with the peer differs alone, and whether it is a reflector, where its clients change
 pub record IsResettled (c d : Configuration) (r u : Addr) (clients : Bool) : Type 0 where
   pub site : router_site d r ≡ option_map (resettled d r u clients) (router_site c r)
-  pub ends : ends_session d r ≡ ends_session c r
 
 -- the session is with a peer below this one, or above it
 abbrev pub is_below : Addr → SiteSession → Bool
@@ -153,7 +160,20 @@ reclustered d r s = record s { cluster = cluster_id d r }
 -- of the router's part its CLUSTER_ID differs alone
 pub record IsReclustered (c d : Configuration) (r : Addr) : Type 0 where
   pub site : router_site d r ≡ option_map (reclustered d r) (router_site c r)
-  pub ends : ends_session d r ≡ ends_session c r
+
+-- it makes a client of a peer, or takes it for one no more
+abbrev pub sets_client : Edit → Bool
+sets_client (Client a b on) = true
+sets_client _ = false
+
+-- the site by the configuration to which the edit has led, made of the one before by what the edit changes of it
+abbrev pub site_from : Configuration → Edit → Addr → SiteEffect → SiteConf → Option SiteConf
+site_from d e r Costs s = Some (relinked d r s)
+site_from d e r Origins s = Some (reoriginated e s)
+site_from d e r (Session u) s = Some (resettled d r u (sets_client e) s)
+site_from d e r (NewSession u) s = Some (extended d r u s)
+site_from d e r ClusterId s = Some (reclustered d r s)
+site_from d e r Other s = router_site d r
 
 -- WHAT AN EDIT TOUCHES
 
@@ -184,44 +204,28 @@ session_in (Stop a b) = Some (a, b)
 session_in (Start a b) = Some (a, b)
 session_in _ = None
 
--- the router that comes to originate a prefix, or ceases to
-abbrev pub origin_in : Edit → Option Addr
-origin_in (Origin a p) = Some a
-origin_in (NoOrigin a p) = Some a
-origin_in _ = None
+-- the effect, where the router is the one at the address
+abbrev pub effect_at : Addr → Addr → SiteEffect → SiteEffect
+effect_at r a x = if r.0 == a.0 then x else Other
 
--- the router whose CLUSTER_ID it sets
-abbrev pub cluster_in : Edit → Option Addr
-cluster_in (Cluster a id) = Some a
-cluster_in _ = None
-
--- it makes a client of a peer, or takes it for one no more
-abbrev pub sets_client : Edit → Bool
-sets_client (Client a b on) = true
-sets_client _ = false
-
--- the second, where the router is the first
-abbrev pub second_of : Addr → Addr → Addr → Option Addr
-second_of r a b = if r.0 == a.0 then Some b else None
-
--- the other of the two, where the router is one of them
-abbrev pub other_of : Addr → Addr → Addr → Option Addr
-other_of r a b = if r.0 == a.0 then Some b else second_of r b a
-
--- the peer of the session that the router has more by it
-abbrev pub joined_peer : Edit → Addr → Option Addr
-joined_peer (Join a b) r = other_of r a b
-joined_peer _ r = None
-
--- the peer of the router's session that it changes alone: a setting of it, or whether it is enabled
-abbrev pub touched_peer : Edit → Addr → Option Addr
-touched_peer (Stop a b) r = other_of r a b
-touched_peer (Start a b) r = other_of r a b
-touched_peer (Client a b on) r = second_of r a b
-touched_peer (OwnNext a b on) r = second_of r a b
-touched_peer (Rule a b side rule) r = second_of r a b
-touched_peer (Clear a b side) r = second_of r a b
-touched_peer _ r = None
+-- what of the router's site the edit changes
+abbrev pub effect_on : Edit → Addr → SiteEffect
+effect_on (Router a n) r = Other
+effect_on (Virtual a n) r = Other
+effect_on (Link a b m) r = Costs
+effect_on (Metric a b m) r = Costs
+effect_on (Fail a b) r = Costs
+effect_on (Mend a b) r = Costs
+effect_on (Join a b) r = if r.0 == a.0 then NewSession b else effect_at r b (NewSession a)
+effect_on (Stop a b) r = if r.0 == a.0 then Session b else effect_at r b (Session a)
+effect_on (Start a b) r = if r.0 == a.0 then Session b else effect_at r b (Session a)
+effect_on (Client a b on) r = effect_at r a (Session b)
+effect_on (OwnNext a b on) r = effect_at r a (Session b)
+effect_on (Cluster a id) r = effect_at r a ClusterId
+effect_on (Rule a b side rule) r = effect_at r a (Session b)
+effect_on (Clear a b side) r = effect_at r a (Session b)
+effect_on (Origin a p) r = effect_at r a Origins
+effect_on (NoOrigin a p) r = effect_at r a Origins
 
 -- the one makes the other with a link of the two
 pub record IsLinked (c d : Configuration) (a b : Addr) : Type 0 where

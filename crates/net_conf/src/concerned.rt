@@ -15,7 +15,7 @@ ghost use Rattle.net_conf.specs.Scopes.{scope, router_in};
 use crate::conf_sessions::ConfSessions;
 use crate::conf_trees::ConfTrees;
 use crate::edit::Edit;
-use crate::edited::Made;
+use crate::edited::MadeTrees;
 use crate::tables::Ends;
 use igp_cost::lone_node_moves_no_tree;
 use net_prefix::Addr;
@@ -24,7 +24,7 @@ use std::alloc::{AllocError, Global};
 use std::collections::BTreeSet;
 use std::thread::Threads;
 
-/// What an edit makes, and whom it concerns.
+/// The tables, the trees and the sessions that are down, as an edit makes them, and whom it concerns.
 #[derive(Drop)]
 pub(crate) struct MadeSessions {
     pub(crate) conf: ConfSessions,
@@ -54,7 +54,7 @@ impl ConfSessions {
         ensures ends { IfOk result (λ made. EndsStayBut self.now made.conf made.concerned.keys) }
         ensures sessions { IfOk result (λ made. SessionsStayBut self.now made.conf made.turned.keys) }
     {
-        let Made { conf: trees, moved } = self.trees.made(rt, alloc, edit)?;
+        let MadeTrees { conf: trees, moved } = self.trees.made(rt, alloc, edit)?;
         let Ok(Turned { down, turned }) = self.turned(alloc, edit, &trees, &moved) else {
             drop((trees, moved));
             return Err(AllocError);

@@ -1,6 +1,6 @@
 //! What is configured, what follows from it, and how an edit changes it.
 
-ghost use Rattle.std.specs.Prelude.{◌≡◌, true, None, Some, Ok, Err, IfOk, MatchResult, option_map, length};
+ghost use Rattle.std.specs.Prelude.{◌≡◌, true, None, Some, Ok, Err, IfOk, MatchResult, option_map};
 ghost use Rattle.net_conf.specs.Configuration.{unconfigured, node_at, has_node, is_virtual, as_of, has_session, ends_session, origins_of};
 ghost use Rattle.net_conf.specs.Concerned.{ConcernsAlone};
 ghost use Rattle.net_conf.specs.Costs.{costs_of, session_up, is_up, down_sessions};
@@ -100,13 +100,6 @@ impl Conf {
             .map(|node| (node.asn, node.kind))
     }
 
-    /// How many routers and virtual peers there are.
-    pub fn node_count(&self) -> usize
-        ensures { result ≡ length self.now.nodes }
-    {
-        self.sessions.tables().node_count()
-    }
-
     /// Whether a router or virtual peer stands at the address.
     pub fn has_node(&self, addr: Addr) -> bool
         ensures { result ≡ has_node self.now addr }
@@ -193,8 +186,8 @@ impl Conf {
         self.made(rt, alloc, edit).map_err(|_| Refusal::Memory)
     }
 
-    /// The configuration after an edit that is not refused, and whom the edit concerns.
-    fn made<R: Threads + Sync>(
+    /// The same, of an edit that is not refused: it is not checked again.
+    pub fn made<R: Threads + Sync>(
         &self,
         rt: &R,
         alloc: Global,

@@ -2,7 +2,7 @@
 
 ghost use Rattle.std.specs.Prelude.{◌≡◌};
 ghost use Rattle.net_conf.specs.Scopes.{scope, router_in};
-ghost use Rattle.net_conf.specs.Kept.{HasMetric, node_in, link_in, session_in, origin_in, cluster_in, sets_client, joined_peer, touched_peer, second_of, other_of};
+ghost use Rattle.net_conf.specs.Kept.{HasMetric, node_in, link_in, session_in, sets_client, effect_at, effect_on};
 
 use crate::tables::PolicySide;
 use igp_cost::Metric;
@@ -56,6 +56,23 @@ pub enum Scope {
     Site(Addr),
     /// This router's route to the prefix, and what it sends of that.
     Route(Addr, Prefix),
+}
+
+/// What of a router's site an edit changes.
+#[derive(Clone, Copy)]
+pub(crate) enum SiteEffect {
+    /// Its costs, and which of its sessions are up.
+    Costs,
+    /// The prefixes that it originates.
+    Origins,
+    /// Its session with this peer: a setting of it, or whether it is enabled.
+    Session(Addr),
+    /// It has a session with this peer more.
+    NewSession(Addr),
+    /// Its CLUSTER_ID (RFC 4456, 7).
+    ClusterId,
+    /// None of these alone.
+    Other,
 }
 
 impl Scope {
@@ -117,26 +134,6 @@ impl Edit {
         }
     }
 
-    /// The router that comes to originate a prefix, or ceases to.
-    pub(crate) fn origin(&self) -> Option<Addr>
-        ensures { result ≡ origin_in self.now }
-    {
-        match self {
-            Edit::Origin(router, _) | Edit::NoOrigin(router, _) => Some(*router),
-            _ => None,
-        }
-    }
-
-    /// The router whose CLUSTER_ID it sets.
-    pub(crate) fn cluster(&self) -> Option<Addr>
-        ensures { result ≡ cluster_in self.now }
-    {
-        match self {
-            Edit::Cluster(router, _) => Some(*router),
-            _ => None,
-        }
-    }
-
     /// Whether it makes a client of a peer, or takes it for one no more.
     pub(crate) fn sets_client(&self) -> bool
         ensures { result ≡ sets_client self.now }
@@ -144,28 +141,37 @@ impl Edit {
         matches!(self, Edit::Client(_, _, _))
     }
 
-    /// The peer of the session that the router has more by it.
-    pub(crate) fn joined_peer(&self, router: Addr) -> Option<Addr>
-        ensures { result ≡ joined_peer self.now router }
+    /// What of the router's site it changes.
+    pub(crate) fn effect_on(&self, router: Addr) -> SiteEffect
+        ensures { result ≡ effect_on self.now router }
     {
         match self {
-            Edit::Join(one, other) => other_of(router, *one, *other),
-            _ => None,
-        }
-    }
-
-    /// The peer of the router's session that it changes alone: a setting of it, or whether it is enabled.
-    pub(crate) fn touched_peer(&self, router: Addr) -> Option<Addr>
-        ensures { result ≡ touched_peer self.now router }
-    {
-        match self {
-            Edit::Stop(one, other) | Edit::Start(one, other) => other_of(router, *one, *other),
-            Edit::Client(one, peer, _) | Edit::OwnNext(one, peer, _) => {
-                second_of(router, *one, *peer)
+            Edit::Router(_, _) | Edit::Virtual(_, _) => SiteEffect::Other,
+            Edit::Link(_, _, _) | Edit::Metric(_, _, _) => SiteEffect::Costs,
+            Edit::Fail(_, _) | Edit::Mend(_, _) => SiteEffect::Costs,
+            Edit::Join(one, other) => {
+                if router == *one {
+                    SiteEffect::NewSession(*other)
+                } else {
+                    effect_at(router, *other, SiteEffect::NewSession(*one))
+                }
             }
-            Edit::Rule(one, peer, _, _) => second_of(router, *one, *peer),
-            Edit::Clear(one, peer, _) => second_of(router, *one, *peer),
-            _ => None,
+            Edit::Stop(one, other) | Edit::Start(one, other) => {
+                if router == *one {
+                    SiteEffect::Session(*other)
+                } else {
+                    effect_at(router, *other, SiteEffect::Session(*one))
+                }
+            }
+            Edit::Client(one, peer, _) | Edit::OwnNext(one, peer, _) => {
+                effect_at(router, *one, SiteEffect::Session(*peer))
+            }
+            Edit::Rule(one, peer, _, _) => effect_at(router, *one, SiteEffect::Session(*peer)),
+            Edit::Clear(one, peer, _) => effect_at(router, *one, SiteEffect::Session(*peer)),
+            Edit::Cluster(one, _) => effect_at(router, *one, SiteEffect::ClusterId),
+            Edit::Origin(one, _) | Edit::NoOrigin(one, _) => {
+                effect_at(router, *one, SiteEffect::Origins)
+            }
         }
     }
 
@@ -182,20 +188,13 @@ impl Edit {
     }
 }
 
-/// The second, where the router is the first.
-fn second_of(router: Addr, first: Addr, second: Addr) -> Option<Addr>
-    ensures { result ≡ second_of router first second }
+/// The effect, where the router is the one at the address.
+fn effect_at(router: Addr, addr: Addr, effect: SiteEffect) -> SiteEffect
+    ensures { result ≡ effect_at router addr effect }
 {
-    if router == first { Some(second) } else { None }
-}
-
-/// The other of the two, where the router is one of them.
-fn other_of(router: Addr, one: Addr, other: Addr) -> Option<Addr>
-    ensures { result ≡ other_of router one other }
-{
-    if router == one {
-        Some(other)
+    if router == addr {
+        effect
     } else {
-        second_of(router, other, one)
+        SiteEffect::Other
     }
 }

@@ -22,9 +22,9 @@ use std::alloc::{AllocError, Global};
 use std::collections::BTreeSet;
 use std::thread::Threads;
 
-/// What an edit makes, and whose trees have moved.
+/// The tables and the trees that an edit makes, and whose trees have moved.
 #[derive(Drop)]
-pub(crate) struct Made {
+pub(crate) struct MadeTrees {
     pub(crate) conf: ConfTrees,
     pub(crate) moved: BTreeSet<Addr>,
 }
@@ -36,7 +36,7 @@ impl ConfTrees {
         rt: &R,
         alloc: Global,
         edit: &Edit,
-    ) -> Result<Made, AllocError>
+    ) -> Result<MadeTrees, AllocError>
         requires { refusal_of self.now edit.now ≡ None }
         ensures conf { IfOk result (λ made. made.conf ≡ edited self.now edit.now) }
         ensures moved { IfOk result (λ made. CostsStayBut self.now made.conf made.moved.keys) }
@@ -52,7 +52,7 @@ impl ConfTrees {
             return Err(AllocError);
         };
         let conf = ConfTrees { tables, trees };
-        Ok(Made { conf, moved })
+        Ok(MadeTrees { conf, moved })
     }
 
     /// The trees of the tables that the edit makes of these.

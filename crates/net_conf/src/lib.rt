@@ -13,16 +13,15 @@ mod conf_trees;
 mod down_after;
 mod edit;
 mod edited;
-mod extended;
 mod kept_sites;
 mod laws;
 mod limits;
 mod moved_trees;
 mod refusal;
-mod resettled;
 mod same_facts;
 mod shared_site;
 mod site;
+mod site_from;
 mod tables;
 mod trees;
 

@@ -56,7 +56,7 @@ pub struct SiteSession {
 }
 
 impl SiteConf {
-    ghost use Rattle.std.specs.Prelude.{◌≡◌, option_copied};
+    ghost use Rattle.std.specs.Prelude.{◌≡◌, IfOk, option_copied};
     ghost use Rattle.net_conf.specs.Sites.{session_with};
 
     /// The router's session with the peer, where it has one.
@@ -68,19 +68,45 @@ impl SiteConf {
             .iter()
             .find(|session| session.peer == peer)
     }
-}
 
-impl Copied for SiteConf {
-    fn copy(&self, alloc: Global) -> Result<SiteConf, AllocError> {
-        Ok(SiteConf {
+    /// The site, with these originated prefixes, sessions and costs.
+    pub(crate) fn with_parts(
+        &self,
+        origins: ChunkedSet<Prefix>,
+        sessions: SharedSeq<SiteSession>,
+        costs: Tree,
+    ) -> SiteConf
+        ensures { result ≡ record self.now { origins = origins; sessions = sessions; costs = costs } }
+    {
+        SiteConf {
             me: self.me,
             asn: self.asn,
             cluster: self.cluster,
             reflector: self.reflector,
-            origins: self.origins.share()?,
-            sessions: self.sessions.share()?,
-            costs: self.costs.copy(alloc)?,
-        })
+            origins,
+            sessions,
+            costs,
+        }
+    }
+
+    /// The site, with these sessions.
+    pub(crate) fn with_sessions(
+        &self,
+        alloc: Global,
+        sessions: SharedSeq<SiteSession>,
+    ) -> Result<SiteConf, AllocError>
+        ensures { IfOk result (λ site. site ≡ record self.now { sessions = sessions }) }
+    {
+        let origins = self.origins.share()?;
+        let costs = self.costs.copy(alloc)?;
+        Ok(self.with_parts(origins, sessions, costs))
+    }
+}
+
+impl Copied for SiteConf {
+    fn copy(&self, alloc: Global) -> Result<SiteConf, AllocError> {
+        let sessions = self.sessions.share()?;
+        self.with_sessions(alloc, sessions)
     }
 }
 

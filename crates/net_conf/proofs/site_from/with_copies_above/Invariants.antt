@@ -1,6 +1,6 @@
 use Rattle.std.proofs.Common.{◌≡◌, ◌++◌, take, filter}
 use Rattle.net_conf.specs.Kept.{is_above}
-use Rattle.net_conf.proofs.extended.with_copies_above.Given as goal
+use Rattle.net_conf.proofs.site_from.with_copies_above.Given as goal
 
 -- the first, and those above among the sessions so far
 abbrev pub invariant-loop-session : goal.invariant-loop-session
