@@ -1,2 +1,3 @@
+pub mod LineFeeds
 pub mod Streams
 pub mod Writing

@@ -1,13 +1,12 @@
 //! The bytes that were read and not yet taken, in a buffer of a fixed size, and where the first line among them ends.
-#![tactic(auto)]
 
 ghost use Rattle.std.specs.Prelude.{◌≡◌, ℕ, ◌+◌, ◌-◌, ◌<◌, ◌≤◌, ◌==◌, List, [], ◌++◌, length, take, drop, slice_range, position, None, IfOk, OnOk, OnErr, true, false};
 ghost use Rattle.std.specs.Io.KnownBytes.{Consumes, IsAtEnd, Keeps};
 
+use crate::Input;
 use std::io;
 use std::io::Read;
 use std::marker::Model;
-use watched::Input;
 
 /// A buffer of `N` bytes, as the bytes that it holds.
 #[derive(Drop)]

@@ -1,8 +1,8 @@
 use Rattle.std.proofs.Common.{◌≡◌, ◌+◌, ◌-◌, ℕ, length, position, slice_range, Some, ap, sym, ◌∙◌, arith}
 use Rattle.std.proofs.lemmas.List.{length-take, length-drop}
-use Rattle.line_buffer.proofs.BufferLemmas.{cut}
-use Rattle.line_buffer.specs.LineFeeds.{is_line_feed, position_after, position_nowhere}
-use Rattle.line_buffer.proofs.LineBuffer.line_feed_at.Goals as goal
+use Rattle.watched.proofs.BufferLemmas.{cut}
+use Rattle.watched.specs.LineFeeds.{is_line_feed, position_after, position_nowhere}
+use Rattle.watched.proofs.line_buffer.LineBuffer.line_feed_at.Goals as goal
 
 pub returns-in_err-index : goal.returns-in_err-index
 returns-in_err-index g c =

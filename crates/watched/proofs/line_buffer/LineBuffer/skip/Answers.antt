@@ -1,7 +1,7 @@
 use Rattle.std.proofs.Common.{ℕ, ◌∙◌, ap, drop, arith}
 use Rattle.std.proofs.lemmas.List.{length-take, length-drop}
-use Rattle.line_buffer.proofs.BufferLemmas.{consumed}
-use Rattle.line_buffer.proofs.LineBuffer.skip.Goals as goal
+use Rattle.watched.proofs.BufferLemmas.{consumed}
+use Rattle.watched.proofs.line_buffer.LineBuffer.skip.Goals as goal
 
 pub returns : goal.returns
 returns g c =

@@ -2,9 +2,9 @@ use Rattle.std.proofs.Common.{◌≡◌, ◌≤◌, ◌++◌, ◌-◌, ℕ, eqb,
 use Rattle.std.proofs.lemmas.Bool.{ltb-true, ltb-false}
 use Rattle.std.proofs.lemmas.List.{length-take-le, length-take, length-drop}
 use Rattle.std.proofs.lemmas.List.Elements.{All-same}
-use Rattle.line_buffer.proofs.BufferLemmas.{grown, kept}
-use Rattle.line_buffer.specs.LineFeeds.{no_cut}
-use Rattle.line_buffer.proofs.LineBuffer.read_more.Goals as goal
+use Rattle.watched.proofs.BufferLemmas.{grown, kept}
+use Rattle.watched.specs.LineFeeds.{no_cut}
+use Rattle.watched.proofs.line_buffer.LineBuffer.read_more.Goals as goal
 
 pub invariant_of-self : goal.invariant_of-self
 invariant_of-self g c =
