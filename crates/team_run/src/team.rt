@@ -13,6 +13,7 @@ use crate::scripts::{ScriptFile, read_scripts};
 use crate::told::Told;
 use cell_engine::Cell;
 use desk::{Audit, Desk, Record, Seat};
+use log_text::write_log_in_threads;
 use prefix_table::PrefixTable;
 use route_select::Selector;
 use sim_event::Entry;
@@ -24,7 +25,6 @@ use std::sync::Wait;
 use std::sync::atomic::AtomicU64;
 use std::sync::ledger::{Blank, Ledger};
 use std::thread::Threads;
-use team_log::write_log_in_threads;
 use watched::{Output, WriterFailed};
 
 /// How a team is run.

@@ -3,7 +3,7 @@ use Rattle.std.specs.List.{flat_map}
 use Rattle.watched.specs.declared.output.WriterFailed.{WriterFailed}
 use Rattle.reply_text.specs.Pieces.{Continues}
 use Rattle.log_text.specs.Logs.{entry_text}
-use Rattle.team_log.proofs.log.write_turns.Given as goal
+use Rattle.log_text.proofs.in_threads.write_turns.Given as goal
 
 -- the calls that are left complete what was written
 abbrev pub invariant-loop-left : goal.invariant-loop-left

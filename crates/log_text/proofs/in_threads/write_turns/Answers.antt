@@ -4,7 +4,7 @@ use Rattle.std.specs.List.{flat_map}
 use Rattle.std.proofs.lemmas.List.Concat.{flat_map-append}
 use Rattle.reply_text.specs.Pieces.{writes_same, writes_cut, writes_next, each_end}
 use Rattle.log_text.specs.Logs.{entry_text}
-use Rattle.team_log.proofs.log.write_turns.Goals as goal
+use Rattle.log_text.proofs.in_threads.write_turns.Goals as goal
 
 pub returns-in_err-write_turn : goal.returns-in_err-write_turn
 returns-in_err-write_turn g c =

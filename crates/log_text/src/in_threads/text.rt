@@ -5,7 +5,7 @@ ghost use Rattle.std.specs.List.{flat_map};
 ghost use Rattle.std.specs.Thread.{IsSync};
 ghost use Rattle.log_text.specs.Logs.{entry_text};
 
-use log_text::write_entries;
+use crate::log::write_entries;
 use sim_event::Entry;
 use std::alloc::{AllocError, Global};
 use std::thread::{Threads, join};

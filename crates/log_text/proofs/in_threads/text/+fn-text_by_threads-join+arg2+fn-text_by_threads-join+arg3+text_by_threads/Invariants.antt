@@ -1,4 +1,4 @@
-use Rattle.team_log.proofs.text.+fn-text_by_threads-join+arg2+fn-text_by_threads-join+arg3+text_by_threads.Given as goal
+use Rattle.log_text.proofs.in_threads.text.+fn-text_by_threads-join+arg2+fn-text_by_threads-join+arg3+text_by_threads.Given as goal
 
 abbrev pub decreases-join+arg2 : goal.decreases-join+arg2
 decreases-join+arg2 g l = l.few

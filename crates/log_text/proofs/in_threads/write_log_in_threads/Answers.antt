@@ -1,5 +1,5 @@
 use Rattle.log_text.specs.LogParts.{log_cut_first, log_cut_calls, log_whole}
-use Rattle.team_log.proofs.log.write_log_in_threads.Goals as goal
+use Rattle.log_text.proofs.in_threads.write_log_in_threads.Goals as goal
 
 pub returns-in_err-write_header : goal.returns-in_err-write_header
 returns-in_err-write_header g c =

@@ -1,16 +1,18 @@
-//! The log of a history.
+//! The log of a history, whose text several threads make.
+
+mod text;
 
 ghost use Rattle.std.specs.Prelude.{◌≡◌};
 ghost use Rattle.std.specs.List.{flat_map};
 ghost use Rattle.log_text.specs.Logs.{entry_text, log_text};
 ghost use Rattle.watched.specs.Streams.{Writes};
 
-use crate::text::text_by_threads;
-use log_text::{write_end, write_entries, write_header, write_log};
+use crate::log::{write_end, write_entries, write_header, write_log};
 use sim_event::Entry;
 use std::alloc::Global;
 use std::io::Write;
 use std::thread::Threads;
+use text::text_by_threads;
 use watched::{Output, WriterFailed};
 
 /// The most calls of which one thread makes the text before it is written.
