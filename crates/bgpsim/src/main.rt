@@ -7,17 +7,19 @@ ghost use Rattle.std.specs.Prelude.{◌≡◌, length, vec_len, IfOk};
 ghost use Rattle.std.specs.Process.{exit_status};
 ghost use Rattle.clap.specs.Words.{kind_of};
 ghost use Rattle.bgpsim.specs.CommandLine.{IsTeamWithin};
-ghost use Rattle.bgpsim.specs.Status.{no_memory, status_of_kind, IsEnd, IsReplayEnd, IsTeamEnd};
+ghost use Rattle.bgpsim.specs.Status.{status_of_kind, IsEnd, IsReplayEnd, IsTeamEnd};
+ghost use Rattle.reply_text.specs.Ending.{no_memory};
 
 use cell_engine::Cell;
 use clap::Error;
 use clap::error::ErrorKind;
 use command_line::{Choice, Team, choose};
+use log_replay::run_replay;
 use prefix_table::{SortedTable, TrieTable};
-use replay_run::run_replay;
+use reply_text::{MISTAKEN, NO_MEMORY};
 use route_select::{FilterCell, GroupCell};
-use script_run::run_script;
 use sim_core::Sim;
+use sim_text::run_script;
 use std::alloc::{AllocError, Global};
 use std::env;
 use std::fs::{File, Files};
@@ -36,12 +38,6 @@ type Engine = Sim<GroupCell, TrieTable<Cell<GroupCell>>>;
 
 /// The machine that replays logs: cells that keep all standings in one list, in sorted tables.
 type PlainEngine = Sim<FilterCell, SortedTable<Cell<FilterCell>>>;
-
-/// The exit status of a mistaken command line.
-const MISTAKEN: u8 = 2;
-
-/// The exit status of want of memory.
-const NO_MEMORY: u8 = 5;
 
 fn main(rt: HostRuntime) -> ExitCode {
     let alloc = rt.alloc();

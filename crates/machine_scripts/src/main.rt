@@ -7,22 +7,18 @@ mod machines;
 ghost use Rattle.std.specs.Prelude.{◌≡◌};
 ghost use Rattle.std.specs.Process.{exit_status};
 ghost use Rattle.reference_machine.specs.Machine.{nothing};
-ghost use Rattle.machine_scripts.specs.Status.{mistaken, no_memory, IsEnd};
+ghost use Rattle.reply_text.specs.Ending.{mistaken, no_memory};
+ghost use Rattle.machine_scripts.specs.Status.{IsEnd};
 
 use command_line::{Kind, choose};
 use machines::{PlainMachine, SortedMachine, TrieMachine};
 use reference_machine::Machine;
-use script_run::run_script;
+use reply_text::{MISTAKEN, NO_MEMORY};
+use sim_text::run_script;
 use std::env;
 use std::io::{self, BufWriter, Write};
 use std::process::ExitCode;
 use std::thread::Threads;
-
-/// The exit status of a mistaken command line.
-const MISTAKEN: u8 = 2;
-
-/// The exit status of want of memory.
-const NO_MEMORY: u8 = 5;
 
 fn main(rt: HostRuntime) -> ExitCode {
     let alloc = rt.alloc();
