@@ -1,8 +1,8 @@
 use Rattle.std.proofs.Common.{Some, cond, ap, ◌∙◌}
 use Rattle.std.specs.FinMap as map
 use Rattle.net_prefix.specs.Orders.{block_total}
-use Rattle.table_use.proofs.Matches.{other_keys}
-use Rattle.table_use.proofs.put_and_get_other.Goals as goal
+use Rattle.route_tests.proofs.Matches.{other_keys}
+use Rattle.route_tests.proofs.table_use.put_and_get_other.Goals as goal
 
 pub returns : goal.returns
 returns g c other =

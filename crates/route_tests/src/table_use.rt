@@ -1,11 +1,10 @@
 //! Callers of any table: what can be relied on, whatever the table is.
-#![tactic(auto)]
 
 ghost use Rattle.std.specs.Prelude.{◌≡◌, ◌≢◌, Some, None, IfOk, OnOk, OnErr};
 ghost use Rattle.std.specs.Option.{IfSome, IfNone};
 ghost use Rattle.std.specs.FinMap as map;
 ghost use Rattle.prefix_table.specs.Tables.{IsLongestMatch, HasNoMatch};
-ghost use Rattle.table_use.specs.Walks.{keys_of};
+ghost use Rattle.route_tests.specs.Walks.{keys_of};
 
 use net_prefix::{Addr, Prefix};
 use prefix_table::PrefixTable;

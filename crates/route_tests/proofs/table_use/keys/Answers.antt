@@ -1,9 +1,9 @@
 use Rattle.std.proofs.Common.{Some, ◌++◌, ◌∷◌, [], map, length, ap, sym, ◌∙◌, append_assoc, arith}
 use Rattle.std.proofs.lemmas.List.{append-nil}
-use Rattle.table_use.specs.Walks.{rest_after}
-use Rattle.table_use.proofs.Walks.{walk_step, none_after, all_first}
+use Rattle.route_tests.specs.Walks.{rest_after}
+use Rattle.route_tests.proofs.Walks.{walk_step, none_after, all_first}
 use Rattle.std.specs.FinMap as fin
-use Rattle.table_use.proofs.keys.Goals as goal
+use Rattle.route_tests.proofs.table_use.keys.Goals as goal
 
 pub walk-init : goal.walk-init
 walk-init g c = rw c.new-keys.ensures.items (ap (map (λ e. e.0)) (sym (all_first (fin.entries (g.T.PrefixTable.table c.args.table.now)))))

@@ -1,5 +1,5 @@
-use Rattle.table_use.proofs.Matches.{own_match}
-use Rattle.table_use.proofs.put_and_match.Goals as goal
+use Rattle.route_tests.proofs.Matches.{own_match}
+use Rattle.route_tests.proofs.table_use.put_and_match.Goals as goal
 
 pub returns : goal.returns
 returns g c =

@@ -10,7 +10,7 @@ use Rattle.std.specs.FinMap.Entries.{below_all, is_sorted}
 use Rattle.net_prefix.specs.Block.{Block, block_cmp}
 use Rattle.prefix_table.specs.Tables.{Table, is_after, first_after}
 use Rattle.net_prefix.specs.Orders.{block_total}
-use Rattle.table_use.specs.Walks.{rest_after}
+use Rattle.route_tests.specs.Walks.{rest_after}
 
 less_of : (o : Ordering) → T (is_lt o) → o ≡ Less
 less_of Less e = refl

@@ -1,6 +1,6 @@
 use Rattle.std.proofs.Common.{sym, subst}
-use Rattle.table_use.proofs.Matches.{IsAnswer, one_answer}
-use Rattle.table_use.proofs.longest_of_both.Goals as goal
+use Rattle.route_tests.proofs.Matches.{IsAnswer, one_answer}
+use Rattle.route_tests.proofs.table_use.longest_of_both.Goals as goal
 
 pub returns : goal.returns
 returns g c same =

@@ -4,7 +4,7 @@ use Rattle.std.specs.Borrow.{Bor}
 use Rattle.net_prefix.specs.Block.{Block}
 use Rattle.prefix_table.specs.Tables.{all_seen}
 use Rattle.std.proofs.lemmas.List.{take_all}
-use Rattle.table_use.proofs.keys_at_once.Goals as goal
+use Rattle.route_tests.proofs.table_use.keys_at_once.Goals as goal
 
 keys_seen : {V : Type 0} (es : List (Block × Bor V)) → ◌≡◌ {A = List Block} (map (λ e. e.0) es) (map (λ e. e.0) (all_seen es))
 keys_seen [] = refl

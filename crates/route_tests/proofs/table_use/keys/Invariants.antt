@@ -1,6 +1,6 @@
 use Rattle.std.proofs.Common.{◌≡◌, ◌++◌, map, length}
-use Rattle.table_use.specs.Walks.{keys_of, rest_after}
-use Rattle.table_use.proofs.keys.Given as goal
+use Rattle.route_tests.specs.Walks.{keys_of, rest_after}
+use Rattle.route_tests.proofs.table_use.keys.Given as goal
 
 -- the blocks so far, and those of the entries that are left
 abbrev pub invariant-walk : goal.invariant-walk

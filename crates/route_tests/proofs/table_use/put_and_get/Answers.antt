@@ -3,7 +3,7 @@ use Rattle.std.specs.FinMap as map
 use Rattle.std.specs.Ordering.{is_eq}
 use Rattle.std.specs.Cmp.{tied_itself}
 use Rattle.net_prefix.specs.Orders.{block_total}
-use Rattle.table_use.proofs.put_and_get.Goals as goal
+use Rattle.route_tests.proofs.table_use.put_and_get.Goals as goal
 
 pub returns-clause-value : goal.returns-clause-value
 returns-clause-value g c =

@@ -1,5 +1,5 @@
 use Rattle.std.proofs.Common.{◌≡◌, map, take}
-use Rattle.table_use.proofs.keys_at_once.Given as goal
+use Rattle.route_tests.proofs.table_use.keys_at_once.Given as goal
 
 -- the blocks so far
 abbrev pub invariant-loop-entry : goal.invariant-loop-entry
