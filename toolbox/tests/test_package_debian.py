@@ -406,11 +406,11 @@ class Origin(Case):
         later = time.time() + 100
         for path in (self.source, self.top / "crates.txt"):
             os.utime(path, (later, later))
-        self.file("top/crates/bgpsim/out/bgpsim.crates", "watched:\nline_buffer: watched\n")
+        self.file("top/crates/bgpsim/out/bgpsim.crates", "seq:\nshared_map: seq\n")
         self.made()
 
     def test_nothing_is_made_of_a_program_of_other_crates(self):
-        self.file("top/crates/bgpsim/out/bgpsim.crates", "watched:\nline_buffer: watched decimal\n")
+        self.file("top/crates/bgpsim/out/bgpsim.crates", "seq:\nshared_map: seq decimal\n")
         told = "crates.txt: it is newer than the program: ./bgpsim --version builds it\n"
         self.assertEqual(self.refused(), told)
         (self.top / "crates/bgpsim/out/bgpsim.crates").unlink()

@@ -7,17 +7,19 @@ ghost use Rattle.std.specs.Prelude.{◌≡◌, length, vec_len, IfOk};
 ghost use Rattle.std.specs.Process.{exit_status};
 ghost use Rattle.clap.specs.Words.{kind_of};
 ghost use Rattle.bgpsim.specs.CommandLine.{IsTeamWithin};
-ghost use Rattle.bgpsim.specs.Status.{no_memory, status_of_kind, IsEnd, IsReplayEnd, IsTeamEnd};
+ghost use Rattle.bgpsim.specs.Status.{status_of_kind, IsEnd, IsReplayEnd, IsTeamEnd};
+ghost use Rattle.reply_text.specs.Ending.{no_memory};
 
 use cell_engine::Cell;
 use clap::Error;
 use clap::error::ErrorKind;
 use command_line::{Choice, Team, choose};
+use log_replay::run_replay;
 use prefix_table::{SortedTable, TrieTable};
-use replay_run::run_replay;
+use reply_text::{MISTAKEN, RunFault, end_by};
 use route_select::{FilterCell, GroupCell};
-use script_run::run_script;
 use sim_core::Sim;
+use sim_text::run_script;
 use std::alloc::{AllocError, Global};
 use std::env;
 use std::fs::{File, Files};
@@ -37,17 +39,13 @@ type Engine = Sim<GroupCell, TrieTable<Cell<GroupCell>>>;
 /// The machine that replays logs: cells that keep all standings in one list, in sorted tables.
 type PlainEngine = Sim<FilterCell, SortedTable<Cell<FilterCell>>>;
 
-/// The exit status of a mistaken command line.
-const MISTAKEN: u8 = 2;
-
-/// The exit status of want of memory.
-const NO_MEMORY: u8 = 5;
-
 fn main(rt: HostRuntime) -> ExitCode {
     let alloc = rt.alloc();
     let words = match env::args(&rt) {
         Ok(words) => words,
-        Err(error) if error.kind() == io::ErrorKind::OutOfMemory => return without_memory(&rt),
+        Err(error) if error.kind() == io::ErrorKind::OutOfMemory => {
+            return without_memory(rt.stderr());
+        }
         Err(_) => {
             let _ = eprintln!(rt; "error: the command line is not UTF-8");
             return ExitCode::from(MISTAKEN);
@@ -55,7 +53,7 @@ fn main(rt: HostRuntime) -> ExitCode {
     };
     let words: Vec<String> = match words.collect(alloc) {
         Ok(words) => words,
-        Err(_) => return without_memory(&rt),
+        Err(_) => return without_memory(rt.stderr()),
     };
     match choose(alloc, words.as_slice()) {
         Ok(Choice::Script) => serve_streams(&rt, rt.stderr()),
@@ -63,16 +61,20 @@ fn main(rt: HostRuntime) -> ExitCode {
         Ok(Choice::ForTeam(team)) => {
             play_team::<Brand, _>(&rt, Blank::new(256), &team, rt.stderr())
         }
-        Err(error) => show(&rt, &error),
+        Err(error) => show(&rt, rt.stderr(), &error),
     }
 }
 
 /// Why nothing is served: help and the version go to standard output, a mistake and want of memory to standard error.
-fn show(rt: &(impl Print + Eprint + AllocGlobal), error: &Error) -> ExitCode
+fn show(
+    rt: &(impl Print + Eprint + AllocGlobal),
+    errors: impl Write + Drop,
+    error: &Error,
+) -> ExitCode
     ensures { exit_status result ≡ status_of_kind (kind_of error.now) }
 {
     match error.kind() {
-        ErrorKind::OutOfMemory => without_memory(rt),
+        ErrorKind::OutOfMemory => without_memory(errors),
         ErrorKind::DisplayHelp | ErrorKind::DisplayVersion => {
             let _ = error.print(rt);
             ExitCode::SUCCESS
@@ -84,23 +86,23 @@ fn show(rt: &(impl Print + Eprint + AllocGlobal), error: &Error) -> ExitCode
     }
 }
 
-fn without_memory(rt: &impl Eprint) -> ExitCode
+fn without_memory(errors: impl Write + Drop) -> ExitCode
     ensures { exit_status result ≡ no_memory }
 {
-    let _ = rt.eprintln("memory");
-    ExitCode::from(NO_MEMORY)
+    let mut errors = watched::Output::new(errors);
+    ExitCode::from(end_by(&RunFault::NoMemory, &mut errors))
 }
 
 /// Serves standard input to standard output.
 fn serve_streams(
-    rt: &(impl Print + Eprint + Input + AllocGlobal + RandomSource + Threads + Sync),
+    rt: &(impl Print + Input + AllocGlobal + RandomSource + Threads + Sync),
     errors: impl Write + Drop,
 ) -> ExitCode
     ensures { IsEnd result }
 {
     let alloc = rt.alloc();
     let Ok(writer) = BufWriter::new(alloc, io::writer(rt)) else {
-        return without_memory(rt);
+        return without_memory(errors);
     };
     let mut input = watched::Input::new(rt.reader());
     let mut output = watched::Output::new(writer);
@@ -119,7 +121,7 @@ fn serve_streams(
 
 /// Replays the log on standard input, and tells on standard output what it is found to be.
 fn replay_streams(
-    rt: &(impl Print + Eprint + Input + AllocGlobal + RandomSource + Threads + Sync),
+    rt: &(impl Print + Input + AllocGlobal + RandomSource + Threads + Sync),
     errors: impl Write + Drop,
 ) -> ExitCode
     ensures { IsReplayEnd result }
@@ -143,7 +145,7 @@ fn replay_streams(
 /// Runs the team, and writes the log to standard output.
 fn play_team<
     L: Ledger + Send + Sync,
-    R: Print + AllocGlobal + Eprint + Files + RandomSource + Threads + Wait + Sync,
+    R: Print + AllocGlobal + Files + RandomSource + Threads + Wait + Sync,
 >(rt: &R, blank: Blank, team: &Team<'_>, errors: impl Write + IsTerminal + Drop + Send) -> ExitCode
     requires name { blank.name ≡ L.name }
     requires ledger { blank.parts ≡ L.parts }
@@ -153,10 +155,10 @@ fn play_team<
 {
     let alloc = rt.alloc();
     let Ok(writer) = BufWriter::new(alloc, io::writer(rt)) else {
-        return without_memory(rt);
+        return without_memory(errors);
     };
     let Ok(files) = opened(rt, alloc, team.files.as_slice()) else {
-        return without_memory(rt);
+        return without_memory(errors);
     };
     let settings = Settings {
         workers: team.workers as u16,

@@ -5,7 +5,7 @@ use Rattle.std.specs.Io.KnownBytes.{Consumes, IsAtEnd, Keeps}
 use Rattle.std.proofs.lemmas.Bool.{eqb-false, true≢false}
 use Rattle.std.proofs.lemmas.List.{flat_map_more, length_push, length-append, length-take-le}
 use Rattle.std.proofs.lemmas.List.Elements.{All-weaker}
-use Rattle.line_buffer.specs.LineFeeds.{is_line_feed, Whole, cut_at, no_cut}
+use Rattle.watched.specs.LineFeeds.{is_line_feed, Whole, cut_at, no_cut}
 use Rattle.decimal.specs.Separators.{Lacks}
 use Rattle.reply_text.specs.Replies.{line_end}
 use Rattle.log_replay.specs.declared.limits.TheConstants.{MOST_BYTES, MOST_LINES}

@@ -1,4 +1,5 @@
 pub mod Replaying
 pub mod Exactness
+pub mod ReplayRun
 pub mod Reading
 pub mod Progress

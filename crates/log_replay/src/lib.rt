@@ -1,4 +1,5 @@
-//! Logs read again: each command is run anew, and each reply compared.
+//! Logs read again: each command is run anew, and each reply compared. And a log that is replayed by a program: how that ends, with its
+//! exit status.
 #![tactic(auto)]
 
 mod answer;
@@ -7,9 +8,11 @@ mod checker;
 mod limits;
 mod place;
 mod progress;
+mod replay_run;
 mod replaying;
 mod verdict;
 
 pub use limits::{MOST_BYTES, MOST_LINES};
+pub use replay_run::run_replay;
 pub use replaying::replay;
 pub use verdict::{ReplayFault, Replayed};

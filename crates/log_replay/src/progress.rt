@@ -13,12 +13,11 @@ use crate::checker::{check_line, has_ended};
 use crate::limits::{CAPACITY, MOST_BYTES, MOST_LINES};
 use crate::place::{Checked, Checker, Next};
 use crate::verdict::{ReplayFault, Replayed};
-use line_buffer::LineBuffer;
 use reference_machine::Machine;
 use std::alloc::{AllocError, Global};
 use std::io::Read;
 use std::thread::Threads;
-use watched::Input;
+use watched::{Input, LineBuffer};
 
 /// How far a log was read.
 #[derive(Drop)]

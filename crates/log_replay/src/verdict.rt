@@ -1,7 +1,5 @@
 //! What comes of replaying a log.
 
-use thiserror::Error;
-
 /// What a log was found to be. Lines count from 1.
 #[derive(Clone, Copy, Debug, PartialEq, Eq)]
 pub enum Replayed {
@@ -14,15 +12,12 @@ pub enum Replayed {
 }
 
 /// Why a log was not replayed to its end. Lines count from 1.
-#[derive(Clone, Copy, Debug, PartialEq, Eq, Error)]
+#[derive(Clone, Copy, Debug, PartialEq, Eq)]
 pub enum ReplayFault {
     /// The reader failed; the first line that was not read whole.
-    #[error("read fault at line {line}")]
     Read { line: u64 },
     /// There are more lines than a log may have.
-    #[error("read fault at line 16000001")]
     TooManyLines,
     /// Memory was wanted for a call.
-    #[error("memory")]
     Memory,
 }

@@ -2,8 +2,10 @@
 #![tactic(auto)]
 
 mod command;
+mod in_threads;
 mod log;
 mod rule;
 
 pub use command::write_command;
+pub use in_threads::write_log_in_threads;
 pub use log::{write_end, write_entries, write_header, write_log};

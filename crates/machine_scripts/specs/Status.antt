@@ -3,15 +3,8 @@ use Rattle.std.specs.Prelude.{◌≡◌, ◌⊎◌, ℕ, Result}
 use Rattle.std.specs.Process.{exit_status}
 use Rattle.std.specs.declared.process.ExitCode.{ExitCode}
 use Rattle.sim_text.specs.declared.fault.ServeFault.{ServeFault}
-use Rattle.script_run.specs.ScriptRun.{status_of}
-
--- words that ask for no machine
-abbrev pub mistaken : ℕ
-mistaken = 2
-
--- want of memory before anything is served
-abbrev pub no_memory : ℕ
-no_memory = 5
+use Rattle.sim_text.specs.ScriptRun.{status_of}
+use Rattle.reply_text.specs.Ending.{no_memory}
 
 -- how a program ends that is asked to serve
 abbrev pub IsEnd : ExitCode → Type 0

@@ -7,33 +7,31 @@ mod machines;
 ghost use Rattle.std.specs.Prelude.{◌≡◌};
 ghost use Rattle.std.specs.Process.{exit_status};
 ghost use Rattle.reference_machine.specs.Machine.{nothing};
-ghost use Rattle.machine_scripts.specs.Status.{mistaken, no_memory, IsEnd};
+ghost use Rattle.reply_text.specs.Ending.{mistaken, no_memory};
+ghost use Rattle.machine_scripts.specs.Status.{IsEnd};
 
 use command_line::{Kind, choose};
 use machines::{PlainMachine, SortedMachine, TrieMachine};
 use reference_machine::Machine;
-use script_run::run_script;
+use reply_text::{MISTAKEN, RunFault, end_by};
+use sim_text::run_script;
 use std::env;
 use std::io::{self, BufWriter, Write};
 use std::process::ExitCode;
 use std::thread::Threads;
 
-/// The exit status of a mistaken command line.
-const MISTAKEN: u8 = 2;
-
-/// The exit status of want of memory.
-const NO_MEMORY: u8 = 5;
-
 fn main(rt: HostRuntime) -> ExitCode {
     let alloc = rt.alloc();
     let words = match env::args(&rt) {
         Ok(words) => words,
-        Err(error) if error.kind() == io::ErrorKind::OutOfMemory => return without_memory(&rt),
+        Err(error) if error.kind() == io::ErrorKind::OutOfMemory => {
+            return without_memory(rt.stderr());
+        }
         Err(_) => return without_machine(&rt),
     };
     let words: Vec<String> = match words.collect(alloc) {
         Ok(words) => words,
-        Err(_) => return without_memory(&rt),
+        Err(_) => return without_memory(rt.stderr()),
     };
     match choose(words.as_slice()) {
         Some(Kind::Plain) => serve_streams(&rt, rt.stderr(), PlainMachine::new(alloc)),
@@ -50,16 +48,16 @@ fn without_machine(rt: &impl Eprint) -> ExitCode
     ExitCode::from(MISTAKEN)
 }
 
-fn without_memory(rt: &impl Eprint) -> ExitCode
+fn without_memory(errors: impl Write + Drop) -> ExitCode
     ensures { exit_status result ≡ no_memory }
 {
-    let _ = rt.eprintln("memory");
-    ExitCode::from(NO_MEMORY)
+    let mut errors = watched::Output::new(errors);
+    ExitCode::from(end_by(&RunFault::NoMemory, &mut errors))
 }
 
 /// Serves standard input to standard output, by a machine that begins with the empty network.
 fn serve_streams<M: Machine + Drop>(
-    rt: &(impl Print + Eprint + Input + AllocGlobal + Threads + Sync),
+    rt: &(impl Print + Input + AllocGlobal + Threads + Sync),
     errors: impl Write + Drop,
     mut machine: M,
 ) -> ExitCode
@@ -68,7 +66,7 @@ fn serve_streams<M: Machine + Drop>(
 {
     let alloc = rt.alloc();
     let Ok(writer) = BufWriter::new(alloc, io::writer(rt)) else {
-        return without_memory(rt);
+        return without_memory(errors);
     };
     let mut input = watched::Input::new(rt.reader());
     let mut output = watched::Output::new(writer);

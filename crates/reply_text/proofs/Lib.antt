@@ -1,2 +1,3 @@
 mod LineFeeds
 mod Marks
+mod Told

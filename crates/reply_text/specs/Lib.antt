@@ -1,3 +1,4 @@
+pub mod Ending
 pub mod Parts
 pub mod Replies
 pub mod Lines

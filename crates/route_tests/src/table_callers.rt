@@ -1,12 +1,12 @@
 //! Each caller at both tables.
 
+use crate::table_use::{
+    keys, keys_at_once, longest_of_both, put_and_get, put_and_get_other, put_and_match,
+};
 use net_prefix::{Addr, Prefix};
 use prefix_table::{PrefixTable, SortedTable, TrieTable};
 use std::alloc::Global;
 use std::process::Abort;
-use table_use::{
-    keys, keys_at_once, longest_of_both, put_and_get, put_and_get_other, put_and_match,
-};
 
 fn prefix(rt: &impl Abort, addr: u32, len: u8) -> Prefix {
     Prefix::new(Addr(addr), len).expect(rt, "a prefix")

@@ -12,7 +12,7 @@ use Rattle.sim_text.specs.Serving.{IsAnswer, AreAnswers, AreFit, Served, IsServi
 use Rattle.sim_text.specs.Next.{IsUnfit}
 use Rattle.sim_text.specs.Progress.{SoFar, Reached, Ends}
 use Rattle.sim_text.specs.declared.fault.ServeFault.{ServeFault}
-use Rattle.line_buffer.specs.LineFeeds.{is_line_feed, Whole, cut_at}
+use Rattle.watched.specs.LineFeeds.{is_line_feed, Whole, cut_at}
 use Rattle.sim_text.proofs.LineLemmas.{line_feeds_line, line_feeds_none}
 
 -- one more line

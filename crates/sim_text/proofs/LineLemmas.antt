@@ -2,7 +2,7 @@
 use Rattle.std.proofs.Common.{◌≡◌, ℕ, ◌+◌, ◌-◌, ◌<◌, ◌≤◌, cond, eqb, ltb, false, ◌⊎◌, inl, inr, ⊎_elim, List, [], ◌∷◌, ◌++◌, length, take, drop, get_or, position, Some, None, All, refl, sym, ap, ◌∙◌, arith, append_assoc, append-nil, filter}
 use Rattle.std.specs.List.{slice_split, position_or_len}
 use Rattle.std.specs.Str.Lines.{lines, lines_of_parts, strip_carriage_return}
-use Rattle.line_buffer.specs.LineFeeds.{is_line_feed, Whole, cut_at, no_cut}
+use Rattle.watched.specs.LineFeeds.{is_line_feed, Whole, cut_at, no_cut}
 use Rattle.sim_text.specs.Serving.{line_feeds}
 use Rattle.std.proofs.lemmas.Bool.{cases_Bool, cond_both, cond-false, ne_eqb}
 use Rattle.std.proofs.lemmas.List.{length-take-le, length-append}

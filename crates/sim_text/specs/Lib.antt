@@ -1,3 +1,4 @@
 pub mod Serving
+pub mod ScriptRun
 pub mod Progress
 pub mod Next

@@ -1,6 +1,5 @@
 -- What it means to serve a script: each line is answered in turn.
-use Rattle.std.specs.Prelude.{◌≡◌, ℕ, ◌+◌, ◌<◌, ◌≤◌, ◌==◌, Bool, true, false, ◌⊎◌, List, [], ◌∷◌, ◌++◌, length, take, filter, slice_index_or, codes, All, Some, Result, Ok, Err}
-use Rattle.std.specs.Fmt.{decimal}
+use Rattle.std.specs.Prelude.{◌≡◌, ℕ, ◌+◌, ◌<◌, ◌≤◌, ◌==◌, Bool, true, false, ◌⊎◌, List, [], ◌∷◌, ◌++◌, length, take, filter, slice_index_or, All, Some, Result, Ok, Err}
 use Rattle.std.specs.Str.Lines.{lines}
 use Rattle.std.specs.Io.KnownBytes.{Appends}
 use Rattle.watched.specs.Streams.{Reading, Writing}
@@ -10,7 +9,7 @@ use Rattle.sim_event.specs.declared.reply.Reply.{Reply}
 use Rattle.reference_machine.specs.Network.{Network}
 use Rattle.reference_machine.specs.Machine.{IsStep}
 use Rattle.command_text.specs.Lines.{IsSilent, IsFault, Means, feeds_route}
-use Rattle.reply_text.specs.Replies.{reply_text, refusal_text, line_end}
+use Rattle.reply_text.specs.Replies.{reply_text, refusal_text}
 use Rattle.sim_text.specs.declared.fault.ServeFault.{ServeFault}
 use Rattle.sim_text.specs.declared.fault.ServeFault.TheVariants.{Read, Write}
 
@@ -84,8 +83,3 @@ abbrev pub IsServing : List ℕ → Network → Writing → Result ℕ ServeFaul
 IsServing bytes s o (Ok n) s' o' i' = (n ≡ length (lines bytes)) × (i'.remaining ≡ Some []) × Served bytes n s o s' o'
 IsServing bytes s o (Err (Read line)) s' o' i' = (k : ℕ) × (line ≡ k + 1) × IsReadFault bytes k i' × Served bytes k s o s' o'
 IsServing bytes s o (Err (Write line)) s' o' i' = (k : ℕ) × (line ≡ k + 1) × IsWriteFault bytes k s o s' o'
-
--- what is told of a fault
-abbrev pub fault_text : ServeFault → List ℕ
-fault_text (Read line) = codes "read fault at line " ++ decimal line ++ line_end
-fault_text (Write line) = codes "write fault" ++ line_end

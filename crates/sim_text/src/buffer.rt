@@ -3,10 +3,9 @@
 ghost use Rattle.std.specs.Prelude.{◌≡◌, ℕ, ◌<◌, ◌==◌, List, [], ◌++◌, length, position, None, IfOk, OnOk, OnErr, true, false};
 ghost use Rattle.std.specs.Io.KnownBytes.{Consumes, IsAtEnd, Keeps};
 
-use line_buffer::LineBuffer;
 use std::io;
 use std::io::{Read, Write};
-use watched::{Input, Output};
+use watched::{Input, LineBuffer, Output};
 
 /// Holds the longest line with its end: 65,536 bytes, CR and LF.
 pub(crate) const CAPACITY: usize = 65_538;

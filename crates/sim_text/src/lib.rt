@@ -1,4 +1,4 @@
-//! Scripts: lines in, replies out.
+//! Scripts: lines in, replies out. And a script that is run: how that ends, with its exit status.
 #![tactic(auto)]
 
 mod answer;
@@ -6,9 +6,11 @@ mod buffer;
 mod fault;
 mod line;
 mod script;
+mod script_run;
 mod serving;
 
-pub use fault::{ServeFault, write_fault};
+pub use fault::ServeFault;
+pub use script_run::run_script;
 pub use serving::serve;
 
 #[cfg(test)]

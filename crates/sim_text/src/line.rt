@@ -5,7 +5,7 @@ ghost use Rattle.std.specs.Str.Lines.{strip_carriage_return};
 ghost use Rattle.sim_text.specs.Next.{IsNext};
 
 use crate::buffer::CAPACITY;
-use line_buffer::LineBuffer;
+use watched::LineBuffer;
 
 /// The most bytes of a line, its end not counted.
 pub(crate) const MOST_BYTES: usize = 65_536;

@@ -12,12 +12,11 @@ use crate::ServeFault;
 use crate::answer::answer_line;
 use crate::buffer::{CAPACITY, read_more};
 use crate::line::{MOST_BYTES, Next, next_line, without_carriage_return};
-use line_buffer::LineBuffer;
 use reference_machine::Machine;
 use std::alloc::Global;
 use std::io::{Read, Write};
 use std::thread::Threads;
-use watched::{Input, Output};
+use watched::{Input, LineBuffer, Output};
 
 #[derive(Drop)]
 pub(crate) struct Script {

@@ -157,12 +157,3 @@ fn faults_name_their_line(rt: HostRuntime) -> Result<(), Fail> {
     assert_eq!(rt; served(&rt, rt.alloc(), b"".as_slice(), Stuck), Ok(0));
     Ok(())
 }
-
-#[test]
-fn faults_are_printed(rt: HostRuntime) -> Result<(), Fail> {
-    let read = format!(in rt.alloc(); "{}", ServeFault::Read { line: 12 })?;
-    assert_eq!(rt; read.as_str(), "read fault at line 12");
-    let write = format!(in rt.alloc(); "{}", ServeFault::Write { line: 12 })?;
-    assert_eq!(rt; write.as_str(), "write fault");
-    Ok(())
-}

@@ -2,7 +2,6 @@
 #![tactic(auto)]
 
 mod crew;
-mod ending;
 mod engineer;
 mod lines;
 mod scripts;

@@ -5,7 +5,7 @@ ghost use Rattle.std.specs.Io.KnownBytes.{Consumes, IsAtEnd};
 ghost use Rattle.team_run.specs.Scripts.{IsWhole, no_memory};
 ghost use Rattle.team_run.specs.TeamRun.{IsOfReading};
 
-use crate::ending::TeamFault;
+use reply_text::RunFault;
 use std::alloc::{AllocError, Global};
 use std::io::Read;
 
@@ -143,18 +143,18 @@ fn read_whole<F: Read>(alloc: Global, reader: &mut F) -> Result<Vec<u8>, Unread>
 }
 
 /// The script of the file: all its bytes.
-fn read_script<F: Read + Drop>(alloc: Global, file: ScriptFile<F>) -> Result<Vec<u8>, TeamFault>
+fn read_script<F: Read + Drop>(alloc: Global, file: ScriptFile<F>) -> Result<Vec<u8>, RunFault>
     ensures script { IfOk result (λ script. IfSome file.reader (λ reader. IsWhole (F.remaining reader) script.items)) }
     ensures fault { IfErr result IsOfReading }
 {
     let ScriptFile { name, reader } = file;
     let Some(mut reader) = reader else {
-        return Err(TeamFault::Unreadable(name));
+        return Err(RunFault::FileUnread(name));
     };
     match read_whole(alloc, &mut reader) {
         Ok(script) => Ok(script),
-        Err(Unread::Fault) => Err(TeamFault::Unreadable(name)),
-        Err(Unread::Memory) => Err(TeamFault::Memory),
+        Err(Unread::Fault) => Err(RunFault::FileUnread(name)),
+        Err(Unread::Memory) => Err(RunFault::NoMemory),
     }
 }
 
@@ -162,7 +162,7 @@ fn read_script<F: Read + Drop>(alloc: Global, file: ScriptFile<F>) -> Result<Vec
 pub(crate) fn read_scripts<F: Read + Drop>(
     alloc: Global,
     files: Vec<ScriptFile<F>>,
-) -> Result<Vec<Vec<u8>>, TeamFault>
+) -> Result<Vec<Vec<u8>>, RunFault>
     ensures count { IfOk result (λ scripts. vec_len scripts ≡ vec_len files) }
     ensures fault { IfErr result IsOfReading }
 {

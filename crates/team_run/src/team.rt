@@ -7,13 +7,14 @@ ghost use Rattle.team_run.specs.TeamRun.{IsFrontOf, IsLogOf, IsOfPlay, IsPlayed,
 ghost use Rattle.watched.specs.Streams.{AppendsFront};
 
 use crate::crew::Crew;
-use crate::ending::{TeamFault, status_of, tell};
 use crate::engineer::Engineer;
 use crate::scripts::{ScriptFile, read_scripts};
 use crate::told::Told;
 use cell_engine::Cell;
 use desk::{Audit, Desk, Record, Seat};
+use log_text::write_log_in_threads;
 use prefix_table::PrefixTable;
+use reply_text::{RunFault, SUCCESS, end_by};
 use route_select::Selector;
 use sim_event::Entry;
 use std::alloc::{AllocError, Global};
@@ -24,7 +25,6 @@ use std::sync::Wait;
 use std::sync::atomic::AtomicU64;
 use std::sync::ledger::{Blank, Ledger};
 use std::thread::Threads;
-use team_log::write_log_in_threads;
 use watched::{Output, WriterFailed};
 
 /// How a team is run.
@@ -75,10 +75,7 @@ pub fn run_team<
         Ok(scripts) => {
             play::<S, T, L, W, E, R>(rt, alloc, keys, blank, settings, scripts, output, errors)
         }
-        Err(fault) => {
-            tell(&fault, errors);
-            status_of(&fault)
-        }
+        Err(fault) => end_by(&fault, errors),
     }
 }
 
@@ -116,11 +113,8 @@ fn play<
         Err(fault) => Err(fault),
     };
     match ended {
-        Ok(()) => 0,
-        Err(fault) => {
-            tell(&fault, errors);
-            status_of(&fault)
-        }
+        Ok(()) => SUCCESS,
+        Err(fault) => end_by(&fault, errors),
     }
 }
 
@@ -139,7 +133,7 @@ fn recorded<
     settings: Settings,
     scripts: Vec<Vec<u8>>,
     errors: &mut Output<E>,
-) -> Result<Record, TeamFault>
+) -> Result<Record, RunFault>
     requires name { blank.name ≡ L.name }
     requires ledger { blank.parts ≡ L.parts }
     requires parts { blank.parts ≡ 256 }
@@ -156,11 +150,11 @@ fn recorded<
         blank,
     ) else {
         drop(scripts);
-        return Err(TeamFault::Memory);
+        return Err(RunFault::NoMemory);
     };
     let Ok(told) = Told::new(alloc, errors, settings.is_terminal) else {
         drop((desk, seats, scripts));
-        return Err(TeamFault::Memory);
+        return Err(RunFault::NoMemory);
     };
     let seats = at_desk(rt, alloc, &desk, &told, scripts, seats, settings.turns);
     told.show();
@@ -168,7 +162,7 @@ fn recorded<
         Ok(seats) => closed(rt, desk, seats),
         Err(_) => {
             drop(desk);
-            Err(TeamFault::Memory)
+            Err(RunFault::NoMemory)
         }
     }
 }
@@ -223,7 +217,7 @@ fn closed<S: Selector + Drop, T: PrefixTable<Cell<S>> + Drop, L: Ledger, R: Wait
     rt: &R,
     desk: Desk<S, T, L>,
     seats: Vec<Seat<L>>,
-) -> Result<Record, TeamFault>
+) -> Result<Record, RunFault>
     ensures { IfErr result IsOfPlay }
 {
     if !seats
@@ -232,7 +226,7 @@ fn closed<S: Selector + Drop, T: PrefixTable<Cell<S>> + Drop, L: Ledger, R: Wait
     {
         drop(desk);
         drop(seats);
-        return Err(TeamFault::BookDiffers);
+        return Err(RunFault::BookDiffers);
     }
     match desk.end().close_with_machine(seats) {
         Ok((record, machine)) => {
@@ -242,7 +236,7 @@ fn closed<S: Selector + Drop, T: PrefixTable<Cell<S>> + Drop, L: Ledger, R: Wait
         }
         Err(fault) => {
             drop(fault);
-            Err(TeamFault::BookDiffers)
+            Err(RunFault::BookDiffers)
         }
     }
 }
@@ -254,15 +248,15 @@ fn write_record<W: Write, R: Threads + Sync>(
     workers: u16,
     kept: &Record,
     output: &mut Output<W>,
-) -> Result<(), TeamFault>
+) -> Result<(), RunFault>
     requires { output.old.failed ≡ false }
     ensures legal { IsLegal kept.now }
     ensures logged { OnOk result (IsLogOf kept.now output.old output.new) }
-    ensures cut_off { IfErr result (λ fault. (fault ≡ TeamFault.Write) × IsFrontOf kept.now output.old output.new) }
+    ensures cut_off { IfErr result (λ fault. (fault ≡ RunFault.Unwritten) × IsFrontOf kept.now output.old output.new) }
 {
     match write_entries(rt, alloc, workers, kept.entries(), output) {
         Ok(()) => Ok(()),
-        Err(_) => Err(TeamFault::Write),
+        Err(_) => Err(RunFault::Unwritten),
     }
 }
 

@@ -1,2 +1,4 @@
+pub mod LineFeeds
+pub mod Sending
 pub mod Streams
 pub mod Writing

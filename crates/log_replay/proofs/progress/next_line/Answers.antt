@@ -1,7 +1,7 @@
 use Rattle.std.proofs.Common.{◌+◌, ◌<◌, [], ◌∷◌, length, take, drop, ap, sym, ◌∙◌, arith, append-nil}
 use Rattle.std.proofs.lemmas.Bool.Decides.{nat_tests}
 use Rattle.std.proofs.lemmas.List.{length-take-le}
-use Rattle.line_buffer.specs.LineFeeds.{cut_at, no_cut}
+use Rattle.watched.specs.LineFeeds.{cut_at, no_cut}
 use Rattle.log_replay.specs.declared.limits.TheConstants.{MOST_BYTES, MOST_LINES}
 use Rattle.log_replay.proofs.Steps.{lacks_whole}
 use Rattle.log_replay.proofs.progress.next_line.Goals.{else-lines-ge-MOST_LINES-via-then-lines-ge-MOST_LINES+else-not-is_empty, else-lines-ge-MOST_LINES-via-else-lines-ge-MOST_LINES}

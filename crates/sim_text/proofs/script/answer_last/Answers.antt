@@ -1,7 +1,7 @@
 use Rattle.std.proofs.Common.{◌<◌, [], ◌∷◌, length, ap, sym, ◌∙◌, arith}
 use Rattle.std.proofs.lemmas.Bool.{eqb-false}
 use Rattle.sim_text.specs.Serving.{most_bytes}
-use Rattle.line_buffer.specs.LineFeeds.{no_cut}
+use Rattle.watched.specs.LineFeeds.{no_cut}
 use Rattle.sim_text.proofs.LineLemmas.{lines_whole}
 use Rattle.sim_text.proofs.AnswerLemmas.{so_far_more, end_long, end_unwritten}
 use Rattle.sim_text.proofs.script.answer_last.Goals as goal

@@ -1,5 +1,5 @@
 use Rattle.std.proofs.lemmas.Result.{err_from_is_err_and}
-use Rattle.line_buffer.specs.LineFeeds.{no_cut}
+use Rattle.watched.specs.LineFeeds.{no_cut}
 use Rattle.sim_text.proofs.AnswerLemmas.{ends_unsent, reached_kept, end_failed, kept_known}
 use Rattle.sim_text.proofs.script.read_on.Goals as goal
 

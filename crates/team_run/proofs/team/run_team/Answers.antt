@@ -6,6 +6,6 @@ use Rattle.team_run.proofs.team.run_team.Goals as goal
 pub returns-in-Err : goal.returns-in-Err
 returns-in-Err g c =
     record {
-      run = subst (λ status. IsTeamRun c.args.output.now c.args.errors.now status c.args.output.now c.tell.new.errors) (sym c.status_of.ensures)
-          (unread c.args.output.now c.args.errors.now c.in-Err.fault c.tell.new.errors c.in-Err.ensures.fault c.tell.ensures);
+      run = subst (λ status. IsTeamRun c.args.output.now c.args.errors.now status c.args.output.now c.end_by.new.errors) (sym c.end_by.ensures.status)
+          (unread c.args.output.now c.args.errors.now c.in-Err.fault c.end_by.new.errors c.in-Err.ensures.fault c.end_by.ensures.told);
     }

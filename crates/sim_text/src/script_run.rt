@@ -1,0 +1,57 @@
+//! A script on one stream, its replies on a second, and what is told of a fault on a third.
+
+ghost use Rattle.std.specs.Prelude.{◌≡◌, false};
+ghost use Rattle.reference_machine.specs.Machine.{nothing};
+ghost use Rattle.reply_text.specs.Ending.{IsTold};
+ghost use Rattle.sim_text.specs.ScriptRun.{run_fault, status_of, told, IsScriptRun};
+
+use crate::ServeFault;
+use crate::serving::serve;
+use reference_machine::Machine;
+use reply_text::{RunFault, SUCCESS, end_by};
+use std::alloc::Global;
+use std::io::{Read, Write};
+use std::thread::Threads;
+use watched::{Input, Output};
+
+/// Serves the script on the reader to the writer, by a machine that begins with the empty network, and tells a fault on the third
+/// stream, whose own failure is passed over. The exit status: 0 done, 3 read fault, 4 write fault.
+pub fn run_script<M: Machine, R: Read, W: Write, E: Write>(
+    rt: &(impl Threads + Sync),
+    alloc: Global,
+    machine: &mut M,
+    input: &mut Input<R>,
+    output: &mut Output<W>,
+    errors: &mut Output<E>,
+) -> u8
+    requires calm_input { input.old.failed ≡ false }
+    requires calm_output { output.old.failed ≡ false }
+    requires shown { output.old.held ≡ false }
+    requires empty { M.network machine.old ≡ nothing }
+    ensures sent { output.new.failed ≡ false → output.new.held ≡ false }
+    ensures run { IsScriptRun input.old.remaining output.old errors.old result (M.network machine.new) input.new output.new errors.new }
+{
+    let served = serve(rt, alloc, input, output, machine);
+    end(&served, errors)
+}
+
+/// Tells a fault, and gives the exit status.
+fn end<E: Write>(served: &Result<u64, ServeFault>, errors: &mut Output<E>) -> u8
+    ensures status { result ≡ status_of served.now }
+    ensures told { IsTold errors.old (told served.now) errors.new }
+{
+    match served {
+        Ok(_) => SUCCESS,
+        Err(fault) => end_by(&run_fault(*fault), errors),
+    }
+}
+
+/// How the fault ends the run.
+fn run_fault(fault: ServeFault) -> RunFault
+    ensures { result ≡ run_fault fault }
+{
+    match fault {
+        ServeFault::Read { line } => RunFault::LineUnread { line },
+        ServeFault::Write { line: _ } => RunFault::Unwritten,
+    }
+}

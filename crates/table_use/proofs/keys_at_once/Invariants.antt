@@ -1,6 +1,0 @@
-use Rattle.std.proofs.Common.{◌≡◌, map, take}
-use Rattle.table_use.proofs.keys_at_once.Given as goal
-
--- the blocks so far
-abbrev pub invariant-loop-entry : goal.invariant-loop-entry
-invariant-loop-entry g l = l.keys.items ≡ map (λ e. e.0) (take l.entry-index l.entry-items)
