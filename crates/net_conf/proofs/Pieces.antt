@@ -1,5 +1,5 @@
 -- A list in two pieces.
-use Rattle.std.proofs.Common.{◌≡◌, ℕ, List, ◌++◌, map, take, drop, ap, sym, ◌∙◌, Ok, Err, IfOk}
+use Rattle.std.proofs.Common.{◌≡◌, ℕ, List, ◌++◌, map, take, drop, ap, sym, ◌∙◌, Ok, IfOk}
 use Rattle.std.specs.Prelude.{Result}
 use Rattle.std.specs.declared.vec.Vec.{Vec}
 use Rattle.std.proofs.lemmas.List.{map-append, take-append-drop}
