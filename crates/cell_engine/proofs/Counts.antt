@@ -1,22 +1,16 @@
 -- Messages counted by direction, one after another.
-use Rattle.std.proofs.Common.{◌≡◌, ℕ, ◌+◌, ◌≤◌, Bool, true, false, cond, ◌&&◌, List, [], ◌∷◌, ◌++◌, map, filter, length, Option, Some, None, unwrap_or, if◌then◌else◌, refl, sym, ap, ◌∙◌, arith}
+use Rattle.std.proofs.Common.{◌≡◌, ℕ, ◌+◌, ◌≤◌, Bool, true, false, cond, List, [], ◌∷◌, ◌++◌, Option, Some, None, unwrap_or, refl, sym, ap, ◌∙◌, arith}
 use Rattle.std.proofs.lemmas.Bool.{and_parts}
-use Rattle.std.proofs.lemmas.List.{map-append, length-append}
-use Rattle.std.proofs.lemmas.List.Elements.{filter-append}
 use Rattle.std.specs.Cmp.{unsigned_ties, both_tied}
 use Rattle.std.specs.Map.{lookup}
 use Rattle.std.specs.BTreeMap.{is_at, insert_entry}
 use Rattle.net_prefix.specs.declared.addr.Addr.{Addr}
 use Rattle.net_prefix.specs.Address.{same_addr}
-use Rattle.session_queue.specs.declared.message.Message.{Message}
 use Rattle.session_queue.specs.declared.direction.Direction.{Direction}
 use Rattle.session_queue.specs.Waiting.{direction_cmp, same_direction}
 use Rattle.session_queue.proofs.Places.{direction_total}
 use Rattle.cell_engine.proofs.Entries.{lookup_inserted}
-use Rattle.cell_engine.specs.Sending.{told, told_from}
-use Rattle.cell_engine.specs.Editing.{told_by_all}
 use Rattle.cell_engine.proofs.Offers.{same_addr_true}
-use Rattle.cell_engine.proofs.Told.{told_step}
 use Rattle.cell_engine.specs.Counts.{count_at}
 
 -- ONE MORE
@@ -44,32 +38,6 @@ counted_one d es n is f t =
     by false off = omega arith
 
 -- WHAT A ROUTER SENDS
-
-told_last : (t : Addr) (e : Addr × Message) (xs : List (Addr × Message)) → length (told t (xs ++ e ∷ [])) ≡ length (told t xs) + cond (same_addr t e.0) 1 0
-told_last t e xs =
-    ap length (ap (map (λ x. x.1)) (filter-append (λ x. same_addr t x.0) xs (e ∷ [])) ∙ map-append (λ x. x.1) (filter (λ x. same_addr t x.0) xs) (filter (λ x. same_addr t x.0) (e ∷ [])))
-    ∙ length-append (told t xs) (told t (e ∷ []))
-    ∙ ap (λ n. length (told t xs) + n) (ap length (told_step t e []) ∙ one (same_addr t e.0))
-  where
-    one : (b : Bool) → length (cond b (e.1 ∷ []) []) ≡ cond b 1 0
-    one true = refl
-    one false = refl
-
--- a message more
-pub told_one_more : (r : Addr) (e : Addr × Message) (xs : List (Addr × Message)) (f t : Addr) → length (told_from r (xs ++ e ∷ []) f t) ≡ length (told_from r xs f t) + cond (same_direction r e.0 f t) 1 0
-told_one_more r e xs f t = by (same_addr f r) where
-  by : (b : Bool) → length (if b then told t (xs ++ e ∷ []) else []) ≡ length (if b then told t xs else []) + cond (b && same_addr t e.0) 1 0
-  by true = told_last t e xs
-  by false = refl
-
--- a router more
-pub told_by_more : (all : List (Addr × List (Addr × Message))) (x : Addr × List (Addr × Message)) (f t : Addr) → length (told_by_all (all ++ x ∷ []) f t) ≡ length (told_by_all all f t) + length (told_from x.0 x.1 f t)
-told_by_more [] x f t = length-append (told_from x.0 x.1 f t) [] ∙ omega arith
-told_by_more (y ∷ all) x f t =
-    let first = length-append (told_from y.0 y.1 f t) (told_by_all (all ++ x ∷ []) f t) in
-    let then_ = length-append (told_from y.0 y.1 f t) (told_by_all all f t) in
-    let rest = told_by_more all x f t in
-    omega (arith, first, then_, rest)
 
 -- PLACES
 

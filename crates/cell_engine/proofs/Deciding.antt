@@ -1,6 +1,6 @@
 -- Cells decided anew: by one thread or by many, the list is the same.
-use Rattle.std.proofs.Common.{◌≡◌, List, [], ◌∷◌, ◌++◌, map, filter, refl, sym, ap, ◌∙◌, append_assoc, Ok, Err, IfOk}
-use Rattle.std.proofs.lemmas.List.{map-append, append-nil}
+use Rattle.std.proofs.Common.{◌≡◌, List, [], ◌∷◌, ◌++◌, map, filter, refl, ap, ◌∙◌, Ok, Err, IfOk}
+use Rattle.std.proofs.lemmas.List.{map-append}
 use Rattle.std.specs.Prelude.{Result, MatchResult}
 use Rattle.std.specs.Borrow.{Bor}
 use Rattle.std.specs.List.{AllZip}
@@ -11,8 +11,9 @@ use Rattle.net_prefix.specs.Block.{Block}
 use Rattle.prefix_table.specs.Tables.{Table}
 use Rattle.cell_engine.specs.RouterTables.{table_at}
 use Rattle.cell_engine.specs.Cells.{Heard}
-use Rattle.cell_engine.specs.Moves.{is_moved_by}
-use Rattle.cell_engine.specs.Becomings.{Becoming, RouterEdit, change_of, change_at, moved_cells, all_moved, edit_becoming, edit_changes, all_changes}
+use Rattle.cell_engine.specs.Changes.{router_changes}
+use Rattle.cell_engine.specs.Moves.{moves}
+use Rattle.cell_engine.specs.Becomings.{Becoming, can_change, change_at, moved_cells, all_moved, becoming_changes, all_changes}
 
 -- IN THREADS
 
@@ -39,19 +40,14 @@ mapped_twice f g [] = refl
 mapped_twice f g (x ∷ xs) = ap (λ l. f (g x) ∷ l) (mapped_twice f g xs)
 
 -- what becomes of those that can change
-pub decided_cells : (b : Becoming) (cells : List (Block × Heard)) → map change_at (moved_cells b cells) ≡ map (λ e. change_of b e.0 e.1) (filter (λ e. is_moved_by b.old b.new b.conf b.address e.0 e.1) cells)
-decided_cells b cells = mapped_twice change_at (λ e. record { becoming = b; prefix = e.0; heard = e.1 }) (filter (λ e. is_moved_by b.old b.new b.conf b.address e.0 e.1) cells)
+pub decided_cells : (b : Becoming) (cells : List (Block × Heard)) → map change_at (moved_cells b cells) ≡ router_changes (moves b.before b.after) b.before b.after b.address cells
+decided_cells b cells = mapped_twice change_at (λ e. record { becoming = b; prefix = e.0; heard = e.1 }) (filter (λ e. can_change b e.0 e.1) cells)
 
--- at each router
-pub decided_all : (ts : List (Addr × Table Heard)) (xs : List RouterEdit) → map change_at (all_moved (map edit_becoming xs) ts) ≡ all_changes xs ts
+-- wherever the edit is seen
+pub decided_all : (ts : List (Addr × Table Heard)) (bs : List Becoming) → map change_at (all_moved bs ts) ≡ all_changes bs ts
 decided_all ts [] = refl
-decided_all ts (x ∷ xs) =
-    let cells : List (Block × Heard) = finite.entries (table_at x.router ts) in
-    map-append change_at (moved_cells (edit_becoming x) cells) (all_moved (map edit_becoming xs) ts)
-    ∙ ap (λ l. l ++ map change_at (all_moved (map edit_becoming xs) ts)) (decided_cells (edit_becoming x) cells)
-    ∙ ap (λ l. edit_changes ts x ++ l) (decided_all ts xs)
-
--- with one router more
-pub one_router_more : (ts : List (Addr × Table Heard)) (xs : List RouterEdit) (x : RouterEdit) → all_changes (xs ++ x ∷ []) ts ≡ all_changes xs ts ++ edit_changes ts x
-one_router_more ts [] x = append-nil (edit_changes ts x)
-one_router_more ts (y ∷ ys) x = ap (λ l. edit_changes ts y ++ l) (one_router_more ts ys x) ∙ sym (append_assoc (edit_changes ts y) (all_changes ys ts) (edit_changes ts x))
+decided_all ts (b ∷ bs) =
+    let cells : List (Block × Heard) = finite.entries (table_at b.address ts) in
+    map-append change_at (moved_cells b cells) (all_moved bs ts)
+    ∙ ap (λ l. l ++ map change_at (all_moved bs ts)) (decided_cells b cells)
+    ∙ ap (λ l. becoming_changes ts b ++ l) (decided_all ts bs)

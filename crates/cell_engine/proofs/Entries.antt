@@ -1,5 +1,5 @@
 -- Entries in the order of their keys: what is put in and taken out, and what comes before and after a key.
-use Rattle.std.proofs.Common.{◌≡◌, Bool, true, false, cond, List, [], ◌∷◌, ◌++◌, filter, find, Option, Some, option_map, refl, sym, ap, ◌∙◌}
+use Rattle.std.proofs.Common.{◌≡◌, Bool, true, false, cond, List, [], ◌∷◌, ◌++◌, filter, Option, Some, refl, sym, ap, ◌∙◌}
 use Rattle.std.specs.declared.cmp.Ordering.{Ordering}
 use Rattle.std.specs.declared.cmp.Ordering.TheVariants.{Less, Equal, Greater}
 use Rattle.std.specs.Ordering.{match_ordering, is_eq, is_lt, is_gt, ordering_reverse}
@@ -141,8 +141,3 @@ module _ {K X : Type 0} {cmp : K → K → Ordering} (o : IsTotalOrder cmp) wher
   unfolding IsStrictlySortedBy
   removed_between k [] h = refl
   removed_between k (e ∷ es) h = removed_by (cmp k e.0) k e es (remove_entry (is_at (cmp k)) es) refl h.0 (removed_between k es h.1)
-
--- a look-up is the value of what is found
-pub lookup_found : {K X : Type 0} (test : K → Bool) (es : List (K × X)) → lookup test es ≡ option_map (λ e. e.1) (find (λ e. test e.0) es)
-lookup_found test [] = refl
-lookup_found test (e ∷ es) = elim (test e.0) as (λ b. cond b (Some e.1) (lookup test es) ≡ option_map (λ z. z.1) (cond b (Some e) (find (λ z. test z.0) es))) [ true ↦ refl | false ↦ lookup_found test es ]

@@ -1,5 +1,5 @@
 -- An engine that grows by an empty cell or by spare places keeps the same.
-use Rattle.std.proofs.Common.{◌≡◌, Bool, true, false, cond, List, [], ◌∷◌, map, slice_get, Option, Some, None, is_some, unwrap_or, Result, Ok, Err, OnOk, OnErr, option_copied, refl, sym, ap, subst, ◌∙◌}
+use Rattle.std.proofs.Common.{◌≡◌, true, false, cond, List, [], ◌∷◌, map, slice_get, Option, Some, None, is_some, unwrap_or, Result, Ok, Err, OnOk, OnErr, option_copied, refl, sym, ap, subst, ◌∙◌}
 use Rattle.std.proofs.lemmas.Bool.{true≢false}
 use Rattle.std.proofs.lemmas.Option.{none-some, same_Some}
 use Rattle.std.specs.Borrow.{Bor}
@@ -32,7 +32,6 @@ use Rattle.cell_engine.proofs.Queues.{network_same}
 use Rattle.cell_engine.proofs.Received.{entries_with_empty_cell}
 use Rattle.cell_engine.proofs.Taken.{value_here}
 use Rattle.cell_engine.specs.Deliveries.{outcome_by, outcome_at, IsOfHead, KeepsSame}
-use Rattle.cell_engine.proofs.Delivered.{sound_with_queues}
 
 -- THE NETWORK STAYS
 
@@ -44,15 +43,6 @@ network_kept e e' same =
 
 pub same_itself : (e : Engine) → KeepsSame e e
 same_itself e = record { conf = refl; directions = refl; received = refl; heard = λ r p. refl; queue = λ f t. refl }
-
-pub same_then : (e e' e'' : Engine) → KeepsSame e e' → KeepsSame e' e'' → KeepsSame e e''
-same_then e e' e'' one two = record {
-  conf = two.conf ∙ one.conf;
-  directions = two.directions ∙ one.directions;
-  received = two.received ∙ one.received;
-  heard = λ r p. two.heard r p ∙ one.heard r p;
-  queue = λ f t. two.queue f t ∙ one.queue f t;
-}
 
 -- and all routes come over sessions that are up still
 pub ups_kept : (e e' : Engine) → KeepsSame e e' → AreOverSessionsUp e.conf e.tables → AreOverSessionsUp e'.conf e'.tables
@@ -86,9 +76,6 @@ at_error (Err x) f p = f p
 
 pub same_with_places : (e : Engine) (q : WaitingByDirection) → ((f t : Addr) → queue_at q f t ≡ queue_at e.queues f t) → KeepsSame e (record e { queues = q })
 same_with_places e q same = record { conf = refl; directions = refl; received = refl; heard = λ r p. refl; queue = same }
-
-pub sound_with_places : (e : Engine) (q : WaitingByDirection) → ((f t : Addr) → queue_at q f t ≡ queue_at e.queues f t) → IsSound e → IsSound (record e { queues = q })
-sound_with_places e q same sound = sound_with_queues e q sound (λ f t none. same f t ∙ sound.silent f t none)
 
 -- AN EMPTY CELL
 
@@ -146,14 +133,6 @@ module _ {A F : Type 0} (e : Engine) (r : Addr) (p : Block) (ts : List (Addr × 
       by : (o : Result A F) → OnOk o (ts ≡ with_value r p nothing_heard e.tables) → OnOk o (is_some (value_at r p ts) ≡ true)
       by (Ok x) ok = ap (λ ts. is_some (value_at r p ts)) ok ∙ ap is_some (value_here r p nothing_heard e.tables)
       by (Err x) ok = tt
-
--- a cell that was not found is not there
-pub not_found : (r : Addr) (p : Block) (ts ts' : List (Addr × Table Heard)) (found : Option (Bor Heard)) (is_found : Bool) → ts ≡ ts' → option_copied found ≡ value_at r p ts' → is_found ≡ is_some found → is_found ≡ false → is_some (value_at r p ts) ≡ false
-not_found r p ts ts' found is_found same is test off = ap (λ ts. is_some (value_at r p ts)) same ∙ ap is_some (sym is) ∙ some_copied found ∙ sym test ∙ off
-  where
-    some_copied : {X : Type 0} (o : Option (Bor X)) → is_some (option_copied o) ≡ is_some o
-    some_copied None = refl
-    some_copied (Some x) = refl
 
 -- what a reference shows, or another where there is none
 pub shown_or : {X : Type 0} (o : Option (Bor X)) (other : Bor X) → (unwrap_or o other).now ≡ unwrap_or (option_copied o) other.now

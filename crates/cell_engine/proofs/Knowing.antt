@@ -11,8 +11,8 @@ use Rattle.net_prefix.specs.Orders.{block_total, block_exact}
 use Rattle.path_attr.specs.declared.attr.Attr.{Attr}
 use Rattle.prefix_table.specs.Tables.{Table, adjusted, adjusted_by}
 use Rattle.cell_engine.specs.Cells.{Heard}
-use Rattle.cell_engine.specs.declared.hops.Hops.{Hops}
-use Rattle.cell_engine.specs.declared.hops.Hops.TheVariants.{Nothing}
+use Rattle.cell_engine.specs.declared.hop_table.hops.Hops.{Hops}
+use Rattle.cell_engine.specs.declared.hop_table.hops.Hops.TheVariants.{Nothing}
 use Rattle.cell_engine.specs.Hops.{Have, AreKnown}
 
 pub none_known : (t : Table Heard) → t ≡ finite.empty → AreKnown Nothing t

@@ -1,5 +1,5 @@
 -- The longest match of a router, found by asking its table for matches that are shorter and shorter until one has a choice.
-use Rattle.std.proofs.Common.{◌≡◌, ◌⊎◌, inl, inr, ℕ, ◌+◌, ◌<◌, ◌≤◌, Bool, true, false, cond, List, [], Option, Some, None, option_map, is_some, unwrap_or, if◌then◌else◌, refl, sym, ap, subst, ◌∙◌, arith}
+use Rattle.std.proofs.Common.{◌≡◌, ◌⊎◌, inl, inr, ℕ, ◌+◌, ◌<◌, ◌≤◌, Bool, true, false, cond, List, [], Option, Some, None, option_map, is_some, unwrap_or, refl, sym, ap, subst, ◌∙◌, arith}
 use Rattle.std.proofs.lemmas.Bool.{true≢false}
 use Rattle.std.proofs.Math.Nat.{lt_of_not-le}
 use Rattle.std.specs.FinMap as finite
@@ -11,15 +11,11 @@ use Rattle.net_prefix.specs.Address.{addr_cmp}
 use Rattle.net_prefix.specs.Block.{Block, IsBlock, Contains, block_cmp}
 use Rattle.net_prefix.specs.Orders.{block_exact}
 use Rattle.net_conf.specs.Configuration.{Configuration, is_virtual}
-use Rattle.net_conf.specs.Costs.{costs_of}
-use Rattle.route_select.specs.Selection.{best_of}
 use Rattle.prefix_table.specs.Tables.{Table, IsLongestMatch, HasNoMatch, Matches, IsMatch as IsKeyMatch}
 use Rattle.prefix_table.proofs.Lengths.{match_is_block_at}
 use Rattle.prefix_table.specs.Places.{block_at}
-use Rattle.sim_event.specs.declared.reply.TraceEnd.TheVariants.{Reached, NoRoute, Loop}
-use Rattle.reference_machine.specs.declared.tracing.Look.TheVariants.{Ends}
 use Rattle.reference_machine.specs.Decision.{best}
-use Rattle.reference_machine.specs.Tracing.{longest_match, look, has_passed, by_route, by_prefix, IsMatch, IsLongestMatch as IsLongestChosen}
+use Rattle.reference_machine.specs.Tracing.{longest_match, IsMatch, IsLongestMatch as IsLongestChosen}
 use Rattle.reference_machine.proofs.Matches.{longest_match_law}
 use Rattle.cell_engine.specs.RouterTables.{table_at, value_at, with_value}
 use Rattle.cell_engine.specs.Cells.{Heard, nothing_heard}
@@ -138,24 +134,3 @@ module _ (e : Engine) (sound : IsSound e) (r d : Addr) (router : is_virtual e.co
   -- nor is there one once every length has been passed over
   pub no_match_left : NoneIsChosenFrom 0 r d e.tables → longest_match (network e) r d ≡ None
   no_match_left none = no_match (λ q contains chosen. true≢false (sym chosen ∙ none q (omega arith) contains))
-
--- A LOOK
-
-module _ (e : Engine) (d : Addr) (hops : List (Addr × Block)) (r : Addr) where
-  -- a virtual peer is reached
-  pub look_at_peer : is_virtual e.conf r ≡ true → look (network e) d hops r ≡ (if has_passed r hops then Ends (Loop r) else Ends (Reached r))
-  unfolding look network
-  look_at_peer virtual = λ i. if has_passed r hops then Ends (Loop r) else if virtual i then Ends (Reached r) else by_prefix (network e) r (longest_match (network e) r d)
-
-  module _ (sound : IsSound e) (router : is_virtual e.conf r ≡ false) where
-    -- a router forwards by the best of the cell of its longest match
-    pub look_by_cell : (p : Block) (h : Heard) → longest_match (network e) r d ≡ Some p → value_at r p e.tables ≡ Some h → look (network e) d hops r ≡ (if has_passed r hops then Ends (Loop r) else by_route (costs_of e.conf r) r p (best_of h.standings))
-    unfolding look network
-    look_by_cell p h is value =
-        (λ i. if has_passed r hops then Ends (Loop r) else if router i then Ends (Reached r) else by_prefix (network e) r (is i))
-        ∙ ap (λ b. if has_passed r hops then Ends (Loop r) else by_route (costs_of e.conf r) r p b) (best_heard e sound r p router ∙ ap (λ x. best_of (unwrap_or x nothing_heard).standings) value)
-
-    -- and has no route without one
-    pub look_without_match : longest_match (network e) r d ≡ None → look (network e) d hops r ≡ (if has_passed r hops then Ends (Loop r) else Ends (NoRoute r))
-    unfolding look network
-    look_without_match is = λ i. if has_passed r hops then Ends (Loop r) else if router i then Ends (Reached r) else by_prefix (network e) r (is i)

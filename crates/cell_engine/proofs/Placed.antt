@@ -25,7 +25,7 @@ use Rattle.cell_engine.specs.Keeping.{kept_cell, kept_table, kept_tables}
 use Rattle.cell_engine.specs.Changes.{Change, Choice, cell_change, router_changes, changes_where, with_changes}
 use Rattle.cell_engine.specs.Settled.{is_in, AreSettledOutside, AreSettledBut, AreThere}
 use Rattle.cell_engine.proofs.Chunks.{T_of, of_T}
-use Rattle.cell_engine.proofs.Decided.{value_with_cell, by_address_with_cell, still_there}
+use Rattle.cell_engine.proofs.Decided.{value_with_cell, by_address_with_cell}
 use Rattle.cell_engine.proofs.Kept.{find_revalued, value_kept, by_address_kept}
 use Rattle.cell_engine.proofs.Offers.{same_addr_true, block_tied}
 use Rattle.cell_engine.proofs.Refreshed.{all_from, found_each, some_mapped}
@@ -298,10 +298,3 @@ module _ (holds : Choice) (s : Scope) (c d : Configuration) (ts : List (Addr × 
     pub changes_placed : with_changes changes ts ≡ kept_tables d ts
     changes_placed =
         tables_same (with_changes changes ts) (kept_tables d ts) (by_address_with_changes changes ts sorted) (by_address_kept d ts sorted) routers_changed value_changed
-
--- a cell put in leaves each of the others there
-pub there_still : (r : Addr) (p : Block) (h : Heard) (xs : List Change) (ts : List (Addr × Table Heard)) → AreThere xs ts → AreThere xs (with_value r p h ts)
-there_still r p h xs ts all =
-    all_from (λ x. is_some (value_at x.router x.prefix ts) ≡ true) (λ x. is_some (value_at x.router x.prefix (with_value r p h ts)) ≡ true)
-    (λ x there. ap is_some (value_with_cell r p h ts x.router x.prefix) ∙ still_there _ _ h (value_at x.router x.prefix ts) there)
-    xs all

@@ -98,9 +98,6 @@ messages_of_network e sound d = messages_among e.queues d e.directions ∙ ap (�
 pub messages_on_session : (e : Engine) → IsSound e → (d : Direction) → has_session e.conf d.from d.to ≡ true → messages_in (network e).queues d ≡ Some (queue_at e.queues d.from d.to)
 messages_on_session e sound d is = messages_of_network e sound d ∙ ap (λ b. if b then Some (queue_at e.queues d.from d.to) else None) is
 
-pub messages_without_session : (e : Engine) → IsSound e → (d : Direction) → has_session e.conf d.from d.to ≡ false → messages_in (network e).queues d ≡ None
-messages_without_session e sound d is = messages_of_network e sound d ∙ ap (λ b. if b then Some (queue_at e.queues d.from d.to) else None) is
-
 -- QUIET
 
 empty_is : (ms : List Message) → is_empty ms ≡ true → ms ≡ []

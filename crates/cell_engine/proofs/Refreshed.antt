@@ -50,7 +50,7 @@ use Rattle.cell_engine.proofs.Kept.{value_kept}
 use Rattle.cell_engine.proofs.Offers.{same_addr_true, turn, changes_from}
 use Rattle.cell_engine.proofs.Told.{told_one, node_there}
 use Rattle.cell_engine.proofs.AcceptedEdits.{passes, node_kept, placed_before}
-use Rattle.cell_engine.proofs.Directions.{session_if_up, down_without_session, none_left}
+use Rattle.cell_engine.proofs.Directions.{session_if_up, down_without_session}
 use Rattle.cell_engine.proofs.AfterEdit.{originating, sound_originating, network_originating, sound_edited, received_edited, network_left_and_more}
 
 -- LISTS
@@ -352,11 +352,6 @@ module _ (e : Engine) (sound : IsSound e) (edit : Edit) (configured : IsConfigur
   -- what is on its way once the routers have sent
   abbrev pub queued_at : Addr → Addr → List Message
   queued_at f t = left_at new e.queues f t ++ told_by_all (all_sends old new ts) f t
-
-  -- where what was on its way over sessions that are up is left, and what the routers send comes to the ends, the engine is
-  -- sound
-  pub sound_with_sent : (q : WaitingByDirection) → ((f t : Addr) → queue_at q f t ≡ queued_at f t) → IsSound (edited_engine e edit q)
-  sound_with_sent q is = sound_edited e sound edit none q (λ f t alone. is f t ∙ (λ i. none_left new e.queues f t alone i ++ none_told f t alone i))
 
   -- and the network is the machine's own after the edit
   pub network_edited : (q : WaitingByDirection) → ((f t : Addr) → queue_at q f t ≡ queued_at f t) → network (edited_engine e edit q) ≡ with_sent before after

@@ -1,15 +1,13 @@
 -- Cells that can change, one after another.
-use Rattle.std.proofs.Common.{◌≡◌, List, [], ◌++◌, Option, Some, None, option_map, option_copied, unwrap_or, refl, sym, ap, ◌∙◌, append_assoc}
+use Rattle.std.proofs.Common.{◌≡◌, List, [], ◌++◌, Option, Some, None, unwrap_or, refl, sym, ap, ◌∙◌, append_assoc}
 use Rattle.std.proofs.lemmas.List.{append-nil}
 use Rattle.std.proofs.lemmas.Option.{none-some, same_Some}
-use Rattle.std.specs.Borrow.{Bor}
 use Rattle.std.specs.FinMap as finite
 use Rattle.net_prefix.specs.declared.addr.Addr.{Addr}
 use Rattle.net_prefix.specs.Block.{Block}
 use Rattle.net_conf.specs.Configuration.{Configuration}
 use Rattle.net_conf.specs.RouterSites.{router_site}
 use Rattle.net_conf.specs.declared.site.SiteConf.{SiteConf}
-use Rattle.prefix_table.specs.Tables.{Table}
 use Rattle.cell_engine.specs.Cells.{Heard, Outcome, decided, refreshed}
 use Rattle.cell_engine.specs.SiteMoves.{SitePair}
 use Rattle.cell_engine.specs.Keeping.{kept_from, kept_cell}
@@ -44,11 +42,6 @@ pair_none (Some a) new is = absurd (none-some (record { old = a; new = new }) is
 -- at a virtual peer, or where nobody is
 pub remade_by_peer : (c : Configuration) (r : Addr) (p : Block) (h : Heard) → router_site c r ≡ None → ◌≡◌ {A = Heard} (record { received = kept_from c r h.received; standings = finite.empty }) (kept_cell c r p h)
 remade_by_peer c r p h is = ap (λ site. decided site p (kept_from c r h.received)) (sym is)
-
--- the table that a reference shows, or another where there is none
-pub table_or : {X : Type 0} (table : X → Table Heard) (o : Option (Bor X)) (other : Bor X) → table (unwrap_or o other).now ≡ unwrap_or (option_map table (option_copied o)) (table other.now)
-table_or table None other = refl
-table_or table (Some x) other = refl
 
 -- IN A WALK
 

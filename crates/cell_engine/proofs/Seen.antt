@@ -123,9 +123,3 @@ module _ {V A : Type 0} (f : A → Table V) where
       → tables_of f ts' ≡ adjusted_at change r p (tables_of f ts) → IsTrue (is_sorted addr_cmp ts')
   adjusted_kept change r p ts ts' sorted made =
       sym (sorted_seen ts') ∙ ap (is_sorted addr_cmp) made ∙ order_adjusted change r p (tables_of f ts) (value_at r p (tables_of f ts)) (sorted_seen ts ∙ sorted)
-
--- so it is where a whole table is put in
-pub order_kept : {A B F : Type 0} (o : Result B F) (r : Addr) (x : A) (ts ts' : List (Addr × A)) → IsTrue (is_sorted addr_cmp ts)
-    → OnOk o (ts' ≡ put addr_cmp r x ts) → OnErr o (ts' ≡ ts) → IsTrue (is_sorted addr_cmp ts')
-order_kept (Ok b) r x ts ts' sorted ok err = ap (is_sorted addr_cmp) ok ∙ sorted-put r x ts sorted
-order_kept (Err b) r x ts ts' sorted ok err = ap (is_sorted addr_cmp) err ∙ sorted

@@ -12,12 +12,11 @@ use Rattle.cell_engine.specs.Cells.{Heard}
 use Rattle.cell_engine.specs.SiteMoves.{SitePair, is_moved, MovesCostsAlone}
 use Rattle.cell_engine.proofs.OneHop.{none_by_hop, none_moved}
 use Rattle.cell_engine.specs.Hops.{Have, AreKnown}
-use Rattle.cell_engine.specs.declared.hops.Hops.{Hops}
-use Rattle.cell_engine.specs.declared.hops.Hops.TheVariants.{Nothing, Only, Several}
-use Rattle.cell_engine.specs.Moves.{is_moved_by}
+use Rattle.cell_engine.specs.declared.hop_table.hops.Hops.{Hops}
+use Rattle.cell_engine.specs.declared.hop_table.hops.Hops.TheVariants.{Nothing, Only, Several}
 use Rattle.cell_engine.proofs.Chunks.{of_T}
 use Rattle.cell_engine.proofs.Refreshed.{all_from, found_each}
-use Rattle.cell_engine.specs.Becomings.{Becoming, MovedCell, moves_one_of, moved_cells}
+use Rattle.cell_engine.specs.Becomings.{Becoming, MovedCell, can_change, moves_one_of, moved_cells}
 
 -- what holds where a test says no
 pub leaves_by : (b : Bool) (P : Type 0) → (b ≡ false → P) → OnTrue (not b) P
@@ -32,7 +31,7 @@ none_of_hops s alone Several stays p h have = absurd (true≢false stays)
 
 module _ (b : Becoming) where
   abbrev moves : Block × Heard → Bool
-  moves e = is_moved_by b.old b.new b.conf b.address e.0 e.1
+  moves e = can_change b e.0 e.1
 
   abbrev cell : Block × Heard → MovedCell
   cell e = record { becoming = b; prefix = e.0; heard = e.1 }
@@ -42,7 +41,7 @@ module _ (b : Becoming) where
   none_chosen (e ∷ es) all = ap (λ c. map cell (cond c (e ∷ filter moves es) (filter moves es))) all.0 ∙ none_chosen es all.1
 
   -- and so none of the table, whose routes have these
-  pub none_of_table : (hops : Hops) (t : Table Heard) → AreKnown hops t → ((p : Block) (h : Heard) → Have hops h.received → is_moved_by b.old b.new b.conf b.address p h ≡ false) → moved_cells b (finite.entries t) ≡ []
+  pub none_of_table : (hops : Hops) (t : Table Heard) → AreKnown hops t → ((p : Block) (h : Heard) → Have hops h.received → can_change b p h ≡ false) → moved_cells b (finite.entries t) ≡ []
   none_of_table hops t known stays =
       none_chosen (finite.entries t)
       (all_from (λ e. entries.find block_cmp e.0 (finite.entries t) ≡ Some e.1) (λ e. moves e ≡ false) (λ e found. stays e.0 e.1 (known e.0 e.1 (finite.get-entries t e.0 ∙ found))) (finite.entries t)

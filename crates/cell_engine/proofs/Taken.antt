@@ -14,14 +14,11 @@ use Rattle.prefix_table.specs.Tables.{Table}
 use Rattle.session_queue.specs.declared.direction.Direction.{Direction}
 use Rattle.session_queue.specs.declared.message.Message.{Message}
 use Rattle.session_queue.specs.Telling.{prefix_of}
-use Rattle.net_conf.specs.Configuration.{is_virtual}
 use Rattle.net_conf.specs.RouterSites.{router_site}
-use Rattle.net_conf.specs.Sites.{site_of}
-use Rattle.net_conf.specs.declared.site.SiteConf.{SiteConf}
 use Rattle.reference_machine.specs.Decision.{route_from}
 use Rattle.reference_machine.specs.Machine.{received_after}
 use Rattle.cell_engine.specs.RouterTables.{value_at, with_value}
-use Rattle.cell_engine.specs.Cells.{Heard, nothing_heard, with_news, decided, delivered, stored, route_of}
+use Rattle.cell_engine.specs.Cells.{Heard, nothing_heard, with_news, decided, route_of}
 use Rattle.cell_engine.specs.Engine.{Engine, heard_at, all_entries, queue_of, network, IsCell, IsSound}
 use Rattle.cell_engine.proofs.Received.{route_heard, entries_with_news, with_news_in_order}
 use Rattle.cell_engine.proofs.Decided.{value_with_cell, decided_received, decided_cell, is_cell, sound_with_cell, by_address_with_cell}
@@ -73,16 +70,6 @@ cell_after e d m = decided (router_site e.conf d.to) (prefix_of m) (with_news d.
 -- the engine, once the receiver has taken the message, before anything is sent
 abbrev pub after_news : Engine → Direction → Message → Engine
 after_news e d m = record e { tables = with_value d.to (prefix_of m) (cell_after e d m) e.tables }
-
--- what a router makes of its cell
-pub delivered_cell : (e : Engine) (d : Direction) (m : Message) (site : SiteConf) → router_site e.conf d.to ≡ Some site → (delivered site (heard_at d.to (prefix_of m) e.tables) d.from m).heard ≡ cell_after e d m
-unfolding delivered
-delivered_cell e d m site at = ap (λ s. decided s (prefix_of m) (with_news d.from m (heard_at d.to (prefix_of m) e.tables).received)) (sym at)
-
--- what a virtual peer makes of its cell
-pub stored_cell : (e : Engine) (d : Direction) (m : Message) → is_virtual e.conf d.to ≡ true → (stored (heard_at d.to (prefix_of m) e.tables) d.from m).heard ≡ cell_after e d m
-unfolding stored
-stored_cell e d m virtual = ap (λ b. decided (cond b None (site_of e.conf d.to)) (prefix_of m) (with_news d.from m (heard_at d.to (prefix_of m) e.tables).received)) (sym virtual)
 
 -- the routes heard are by sender, be there a cell or none
 pub heard_in_order : (e : Engine) → IsSound e → (r : Addr) (p : Block) → IsStrictlySortedBy addr_cmp (keys_of (heard_at r p e.tables).received)

@@ -1,5 +1,5 @@
 -- A walk by the first entry past the last one comes by each entry once, in order.
-use Rattle.std.proofs.Common.{◌≡◌, Bool, true, false, cond, ◌&&◌, T, List, [], ◌∷◌, ◌++◌, filter, Option, Some, None, option_map, unwrap_or, refl, sym, ap, subst, ◌∙◌}
+use Rattle.std.proofs.Common.{◌≡◌, Bool, true, false, cond, ◌&&◌, T, List, [], ◌∷◌, filter, Option, Some, None, option_map, unwrap_or, refl, sym, ap, subst, ◌∙◌}
 use Rattle.std.specs.List.{find}
 use Rattle.std.specs.declared.cmp.Ordering.{Ordering}
 use Rattle.std.specs.declared.cmp.Ordering.TheVariants.{Less, Equal, Greater}
@@ -28,22 +28,6 @@ second_of false b p = absurd p
 
 T_of : (b : Bool) → b ≡ true → T b
 T_of b is = subst T (sym is) tt
-
-module _ {K X : Type 0} {R : K → K → Ordering} (total : IsTotalOrder R) where
-  -- PUT AT THE END
-
-  below_last : (x : K) (done : List (K × X)) (e : K × X) (later : List (K × X)) → T (entries.below_all R x (done ++ e ∷ later)) → R x e.0 ≡ Less
-  below_last x [] e later h = less_of (R x e.0) (first_of (is_lt (R x e.0)) (entries.below_all R x later) h)
-  below_last x (d ∷ done) e later h = below_last x done e later (second_of (is_lt (R x d.0)) (entries.below_all R x (done ++ e ∷ later)) h)
-
-  -- an entry that is put past all others comes to the end
-  pub put_last : (k : K) (v : X) (done later : List (K × X)) → T (entries.is_sorted R (done ++ (k, v) ∷ later)) → entries.put R k v done ≡ done ++ (k, v) ∷ []
-  put_last k v [] later h = refl
-  put_last k v (d ∷ done) later h =
-      let below = first_of (entries.below_all R d.0 (done ++ (k, v) ∷ later)) (entries.is_sorted R (done ++ (k, v) ∷ later)) h in
-      let past : R k d.0 ≡ Greater = total.antisymm k d.0 ∙ ap ordering_reverse (below_last d.0 done (k, v) later below) in
-      ap (λ o. entries.by_order o ((k, v) ∷ d ∷ done) ((d.0, v) ∷ done) (d ∷ entries.put R k v done)) past
-      ∙ ap (λ l. d ∷ l) (put_last k v done later (second_of (entries.below_all R d.0 (done ++ (k, v) ∷ later)) (entries.is_sorted R (done ++ (k, v) ∷ later)) h))
 
 -- WALKS
 

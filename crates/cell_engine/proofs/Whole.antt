@@ -16,6 +16,7 @@ use Rattle.net_prefix.specs.Block.{Block, block_cmp}
 use Rattle.net_conf.specs.Configuration.{Configuration}
 use Rattle.net_conf.specs.Configured.{IsConfigured}
 use Rattle.net_conf.specs.RouterSites.{router_site}
+use Rattle.net_conf.specs.declared.site.SiteConf.{SiteConf}
 use Rattle.net_conf.proofs.RouterLaws.{site_of_router, site_sessions_in_order}
 use Rattle.prefix_table.specs.Tables.{Table}
 use Rattle.cell_engine.specs.RouterTables.{table_at, value_at, with_value}
@@ -32,7 +33,7 @@ use Rattle.cell_engine.proofs.Ascending.{cell_of, changes_in_order}
 use Rattle.cell_engine.proofs.Decided.{is_cell, value_with_cell, still_there}
 use Rattle.cell_engine.proofs.Placed.{cells_found}
 use Rattle.cell_engine.specs.CellEdits.{CellEdit, outcome_of, edits_send, whole_change, whole_changes, AreEditsThere, with_edit, with_edits}
-use Rattle.cell_engine.specs.Becomings.{Becoming, MovedCell, RouterEdit, AreEditsOf, becoming_of, edit_becoming, pair_of, recost_in, edit_by, edit_at, change_of, change_at, moved_cells, all_moved}
+use Rattle.cell_engine.specs.Becomings.{Becoming, MovedCell, AreOf, pair_of, recost_in, edit_by, edit_at, change_of, change_at, moved_cells, all_moved}
 use Rattle.net_conf.specs.declared.edit.Edit.{Edit}
 use Rattle.net_conf.specs.Edits.{edited}
 use Rattle.net_conf.specs.Scopes.{scope}
@@ -131,13 +132,20 @@ plan_placed e sound edit x is =
 module _ (e : Engine) (sound : IsSound e) (configured : IsConfigured e.conf) where
   module _ (after : Configuration) (r : Addr) where
     abbrev b : Becoming
-    b = becoming_of e.conf after r
+    b = record { before = e.conf; after = after; address = r }
 
-    whole_by : (p : Block) (h : Heard) → value_at r p e.tables ≡ Some h → is_moved_by b.old b.new after r p h ≡ true → (o : Option SitePair) → pair_of b.old b.new ≡ o → (k : Option ℕ) → recost_in o p h ≡ k → whole_change e.tables (edit_by k b p h) ≡ change_of b p h
+    -- the router's parts of the configurations, where it stands there
+    abbrev old : Option SiteConf
+    old = router_site e.conf r
+
+    abbrev new : Option SiteConf
+    new = router_site after r
+
+    whole_by : (p : Block) (h : Heard) → value_at r p e.tables ≡ Some h → is_moved_by old new after r p h ≡ true → (o : Option SitePair) → pair_of old new ≡ o → (k : Option ℕ) → recost_in o p h ≡ k → whole_change e.tables (edit_by k b p h) ≡ change_of b p h
     whole_by p h at moves o pair None cost = refl
     whole_by p h at moves None pair (Some k) cost = absurd (none-some k cost)
     whole_by p h at moves (Some s) pair (Some k) cost =
-        let both = pair_some b.old b.new s (sym pair) in
+        let both = pair_some old new s (sym pair) in
         let is = is_cell e sound r p h at in
         let was : h ≡ decided (Some s.old) p h.received = is.decided ∙ ap (λ o. decided o p h.received) both.0 in
         let peers = site_sessions_in_order e.conf r s.old configured (site_of_router e.conf r s.old both.0) in
@@ -153,37 +161,32 @@ module _ (e : Engine) (sound : IsSound e) (configured : IsConfigured e.conf) whe
     -- each cell as it stands
     pub whole_cells : (cells : List (Block × Heard)) → AllByRecursion (λ x. value_at r x.0 e.tables ≡ Some x.1) cells → whole_changes e.tables (map edit_at (moved_cells b cells)) ≡ map change_at (moved_cells b cells)
     whole_cells [] all = refl
-    whole_cells (c ∷ cs) all = by (is_moved_by b.old b.new after r c.0 c.1) refl (whole_cells cs all.1)
+    whole_cells (c ∷ cs) all = by (is_moved_by old new after r c.0 c.1) refl (whole_cells cs all.1)
       where
         chosen : List (Block × Heard)
-        chosen = filter (λ x. is_moved_by b.old b.new after r x.0 x.1) cs
+        chosen = filter (λ x. is_moved_by old new after r x.0 x.1) cs
 
         cell : Block × Heard → MovedCell
         cell x = record { becoming = b; prefix = x.0; heard = x.1 }
 
-        by : (m : Bool) → is_moved_by b.old b.new after r c.0 c.1 ≡ m → whole_changes e.tables (map edit_at (map cell chosen)) ≡ map change_at (map cell chosen)
+        by : (m : Bool) → is_moved_by old new after r c.0 c.1 ≡ m → whole_changes e.tables (map edit_at (map cell chosen)) ≡ map change_at (map cell chosen)
             → whole_changes e.tables (map edit_at (map cell (cond m (c ∷ chosen) chosen))) ≡ map change_at (map cell (cond m (c ∷ chosen) chosen))
-        by true is rest = λ i. whole_by c.0 c.1 all.0 is (pair_of b.old b.new) refl (recost_in (pair_of b.old b.new) c.0 c.1) refl i ∷ rest i
+        by true is rest = λ i. whole_by c.0 c.1 all.0 is (pair_of old new) refl (recost_in (pair_of old new) c.0 c.1) refl i ∷ rest i
         by false is rest = rest
 
     pub whole_table : whole_changes e.tables (map edit_at (moved_cells b (finite.entries (table_at r e.tables)))) ≡ map change_at (moved_cells b (finite.entries (table_at r e.tables)))
     whole_table = whole_cells (finite.entries (table_at r e.tables)) (cells_found e.conf after e.tables r (table_at r e.tables) refl)
 
-  -- of all of these routers
-  pub whole_all : (xs : List RouterEdit) → AreEditsOf e.conf xs → whole_changes e.tables (map edit_at (all_moved (map edit_becoming xs) e.tables)) ≡ map change_at (all_moved (map edit_becoming xs) e.tables)
+  -- of all of these
+  pub whole_all : (bs : List Becoming) → AreOf e.conf bs → whole_changes e.tables (map edit_at (all_moved bs e.tables)) ≡ map change_at (all_moved bs e.tables)
   whole_all [] of = refl
   whole_all (x ∷ xs) of =
-      let cells : List (Block × Heard) = finite.entries (table_at x.router e.tables) in
-      let here : List MovedCell = moved_cells (edit_becoming x) cells in
-      let rest : List MovedCell = all_moved (map edit_becoming xs) e.tables in
-      let P : Configuration → Type 0 = λ c. whole_changes e.tables (map edit_at (moved_cells (becoming_of c x.after x.router) cells)) ≡ map change_at (moved_cells (becoming_of c x.after x.router) cells) in
-      let one : P x.before = subst P (sym of.0) (whole_table x.after x.router) in
+      let cells : List (Block × Heard) = finite.entries (table_at x.address e.tables) in
+      let here : List MovedCell = moved_cells x cells in
+      let rest : List MovedCell = all_moved xs e.tables in
+      let P : Configuration → Type 0 = λ c. whole_changes e.tables (map edit_at (moved_cells (record { before = c; after = x.after; address = x.address }) cells)) ≡ map change_at (moved_cells (record { before = c; after = x.after; address = x.address }) cells) in
+      let one : P x.before = subst P (sym of.0) (whole_table x.after x.address) in
       ap (whole_changes e.tables) (map-append edit_at here rest)
       ∙ map-append (whole_change e.tables) (map edit_at here) (map edit_at rest)
       ∙ (λ i. one i ++ whole_all xs of.1 i)
       ∙ sym (map-append change_at here rest)
-
--- with one router more
-pub one_edit_more : (c : Configuration) (xs : List RouterEdit) (x : RouterEdit) → AreEditsOf c xs → x.before ≡ c → AreEditsOf c (xs ++ x ∷ [])
-one_edit_more c [] x of is = (is, tt)
-one_edit_more c (y ∷ ys) x of is = (of.0, one_edit_more c ys x of.1 is)

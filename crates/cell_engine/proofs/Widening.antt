@@ -6,8 +6,8 @@ use Rattle.std.specs.Cmp.{unsigned_Decides}
 use Rattle.net_prefix.specs.declared.addr.Addr.{Addr}
 use Rattle.net_prefix.specs.Address.{same_addr}
 use Rattle.path_attr.specs.declared.attr.Attr.{Attr}
-use Rattle.cell_engine.specs.declared.hops.Hops.{Hops}
-use Rattle.cell_engine.specs.declared.hops.Hops.TheVariants.{Nothing, Only, Several}
+use Rattle.cell_engine.specs.declared.hop_table.hops.Hops.{Hops}
+use Rattle.cell_engine.specs.declared.hop_table.hops.Hops.TheVariants.{Nothing, Only, Several}
 use Rattle.cell_engine.specs.Hops.{Have, with_hop, with_hops}
 
 addr_true : (a b : Addr) → same_addr a b ≡ true → a ≡ b

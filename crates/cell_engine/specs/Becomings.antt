@@ -1,4 +1,4 @@
--- What becomes of the cells of one address. No public contract cites this file.
+-- What becomes of who stands at an address at an edit, and of the cells there. No public contract cites this file.
 use Rattle.std.specs.Prelude.{◌≡◌, ℕ, Bool, true, false, ◌∷◌, [], List, map, filter, Option, Some, None}
 use Rattle.std.specs.List.{AllByRecursion, flat_map}
 use Rattle.std.specs.FinMap as finite
@@ -12,33 +12,46 @@ use Rattle.cell_engine.specs.RouterTables.{table_at}
 use Rattle.cell_engine.specs.Cells.{Heard}
 use Rattle.cell_engine.specs.SiteMoves.{SitePair, moves_cost_to}
 use Rattle.cell_engine.specs.Recosting.{recost}
-use Rattle.cell_engine.specs.declared.hops.Hops.{Hops}
-use Rattle.cell_engine.specs.declared.hops.Hops.TheVariants.{Nothing, Only, Several}
-use Rattle.cell_engine.specs.Keeping.{kept_cell}
-use Rattle.cell_engine.specs.Editing.{sends_between}
-use Rattle.cell_engine.specs.Moves.{is_moved_by, moves}
-use Rattle.cell_engine.specs.Changes.{Change, router_changes}
+use Rattle.cell_engine.specs.declared.hop_table.hops.Hops.{Hops}
+use Rattle.cell_engine.specs.declared.hop_table.hops.Hops.TheVariants.{Nothing, Only, Several}
+use Rattle.cell_engine.specs.Moves.{moves}
+use Rattle.cell_engine.specs.Changes.{Change, cell_change, router_changes}
 use Rattle.cell_engine.specs.CellEdits.{CellEdit}
 
--- the configuration that comes, an address, and the part of the configuration before and after of the router that stands there
+-- who stands at an address, where the configuration becomes another
 pub record Becoming : Type 0 where
-  pub conf : Configuration
+  pub before : Configuration
+  pub after : Configuration
   pub address : Addr
-  pub old : Option SiteConf
-  pub new : Option SiteConf
+
+-- they are edits of this configuration
+abbrev pub AreOf : Configuration → List Becoming → Type 0
+AreOf c bs = AllByRecursion (λ b. b.before ≡ c) bs
 
 -- where a router stands before and after
 abbrev pub pair_of : Option SiteConf → Option SiteConf → Option SitePair
 pair_of (Some old) (Some new) = Some (record { old = old; new = new })
 pair_of _ _ = None
 
--- of a router, when the configuration c becomes d
-abbrev pub becoming_of : Configuration → Configuration → Addr → Becoming
-becoming_of c d r = record { conf = d; address = r; old = router_site c r; new = router_site d r }
+-- its parts of the configurations
+abbrev pub sites_of : Becoming → Option SitePair
+sites_of b = pair_of (router_site b.before b.address) (router_site b.after b.address)
+
+-- the cell can change
+abbrev pub can_change : Becoming → Block → Heard → Bool
+can_change b p h = moves b.before b.after b.address p h
 
 -- one cell
 abbrev pub change_of : Becoming → Block → Heard → Change
-change_of b p h = record { router = b.address; prefix = p; outcome = record { heard = kept_cell b.conf b.address p h; sends = sends_between b.old b.new p h } }
+change_of b p h = cell_change b.before b.after b.address p h
+
+-- all its cells that can change
+abbrev pub becoming_changes : List (Addr × Table Heard) → Becoming → List Change
+becoming_changes ts b = router_changes (moves b.before b.after) b.before b.after b.address (finite.entries (table_at b.address ts))
+
+-- those of all of these
+abbrev pub all_changes : List Becoming → List (Addr × Table Heard) → List Change
+all_changes bs ts = flat_map (becoming_changes ts) bs
 
 -- a cell that can change, and what becomes of who keeps it
 pub record MovedCell : Type 0 where
@@ -52,7 +65,7 @@ change_at x = change_of x.becoming x.prefix x.heard
 
 -- those of these that can change
 abbrev pub moved_cells : Becoming → List (Block × Heard) → List MovedCell
-moved_cells b cells = map (λ e. record { becoming = b; prefix = e.0; heard = e.1 }) (filter (λ e. is_moved_by b.old b.new b.conf b.address e.0 e.1) cells)
+moved_cells b cells = map (λ e. record { becoming = b; prefix = e.0; heard = e.1 }) (filter (λ e. can_change b e.0 e.1) cells)
 
 -- this one, if it can
 abbrev pub moved_cell : Becoming → Block → Heard → List MovedCell
@@ -75,29 +88,8 @@ edit_by (Some k) b p h = record { router = b.address; prefix = p; remade = None;
 
 -- what is done to one cell
 abbrev pub edit_at : MovedCell → CellEdit
-edit_at x = edit_by (recost_in (pair_of x.becoming.old x.becoming.new) x.prefix x.heard) x.becoming x.prefix x.heard
+edit_at x = edit_by (recost_in (sites_of x.becoming) x.prefix x.heard) x.becoming x.prefix x.heard
 
 -- of all of these, in order, then by prefix
 abbrev pub all_moved : List Becoming → List (Addr × Table Heard) → List MovedCell
 all_moved bs ts = flat_map (λ b. moved_cells b (finite.entries (table_at b.address ts))) bs
-
--- a router where the configuration becomes another
-pub record RouterEdit : Type 0 where
-  pub before : Configuration
-  pub after : Configuration
-  pub router : Addr
-
--- they are edits of this configuration
-abbrev pub AreEditsOf : Configuration → List RouterEdit → Type 0
-AreEditsOf c xs = AllByRecursion (λ x. x.before ≡ c) xs
-
-abbrev pub edit_becoming : RouterEdit → Becoming
-edit_becoming x = becoming_of x.before x.after x.router
-
--- what becomes of its cells
-abbrev pub edit_changes : List (Addr × Table Heard) → RouterEdit → List Change
-edit_changes ts x = router_changes (moves x.before x.after) x.before x.after x.router (finite.entries (table_at x.router ts))
-
--- of those of all of these
-abbrev pub all_changes : List RouterEdit → List (Addr × Table Heard) → List Change
-all_changes xs ts = flat_map (edit_changes ts) xs

@@ -7,8 +7,8 @@ use Rattle.path_attr.specs.declared.attr.Attr.{Attr}
 use Rattle.net_prefix.specs.Block.{Block}
 use Rattle.prefix_table.specs.Tables.{Table}
 use Rattle.cell_engine.specs.Cells.{Heard}
-use Rattle.cell_engine.specs.declared.hops.Hops.{Hops}
-use Rattle.cell_engine.specs.declared.hops.Hops.TheVariants.{Nothing, Only, Several}
+use Rattle.cell_engine.specs.declared.hop_table.hops.Hops.{Hops}
+use Rattle.cell_engine.specs.declared.hop_table.hops.Hops.TheVariants.{Nothing, Only, Several}
 
 -- the routes have these NEXT_HOPs
 abbrev pub Have : Hops → List (Addr × Attr) → Type 0

@@ -18,6 +18,7 @@ pub mod Settled
 pub mod Moves
 pub mod Decisions
 pub mod Admitting
+pub mod Queueing
 pub mod CellEdits
 pub mod Becomings
 pub mod Coding

@@ -1,5 +1,5 @@
 -- Tables by the address of their router: each a finite map from prefixes to values.
-use Rattle.std.specs.Prelude.{Bool, true, List, map, find, Option, Some, None, option_map, unwrap_or}
+use Rattle.std.specs.Prelude.{Bool, true, IsTrue, List, map, find, Option, Some, None, option_map, unwrap_or}
 use Rattle.std.specs.FinMap as finite
 use Rattle.std.specs.FinMap.Entries as entries
 use Rattle.std.specs.Ordering.{is_lt}
@@ -7,6 +7,10 @@ use Rattle.net_prefix.specs.declared.addr.Addr.{Addr}
 use Rattle.net_prefix.specs.Address.{addr_cmp}
 use Rattle.net_prefix.specs.Block.{Block}
 use Rattle.prefix_table.specs.Tables.{Table}
+
+-- by address, each once
+abbrev pub AreByRouter : {A : Type 0} → List (Addr × A) → Type 0
+AreByRouter ts = IsTrue (entries.is_sorted addr_cmp ts)
 
 -- the tables, as finite maps
 abbrev pub tables_of : {A V : Type 0} → (A → Table V) → List (Addr × A) → List (Addr × Table V)

@@ -20,6 +20,11 @@ abbrev pub standings_after : SiteConf → Addr → Message → Standings → Sta
 standings_after site u (Update p attr) m = option_map_or (λ x. added m (option_to_list (standing_over site p x (Some attr)))) (session_with site u) m
 standings_after site u (Withdraw p) m = finite.remove m (FromPeer u)
 
+-- what adverts are made of: a router's part of the configuration, and its best route
+pub record Basis : Type 0 where
+  pub site : SiteConf
+  pub best : Option Candidate
+
 -- what is sent over the session: nothing while it is down
 abbrev pub send_if_up : SiteConf → SiteConf → Block → Option Candidate → Option Candidate → SiteSession → Option (Addr × Message)
 send_if_up old new p had has to = if to.up then send_over old new p had has to else None

@@ -1,26 +1,28 @@
-//! What the engine does with a message at the head of a queue.
+//! What the engine does with a message at the head of a queue, with one whose outcome was made beside the state (`installs`), and
+//! with one that a virtual peer feeds (`feeds`).
 
-ghost use Rattle.std.specs.Prelude.{◌≡◌, ◌≤◌, ◌+◌, ◌++◌, length, true, false, is_some, IfOk, OnOk, OnErr};
+ghost use Rattle.std.specs.Prelude.{◌≡◌, ◌≤◌, length, true, false, is_some, IfOk, OnOk, OnErr};
 ghost use Rattle.net_conf.specs.Costs.{is_up};
 ghost use Rattle.session_queue.specs.Telling.{prefix_of};
-ghost use Rattle.session_queue.specs.Waiting.{queue_at, spare_at};
 ghost use Rattle.cell_engine.specs.RouterTables.{value_at, with_value};
 ghost use Rattle.cell_engine.specs.Cells.{nothing_heard};
 ghost use Rattle.reference_machine.specs.Network.{messages_in};
 ghost use Rattle.reference_machine.specs.Machine.{head_step};
 ghost use Rattle.cell_engine.specs.Engine.{network};
-ghost use Rattle.cell_engine.specs.Sending.{told, told_from};
-ghost use Rattle.cell_engine.specs.Admitting.{AreAdmitted};
+ghost use Rattle.cell_engine.specs.Sending.{told};
 ghost use Rattle.cell_engine.specs.Deliveries.{outcome_at, HasRoom, IsOfHead, KeepsSame};
 
-use crate::admitting::admit_all;
+mod feeds;
+mod installs;
+
 use crate::route_cell::{Cell, Outcome, deliver, store};
 use crate::router_tables::RouterTables;
+use crate::sending::{make_ready, push_all};
 use crate::state::State;
 use net_prefix::{Addr, Prefix};
 use prefix_table::PrefixTable;
 use route_select::Selector;
-use session_queue::{Direction, Message, Queues};
+use session_queue::{Direction, Message};
 use std::alloc::{AllocError, Global};
 
 /// Gives the router an empty cell of the prefix.
@@ -36,52 +38,6 @@ fn add_cell<S: Selector + Drop, T: PrefixTable<Cell<S>> + Drop>(
     match tables.insert(alloc, router, prefix, Cell::new(alloc)) {
         Ok(()) => Ok(()),
         Err(_) => Err(AllocError),
-    }
-}
-
-/// Sees to it that there is a place for each message, where each goes to a peer of its own.
-fn reserve_all(
-    queues: &mut Queues,
-    router: Addr,
-    sends: &[(Addr, Message)],
-) -> Result<(), AllocError>
-    requires { (t : Addr) → length (told t sends.now) ≤ 1 }
-    ensures queue { (f t : Addr) → queue_at queues.new f t ≡ queue_at queues.old f t }
-    ensures spare { (f t : Addr) → spare_at queues.old f t ≤ spare_at queues.new f t }
-    ensures room { OnOk result ((t : Addr) → length (told t sends.now) ≤ spare_at queues.new router t) }
-    ensures admitted { queues.new.admitted ≡ queues.old.admitted }
-{
-    for send in sends {
-        queues.reserve(router, send.0, 1)?;
-    }
-    Ok(())
-}
-
-/// Sees to it that each message may be sent, and has a place, where each goes to a peer of its own.
-pub(crate) fn make_ready(
-    queues: &mut Queues,
-    router: Addr,
-    sends: &[(Addr, Message)],
-) -> Result<(), AllocError>
-    requires { (t : Addr) → length (told t sends.now) ≤ 1 }
-    ensures queue { (f t : Addr) → queue_at queues.new f t ≡ queue_at queues.old f t }
-    ensures room { OnOk result ((t : Addr) → length (told t sends.now) ≤ spare_at queues.new router t) }
-    ensures admitted { OnOk result (AreAdmitted queues.new.admitted sends.now) }
-{
-    admit_all(queues, sends)?;
-    reserve_all(queues, router, sends)
-}
-
-/// Sends each message. It takes no memory.
-pub(crate) fn push_all(queues: &mut Queues, router: Addr, sends: Vec<(Addr, Message)>)
-    requires places { (t : Addr) → length (told t sends.items) ≤ spare_at queues.old router t }
-    requires admitted { AreAdmitted queues.old.admitted sends.items }
-    ensures queue { (f t : Addr) → queue_at queues.new f t ≡ queue_at queues.old f t ++ told_from router sends.items f t }
-    ensures spare { (f t : Addr) → spare_at queues.new f t + length (told_from router sends.items f t) ≡ spare_at queues.old f t }
-    ensures admitted { queues.new.admitted ≡ queues.old.admitted }
-{
-    for (peer, message) in sends {
-        queues.push(router, peer, message);
     }
 }
 

@@ -7,8 +7,10 @@ ghost use Rattle.path_attr.specs.declared.attr.Attr as attr;
 ghost use Rattle.cell_engine.specs.Cells.{Heard};
 ghost use Rattle.cell_engine.specs.Hops.{Have, AreKnown};
 
-use crate::hops::Hops;
+mod hops;
+
 use crate::route_cell::Cell;
+pub use hops::Hops;
 use net_prefix::{Addr, Prefix};
 use prefix_table::{Adjust, PrefixTable};
 use route_select::Chosen;

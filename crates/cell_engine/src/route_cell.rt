@@ -12,5 +12,5 @@ mod standings;
 pub use cell::Cell;
 pub use changes::{deliver, refresh, refresh_compared, store};
 pub use keeping::keep;
-pub use moves::SiteChange;
+pub use moves::{SiteChange, Stays};
 pub use outcome::Outcome;

@@ -13,15 +13,19 @@ ghost use Rattle.cell_engine.specs.Reporting.{AreOfPrefixes};
 ghost use Rattle.cell_engine.specs.Changes.{AreOverSessionsUp};
 ghost use Rattle.cell_engine.specs.Sharing.{conf_shown};
 
-use crate::edits::is_router;
-use crate::held_conf::HeldConf;
+mod held_conf;
+mod router_test;
+
 use crate::hop_table::HopTable;
 use crate::route_cell::Cell;
 use crate::router_tables::RouterTables;
+use crate::state::held_conf::HeldConf;
+use crate::state::router_test::is_router;
 use net_conf::{Conf, SiteConf};
 use net_prefix::{Addr, Prefix};
 use prefix_table::PrefixTable;
 use route_select::Chosen;
+pub use router_test::is_router_again;
 use seq::Seq;
 use session_queue::{Direction, Queues};
 use std::alloc::{AllocError, Global};

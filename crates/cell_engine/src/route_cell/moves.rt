@@ -7,9 +7,10 @@ ghost use Rattle.igp_cost.specs.Trees.{cost_in};
 ghost use Rattle.net_conf.specs.Costs.{is_up};
 ghost use Rattle.cell_engine.specs.SiteMoves.{is_about_cost, counts_cost, moves_cost_to, is_route_moved, is_own_moved, has_route, is_moved, MovesCostsAlone};
 ghost use Rattle.cell_engine.specs.Recosting.{is_own, lone_cost, recost};
+ghost use Rattle.cell_engine.specs.MoveTests.{stays_between, stays_of};
 
 use crate::route_cell::cell::Cell;
-use net_conf::{Conf, SiteConf, SiteSession};
+use net_conf::{Conf, SharedSite, SiteConf, SiteSession};
 use net_prefix::{Addr, Prefix};
 use path_attr::Attr;
 use reference_machine::{exclusion, is_originated};
@@ -25,14 +26,46 @@ struct Look {
     new: Option<u32>,
 }
 
-/// A router's part of the configuration before an edit and after it, compared once for all of its cells. It remembers the NEXT_HOP that was
+/// What stays of a router's part of the configuration at an edit: its settings with which of its sessions are up, and the prefixes that
+/// it originates.
+#[derive(Clone, Copy)]
+pub struct Stays {
+    pub(crate) facts: bool,
+    pub(crate) origins: bool,
+}
+
+impl Stays {
+    /// What stays between these two parts.
+    fn between(old: &SiteConf, new: &SiteConf) -> Stays
+        ensures { result ≡ stays_between old.now new.now }
+    {
+        Stays {
+            facts: old.has_same_facts(new),
+            origins: old.origins == new.origins,
+        }
+    }
+
+    /// What stays where a router stands before and after. Elsewhere nothing does.
+    pub fn of(old: &Option<SharedSite>, new: &Option<SharedSite>) -> Stays
+        ensures { result ≡ stays_of old.now new.now }
+    {
+        match (old, new) {
+            (Some(old), Some(new)) => Stays::between(old.get(), new.get()),
+            _ => Stays {
+                facts: false,
+                origins: false,
+            },
+        }
+    }
+}
+
+/// A router's part of the configuration before an edit and after it, of which it is known what stays. It remembers the NEXT_HOP that was
 /// looked up last: most routes of a router have the same one.
 #[derive(Drop)]
 pub struct SiteChange<'a> {
     pub(crate) old: &'a SiteConf,
     pub(crate) new: &'a SiteConf,
-    pub(crate) has_same_facts: bool,
-    has_same_origins: bool,
+    pub(crate) stays: Stays,
     last: Option<Look>,
 }
 
@@ -47,33 +80,20 @@ impl<'a> Model for SiteChange<'a> {
 
     ghost view = { λ x. record { old = x.old.now; new = x.new.now } };
 
-    ghost invariant = { λ x. (x.has_same_facts ≡ same_facts x.old.now x.new.now) × (x.has_same_origins ≡ same_origins x.old.now x.new.now)
+    ghost invariant = { λ x. (x.stays.facts ≡ same_facts x.old.now x.new.now) × (x.stays.origins ≡ same_origins x.old.now x.new.now)
         × IfSome x.last (λ look. (look.old ≡ cost_in x.old.now.costs look.to) × (look.new ≡ cost_in x.new.now.costs look.to)) };
 }
 
 impl<'a> SiteChange<'a> {
-    /// What becomes of the router's part of the configuration.
-    pub fn of(old: &'a SiteConf, new: &'a SiteConf) -> Self
+    /// What becomes of the router's part of the configuration, of which this stays.
+    pub fn of(old: &'a SiteConf, new: &'a SiteConf, stays: Stays) -> Self
+        requires { stays ≡ stays_between old.now new.now }
         ensures { result ≡ record { old = old.now; new = new.now } }
     {
         SiteChange {
             old,
             new,
-            has_same_facts: old.has_same_facts(new),
-            has_same_origins: old.origins == new.origins,
-            last: None,
-        }
-    }
-
-    /// The same once more, of which no NEXT_HOP was looked up.
-    pub fn again(&self) -> Self
-        ensures { result ≡ self.now }
-    {
-        SiteChange {
-            old: self.old,
-            new: self.new,
-            has_same_facts: self.has_same_facts,
-            has_same_origins: self.has_same_origins,
+            stays,
             last: None,
         }
     }
@@ -83,7 +103,7 @@ impl<'a> SiteChange<'a> {
     pub fn moves_costs_alone(&self) -> bool
         ensures { OnTrue result (MovesCostsAlone self.now) }
     {
-        self.has_same_facts && self.has_same_origins
+        self.stays.facts && self.stays.origins
     }
 
     /// Whether the cost to the address becomes another, or comes, or goes. It looks anew, and remembers nothing.
@@ -98,7 +118,7 @@ impl<'a> SiteChange<'a> {
     fn moves_own(&self, prefix: Prefix) -> bool
         ensures { result ≡ is_own_moved self.now prefix }
     {
-        if self.has_same_origins {
+        if self.stays.origins {
             return false;
         }
         is_originated(self.old, prefix) != is_originated(self.new, prefix)
@@ -109,8 +129,7 @@ impl<'a> SiteChange<'a> {
     fn is_own(&self, prefix: Prefix) -> bool
         ensures { result ≡ is_own self.now prefix }
     {
-        is_originated(self.old, prefix)
-            || (!self.has_same_origins && is_originated(self.new, prefix))
+        is_originated(self.old, prefix) || (!self.stays.origins && is_originated(self.new, prefix))
     }
 
     /// The costs to the address: those of the last look, where it was at this address, else of a new one.
@@ -203,7 +222,7 @@ impl<S: Selector> Cell<S> {
         ensures stays { change.exit.now ≡ change.entry.now }
     {
         let routes = self.received.routes();
-        if change.has_same_facts {
+        if change.stays.facts {
             change.moves_own(prefix) || change.moves_any(prefix, routes)
         } else {
             self.has_route(change.old, prefix) || is_originated(change.new, prefix)
@@ -216,7 +235,7 @@ impl<S: Selector> Cell<S> {
         ensures cost { result ≡ recost change.entry.now prefix self.now.received }
         ensures stays { change.exit.now ≡ change.entry.now }
     {
-        if change.has_same_facts && !change.is_own(prefix) {
+        if change.stays.facts && !change.is_own(prefix) {
             change.lone_cost(self.received.routes())
         } else {
             None

@@ -17,6 +17,7 @@ use route_select::Candidate;
 use seq::push_some;
 use session_queue::Message;
 use std::alloc::{AllocError, Global};
+use std::marker::Model;
 
 /// Whether the router has a session with the peer, and it is up.
 pub(crate) fn is_up_in(site: &SiteConf, peer: Addr) -> bool
@@ -37,39 +38,58 @@ fn send_to(peer: Addr, message: Option<Message>) -> Option<(Addr, Message)>
     }
 }
 
+/// What adverts are made of: a router's part of the configuration, and its best route.
+#[derive(Drop)]
+struct Basis<'a> {
+    site: &'a SiteConf,
+    best: Option<&'a Candidate>,
+}
+
+impl<'a> Model for Basis<'a> {
+    ghost use Rattle.std.specs.Option.{option_copied};
+    ghost use Rattle.cell_engine.specs.Updates as updates;
+
+    ghost Value = { updates.Basis };
+
+    ghost view = { λ x. record { site = x.site.now; best = option_copied x.best } };
+}
+
 /// What is sent over the session, which is up, where another route is advertised to its peer than before. An advert looks
 /// the session up again, by the address of its peer.
 fn send_over(
     alloc: Global,
-    old: &SiteConf,
-    new: &SiteConf,
     prefix: Prefix,
-    had: Option<&Candidate>,
-    has: Option<&Candidate>,
+    before: &Basis<'_>,
+    after: &Basis<'_>,
     to: &SiteSession,
 ) -> Result<Option<(Addr, Message)>, AllocError>
-    ensures { IfOk result (λ send. send ≡ send_over old.now new.now prefix (option_copied had.entry) (option_copied has.entry) to.now) }
+    ensures { IfOk result (λ send. send ≡ send_over before.now.site after.now.site prefix before.now.best after.now.best to.now) }
 {
-    let peer = to.peer;
-    let before = advert_of(alloc, is_up_in(old, peer), Some(old), peer, prefix, had)?;
-    let after = advert_of(alloc, to.up, Some(new), peer, prefix, has)?;
-    Ok(send_to(peer, change_of(prefix, before, after)))
+    let (old, new, peer) = (before.site, after.site, to.peer);
+    let had = advert_of(
+        alloc,
+        is_up_in(old, peer),
+        Some(old),
+        peer,
+        prefix,
+        before.best,
+    )?;
+    let has = advert_of(alloc, to.up, Some(new), peer, prefix, after.best)?;
+    Ok(send_to(peer, change_of(prefix, had, has)))
 }
 
 /// What is sent over the session: nothing while it is down.
 fn send_if_up(
     alloc: Global,
-    old: &SiteConf,
-    new: &SiteConf,
     prefix: Prefix,
-    had: Option<&Candidate>,
-    has: Option<&Candidate>,
+    before: &Basis<'_>,
+    after: &Basis<'_>,
     to: &SiteSession,
 ) -> Result<Option<(Addr, Message)>, AllocError>
-    ensures { IfOk result (λ send. send ≡ send_if_up old.now new.now prefix (option_copied had.entry) (option_copied has.entry) to.now) }
+    ensures { IfOk result (λ send. send ≡ send_if_up before.now.site after.now.site prefix before.now.best after.now.best to.now) }
 {
     if to.up {
-        send_over(alloc, old, new, prefix, had, has, to)
+        send_over(alloc, prefix, before, after, to)
     } else {
         Ok(None)
     }
@@ -78,18 +98,16 @@ fn send_if_up(
 /// What is sent over these sessions.
 fn sends_over(
     alloc: Global,
-    old: &SiteConf,
-    new: &SiteConf,
     prefix: Prefix,
-    had: Option<&Candidate>,
-    has: Option<&Candidate>,
+    before: &Basis<'_>,
+    after: &Basis<'_>,
     sessions: &[SiteSession],
 ) -> Result<Vec<(Addr, Message)>, AllocError>
-    ensures { IfOk result (λ sends. sends.items ≡ filter_map (send_if_up old.now new.now prefix (option_copied had.entry) (option_copied has.entry)) sessions.now) }
+    ensures { IfOk result (λ sends. sends.items ≡ filter_map (send_if_up before.now.site after.now.site prefix before.now.best after.now.best) sessions.now) }
 {
     let mut sends = Vec::new(alloc);
     for to in sessions {
-        let send = send_if_up(alloc, old, new, prefix, had, has, to)?;
+        let send = send_if_up(alloc, prefix, before, after, to)?;
         push_some(&mut sends, send)?;
     }
     Ok(sends)
@@ -106,7 +124,15 @@ pub(crate) fn sends_of(
 ) -> Result<Vec<(Addr, Message)>, AllocError>
     ensures { IfOk result (λ sends. sends.items ≡ sends_of old.now new.now prefix (option_copied had.entry) (option_copied has.entry)) }
 {
-    sends_over(alloc, old, new, prefix, had, has, new.sessions.as_slice())
+    let before = Basis {
+        site: old,
+        best: had,
+    };
+    let after = Basis {
+        site: new,
+        best: has,
+    };
+    sends_over(alloc, prefix, &before, &after, new.sessions.as_slice())
 }
 
 /// What is sent where the site stays: no advert is made where the best route is the same.
@@ -139,7 +165,7 @@ pub(crate) fn sends_compared(
     requires { IsStrictlySortedBy addr_cmp (map (λ x. x.peer) change.now.new.sessions) }
     ensures { IfOk result (λ sends. sends.items ≡ sends_of change.now.old change.now.new prefix (option_copied had.entry) (option_copied has.entry)) }
 {
-    if change.has_same_facts && is_same_choice_but_for_cost(had, has) {
+    if change.stays.facts && is_same_choice_but_for_cost(had, has) {
         Ok(Vec::new(alloc))
     } else {
         sends_of(alloc, change.old, change.new, prefix, had, has)

@@ -1,9 +1,7 @@
 //! Writes into a vector of tables in the order of the routers.
 
-ghost use Rattle.std.specs.Prelude.{◌≡◌, None, Some, is_some, IsTrue, IfOk, IfErr, OnOk, OnErr};
-ghost use Rattle.std.specs.FinMap.Entries.{find, put, is_sorted};
-ghost use Rattle.net_prefix.specs.Address.{addr_cmp};
-ghost use Rattle.cell_engine.specs.RouterTables.{tables_of, value_at, with_value, adjusted_at};
+ghost use Rattle.std.specs.Prelude.{◌≡◌, None, Some, is_some, IfOk, IfErr, OnOk, OnErr};
+ghost use Rattle.cell_engine.specs.RouterTables.{AreByRouter, tables_of, value_at, with_value, adjusted_at};
 
 use crate::router_tables::places::place;
 use net_prefix::{Addr, Prefix};
@@ -18,7 +16,7 @@ pub(crate) fn insert_in<V: Drop, T: PrefixTable<V> + Drop>(
     prefix: Prefix,
     value: V,
 ) -> Result<(), V>
-    requires { IsTrue (is_sorted addr_cmp entries.old.items) }
+    requires { AreByRouter entries.old.items }
     ensures ok { OnOk result (tables_of T.table entries.new.items ≡ with_value router prefix value (tables_of T.table entries.old.items)) }
     ensures absent { OnErr result (value_at router prefix (tables_of T.table entries.old.items) ≡ None) }
     ensures back { IfErr result (λ back. back ≡ value) }
@@ -52,7 +50,7 @@ pub(crate) fn replace_in<V, T: PrefixTable<V>>(
     prefix: Prefix,
     value: V,
 ) -> Result<V, V>
-    requires { IsTrue (is_sorted addr_cmp entries.old.items) }
+    requires { AreByRouter entries.old.items }
     ensures before { IfOk result (λ before. value_at router prefix (tables_of T.table entries.old.items) ≡ Some before) }
     ensures replaced { OnOk result (tables_of T.table entries.new.items ≡ with_value router prefix value (tables_of T.table entries.old.items)) }
     ensures absent { OnErr result (value_at router prefix (tables_of T.table entries.old.items) ≡ None) }
@@ -72,33 +70,12 @@ pub(crate) fn adjust_in<V, T: PrefixTable<V>, A: Adjust<V>>(
     prefix: Prefix,
     change: &A,
 ) -> bool
-    requires { IsTrue (is_sorted addr_cmp entries.old.items) }
+    requires { AreByRouter entries.old.items }
     ensures there { result ≡ is_some (value_at router prefix (tables_of T.table entries.old.items)) }
     ensures adjusted { tables_of T.table entries.new.items ≡ adjusted_at (A.after change.now) router prefix (tables_of T.table entries.old.items) }
 {
     match place(entries, router) {
         Ok(at) => entries[at].1.adjust(prefix, change),
         Err(_) => false,
-    }
-}
-
-/// Gives the router this table, in place of any.
-pub(crate) fn put_in<T: Drop>(entries: &mut Vec<(Addr, T)>, router: Addr, table: T) -> Result<(), T>
-    requires { IsTrue (is_sorted addr_cmp entries.old.items) }
-    ensures ok { OnOk result (entries.new.items ≡ put addr_cmp router table entries.old.items) }
-    ensures absent { OnErr result (find addr_cmp router entries.old.items ≡ None) }
-    ensures back { IfErr result (λ back. back ≡ table) }
-    ensures err { OnErr result (entries.new.items ≡ entries.old.items) }
-{
-    match place(entries, router) {
-        Ok(at) => {
-            let entry = &mut entries[at];
-            entry.1 = table;
-            Ok(())
-        }
-        Err(at) => match entries.insert(at, (router, table)) {
-            Ok(()) => Ok(()),
-            Err(failed) => Err(failed.value.1),
-        },
     }
 }

@@ -1,11 +1,11 @@
 //! Where a router's table stands in a vector in the order of the routers.
 
-ghost use Rattle.std.specs.Prelude.{◌≡◌, IsTrue, IfOk, IfErr};
+ghost use Rattle.std.specs.Prelude.{◌≡◌, IfOk, IfErr};
 ghost use Rattle.std.specs.List as list;
 ghost use Rattle.std.specs.Option.{option_copied, option_map};
-ghost use Rattle.std.specs.FinMap.Entries.{find, is_sorted};
+ghost use Rattle.std.specs.FinMap.Entries.{find};
 ghost use Rattle.net_prefix.specs.Address.{addr_cmp};
-ghost use Rattle.cell_engine.specs.RouterTables.{is_past};
+ghost use Rattle.cell_engine.specs.RouterTables.{AreByRouter, is_past};
 ghost use Rattle.cell_engine.specs.TablePlaces.{IsAt, IsFor};
 
 use net_prefix::Addr;
@@ -22,7 +22,7 @@ fn comes_past(router: Addr, past: Option<Addr>) -> bool
 
 /// The place of the router's entry, or as an error the place where it would go.
 pub(crate) fn place<T>(entries: &[(Addr, T)], router: Addr) -> Result<usize, usize>
-    requires { IsTrue (is_sorted addr_cmp entries.now) }
+    requires { AreByRouter entries.now }
     ensures found { IfOk result (IsAt entries.now router) }
     ensures absent { IfErr result (IsFor entries.now router) }
 {
@@ -35,7 +35,7 @@ pub(crate) fn place<T>(entries: &[(Addr, T)], router: Addr) -> Result<usize, usi
 
 /// The router's table.
 pub(crate) fn table_in<T>(entries: &[(Addr, T)], router: Addr) -> Option<&T>
-    requires { IsTrue (is_sorted addr_cmp entries.now) }
+    requires { AreByRouter entries.now }
     ensures { option_copied result ≡ find addr_cmp router entries.now }
 {
     match place(entries, router) {
@@ -46,7 +46,7 @@ pub(crate) fn table_in<T>(entries: &[(Addr, T)], router: Addr) -> Option<&T>
 
 /// The first router past this one, or the first of all.
 pub(crate) fn next_in<T>(entries: &[(Addr, T)], past: Option<Addr>) -> Option<Addr>
-    requires { IsTrue (is_sorted addr_cmp entries.now) }
+    requires { AreByRouter entries.now }
     ensures { result ≡ option_map (λ e. e.0) (list.find (λ e. is_past past e.0) entries.now) }
 {
     let at = entries.partition_point(|entry| !comes_past(entry.0, past));

@@ -1,12 +1,12 @@
 //! The tables of all routers.
 
-ghost use Rattle.std.specs.Prelude.{◌≡◌, [], None, Some, is_some, IsTrue, IfOk, IfErr, OnOk, OnErr};
+ghost use Rattle.std.specs.Prelude.{◌≡◌, [], None, Some, is_some, IfOk, IfErr, OnOk, OnErr};
 ghost use Rattle.std.specs.Option.{option_copied, option_map};
-ghost use Rattle.std.specs.FinMap.Entries.{find, put, is_sorted};
+ghost use Rattle.std.specs.FinMap.Entries.{find};
 ghost use Rattle.net_prefix.specs.Address.{addr_cmp};
-ghost use Rattle.cell_engine.specs.RouterTables.{value_at, with_value, adjusted_at, next_of};
+ghost use Rattle.cell_engine.specs.RouterTables.{AreByRouter, value_at, with_value, adjusted_at, next_of};
 
-use crate::router_tables::entries::{adjust_in, insert_in, put_in, replace_in};
+use crate::router_tables::entries::{adjust_in, insert_in, replace_in};
 use crate::router_tables::places::{next_in, table_in};
 use net_prefix::{Addr, Prefix};
 use prefix_table::{Adjust, PrefixTable};
@@ -22,15 +22,13 @@ pub struct RouterTables<V, T: PrefixTable<V>> {
 }
 
 impl<V, T: PrefixTable<V>> Model for RouterTables<V, T> {
-    ghost use Rattle.std.specs.Prelude.{List, IsTrue};
+    ghost use Rattle.std.specs.Prelude.{List};
     ghost use Rattle.std.specs.Coded.{coded_list, coded×};
     ghost use Rattle.std.specs.FinMap as finite;
-    ghost use Rattle.std.specs.FinMap.Entries.{is_sorted};
     ghost use Rattle.net_prefix.specs.declared.addr.Addr as addr;
     ghost use Rattle.net_prefix.specs.contracts.addr.Addr as address;
-    ghost use Rattle.net_prefix.specs.Address.{addr_cmp};
     ghost use Rattle.prefix_table.specs.Tables.{Table, coded_block};
-    ghost use Rattle.cell_engine.specs.RouterTables.{tables_of};
+    ghost use Rattle.cell_engine.specs.RouterTables.{AreByRouter, tables_of};
 
     ghost Value = { List (addr.Addr × Table V) };
 
@@ -38,7 +36,7 @@ impl<V, T: PrefixTable<V>> Model for RouterTables<V, T> {
 
     ghost view = { λ s. tables_of T.table s.entries.items };
 
-    ghost invariant = { λ s. IsTrue (is_sorted addr_cmp s.entries.items) };
+    ghost invariant = { λ s. AreByRouter s.entries.items };
 }
 
 impl<V, T: PrefixTable<V>> RouterTables<V, T> {
@@ -69,7 +67,7 @@ impl<V, T: PrefixTable<V>> RouterTables<V, T> {
     /// The value of the router and prefix. None where there is none. The tables are in the order of their routers.
     pub fn get(&self, router: Addr, prefix: Prefix) -> Option<&V>
         ensures value { option_copied result ≡ value_at router prefix self.now }
-        ensures by_address { IsTrue (is_sorted addr_cmp self.now) }
+        ensures by_address { AreByRouter self.now }
     {
         table_in(&self.entries, router)?.get(prefix)
     }
@@ -105,16 +103,5 @@ impl<V: Drop, T: PrefixTable<V> + Drop> RouterTables<V, T> {
         ensures err { OnErr result (self.new ≡ self.old) }
     {
         insert_in(alloc, &mut self.entries, router, prefix, value)
-    }
-
-    /// Gives the router this whole table, in place of any. It takes memory only where it has none. For want of memory the error
-    /// hands back this table, and nothing changes.
-    pub fn put_table(&mut self, router: Addr, table: T) -> Result<(), T>
-        ensures ok { OnOk result (self.new ≡ put addr_cmp router (T.table table) self.old) }
-        ensures absent { OnErr result (find addr_cmp router self.old ≡ None) }
-        ensures back { IfErr result (λ back. back ≡ table) }
-        ensures err { OnErr result (self.new ≡ self.old) }
-    {
-        put_in(&mut self.entries, router, table)
     }
 }

@@ -1,6 +1,6 @@
 use Rattle.std.proofs.Common.{map, ap, ◌∙◌}
 use Rattle.cell_engine.specs.CellEdits.{whole_changes}
-use Rattle.cell_engine.specs.Becomings.{all_moved, edit_at}
+use Rattle.cell_engine.specs.Becomings.{edit_at}
 use Rattle.cell_engine.proofs.Deciding.{decided_all}
 use Rattle.cell_engine.proofs.Whole.{whole_all}
 use Rattle.cell_engine.proofs.Seen.{when_ok}
@@ -10,6 +10,6 @@ pub returns : goal.returns
 returns g c =
     let e = c.args.self.now in
     let ts = e.tables in
-    let routers = c.args.edits.now in
-    let moved = c.as_slice.ensures ∙ c.in_ok-moved.ensures ∙ ap (λ bs. all_moved bs ts) (c.deref.ensures.value ∙ c.in_ok-becomings.ensures) in
-    when_ok c.decide.result _ _ (λ made is. ap (whole_changes ts) (is ∙ ap (map edit_at) moved) ∙ whole_all e c.facts.ensures.sound c.facts.ensures.configured routers c.requires ∙ decided_all ts routers) c.decide.ensures
+    let becomings = c.args.becomings.now in
+    let moved = c.as_slice.ensures ∙ c.in_ok-moved.ensures in
+    when_ok c.decide.result _ _ (λ made is. ap (whole_changes ts) (is ∙ ap (map edit_at) moved) ∙ whole_all e c.facts.ensures.sound c.facts.ensures.configured becomings c.requires ∙ decided_all ts becomings) c.decide.ensures

@@ -1,11 +1,11 @@
-use Rattle.std.proofs.Common.{◌≡◌, ◌∷◌, [], ◌++◌, map, Option, option_map, sym, ap, ◌∙◌}
+use Rattle.std.proofs.Common.{◌≡◌, ◌∷◌, [], map, Option, option_map, sym, ap, ◌∙◌}
 use Rattle.std.specs.Option.{option_to_list}
 use Rattle.net_conf.specs.Configuration.{Configuration}
 use Rattle.cell_engine.specs.Cells.{Heard}
 use Rattle.cell_engine.specs.Changes.{router_changes}
 use Rattle.cell_engine.specs.Moves.{moves}
 use Rattle.cell_engine.specs.CellEdits.{whole_changes}
-use Rattle.cell_engine.specs.Becomings.{Becoming, edit_at, moved_cell, becoming_of, edit_becoming}
+use Rattle.cell_engine.specs.Becomings.{Becoming, edit_at, moved_cell}
 use Rattle.cell_engine.proofs.Deciding.{decided_cells}
 use Rattle.cell_engine.proofs.Whole.{whole_cells}
 use Rattle.cell_engine.proofs.Seen.{when_ok}
@@ -20,10 +20,11 @@ returns g c =
     let p = c.args.prefix in
     let h : Heard = c.in-Some.cell.now in
     let own : c.get.result.now ≡ before = c.get.ensures ∙ ap (λ e. e.conf) c.self.view_is in
-    let moved = c.as_slice.ensures ∙ c.in-Ok.ensures ∙ ap (λ l. l ++ moved_cell c.becoming-becoming.result p h) c.new-moved.ensures ∙ ap (λ (b : Becoming). moved_cell b p h) (c.becoming-becoming.ensures ∙ ap edit_becoming c.in_ok-edit.ensures ∙ ap (λ (k : Configuration). becoming_of k after r) own) in
-    when_ok c.decide_in_turn-changes.result _ _ (λ made is.
-    ap (whole_changes e.tables) (is ∙ ap (map edit_at) moved)
+    let of : Configuration → Becoming = λ k. record { before = k; after = after; address = r } in
+    let same = c.in_ok-becoming.ensures ∙ ap of own in
+    when_ok c.decide_cell-changes.result _ _ (λ made is.
+    ap (whole_changes e.tables) (is ∙ ap (λ (b : Becoming). map edit_at (moved_cell b p h)) same)
     ∙ whole_cells e c.facts.ensures.sound c.facts.ensures.configured after r ((p, h) ∷ []) (sym c.in-Some.ensures, tt)
-    ∙ decided_cells (edit_becoming (record { before = before; after = after; router = r })) ((p, h) ∷ [])
+    ∙ decided_cells (of before) ((p, h) ∷ [])
     ∙ ap (λ (o : Option Heard). router_changes (moves before after) before after r (option_to_list (option_map (λ x. (p, x)) o))) c.in-Some.ensures)
-    c.decide_in_turn-changes.ensures
+    c.decide_cell-changes.ensures
