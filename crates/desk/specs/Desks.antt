@@ -76,7 +76,7 @@ abbrev pub IsSeatAfter : SeatBook → Seen → Committed → SeatBook → Type 0
 IsSeatAfter seat x (Delivered reply) new = (new ≡ with_call seat (delivery_of x) reply) × IsReplied (delivery_of x) reply
 IsSeatAfter seat x (Stale newer) new = (new ≡ seat) × IsMoved x newer
 
--- each seat goes on from the one at its place
+-- each seat goes on from the one at its position
 abbrev pub AllGoOn : List SeatBook → List SeatBook → Type 0
 AllGoOn [] [] = Unit {0}
 AllGoOn (x ∷ xs) (y ∷ ys) = GoesOn x y × AllGoOn xs ys

@@ -5,10 +5,10 @@ ghost use Rattle.session_queue.specs.Shards.{shard_of};
 ghost use Rattle.room.specs.Books.{GoesOn, blank_seats, is_memory, noted};
 ghost use Rattle.desk.specs.Desks.{AreSeats, AreShards, IsOpenFault, IsReplied, IsTaken, IsWithout, IsNoted, IsUnlike, IsSeatAfter};
 
-use crate::crowd::Crowd;
+use crate::backoff::Backoff;
 use crate::effort::are_much_work;
-use crate::order::{Attendance, Order};
-use crate::posts::Concerned;
+use crate::receivers::Receivers;
+use crate::scheduler::{Scheduler, Workers};
 use cell_engine::Cell;
 use net_prefix::Addr;
 use prefix_table::PrefixTable;
@@ -41,9 +41,9 @@ pub enum OpenFault {
 
 /// What lies under the lock.
 #[derive(Drop)]
-struct Table<S: Chosen, T: PrefixTable<Cell<S>>, L: Ledger> {
+struct Guarded<S: Chosen, T: PrefixTable<Cell<S>>, L: Ledger> {
     room: Room<S, T, L>,
-    at: Attendance,
+    workers: Workers,
 }
 
 /// A room under one lock, at which several work: engineers make calls, and workers take jobs, each of the receivers of one shard. Contracts
@@ -51,8 +51,8 @@ struct Table<S: Chosen, T: PrefixTable<Cell<S>>, L: Ledger> {
 #[derive(Drop)]
 pub struct Desk<S: Chosen, T: PrefixTable<Cell<S>>, L: Ledger> {
     alloc: Global,
-    table: Mutex<Table<S, T, L>>,
-    order: Order,
+    guarded: Mutex<Guarded<S, T, L>>,
+    scheduler: Scheduler,
 }
 
 impl<S: Chosen, T: PrefixTable<Cell<S>>, L: Ledger> Model for Desk<S, T, L> {
@@ -60,7 +60,7 @@ impl<S: Chosen, T: PrefixTable<Cell<S>>, L: Ledger> Model for Desk<S, T, L> {
 
     ghost Value = { DeskBook };
 
-    ghost view = { λ d. record { shards = d.order } };
+    ghost view = { λ d. record { shards = d.scheduler } };
 }
 
 /// What a worker finds at the desk.
@@ -97,23 +97,21 @@ impl<S: Chosen, T: PrefixTable<Cell<S>>, L: Ledger> Desk<S, T, L> {
         if shards < 1 || shards > MAX_SHARDS {
             return Err(OpenFault::Shards);
         }
-        let Ok(at) = Attendance::new(alloc, shards) else {
+        let Ok(workers) = Workers::new(alloc, shards) else {
             return Err(OpenFault::Memory);
         };
-        let Ok(order) = Order::new(alloc, shards) else {
+        let Ok(scheduler) = Scheduler::new(alloc, shards) else {
             return Err(OpenFault::Memory);
         };
         match Room::new(alloc, keys, seats, blank) {
             Ok((room, all)) => {
-                let table = Mutex::new(Table { room, at });
-                Ok((
-                    Desk {
-                        alloc,
-                        table,
-                        order,
-                    },
-                    all,
-                ))
+                let guarded = Mutex::new(Guarded { room, workers });
+                let desk = Desk {
+                    alloc,
+                    guarded,
+                    scheduler,
+                };
+                Ok((desk, all))
             }
             Err(_) => Err(OpenFault::Memory),
         }
@@ -124,7 +122,7 @@ impl<S: Chosen, T: PrefixTable<Cell<S>>, L: Ledger> Desk<S, T, L> {
         ensures shards { result ≡ self.now.shards }
         ensures allowed { AreShards result }
     {
-        self.order.shards()
+        self.scheduler.shards()
     }
 
     /// Where memory comes from.
@@ -137,154 +135,177 @@ impl<S: Chosen, T: PrefixTable<Cell<S>>, L: Ledger> Desk<S, T, L> {
         ensures agrees { result ≡ Audit.Agrees → IsNoted seat.now }
         ensures differs { result ≡ Audit.Differs → IsUnlike seat.now }
     {
-        self.table.lock(rt).audit(seat)
+        self.guarded.lock(rt).audit(seat)
     }
 
     /// How far the room is, for people to read.
     pub fn progress<R: Wait>(&self, rt: &R) -> Progress {
-        self.table.lock(rt).room.progress()
+        self.guarded.lock(rt).room.progress()
     }
 
     /// Tells the workers that no more calls come: they end once no message waits.
     pub fn finish_calls<R: Wait>(&self, rt: &R) {
-        let mut table = self.table.lock(rt);
-        self.order.finish(&mut table.at);
-        self.tell_end(&mut table);
+        let mut guarded = self.guarded.lock(rt);
+        self.scheduler.finish(&mut guarded.workers);
+        self.wake_at_end(&mut guarded);
     }
 
     /// The room, once nobody is at the desk.
     pub fn end(self) -> Room<S, T, L> {
-        self.table.into_inner().room
+        self.guarded.into_inner().room
     }
 
-    /// So many workers come. Each leaves once. Whether their gate may hold one of them until another has moved.
+    /// So many workers come. Each leaves once. Whether their gate may hold one of them until another has gone on.
     pub(crate) fn enter<R: Wait>(&self, rt: &R, workers: usize, may_hold: bool) {
-        let mut table = self.table.lock(rt);
-        table.at.enter(workers, may_hold);
+        let mut guarded = self.guarded.lock(rt);
+        guarded.workers.enter(workers, may_hold);
     }
 
     /// A worker leaves.
     pub(crate) fn leave<R: Wait>(&self, rt: &R) {
-        let mut table = self.table.lock(rt);
-        self.order.leave(&mut table.at);
+        let mut guarded = self.guarded.lock(rt);
+        self.scheduler.leave(&mut guarded.workers);
     }
 
-    /// What lies under the lock, and in the worker's mind whether it was taken.
-    fn sit_down<R: Wait>(&self, rt: &R, crowd: &mut Crowd) -> MutexGuard<'_, Table<S, T, L>> {
-        if let Some(table) = self.table.try_lock() {
-            crowd.note(false);
-            return table;
+    /// Takes the lock. The worker's backoff notes whether somebody else held it.
+    fn lock_noted<R: Wait>(
+        &self,
+        rt: &R,
+        backoff: &mut Backoff,
+    ) -> MutexGuard<'_, Guarded<S, T, L>> {
+        if let Some(guarded) = self.guarded.try_lock() {
+            backoff.note_lock(false);
+            return guarded;
         }
-        crowd.note(true);
-        self.table.lock(rt)
+        backoff.note_lock(true);
+        self.guarded.lock(rt)
     }
 
-    /// A worker makes way for the others till it is called, unless no other is at work.
-    pub(crate) fn rest<R: Wait>(&self, rt: &R) {
-        let mut table = self.table.lock(rt);
-        if table.at.at_work() < 2 {
+    /// A worker makes way for the others till it is woken, unless no other is at work.
+    pub(crate) fn back_off<R: Wait>(&self, rt: &R) {
+        let mut guarded = self.guarded.lock(rt);
+        if guarded.workers.at_work() < 2 {
             return;
         }
-        table.at.rest();
-        let mut table = self
-            .order
-            .floor()
-            .wait_while(rt, table, |now| now.at.is_none_called());
-        table.at.get_up();
+        guarded.workers.back_off();
+        let mut guarded = self
+            .scheduler
+            .backoff_ends()
+            .wait_while(rt, guarded, |now| now.workers.is_none_woken());
+        guarded.workers.resume();
     }
 
-    /// Calls the workers of one shard for whom a message may wait, or else a worker who rests, if there are any.
-    pub(crate) fn call_one<R: Wait>(&self, rt: &R) {
-        let mut table = self.table.lock(rt);
-        self.call_next(&mut table);
+    /// Wakes the workers of one shard for whom a message may wait, or else a worker who has backed off, if there are any.
+    pub(crate) fn wake_one<R: Wait>(&self, rt: &R) {
+        let mut guarded = self.guarded.lock(rt);
+        self.wake_next(&mut guarded);
     }
 
     /// Waits until no edit is asked for, and none has been for a little while.
-    fn when_calm<'a, R: Wait>(
+    fn when_no_edits_follow<'a, R: Wait>(
         &'a self,
         rt: &R,
-        table: MutexGuard<'a, Table<S, T, L>>,
-        crowd: &mut Crowd,
-    ) -> MutexGuard<'a, Table<S, T, L>> {
-        let mut table = self.when_none_is_asked_for(rt, table);
+        guarded: MutexGuard<'a, Guarded<S, T, L>>,
+        backoff: &mut Backoff,
+    ) -> MutexGuard<'a, Guarded<S, T, L>> {
+        let mut guarded = self.when_no_edit_is_asked_for(rt, guarded);
         for _ in rt.forever() {
-            if !crowd.sees_edits(table.room.version()) {
-                return table;
+            if !backoff.sees_edits(guarded.room.version()) {
+                return guarded;
             }
-            drop(table);
-            self.order.pause();
-            table = self.when_none_is_asked_for(rt, self.table.lock(rt));
+            drop(guarded);
+            self.scheduler.yield_after_edits();
+            guarded = self.when_no_edit_is_asked_for(rt, self.guarded.lock(rt));
         }
         unreachable!()
     }
 
     /// Waits until no edit is asked for.
-    fn when_none_is_asked_for<'a, R: Wait>(
+    fn when_no_edit_is_asked_for<'a, R: Wait>(
         &'a self,
         rt: &R,
-        table: MutexGuard<'a, Table<S, T, L>>,
-    ) -> MutexGuard<'a, Table<S, T, L>> {
-        if !self.order.is_edit_asked_for() {
-            return table;
+        guarded: MutexGuard<'a, Guarded<S, T, L>>,
+    ) -> MutexGuard<'a, Guarded<S, T, L>> {
+        if !self.scheduler.is_edit_asked_for() {
+            return guarded;
         }
-        let mut table = table;
-        table.at.begin_to_wait_for_edits();
-        let mut table = self
-            .order
-            .calm()
-            .wait_while(rt, table, |_| self.order.is_edit_asked_for());
-        table.at.end_to_wait_for_edits();
-        table
+        let mut guarded = guarded;
+        guarded.workers.begin_to_wait_for_edits();
+        let mut guarded = self
+            .scheduler
+            .edits_end()
+            .wait_while(rt, guarded, |_| self.scheduler.is_edit_asked_for());
+        guarded.workers.end_to_wait_for_edits();
+        guarded
     }
 
-    /// Tells those whom a call concerns: nobody, while no message waits.
-    fn tell(&self, table: &mut Table<S, T, L>, concerned: Concerned) {
-        if !table.at.is_somebody_idle() || table.room.is_quiet() {
+    /// Waits until workers of the shard are woken.
+    fn when_woken<'a, R: Wait>(
+        &'a self,
+        rt: &R,
+        guarded: MutexGuard<'a, Guarded<S, T, L>>,
+        shard: u64,
+    ) -> MutexGuard<'a, Guarded<S, T, L>>
+        requires { shard < self.now.shards }
+    {
+        let condition = self.scheduler.condition(shard);
+        let mut guarded = condition.wait_while(
+            rt,
+            guarded,
+            |now| now.workers.is_none_of_shard_woken(shard),
+        );
+        guarded.workers.resume_of_shard(shard);
+        guarded
+    }
+
+    /// Makes the workers of these receivers ready: of none, while no message waits.
+    fn make_ready(&self, guarded: &mut Guarded<S, T, L>, receivers: Receivers) {
+        if !guarded.workers.is_somebody_idle() || guarded.room.is_quiet() {
             return;
         }
-        match concerned {
-            Concerned::Nobody => {}
-            Concerned::Receiver(receiver) => self.order.tell_receiver(&mut table.at, receiver),
-            Concerned::ReceiversFrom(sender) => self.tell_receivers(table, sender),
-            Concerned::Everybody => self.tell_all(table),
+        match receivers {
+            Receivers::Nobody => {}
+            Receivers::One(receiver) => self.scheduler.make_ready(&mut guarded.workers, receiver),
+            Receivers::OfSender(sender) => self.make_ready_by_sender(guarded, sender),
+            Receivers::Everybody => self.make_all_ready(guarded),
         }
     }
 
-    /// Tells all. Where nobody is at work, one for whom a message waits is called.
-    fn tell_all(&self, table: &mut Table<S, T, L>) {
-        self.order.tell_all_shards(&mut table.at);
-        if table.at.at_work() == 0 {
-            self.call_next(table);
+    /// Makes all ready. Where nobody is at work, the workers of a shard for which a message waits are woken.
+    fn make_all_ready(&self, guarded: &mut Guarded<S, T, L>) {
+        self.scheduler.make_all_ready(&mut guarded.workers);
+        if guarded.workers.at_work() == 0 {
+            self.wake_next(guarded);
         }
     }
 
-    /// Calls the workers of one shard who were told, and for whom a message waits, or else a worker who rests, if there are any.
-    fn call_next(&self, table: &mut Table<S, T, L>) {
-        self.take_back(table);
-        self.order.call_one(&mut table.at);
+    /// Wakes the workers of one shard who are ready, and for whom a message waits, or else a worker who has backed off, if there are any.
+    fn wake_next(&self, guarded: &mut Guarded<S, T, L>) {
+        self.make_idle(guarded);
+        self.scheduler.wake_one(&mut guarded.workers);
     }
 
-    /// Up to the first shard that was told and for which a message waits, those who were told are idle again.
-    fn take_back(&self, table: &mut Table<S, T, L>) {
-        let shards = self.order.shards();
+    /// Up to the first shard that is ready and for which a message waits, those who are ready are idle again.
+    fn make_idle(&self, guarded: &mut Guarded<S, T, L>) {
+        let shards = self.scheduler.shards();
         for shard in 0..shards {
-            if !table.at.is_told(shard) {
+            if !guarded.workers.is_ready(shard) {
                 continue;
             }
-            if table.room.has_message(shard, shards) {
+            if guarded.room.has_message(shard, shards) {
                 return;
             }
-            table.at.take_back(shard);
+            guarded.workers.make_idle(shard);
         }
     }
 
-    /// Tells those for whose receivers a message waits from the sender.
-    fn tell_receivers(&self, table: &mut Table<S, T, L>, sender: Addr) {
+    /// Makes the workers ready for whose receivers a message waits from the sender.
+    fn make_ready_by_sender(&self, guarded: &mut Guarded<S, T, L>, sender: Addr) {
         let mut past = last_before(sender);
         for _ in 0..u64::MAX {
-            match table.room.next_full(past) {
+            match guarded.room.next_full(past) {
                 Some((from, to)) if from == sender => {
-                    self.order.tell_receiver(&mut table.at, to);
+                    self.scheduler.make_ready(&mut guarded.workers, to);
                     past = Some((from, to));
                 }
                 _ => return,
@@ -292,27 +313,27 @@ impl<S: Chosen, T: PrefixTable<Cell<S>>, L: Ledger> Desk<S, T, L> {
         }
     }
 
-    /// Tells those for whose receivers a message is sent where the outcome is put in.
-    fn tell_sends(&self, at: &mut Attendance, done: &Done<S>) {
+    /// Makes the workers ready for whose receivers a message is sent where the outcome is put in.
+    fn make_ready_by_outcome(&self, workers: &mut Workers, done: &Done<S>) {
         for (receiver, _) in &done.outcome().sends {
-            self.order.tell_receiver(at, *receiver);
+            self.scheduler.make_ready(workers, *receiver);
         }
     }
 
     /// The same of several outcomes.
-    fn tell_all_sends(&self, at: &mut Attendance, outcomes: &Outcomes<S>) {
-        if !at.can_be_told() {
+    fn make_ready_by_outcomes(&self, workers: &mut Workers, outcomes: &Outcomes<S>) {
+        if !workers.can_be_made_ready() {
             return;
         }
         for done in outcomes.as_slice() {
-            self.tell_sends(at, done);
+            self.make_ready_by_outcome(workers, done);
         }
     }
 
-    /// Calls all once they may end: no calls come, and no message waits.
-    fn tell_end(&self, table: &mut Table<S, T, L>) {
-        if table.at.is_finished() && table.room.is_quiet() {
-            self.order.tell_end(&mut table.at);
+    /// Wakes all once they may end: no calls come, and no message waits.
+    fn wake_at_end(&self, guarded: &mut Guarded<S, T, L>) {
+        if guarded.workers.is_finished() && guarded.room.is_quiet() {
+            self.scheduler.wake_all(&mut guarded.workers);
         }
     }
 }
@@ -324,12 +345,12 @@ impl<S: Selector + Send + Sync + Drop, T: PrefixTable<Cell<S>> + Drop, L: Ledger
         ensures seat { seat.new ≡ noted seat.old event result }
         ensures reply { is_memory result ≡ false → IsReplied event result }
     {
-        let concerned = Concerned::by(&event);
-        let is_edit = self.order.begin_call(&event);
-        let mut table = self.table.lock(rt);
-        let reply = table.call(rt, seat, event);
-        self.order.end_call(&table.at, is_edit);
-        self.tell(&mut table, concerned);
+        let receivers = Receivers::by(&event);
+        let is_edit = self.scheduler.begin_call(&event);
+        let mut guarded = self.guarded.lock(rt);
+        let reply = guarded.call(rt, seat, event);
+        self.scheduler.end_call(&guarded.workers, is_edit);
+        self.make_ready(&mut guarded, receivers);
         reply
     }
 }
@@ -348,10 +369,10 @@ impl<S: Chosen + Drop, T: PrefixTable<Cell<S>> + Drop, L: Ledger> Desk<S, T, L> 
         ensures back { IfErr result (λ fault. fault.done ≡ done) }
         ensures seat { OnErr result (seat.new ≡ seat.old) }
     {
-        let mut table = self.table.lock(rt);
-        self.tell_sends(&mut table.at, &done);
-        let committed = table.commit(seat, done);
-        self.tell_end(&mut table);
+        let mut guarded = self.guarded.lock(rt);
+        self.make_ready_by_outcome(&mut guarded.workers, &done);
+        let committed = guarded.commit(seat, done);
+        self.wake_at_end(&mut guarded);
         committed
     }
 
@@ -362,17 +383,17 @@ impl<S: Chosen + Drop, T: PrefixTable<Cell<S>> + Drop, L: Ledger> Desk<S, T, L> 
         rt: &R,
         seat: &mut Seat<L>,
         outcomes: Outcomes<S>,
-        crowd: &mut Crowd,
+        backoff: &mut Backoff,
     )
         ensures { GoesOn seat.old seat.new }
     {
         let is_much_work = are_much_work(&outcomes);
-        let mut table = self.sit_down(rt, crowd);
-        crowd.note_work(is_much_work, table.at.turns_to_a_call());
-        table.at.note_work(is_much_work);
-        self.tell_all_sends(&mut table.at, &outcomes);
-        drop(table.room.commit_all(seat, outcomes));
-        self.tell_end(&mut table);
+        let mut guarded = self.lock_noted(rt, backoff);
+        backoff.note_work(is_much_work, guarded.workers.turns_to_a_wakeup());
+        guarded.workers.note_work(is_much_work);
+        self.make_ready_by_outcomes(&mut guarded.workers, &outcomes);
+        drop(guarded.room.commit_all(seat, outcomes));
+        self.wake_at_end(&mut guarded);
     }
 }
 
@@ -384,42 +405,40 @@ impl<S: Selector + Drop, T: PrefixTable<Cell<S>> + Drop, L: Ledger> Desk<S, T, L
         ensures shard { IfOk result (λ found. IfSome found (λ job. shard_of job.direction.to self.now.shards ≡ shard)) }
         ensures none { IfOk result (λ found. found ≡ None → IsWithout shard self.now.shards) }
     {
-        self.table.lock(rt).take(shard, self.order.shards())
+        self.guarded.lock(rt).take(shard, self.scheduler.shards())
     }
 
     /// What a worker of the shard does next, so many jobs at most. It waits, without looking again and again, until there is something.
-    /// Where it finds no job it calls another. No job is taken while an edit is asked for, nor till a little while after.
+    /// Where it finds no job it wakes another. No job is taken while an edit is asked for, nor till a little while after.
     pub(crate) fn next_turn<R: Wait>(
         &self,
         rt: &R,
         shard: u64,
         most: usize,
-        crowd: &mut Crowd,
+        backoff: &mut Backoff,
     ) -> Turn<S>
         requires { shard < self.now.shards }
     {
-        let bell = self.order.bell(shard);
-        let shards = self.order.shards();
-        let mut table = self.sit_down(rt, crowd);
+        let shards = self.scheduler.shards();
+        let mut guarded = self.lock_noted(rt, backoff);
         for _ in rt.forever() {
-            table = self.when_calm(rt, table, crowd);
-            let Ok(jobs) = table.room.jobs(shard, shards, most) else {
+            guarded = self.when_no_edits_follow(rt, guarded, backoff);
+            let Ok(jobs) = guarded.room.jobs(shard, shards, most) else {
                 return Turn::Nothing;
             };
             if !jobs.is_empty() {
                 return Turn::Jobs(jobs);
             }
             drop(jobs);
-            table.at.find_nothing(shard);
-            self.call_next(&mut table);
-            if table.at.is_over(table.room.is_quiet()) {
-                table.at.end_idle(shard);
+            guarded.workers.add_idle(shard);
+            self.wake_next(&mut guarded);
+            if guarded.workers.is_over(guarded.room.is_quiet()) {
+                guarded.workers.remove_idle(shard);
                 return Turn::End;
             }
-            let is_finished = table.at.is_finished();
-            crowd.begin_anew();
-            table = bell.wait_while(rt, table, |now| now.at.is_none_of_shard_called(shard));
-            table.at.end_to_wait(shard);
+            let is_finished = guarded.workers.is_finished();
+            backoff.reset();
+            guarded = self.when_woken(rt, guarded, shard);
             if is_finished {
                 return Turn::Nothing;
             }
@@ -428,8 +447,8 @@ impl<S: Selector + Drop, T: PrefixTable<Cell<S>> + Drop, L: Ledger> Desk<S, T, L
     }
 }
 
-// What is done under the lock. Contracts see the table here: what they say outlasts the lock.
-impl<S: Chosen, T: PrefixTable<Cell<S>>, L: Ledger> Table<S, T, L> {
+// What is done under the lock. Contracts see what it guards here: what they say outlasts the lock.
+impl<S: Chosen, T: PrefixTable<Cell<S>>, L: Ledger> Guarded<S, T, L> {
     fn audit(&self, seat: &Seat<L>) -> Audit
         ensures agrees { result ≡ Audit.Agrees → IsNoted seat.now }
         ensures differs { result ≡ Audit.Differs → IsUnlike seat.now }
@@ -439,7 +458,7 @@ impl<S: Chosen, T: PrefixTable<Cell<S>>, L: Ledger> Table<S, T, L> {
     }
 }
 
-impl<S: Selector + Send + Sync + Drop, T: PrefixTable<Cell<S>> + Drop, L: Ledger> Table<S, T, L> {
+impl<S: Selector + Send + Sync + Drop, T: PrefixTable<Cell<S>> + Drop, L: Ledger> Guarded<S, T, L> {
     fn call<R: Threads + Sync>(&mut self, rt: &R, seat: &mut Seat<L>, event: Event) -> Reply
         ensures seat { seat.new ≡ noted seat.old event result }
         ensures reply { is_memory result ≡ false → IsReplied event result }
@@ -449,7 +468,7 @@ impl<S: Selector + Send + Sync + Drop, T: PrefixTable<Cell<S>> + Drop, L: Ledger
     }
 }
 
-impl<S: Chosen + Drop, T: PrefixTable<Cell<S>> + Drop, L: Ledger> Table<S, T, L> {
+impl<S: Chosen + Drop, T: PrefixTable<Cell<S>> + Drop, L: Ledger> Guarded<S, T, L> {
     fn commit(&mut self, seat: &mut Seat<L>, done: Done<S>) -> Result<Committed, CommitFault<S>>
         ensures committed { IfOk result (λ committed. IsSeatAfter seat.old done committed seat.new) }
         ensures back { IfErr result (λ fault. fault.done ≡ done) }
@@ -460,7 +479,7 @@ impl<S: Chosen + Drop, T: PrefixTable<Cell<S>> + Drop, L: Ledger> Table<S, T, L>
     }
 }
 
-impl<S: Selector + Drop, T: PrefixTable<Cell<S>> + Drop, L: Ledger> Table<S, T, L> {
+impl<S: Selector + Drop, T: PrefixTable<Cell<S>> + Drop, L: Ledger> Guarded<S, T, L> {
     fn take(&self, shard: u64, shards: u64) -> Result<Option<Job<S>>, AllocError>
         requires { shard < shards }
         ensures taken { IfOk result (λ found. IfSome found IsTaken) }

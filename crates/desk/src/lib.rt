@@ -1,11 +1,12 @@
 //! One machine for several who work on it at once, and a history of their calls that is proved legal.
 #![tactic(auto)]
 
-mod crowd;
+mod backoff;
 mod desk;
 mod effort;
-mod order;
-mod posts;
+mod receivers;
+mod scheduler;
+mod shard_waits;
 mod workers;
 
 pub use desk::{Desk, MAX_SEATS, MAX_SHARDS, OpenFault};

@@ -5,7 +5,7 @@ ghost use Rattle.room.specs.Books.{GoesOn, RoomBook};
 ghost use Rattle.room.specs.Jobs.{IsSeenIn};
 ghost use Rattle.desk.specs.Desks.{AllGoOn};
 
-use crate::crowd::{Between, Crowd};
+use crate::backoff::{Backoff, Between};
 use crate::desk::{Desk, Turn};
 use cell_engine::Cell;
 use prefix_table::PrefixTable;
@@ -29,19 +29,19 @@ pub trait Gate {
     /// A worker has the outcome of its job.
     fn worked(&self, worker: usize, n: u64);
 
-    /// Whether it may hold one worker until another has moved. Where it does not, a worker who finds the lock taken may rest, and leave it
-    /// to others for a while.
+    /// Whether it may hold one worker until another has gone on. Where it does not, a worker who finds the lock taken may back off, and leave
+    /// it to others for a while.
     fn may_hold(&self) -> bool {
         true
     }
 }
 
-/// A thread for each seat: the worker of place i serves the shard i modulo the shards. A turn takes a job, works it without the lock, and
-/// brings the outcome back; want of memory ends the turn, and so does an outcome that came too late. Up to sixteen turns are made at once, where
-/// as many deliveries wait of which none changes what another depends on: their jobs are taken together, worked one after another, and brought
-/// back together. A worker begins with one turn at once, may make twice as many after turns whose outcomes were all put in, and one after others.
+/// A thread for each seat: the worker of the i-th, from 0 on, serves the shard i modulo the shards. A turn takes a job, works it without the lock, and
+/// commits the outcome; want of memory ends the turn, and so does an outcome that came too late. Up to sixteen turns are made at once, where
+/// as many deliveries wait of which none changes what another depends on: their jobs are taken together, worked one after another, and
+/// committed together. A worker begins with one turn at once, may make twice as many after turns whose outcomes were all put in, and one after others.
 /// Where there is no job the worker waits. Where the gate holds nobody, a worker who often finds the lock taken after deliveries that are little work
-/// rests while another is at work: so of such deliveries one worker makes as many as it can, and then another.
+/// backs off while another is at work: so of such deliveries one worker makes as many as it can, and then another.
 /// It ends after so many turns, or once `finish_calls` was called and no message waits, or none that a worker who is left could bring.
 /// A thread that cannot be started is left out, with its seat as it was.
 pub fn run_workers<
@@ -159,20 +159,20 @@ impl<'a, S: Selector + Drop, T: PrefixTable<Cell<S>> + Drop, L: Ledger, G: Gate,
         let mut turns = 0;
         let mut jobs_before = 0;
         let mut most = 1;
-        let mut crowd = Crowd::new();
+        let mut backoff = Backoff::new();
         for _ in 0..self.turns {
             if turns >= self.turns {
                 return;
             }
             let at_once = most.min(self.turns - turns) as usize;
-            match self.desk.next_turn(self.rt, shard, at_once, &mut crowd) {
+            match self.desk.next_turn(self.rt, shard, at_once, &mut backoff) {
                 Turn::Jobs(jobs) => {
                     let count = jobs.len() as u64;
-                    let put_in = self.do_jobs(worker, jobs_before, jobs, seat, &mut crowd);
+                    let put_in = self.do_jobs(worker, jobs_before, jobs, seat, &mut backoff);
                     most = most_after(most, count, put_in);
                     jobs_before = count.saturating_add(jobs_before);
                     turns = count.saturating_add(turns);
-                    self.make_way(&mut crowd);
+                    self.back_off_or_wake(&mut backoff);
                 }
                 Turn::Nothing => turns += 1,
                 Turn::End => return,
@@ -180,32 +180,32 @@ impl<'a, S: Selector + Drop, T: PrefixTable<Cell<S>> + Drop, L: Ledger, G: Gate,
         }
     }
 
-    /// Rests, or calls one who does, where the gate holds nobody.
-    fn make_way(&self, crowd: &mut Crowd) {
+    /// Backs off, or wakes one who has, where the gate holds nobody.
+    fn back_off_or_wake(&self, backoff: &mut Backoff) {
         if self.gate.may_hold() {
             return;
         }
-        match crowd.after_turns() {
+        match backoff.after_turns() {
             Between::GoOn => {}
-            Between::Rest => self.desk.rest(self.rt),
-            Between::CallOne => self.desk.call_one(self.rt),
+            Between::BackOff => self.desk.back_off(self.rt),
+            Between::WakeOne => self.desk.wake_one(self.rt),
         }
     }
 
-    /// Works jobs one after another, of which the first is one more than so many, and brings their outcomes back. How many were put in.
+    /// Works jobs one after another, of which the first is one more than so many, and commits their outcomes. How many were put in.
     fn do_jobs(
         &self,
         worker: usize,
         jobs_before: u64,
         jobs: Jobs<S>,
         seat: &mut Seat<L>,
-        crowd: &mut Crowd,
+        backoff: &mut Backoff,
     ) -> u64
         ensures { GoesOn seat.old seat.new }
     {
         let outcomes = self.outcomes_of(worker, jobs_before, jobs);
         let calls_before = seat.count();
-        self.desk.commit_all(self.rt, seat, outcomes, crowd);
+        self.desk.commit_all(self.rt, seat, outcomes, backoff);
         seat.count().saturating_sub(calls_before)
     }
 
