@@ -31,24 +31,48 @@ pub struct RouterChoices {
     pub by_prefix: Seq<PrefixChoices>,
 }
 
+/// A router's site, before and after.
+#[derive(Drop)]
+struct SiteChange {
+    old: Option<SiteConf>,
+    new: Option<SiteConf>,
+}
+
+/// The router's site, before and after.
+fn site_change(
+    alloc: Global,
+    earlier: &State,
+    later: &State,
+    router: Addr,
+) -> Result<SiteChange, AllocError>
+    ensures old { IfOk result (λ site. site.old ≡ site_of earlier.now.conf router) }
+    ensures new { IfOk result (λ site. site.new ≡ site_of later.now.conf router) }
+{
+    let old = earlier.conf.site_at(alloc, router)?;
+    let Ok(new) = later.conf.site_at(alloc, router) else {
+        drop(old);
+        return Err(AllocError);
+    };
+    Ok(SiteChange { old, new })
+}
+
 /// The router's choices for these prefixes, before and after.
 fn choices_for<S: Selector + Drop>(
     alloc: Global,
     earlier: &State,
     later: &State,
-    old_site: &Option<SiteConf>,
-    new_site: &Option<SiteConf>,
+    site: &SiteChange,
     router: Addr,
     prefixes: &[Prefix],
 ) -> Result<Vec<PrefixChoices>, AllocError>
-    requires old { old_site.now ≡ site_of earlier.now.conf router }
-    requires new { new_site.now ≡ site_of later.now.conf router }
+    requires old { site.now.old ≡ site_of earlier.now.conf router }
+    requires new { site.now.new ≡ site_of later.now.conf router }
     ensures { IfOk result (λ choices. choices.items ≡ map (prefix_choices earlier.now later.now router) prefixes.now) }
 {
     let mut choices = Vec::new(alloc);
     for prefix in prefixes {
-        let old = earlier.best_at::<S>(alloc, old_site, router, *prefix)?;
-        let new = later.best_at::<S>(alloc, new_site, router, *prefix)?;
+        let old = earlier.best_at::<S>(alloc, &site.old, router, *prefix)?;
+        let new = later.best_at::<S>(alloc, &site.new, router, *prefix)?;
         choices.push(PrefixChoices {
             prefix: *prefix,
             old,
@@ -68,25 +92,20 @@ fn router_choices<S: Selector + Drop>(
 ) -> Result<RouterChoices, AllocError>
     ensures { IfOk result (λ choices. choices ≡ router_choices earlier.now later.now router) }
 {
-    let old_site = earlier.conf.site_at(alloc, router)?;
-    let Ok(new_site) = later.conf.site_at(alloc, router) else {
-        drop(old_site);
-        return Err(AllocError);
-    };
+    let site = site_change(alloc, earlier, later, router)?;
     let Ok(prefixes) = prefixes_of(alloc, earlier, later, router) else {
-        drop((old_site, new_site));
+        drop(site);
         return Err(AllocError);
     };
-    let Ok(choices) = choices_for::<S>(
-        alloc, earlier, later, &old_site, &new_site, router, &prefixes,
-    ) else {
-        drop((old_site, new_site));
+    let Ok(choices) = choices_for::<S>(alloc, earlier, later, &site, router, &prefixes) else {
+        drop(site);
         return Err(AllocError);
     };
+    let SiteChange { old, new } = site;
     Ok(RouterChoices {
         router,
-        old_site,
-        new_site,
+        old_site: old,
+        new_site: new,
         by_prefix: Seq::of(choices),
     })
 }

@@ -34,21 +34,21 @@ impl State {
         ensures quiet { OnErr result (asks_quiet event.now ≡ false) }
     {
         match event {
-            Event::Edit(edit) => self.edit::<S, R>(rt, alloc, edit),
-            Event::Feed(feed) => self.feed(alloc, feed),
-            Event::Deliver(from, to) => self.deliver::<S>(
+            Event::Edit(edit) => self.take_edit::<S, R>(rt, alloc, edit),
+            Event::Feed(feed) => self.take_feed(alloc, feed),
+            Event::Deliver(from, to) => self.take_delivery::<S>(
                 alloc,
                 Direction {
                     from: *from,
                     to: *to,
                 },
             ),
-            Event::Ask(ask) => self.ask::<S>(alloc, ask),
+            Event::Ask(ask) => self.answer::<S>(alloc, ask),
         }
     }
 
     #[tactic(auto, unfolding(reference_machine::specs::Machine::edit_step))]
-    fn edit<S: Selector + Drop, R: Threads + Sync>(
+    fn take_edit<S: Selector + Drop, R: Threads + Sync>(
         &mut self,
         rt: &R,
         alloc: Global,
@@ -66,7 +66,7 @@ impl State {
     }
 
     #[tactic(auto, unfolding(reference_machine::specs::Machine::feed_step))]
-    fn feed(&mut self, alloc: Global, feed: &Feed) -> Result<Reply, AllocError>
+    fn take_feed(&mut self, alloc: Global, feed: &Feed) -> Result<Reply, AllocError>
         ensures { Tries (feed_step self.old feed.now) self.old result self.new }
     {
         if let Some(refusal) = feed_refusal(&self.conf, feed) {
@@ -82,7 +82,7 @@ impl State {
     }
 
     #[tactic(auto, unfolding(reference_machine::specs::Machine::delivery_step))]
-    fn deliver<S: Selector + Drop>(
+    fn take_delivery<S: Selector + Drop>(
         &mut self,
         alloc: Global,
         direction: Direction,
@@ -106,7 +106,7 @@ impl State {
     }
 
     #[tactic(auto, unfolding(reference_machine::specs::Machine::question_step))]
-    fn ask<S: Selector + Drop>(&mut self, alloc: Global, ask: &Ask) -> Result<Reply, AllocError>
+    fn answer<S: Selector + Drop>(&mut self, alloc: Global, ask: &Ask) -> Result<Reply, AllocError>
         ensures tries { Tries (question_step self.old ask.now) self.old result self.new }
         ensures quiet { OnErr result (asks_quiet (Event.Ask ask.now) ≡ false) }
     {

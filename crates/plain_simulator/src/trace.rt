@@ -96,29 +96,28 @@ impl State {
     {
         let mut found = None;
         for prefix in prefixes {
-            found = self.consider::<S>(alloc, site, router, target, found, *prefix)?;
+            let does = self.forwards_by::<S>(alloc, site, router, target, *prefix)?;
+            found = longer_if(does, found, *prefix);
         }
         Ok(found)
     }
 
-    /// The longer of what was found and the prefix, if that contains the address and has a chosen route.
-    fn consider<S: Selector + Drop>(
+    /// Whether the prefix contains the address, and has a chosen route at the router of the site.
+    fn forwards_by<S: Selector + Drop>(
         &self,
         alloc: Global,
         site: &Option<SiteConf>,
         router: Addr,
         target: Addr,
-        found: Option<Prefix>,
         prefix: Prefix,
-    ) -> Result<Option<Prefix>, AllocError>
+    ) -> Result<bool, AllocError>
         requires { site.now ≡ site_of self.now.conf router }
-        ensures { IfOk result (λ after. after ≡ (if forwards_by self.now router target prefix then longer found prefix else found)) }
+        ensures { IfOk result (λ does. does ≡ forwards_by self.now router target prefix) }
     {
-        if contains(prefix, target) && self.best_at::<S>(alloc, site, router, prefix)?.is_some() {
-            Ok(longer(found, prefix))
-        } else {
-            Ok(found)
+        if !contains(prefix, target) {
+            return Ok(false);
         }
+        Ok(self.best_at::<S>(alloc, site, router, prefix)?.is_some())
     }
 
     /// What becomes of it at the router of the site, by the chosen route for the prefix.
@@ -177,6 +176,13 @@ fn has_passed(router: Addr, hops: &[(Addr, Prefix)]) -> bool
     ensures { result ≡ has_passed router hops.now }
 {
     hops.iter().any(|hop| hop.0 == router)
+}
+
+/// The longer of what was found and the prefix, where it counts.
+fn longer_if(counts: bool, found: Option<Prefix>, prefix: Prefix) -> Option<Prefix>
+    ensures { result ≡ (if counts then longer found prefix else found) }
+{
+    if counts { longer(found, prefix) } else { found }
 }
 
 /// The longer of a prefix and one that may be missing.

@@ -2,8 +2,10 @@
 use Rattle.std.proofs.Common.{◌≡◌, Bool, true, false, not, List, [], ◌∷◌, slice_get, Option, Some, None, if◌then◌else◌, refl, sym, ap, ◌∙◌}
 use Rattle.std.proofs.lemmas.Bool.{true≢false}
 use Rattle.std.proofs.lemmas.Option.{none-some, same_Some}
+use Rattle.net_prefix.specs.Block.{Block}
 use Rattle.session_queue.specs.declared.direction.Direction.{Direction}
 use Rattle.session_queue.specs.declared.message.Message.{Message}
+use Rattle.session_queue.specs.declared.message.MessageKind.{MessageKind}
 use Rattle.session_queue.specs.Telling.{prefix_of, kind_of}
 use Rattle.session_queue.specs.Waiting.{queue_at}
 use Rattle.net_conf.specs.Configuration.{Configuration, has_session}
@@ -14,6 +16,7 @@ use Rattle.net_conf.specs.declared.refusal.Refusal.TheVariants.{NoRouter, NoSess
 use Rattle.net_conf.specs.Edits.{refusal_of}
 use Rattle.sim_event.specs.declared.event.Feed.{Feed}
 use Rattle.sim_event.specs.declared.event.Ask.{Ask}
+use Rattle.sim_event.specs.declared.reply.Reply.{Reply}
 use Rattle.sim_event.specs.declared.reply.Reply.TheVariants.{Done, Took, Report as AReport}
 use Rattle.reference_machine.specs.Network.{Network, messages_in}
 use Rattle.reference_machine.specs.Machine.{Outcome, unless_refused, refused, is_refusal, edit_step, after_edit, with_sent, feed_refusal, feed_step, after_feed, delivery_refusal, delivery_step, head_step, ask_refusal, question_step, report_of}
@@ -97,6 +100,10 @@ unfolding delivery_refusal
 delivery_up c d none =
     not_false (is_up c d.from d.to) (passes (not (is_up c d.from d.to)) SessionDown _ (later_passes _ NoSession _ (later_passes _ NoRouter _ none)))
 
+took_prefix : Block → Reply → Block
+took_prefix p (Took q k) = q
+took_prefix p _ = p
+
 module _ (e : Engine) (sound : IsSound e) (d : Direction) (none : delivery_refusal e.conf d ≡ None) where
   refusal_of_network : delivery_refusal (network e).conf d ≡ None
   unfolding network
@@ -111,6 +118,11 @@ module _ (e : Engine) (sound : IsSound e) (d : Direction) (none : delivery_refus
       by (w ∷ ws) waits is =
           ap (λ o. o.reply) (delivery_is (network e) d refusal_of_network ∙ ap (head_step (network e) d) (messages_on_session e sound d (delivery_session e.conf d none) ∙ ap Some waits))
           ∙ ap (λ x. Took (prefix_of x) (kind_of x)) (same_Some w m is)
+
+  -- and its prefix is told
+  pub prefix_taken : (m : Message) → slice_get (queue_at e.queues d.from d.to) 0 ≡ Some m → (q : Block) (k : MessageKind) → (delivery_step (network e) d).reply ≡ Took q k → prefix_of m ≡ q
+  unfolding took_prefix
+  prefix_taken m first q k took = ap (took_prefix (prefix_of m)) (sym (delivery_takes m first) ∙ took)
 
   -- or there is none
   pub delivery_of_nothing : slice_get (queue_at e.queues d.from d.to) 0 ≡ None → delivery_step (network e) d ≡ refused QueueEmpty (network e)

@@ -47,9 +47,9 @@ pub record IsTaking (e : Engine) (event : Event) (t : Taken) : Type 0 where
   pub room : HasRoom e t.direction.to t.prefix t.outcome.sends
   pub next : (step (network e) event).next ≡ (head_step (network e) t.direction (messages_in (network e).queues t.direction)).next
 
-pub delivered_as : (e : Engine) (d : Direction) (p : Plan) (is : IsPrepared e (Deliver d.from d.to) p) → IsTaking e (Deliver d.from d.to) (record { direction = d; prefix = is.does.prefix; outcome = is.does.outcome })
+pub taking_delivery : (e : Engine) (d : Direction) (p : Plan) (is : IsPrepared e (Deliver d.from d.to) p) → IsTaking e (Deliver d.from d.to) (record { direction = d; prefix = is.does.prefix; outcome = is.does.outcome })
 unfolding network
-delivered_as e d p is =
+taking_delivery e d p is =
     let none : delivery_refusal e.conf d ≡ None = delivery_accepted (network e) d (sym (ap is_refusal is.reply) ∙ is.accepted) in
     record {
       up = delivery_up e.conf d none;
@@ -61,7 +61,7 @@ delivered_as e d p is =
 pub taking : (e : Engine) (event : Event) (p : Plan) → IsPrepared e event p → (t : Taken) → p.taken ≡ Some t → IsTaking e event t
 taking e (AnEdit edit) p is t has = absurd (none-some t (sym is.does.taken ∙ has))
 taking e (AFeed f) p is t has = absurd (none-some t (sym is.does.taken ∙ has))
-taking e (Deliver a b) p is t has = subst (IsTaking e (Deliver a b)) (same_Some _ t (sym is.does.taken ∙ has)) (delivered_as e (record { from = a; to = b }) p is)
+taking e (Deliver a b) p is t has = subst (IsTaking e (Deliver a b)) (same_Some _ t (sym is.does.taken ∙ has)) (taking_delivery e (record { from = a; to = b }) p is)
 taking e (AnAsk q) p is t has = absurd (none-some t (sym is.does.taken ∙ has))
 
 -- FEEDS

@@ -8,7 +8,6 @@ use Rattle.session_queue.specs.declared.message.Message.{Message}
 use Rattle.session_queue.specs.Telling.{prefix_of, kind_of}
 use Rattle.session_queue.specs.Waiting.{queue_at}
 use Rattle.sim_event.specs.declared.event.Event.TheVariants.{Deliver}
-use Rattle.sim_event.specs.declared.reply.Reply.{Reply}
 use Rattle.sim_event.specs.declared.reply.Reply.TheVariants.{Took, Refused}
 use Rattle.reference_machine.specs.Network.{Network, messages_in}
 use Rattle.reference_machine.specs.Machine.{head_step, delivery_refusal, IsStep}
@@ -17,23 +16,19 @@ use Rattle.cell_engine.specs.Engine.{Engine, IsSound, network}
 use Rattle.cell_engine.specs.Deliveries.{IsOfHead, outcome_at, KeepsSame}
 use Rattle.cell_engine.proofs.Growth.{network_kept, head_of, head_kept}
 use Rattle.sim_core.specs.Counting.{decided_at, raised, Counts}
-use Rattle.sim_core.proofs.Accepted.{delivery_takes, delivery_is, delivery_up}
+use Rattle.sim_core.proofs.Accepted.{delivery_takes, prefix_taken, delivery_is, delivery_up}
 use Rattle.sim_core.proofs.Answered.{denied_by}
 use Rattle.sim_core.proofs.Refusals.{delivery_wants}
 
 module _ (e : Engine) (sound : IsSound e) (d : Direction) (none : delivery_refusal e.conf d ≡ None) (m : Message) (first : slice_get (queue_at e.queues d.from d.to) 0 ≡ Some m) where
-  took_prefix : Block → Reply → Block
-  took_prefix p (Took q k) = q
-  took_prefix p _ = p
-
   -- it is counted as one decision of a router
   pub counts : (n more : ℕ) → ((p : Block) → more ≡ length (decided_at e.conf d.to p)) → Counts (network e) (Deliver d.from d.to) (Took (prefix_of m) (kind_of m)) n (raised n more)
-  unfolding network took_prefix
+  unfolding network
   counts n more many =
       let p = prefix_of m in
       record {
         cells = decided_at e.conf d.to p;
-        refreshes = λ q k took. ap (decided_at e.conf d.to) (ap (took_prefix p) (sym (delivery_takes e sound d none m first) ∙ took));
+        refreshes = λ q k took. ap (decided_at e.conf d.to) (prefix_taken e sound d none m first q k took);
         is = ap (raised n) (many p);
       }
 

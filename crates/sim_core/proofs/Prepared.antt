@@ -15,7 +15,6 @@ use Rattle.sim_event.specs.declared.event.Event.TheVariants.{Edit as AnEdit, Fee
 use Rattle.sim_event.specs.declared.event.Feed.{Feed}
 use Rattle.sim_event.specs.declared.event.Ask.{Ask}
 use Rattle.sim_event.specs.declared.reply.Report.{Report}
-use Rattle.sim_event.specs.declared.reply.Reply.{Reply}
 use Rattle.sim_event.specs.declared.reply.Reply.TheVariants.{Done, Took, Report as AReport}
 use Rattle.reference_machine.specs.Machine.{after_edit, with_sent, step, feed_refusal, fed_message, delivery_refusal, ask_refusal, report_of}
 use Rattle.cell_engine.specs.Cells.{Outcome}
@@ -29,7 +28,7 @@ use Rattle.cell_engine.proofs.Redecided.{refreshes}
 use Rattle.cell_engine.proofs.Growth.{network_kept, head_of, head_kept}
 use Rattle.sim_core.specs.Counting.{decided_at}
 use Rattle.sim_core.specs.Plans.{fed_in, IsPrepared}
-use Rattle.sim_core.proofs.Accepted.{edit_done, feed_done, delivery_takes, question_answered}
+use Rattle.sim_core.proofs.Accepted.{edit_done, feed_done, delivery_takes, prefix_taken, question_answered}
 
 -- the reply stays the machine's
 reply_kept : (e e' : Engine) → KeepsSame e e' → (event : Event) → (step (network e) event).reply ≡ (step (network e') event).reply
@@ -68,18 +67,13 @@ prepared_feed e e' same f m none is room admitted cells are = record {
   does = record { pushed = ap (λ w. Some (fed_in f, w)) is; taken = refl; edited = refl; room = room; admitted = subst (IsAdmitted e'.queues) is admitted };
 }
 
--- the prefix of the message that was taken
-took_prefix : Block → Reply → Block
-took_prefix p (Took q k) = q
-took_prefix p _ = p
-
 pub prepared_delivery : (e e' : Engine) → KeepsSame e e' → IsSound e → (d : Direction) (m : Message) (o : Outcome) → delivery_refusal e.conf d ≡ None → slice_get (queue_at e.queues d.from d.to) 0 ≡ Some m → o ≡ outcome_at e d m → HasRoom e' d.to (prefix_of m) o.sends → (cells : List (Addr × Block)) → cells ≡ decided_at e'.conf d.to (prefix_of m) → IsPrepared e' (Deliver d.from d.to) (record { reply = Took (prefix_of m) (kind_of m); refreshed = cells; pushed = None; taken = Some (record { direction = d; prefix = prefix_of m; outcome = o }); edited = None })
-unfolding network took_prefix
+unfolding network
 prepared_delivery e e' same sound d m o none first is room cells are = record {
   reply = sym (delivery_takes e sound d none m first) ∙ reply_kept e e' same (Deliver d.from d.to);
   accepted = refl;
   refreshes = λ p k took.
-      are ∙ ap (decided_at e'.conf d.to) (ap (took_prefix (prefix_of m)) (sym (delivery_takes e sound d none m first) ∙ reply_kept e e' same (Deliver d.from d.to) ∙ took));
+      are ∙ ap (decided_at e'.conf d.to) (prefix_taken e sound d none m first p k (reply_kept e e' same (Deliver d.from d.to) ∙ took));
   does = record {
     prefix = prefix_of m;
     outcome = o;

@@ -2,9 +2,9 @@
 //! The answers to questions stand in the module `sim_report`.
 #![tactic(auto)]
 
+mod counting;
 mod deliveries;
 mod edits;
-mod event_machine;
 mod feeds;
 mod installs;
 mod plan;

@@ -1,23 +1,25 @@
 //! The simulator: a machine that takes events, and counts what it decides.
 
-ghost use Rattle.std.specs.Prelude.{◌≡◌, None, length, if◌then◌else◌, IfOk, IfErr, OnOk, OnErr};
+ghost use Rattle.std.specs.Prelude.{◌≡◌, length, IfOk, IfErr, OnErr};
 ghost use Rattle.net_conf.specs.declared.refusal.Refusal.TheVariants.{Memory};
-ghost use Rattle.sim_event.specs.declared.event.Event.TheVariants.{Feed as AFeed, Deliver, Ask as AnAsk};
-ghost use Rattle.reference_machine.specs.Machine.{nothing, step, delivery_refusal, is_refusal, IsStep, IsRun};
+ghost use Rattle.reference_machine.specs.Machine.{nothing, step, IsStep, IsRun};
 ghost use Rattle.cell_engine.specs.Engine.{network};
 ghost use Rattle.sim_core.specs.Counting.{raised, Counts, IsCountedRun};
-ghost use Rattle.sim_core.specs.Installing.{IsOutcomeOfHead};
 ghost use Rattle.sim_core.specs.Plans.{IsPrepared, IsOfEvent, Prepares};
 
-use crate::event_machine::EventMachine;
+use crate::counting::raised;
+use crate::deliveries::{prepare_delivery, take};
+use crate::edits::prepare_edit;
+use crate::feeds::prepare_feed;
 use crate::plan::Plan;
-use cell_engine::{Cell, Outcome, State};
+use crate::questions::prepare_answer;
+use cell_engine::{Cell, State};
 use net_conf::Refusal;
 use prefix_table::{PrefixTable, SortedTable, TrieTable};
 use reference_machine::Machine;
 use route_select::{Chosen, FilterCell, GroupCell, Selector};
 use session_queue::Direction;
-use sim_event::{Ask, Event, Feed, Reply};
+use sim_event::{Event, Reply};
 use std::alloc::Global;
 use std::hash::RandomState;
 use std::marker::Model;
@@ -27,9 +29,9 @@ use std::thread::Threads;
 /// routes it decided anew.
 #[derive(Drop)]
 pub struct Sim<S: Chosen, T: PrefixTable<Cell<S>>> {
-    alloc: Global,
-    machine: EventMachine<S, T>,
-    decided: u64,
+    pub(crate) alloc: Global,
+    pub(crate) state: State<S, T>,
+    pub(crate) decided: u64,
 }
 
 impl<S: Chosen, T: PrefixTable<Cell<S>>> Model for Sim<S, T> {
@@ -41,7 +43,7 @@ impl<S: Chosen, T: PrefixTable<Cell<S>>> Model for Sim<S, T> {
 
     ghost coded = { Prim.hlevel (codes, coded_table) };
 
-    ghost view = { λ s. record { engine = s.machine; decided = s.decided } };
+    ghost view = { λ s. record { engine = s.state; decided = s.decided } };
 }
 
 impl<S: Chosen, T: PrefixTable<Cell<S>>> Sim<S, T> {
@@ -53,7 +55,7 @@ impl<S: Chosen, T: PrefixTable<Cell<S>>> Sim<S, T> {
     {
         Sim {
             alloc,
-            machine: EventMachine::new(alloc, keys),
+            state: State::new(alloc, keys),
             decided: 0,
         }
     }
@@ -62,7 +64,7 @@ impl<S: Chosen, T: PrefixTable<Cell<S>>> Sim<S, T> {
     pub fn state(&self) -> &State<S, T>
         ensures { result.now ≡ self.now.engine }
     {
-        self.machine.state()
+        &self.state
     }
 
     /// How many routes were decided anew: one for each message that a router took, and for each edit those that it refreshed. It stops
@@ -74,30 +76,6 @@ impl<S: Chosen, T: PrefixTable<Cell<S>>> Sim<S, T> {
     }
 }
 
-impl<S: Chosen + Drop, T: PrefixTable<Cell<S>> + Drop> Sim<S, T> {
-    /// Takes the message at the head of the direction's queue, whose outcome was made beside the machine: this is the machine's own step.
-    /// For want of memory the error hands the outcome back, and nothing changes. It decides nothing.
-    pub fn install(
-        &mut self,
-        direction: Direction,
-        outcome: Outcome<S>,
-    ) -> Result<Reply, Outcome<S>>
-        requires allowed { delivery_refusal self.old.engine.conf direction ≡ None }
-        requires head { IsOutcomeOfHead self.old.engine direction outcome }
-        ensures reply { IfOk result (λ reply. reply ≡ (step (network self.old.engine) (Deliver direction.from direction.to)).reply) }
-        ensures next { OnOk result (network self.new.engine ≡ (step (network self.old.engine) (Deliver direction.from direction.to)).next) }
-        ensures decided { IfOk result (λ reply. Counts (network self.old.engine) (Deliver direction.from direction.to) reply self.old.decided self.new.decided) }
-        ensures back { IfErr result (λ back. back ≡ outcome) }
-        ensures same { OnErr result (network self.new.engine ≡ network self.old.engine) }
-        ensures uncounted { OnErr result (self.new.decided ≡ self.old.decided) }
-    {
-        let more = self.machine.decisions_at(direction.to);
-        let reply = self.machine.install(direction, outcome)?;
-        self.decided = raised(self.decided, more);
-        Ok(reply)
-    }
-}
-
 impl<S: Selector + Send + Sync + Drop, T: PrefixTable<Cell<S>> + Drop> Sim<S, T> {
     /// Makes ready what the event will do, with all the memory that this takes. The network stays as it is. The refusal is the machine's
     /// own, or want of memory where the machine refuses nothing; the tests come before the first growth.
@@ -106,7 +84,19 @@ impl<S: Selector + Send + Sync + Drop, T: PrefixTable<Cell<S>> + Drop> Sim<S, T>
         ensures decided { self.new.decided ≡ self.old.decided }
         ensures prepares { Prepares self.new.engine event.now result }
     {
-        self.machine.prepare(rt, event)
+        match event {
+            Event::Edit(edit) => prepare_edit(rt, self.alloc, &mut self.state, edit),
+            Event::Feed(feed) => prepare_feed(self.alloc, &mut self.state, feed),
+            Event::Deliver(from, to) => prepare_delivery(
+                self.alloc,
+                &mut self.state,
+                Direction {
+                    from: *from,
+                    to: *to,
+                },
+            ),
+            Event::Ask(question) => prepare_answer(self.alloc, &self.state, question),
+        }
     }
 
     /// Takes the event, which is the machine's own step, or is refused for want of memory and does nothing.
@@ -116,8 +106,8 @@ impl<S: Selector + Send + Sync + Drop, T: PrefixTable<Cell<S>> + Drop> Sim<S, T>
     {
         match event {
             Event::Edit(_) => self.step_by_plan(rt, event),
-            Event::Feed(feed) => self.feed(feed),
-            Event::Deliver(from, to) => self.deliver(Direction {
+            Event::Feed(feed) => self.take_feed(feed),
+            Event::Deliver(from, to) => self.take_delivery(Direction {
                 from: *from,
                 to: *to,
             }),
@@ -169,38 +159,26 @@ impl<S: Selector + Drop, T: PrefixTable<Cell<S>> + Drop> Sim<S, T> {
         ensures decided { self.new.decided ≡ raised self.old.decided (length plan.refreshed) }
     {
         self.decided = raised(self.decided, plan.refreshed().len());
-        self.machine.apply(plan)
-    }
-}
-
-impl<S: Selector + Drop, T: PrefixTable<Cell<S>> + Drop> Sim<S, T> {
-    /// Takes the message at the head of the direction's queue.
-    fn deliver(&mut self, direction: Direction) -> Reply
-        ensures step { IsStep (network self.old.engine) (Deliver direction.from direction.to) result (network self.new.engine) }
-        ensures decided { Counts (network self.old.engine) (Deliver direction.from direction.to) result self.old.decided self.new.decided }
-    {
-        let more = self.machine.decisions_at(direction.to);
-        let reply = self.machine.deliver(direction);
-        self.decided = raised_unless_refused(self.decided, more, &reply);
+        let Plan {
+            reply,
+            refreshed,
+            pushed,
+            taken,
+            edited,
+        } = plan;
+        drop(refreshed);
+        if let Some(edited) = edited {
+            self.state.reconfigure(edited);
+            return reply;
+        }
+        if let Some(taken) = taken {
+            take(&mut self.state, taken);
+            return reply;
+        }
+        if let Some((direction, message)) = pushed {
+            self.state.push(direction, message);
+        }
         reply
-    }
-
-    /// Puts what is fed on its way. It decides nothing.
-    fn feed(&mut self, feed: &Feed) -> Reply
-        ensures step { IsStep (network self.old.engine) (AFeed feed.now) result (network self.new.engine) }
-        ensures decided { Counts (network self.old.engine) (AFeed feed.now) result self.old.decided self.new.decided }
-    {
-        raised_by_none(self.decided);
-        self.machine.feed(feed)
-    }
-
-    /// Answers the question. It changes and decides nothing.
-    fn answer(&self, question: &Ask) -> Reply
-        ensures step { IsStep (network self.now.engine) (AnAsk question.now) result (network self.now.engine) }
-        ensures decided { Counts (network self.now.engine) (AnAsk question.now) result self.now.decided self.now.decided }
-    {
-        raised_by_none(self.decided);
-        self.machine.answer(question)
     }
 }
 
@@ -224,30 +202,3 @@ impl Machine for Sim<FilterCell, SortedTable<Cell<FilterCell>>> {
         Sim::step(self, rt, event)
     }
 }
-
-/// The count, raised by this many. It stops at the greatest number.
-fn raised(count: u64, more: usize) -> u64
-    ensures { result ≡ raised count more }
-{
-    let more = more as u64;
-    if more > u64::MAX - count {
-        u64::MAX
-    } else {
-        count + more
-    }
-}
-
-/// The count, raised by this many where the reply is no refusal.
-fn raised_unless_refused(count: u64, more: usize, reply: &Reply) -> u64
-    ensures { result ≡ if is_refusal reply.now then count else raised count more }
-{
-    match reply {
-        Reply::Refused(_) => count,
-        _ => raised(count, more),
-    }
-}
-
-/// A call gives the caller's proof that none leaves the count as it is.
-fn raised_by_none(count: u64)
-    ensures { count ≡ raised count 0 }
-{}

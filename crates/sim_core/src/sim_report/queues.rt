@@ -36,8 +36,8 @@ fn messages_in(
     ensures { IfOk result (λ messages. messages.items ≡ queue_at queues.now direction.from direction.to) }
 {
     let mut messages = Vec::new(alloc);
-    for place in 0..queues.len(direction.from, direction.to) {
-        match queues.at(direction.from, direction.to, place) {
+    for index in 0..queues.len(direction.from, direction.to) {
+        match queues.at(direction.from, direction.to, index) {
             None => unreachable!(),
             Some(message) => messages.push(message.to_message()?)?,
         }

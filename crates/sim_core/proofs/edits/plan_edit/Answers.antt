@@ -1,5 +1,5 @@
 use Rattle.sim_core.proofs.Prepared.{prepared_edit}
-use Rattle.sim_core.proofs.event_machine.EventMachine.editing.Goals as goal
+use Rattle.sim_core.proofs.edits.plan_edit.Goals as goal
 
 pub returns-clause-plan : goal.returns-clause-plan
 returns-clause-plan g c =
