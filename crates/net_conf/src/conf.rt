@@ -7,11 +7,9 @@ ghost use Rattle.net_conf.specs.Costs.{costs_of, session_up, is_up, down_session
 ghost use Rattle.net_conf.specs.Configured.{IsConfigured};
 ghost use Rattle.net_conf.specs.Edits.{refusal_of, edited, IsEdit, IsEdited};
 
-use crate::concerned::MadeSessions;
-use crate::conf_sessions::ConfSessions;
 use crate::edit::Edit;
+use crate::kept::{ConfSessions, MadeSessions, SharedSite};
 use crate::refusal::Refusal;
-use crate::shared_site::SharedSite;
 use crate::tables::{Ends, Kind};
 use igp_cost::Tree;
 use net_prefix::{Addr, Prefix};

@@ -4,10 +4,9 @@ ghost use Rattle.std.specs.Prelude.{◌≡◌};
 ghost use Rattle.net_conf.specs.Sites.{peer_in};
 
 use crate::conf::Conf;
-use crate::conf_sessions::ConfSessions;
-use crate::conf_tables::ConfTables;
+use crate::kept::ConfSessions;
 use crate::refusal::Refusal;
-use crate::tables::Ends;
+use crate::tables::{ConfTables, Ends};
 use igp_cost::Tree;
 use net_prefix::{Addr, Prefix};
 use path_attr::Asn;

@@ -1,0 +1,210 @@
+//! What an edit changes.
+
+ghost use Rattle.std.specs.Prelude.{◌≡◌, ◌∷◌, ◌++◌, [], IfOk, OnOk, OnErr};
+ghost use Rattle.std.specs.BTreeMap.{insert_entry};
+ghost use Rattle.std.specs.BTreeSet.{insert_key};
+ghost use Rattle.net_prefix.specs.Address.{addr_cmp};
+ghost use Rattle.net_conf.specs.Configuration.{end_cmp, origination_cmp, link_between, rules_at};
+ghost use Rattle.net_conf.specs.Edits.{with_link, with_link_changed, with_metric, with_state, with_session, switched, with_rule, without_rules, with_rule_of, without_rules_of, edited};
+
+use crate::edit::Edit;
+use crate::tables::conf_tables::{ConfTables, policy_at};
+use crate::tables::{End, Ends, Kind, Link, Node, Origination, PolicySide};
+use igp_cost::Metric;
+use net_prefix::Addr;
+use path_attr::Asn;
+use route_policy::{Policy, Rule};
+use shared_map::{SharedMap, SharedSet};
+use std::alloc::{AllocError, Global};
+
+impl ConfTables {
+    /// Makes the edit, whether or not it is to be refused. An error changes nothing.
+    pub fn apply(&mut self, alloc: Global, edit: &Edit) -> Result<(), AllocError>
+        ensures ok { OnOk result (self.new ≡ edited self.old edit.now) }
+        ensures err { OnErr result (self.new ≡ self.old) }
+    {
+        match *edit {
+            Edit::Router(addr, asn) => self.add_node(alloc, addr, asn, Kind::Router),
+            Edit::Virtual(addr, asn) => self.add_node(alloc, addr, asn, Kind::Virtual),
+            Edit::Link(one, other, metric) => {
+                self.set_link(alloc, one, other, Link { metric, up: true })
+            }
+            Edit::Metric(one, other, metric) => self.set_metric(alloc, one, other, metric),
+            Edit::Fail(one, other) => self.set_state(alloc, one, other, false),
+            Edit::Mend(one, other) => self.set_state(alloc, one, other, true),
+            Edit::Join(one, other) | Edit::Start(one, other) => self.set_session(
+                alloc, one, other, true,
+            ),
+            Edit::Stop(one, other) => self.set_session(alloc, one, other, false),
+            Edit::Client(router, peer, on) => switch(
+                alloc,
+                &mut self.clients,
+                End { router, peer },
+                on,
+            ),
+            Edit::OwnNext(router, peer, on) => switch(
+                alloc,
+                &mut self.own_next,
+                End { router, peer },
+                on,
+            ),
+            Edit::Cluster(router, id) => self.set_cluster(alloc, router, id),
+            Edit::Rule(router, peer, side, rule) => {
+                self.add_rule(alloc, End { router, peer }, side, rule)
+            }
+            Edit::Clear(router, peer, side) => self.clear_rules(alloc, End { router, peer }, side),
+            Edit::Origin(router, prefix) => {
+                self.origins.insert(alloc, Origination { router, prefix })
+            }
+            Edit::NoOrigin(router, prefix) => {
+                self.origins.remove(alloc, &Origination { router, prefix })
+            }
+        }
+    }
+
+    fn add_node(
+        &mut self,
+        alloc: Global,
+        addr: Addr,
+        asn: Asn,
+        kind: Kind,
+    ) -> Result<(), AllocError>
+        ensures ok { OnOk result (self.new ≡ record self.old { nodes = insert_entry addr_cmp self.old.nodes addr (record { asn = asn; kind = kind }) }) }
+        ensures err { OnErr result (self.new ≡ self.old) }
+    {
+        self.nodes.insert(alloc, addr, Node { asn, kind })
+    }
+
+    fn set_link(
+        &mut self,
+        alloc: Global,
+        one: Addr,
+        other: Addr,
+        link: Link,
+    ) -> Result<(), AllocError>
+        ensures ok { OnOk result (self.new ≡ with_link self.old one other link) }
+        ensures err { OnErr result (self.new ≡ self.old) }
+    {
+        self.links.insert(alloc, Ends::of(one, other), link)
+    }
+
+    fn set_metric(
+        &mut self,
+        alloc: Global,
+        one: Addr,
+        other: Addr,
+        metric: Metric,
+    ) -> Result<(), AllocError>
+        ensures ok { OnOk result (self.new ≡ with_link_changed self.old one other (with_metric metric) (link_between self.old one other)) }
+        ensures err { OnErr result (self.new ≡ self.old) }
+    {
+        match self.link(one, other) {
+            None => Ok(()),
+            Some(link) => self.set_link(alloc, one, other, Link { metric, ..link }),
+        }
+    }
+
+    fn set_state(
+        &mut self,
+        alloc: Global,
+        one: Addr,
+        other: Addr,
+        up: bool,
+    ) -> Result<(), AllocError>
+        ensures ok { OnOk result (self.new ≡ with_link_changed self.old one other (with_state up) (link_between self.old one other)) }
+        ensures err { OnErr result (self.new ≡ self.old) }
+    {
+        match self.link(one, other) {
+            None => Ok(()),
+            Some(link) => self.set_link(alloc, one, other, Link { up, ..link }),
+        }
+    }
+
+    fn set_session(
+        &mut self,
+        alloc: Global,
+        one: Addr,
+        other: Addr,
+        enabled: bool,
+    ) -> Result<(), AllocError>
+        ensures ok { OnOk result (self.new ≡ with_session self.old one other enabled) }
+        ensures err { OnErr result (self.new ≡ self.old) }
+    {
+        self.sessions.insert(alloc, Ends::of(one, other), enabled)
+    }
+
+    fn set_cluster(&mut self, alloc: Global, router: Addr, id: Addr) -> Result<(), AllocError>
+        ensures ok { OnOk result (self.new ≡ record self.old { clusters = insert_entry addr_cmp self.old.clusters router id }) }
+        ensures err { OnErr result (self.new ≡ self.old) }
+    {
+        self.clusters.insert(alloc, router, id)
+    }
+
+    fn add_rule(
+        &mut self,
+        alloc: Global,
+        end: End,
+        side: PolicySide,
+        rule: Rule,
+    ) -> Result<(), AllocError>
+        ensures ok { OnOk result (self.new ≡ with_rule_of self.old end.router end.peer side rule) }
+        ensures err { OnErr result (self.new ≡ self.old) }
+    {
+        match side {
+            PolicySide::Import => append(alloc, &mut self.imports, end, rule),
+            PolicySide::Export => append(alloc, &mut self.exports, end, rule),
+        }
+    }
+
+    fn clear_rules(&mut self, alloc: Global, end: End, side: PolicySide) -> Result<(), AllocError>
+        ensures ok { OnOk result (self.new ≡ without_rules_of self.old end.router end.peer side) }
+        ensures err { OnErr result (self.new ≡ self.old) }
+    {
+        match side {
+            PolicySide::Import => self.imports.take_out(alloc, &end),
+            PolicySide::Export => self.exports.take_out(alloc, &end),
+        }
+    }
+}
+
+/// Adds the end to the set, or takes it out. An error changes nothing.
+fn switch(alloc: Global, ends: &mut SharedSet<End>, end: End, on: bool) -> Result<(), AllocError>
+    ensures ok { OnOk result (ends.new ≡ switched on end ends.old) }
+    ensures err { OnErr result (ends.new ≡ ends.old) }
+{
+    if on {
+        ends.insert(alloc, end)
+    } else {
+        ends.remove(alloc, &end)
+    }
+}
+
+/// Adds a rule to the policy of the end. An error changes nothing.
+fn append(
+    alloc: Global,
+    policies: &mut SharedMap<End, Policy>,
+    end: End,
+    rule: Rule,
+) -> Result<(), AllocError>
+    ensures ok { OnOk result (policies.new ≡ with_rule end rule policies.old) }
+    ensures err { OnErr result (policies.new ≡ policies.old) }
+{
+    let policy = longer(alloc, policies, end, rule)?;
+    policies.put(alloc, end, policy)
+}
+
+/// The policy of the end, with a rule at its end.
+fn longer(
+    alloc: Global,
+    policies: &SharedMap<End, Policy>,
+    end: End,
+    rule: Rule,
+) -> Result<Policy, AllocError>
+    ensures { IfOk result (λ p. p ≡ rules_at policies.now end ++ rule ∷ []) }
+{
+    let mut policy = policy_at(alloc, policies, end)?;
+    match policy.add(rule) {
+        Ok(()) => Ok(policy),
+        Err(_) => Err(AllocError),
+    }
+}
