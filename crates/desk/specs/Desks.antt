@@ -1,8 +1,5 @@
 -- What a caller at a desk knows of its own seat, and why a desk is not opened.
 use Rattle.std.specs.Prelude.{◌≡◌, ◌≢◌, ◌≤◌, ℕ, List, [], ◌∷◌}
-use Rattle.net_prefix.specs.declared.addr.Addr.{Addr}
-use Rattle.session_queue.specs.Shards.{shard_of}
-use Rattle.session_queue.specs.Waiting.{queue_at}
 use Rattle.sim_event.specs.declared.entry.Entry.{Entry}
 use Rattle.sim_event.specs.declared.event.Event.{Event}
 use Rattle.sim_event.specs.declared.reply.Reply.{Reply}
@@ -14,7 +11,7 @@ use Rattle.room.specs.declared.room.commit.Committed.TheVariants.{Delivered, Sta
 use Rattle.desk.specs.declared.desk.OpenFault.{OpenFault}
 use Rattle.desk.specs.declared.desk.OpenFault.TheVariants.{Seats, Shards, Memory}
 use Rattle.room.specs.Books.{RoomBook, SeatBook, IsKept, GoesOn, with_call}
-use Rattle.room.specs.Jobs.{Seen, IsSeenIn}
+use Rattle.room.specs.Jobs.{Seen, IsSeenIn, NoneWaits}
 use Rattle.room.specs.Commits.{delivery_of, IsNewer}
 
 -- a desk: how many shards it has
@@ -28,6 +25,12 @@ AreSeats n = (1 ≤ n) × (n ≤ 256)
 -- and 1 to 64 shards
 abbrev pub AreShards : ℕ → Type 0
 AreShards n = (1 ≤ n) × (n ≤ 64)
+
+-- the ledger that counts the calls: it has the name and the parts that its type says, and 256 parts, one for each seat that there may be
+pub record IsDeskLedger (name parts type_name type_parts : ℕ) : Type 0 where
+  pub same_name : name ≡ type_name
+  pub same_parts : parts ≡ type_parts
+  pub one_each : parts ≡ 256
 
 -- why a desk of so many seats and shards is not opened
 abbrev pub IsOpenFault : ℕ → ℕ → OpenFault → Type 0
@@ -51,7 +54,7 @@ pub record IsTaken (x : Seen) : Type 0 where
 pub record IsWithout (shard shards : ℕ) : Type 0 where
   pub room : RoomBook
   pub kept : IsKept room
-  pub none : (from to : Addr) → shard_of to shards ≡ shard → queue_at room.engine.queues from to ≡ []
+  pub none : NoneWaits room shard shards
 
 -- there is a room, with a legal history, in which this has moved since the job was taken
 pub record IsMoved (x : Seen) (newer : Newer) : Type 0 where
@@ -71,7 +74,7 @@ pub record IsNoted (seat : SeatBook) : Type 0 where
   pub legal : IsLegal history
   pub calls : calls_of seat.number history ≡ seat.notes
 
--- after its outcome came back the seat has one call more, with the machine's reply; or something has moved, and the seat is as it was
+-- after its outcome is committed the seat has one call more, with the machine's reply; or something has moved, and the seat is as it was
 abbrev pub IsSeatAfter : SeatBook → Seen → Committed → SeatBook → Type 0
 IsSeatAfter seat x (Delivered reply) new = (new ≡ with_call seat (delivery_of x) reply) × IsReplied (delivery_of x) reply
 IsSeatAfter seat x (Stale newer) new = (new ≡ seat) × IsMoved x newer

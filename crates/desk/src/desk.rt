@@ -1,9 +1,9 @@
 //! The desk: a room under one lock.
 
 ghost use Rattle.std.specs.Prelude.{◌≡◌, ◌<◌, ◌≤◌, false, None, IfOk, IfErr, IfSome, OnOk, OnErr};
-ghost use Rattle.session_queue.specs.Shards.{shard_of};
 ghost use Rattle.room.specs.Books.{GoesOn, blank_seats, is_memory, noted};
-ghost use Rattle.desk.specs.Desks.{AreSeats, AreShards, IsOpenFault, IsReplied, IsTaken, IsWithout, IsNoted, IsUnlike, IsSeatAfter};
+ghost use Rattle.room.specs.Jobs.{IsOfShard};
+ghost use Rattle.desk.specs.Desks.{AreSeats, AreShards, IsDeskLedger, IsOpenFault, IsReplied, IsTaken, IsWithout, IsNoted, IsUnlike, IsSeatAfter};
 
 use crate::backoff::Backoff;
 use crate::effort::are_much_work;
@@ -83,9 +83,7 @@ impl<S: Chosen, T: PrefixTable<Cell<S>>, L: Ledger> Desk<S, T, L> {
         shards: u64,
         blank: Blank,
     ) -> Result<(Self, Vec<Seat<L>>), OpenFault>
-        requires name { blank.name ≡ L.name }
-        requires ledger { blank.parts ≡ L.parts }
-        requires parts { blank.parts ≡ 256 }
+        requires ledger { IsDeskLedger blank.name blank.parts L.name L.parts }
         ensures seats { IfOk result (λ made. made.1.items ≡ blank_seats seats) }
         ensures shards { IfOk result (λ made. made.0.shards ≡ shards) }
         ensures allowed { OnOk result (AreSeats seats × AreShards shards) }
@@ -402,7 +400,7 @@ impl<S: Selector + Drop, T: PrefixTable<Cell<S>> + Drop, L: Ledger> Desk<S, T, L
     pub fn take<R: Wait>(&self, rt: &R, shard: u64) -> Result<Option<Job<S>>, AllocError>
         requires { shard < self.now.shards }
         ensures taken { IfOk result (λ found. IfSome found IsTaken) }
-        ensures shard { IfOk result (λ found. IfSome found (λ job. shard_of job.direction.to self.now.shards ≡ shard)) }
+        ensures shard { IfOk result (λ found. IfSome found (IsOfShard shard self.now.shards)) }
         ensures none { IfOk result (λ found. found ≡ None → IsWithout shard self.now.shards) }
     {
         self.guarded.lock(rt).take(shard, self.scheduler.shards())
@@ -483,7 +481,7 @@ impl<S: Selector + Drop, T: PrefixTable<Cell<S>> + Drop, L: Ledger> Guarded<S, T
     fn take(&self, shard: u64, shards: u64) -> Result<Option<Job<S>>, AllocError>
         requires { shard < shards }
         ensures taken { IfOk result (λ found. IfSome found IsTaken) }
-        ensures shard { IfOk result (λ found. IfSome found (λ job. shard_of job.direction.to shards ≡ shard)) }
+        ensures shard { IfOk result (λ found. IfSome found (IsOfShard shard shards)) }
         ensures none { IfOk result (λ found. found ≡ None → IsWithout shard shards) }
     {
         self.room.facts();

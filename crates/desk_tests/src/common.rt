@@ -1,6 +1,7 @@
 //! What several modules use: the desk of the program's engine, and calls and replies as text.
 
 ghost use Rattle.std.specs.Prelude.{◌≡◌};
+ghost use Rattle.desk.specs.Desks.{IsDeskLedger};
 
 use cell_engine::Cell;
 use command_text::read_line;
@@ -36,9 +37,7 @@ pub fn opened<L: Ledger, R: Abort>(
     shards: u64,
     blank: Blank,
 ) -> (GroupDesk<L>, Vec<Seat<L>>)
-    requires name { blank.name ≡ L.name }
-    requires ledger { blank.parts ≡ L.parts }
-    requires parts { blank.parts ≡ 256 }
+    requires ledger { IsDeskLedger blank.name blank.parts L.name L.parts }
     ensures { result.0.shards ≡ shards }
 {
     let opened: Result<(GroupDesk<L>, Vec<Seat<L>>), OpenFault> = Desk::open(

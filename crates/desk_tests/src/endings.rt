@@ -1,6 +1,6 @@
 //! When a worker ends.
 
-ghost use Rattle.std.specs.Prelude.{◌≡◌};
+ghost use Rattle.desk.specs.Desks.{IsDeskLedger};
 
 use crate::common::{Open, STAR, are_answered, opened};
 use desk::run_workers;
@@ -39,9 +39,7 @@ fn delivered<L: Ledger + Send + Sync, R: Threads + Wait + Abort + Sync>(
     is_finished: bool,
     blank: Blank,
 ) -> u64
-    requires name { blank.name ≡ L.name }
-    requires ledger { blank.parts ≡ L.parts }
-    requires parts { blank.parts ≡ 256 }
+    requires ledger { IsDeskLedger blank.name blank.parts L.name L.parts }
 {
     let (desk, mut workers) = opened::<L, R>(rt, alloc, 2, shards, blank);
     let mut engineer = workers.pop().expect(rt, "two seats");

@@ -1,6 +1,6 @@
 //! Engineers at one desk at once, with workers and without.
 
-ghost use Rattle.std.specs.Prelude.{◌≡◌};
+ghost use Rattle.desk.specs.Desks.{IsDeskLedger};
 
 use crate::common::{Asked, GroupDesk, GroupRoom, Open, are_answered, opened, replayed};
 use desk::{Audit, CloseFault, Fault, Seat, run_workers};
@@ -45,9 +45,7 @@ fn two_engineers<L: Ledger + Send + Sync, R: Threads + Wait + Abort + Sync>(
     alloc: Global,
     blank: Blank,
 )
-    requires name { blank.name ≡ L.name }
-    requires ledger { blank.parts ≡ L.parts }
-    requires parts { blank.parts ≡ 256 }
+    requires ledger { IsDeskLedger blank.name blank.parts L.name L.parts }
 {
     let (desk, mut seats) = opened::<L, R>(rt, alloc, 2, 1, blank);
     assert!(rt; make_calls(rt, alloc, &desk, &mut seats));
@@ -113,9 +111,7 @@ fn with_workers<L: Ledger + Send + Sync, R: Threads + Wait + Abort + Sync>(
     alloc: Global,
     blank: Blank,
 )
-    requires name { blank.name ≡ L.name }
-    requires ledger { blank.parts ≡ L.parts }
-    requires parts { blank.parts ≡ 256 }
+    requires ledger { IsDeskLedger blank.name blank.parts L.name L.parts }
 {
     let (desk, mut workers) = opened::<L, R>(rt, alloc, 4, 2, blank);
     let mut seats = Vec::new(alloc);

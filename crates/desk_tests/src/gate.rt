@@ -1,6 +1,6 @@
 //! Two workers have jobs at once, and a configuration that moves meanwhile makes the first one's outcome stale.
 
-ghost use Rattle.std.specs.Prelude.{◌≡◌};
+ghost use Rattle.desk.specs.Desks.{IsDeskLedger};
 
 use crate::common::{Asked, GroupDesk, STAR, are_answered, is_answered, opened};
 use desk::{Gate, Seat, run_workers};
@@ -92,9 +92,7 @@ fn meet<L: Ledger + Send + Sync, R: Threads + Wait + Abort + Sync>(
     alloc: Global,
     blank: Blank,
 )
-    requires name { blank.name ≡ L.name }
-    requires ledger { blank.parts ≡ L.parts }
-    requires parts { blank.parts ≡ 256 }
+    requires ledger { IsDeskLedger blank.name blank.parts L.name L.parts }
 {
     let (desk, mut workers) = opened::<L, R>(rt, alloc, 3, 2, blank);
     let mut engineer = workers.pop().expect(rt, "three seats");

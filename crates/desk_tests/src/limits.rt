@@ -1,6 +1,6 @@
 //! How many seats and shards a desk may have.
 
-ghost use Rattle.std.specs.Prelude.{◌≡◌};
+ghost use Rattle.desk.specs.Desks.{IsDeskLedger};
 
 use crate::common::{GroupDesk, Tries};
 use desk::{Desk, OpenFault, Seat};
@@ -25,9 +25,7 @@ fn a_desk_has_1_to_256_seats_and_1_to_64_shards(rt: HostRuntime) {
 
 /// Why such a desk is not opened.
 fn fault_of<L: Ledger>(alloc: Global, seats: u16, shards: u64, blank: Blank) -> Option<OpenFault>
-    requires name { blank.name ≡ L.name }
-    requires ledger { blank.parts ≡ L.parts }
-    requires parts { blank.parts ≡ 256 }
+    requires ledger { IsDeskLedger blank.name blank.parts L.name L.parts }
 {
     let opened: Result<(GroupDesk<L>, Vec<Seat<L>>), OpenFault> = Desk::open(
         alloc, None, seats, shards, blank,

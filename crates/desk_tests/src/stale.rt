@@ -1,6 +1,7 @@
 //! Outcomes that come too late: another was first at the head, or the receiver has heard more.
 
-ghost use Rattle.std.specs.Prelude.{◌≡◌, ◌<◌};
+ghost use Rattle.std.specs.Prelude.{◌<◌};
+ghost use Rattle.desk.specs.Desks.{IsDeskLedger};
 
 use crate::common::{Asked, GroupDesk, are_answered, is_answered, opened};
 use desk::{Committed, Done, Newer, Seat};
@@ -61,9 +62,7 @@ fn a_head_is_taken_once(rt: HostRuntime) {
 }
 
 fn twice<L: Ledger, R: Threads + Wait + Abort + Sync>(rt: &R, alloc: Global, blank: Blank)
-    requires name { blank.name ≡ L.name }
-    requires ledger { blank.parts ≡ L.parts }
-    requires parts { blank.parts ≡ 256 }
+    requires ledger { IsDeskLedger blank.name blank.parts L.name L.parts }
 {
     let (desk, mut seats) = opened::<L, R>(rt, alloc, 2, 1, blank);
     let mut worker = seats.pop().expect(rt, "a seat");
@@ -83,9 +82,7 @@ fn what_the_receiver_hears_meanwhile_is_told(rt: HostRuntime) {
 }
 
 fn heard_meanwhile<L: Ledger, R: Threads + Wait + Abort + Sync>(rt: &R, alloc: Global, blank: Blank)
-    requires name { blank.name ≡ L.name }
-    requires ledger { blank.parts ≡ L.parts }
-    requires parts { blank.parts ≡ 256 }
+    requires ledger { IsDeskLedger blank.name blank.parts L.name L.parts }
 {
     let (desk, mut seats) = opened::<L, R>(rt, alloc, 2, 1, blank);
     let mut worker = seats.pop().expect(rt, "a seat");
@@ -126,9 +123,7 @@ fn of_ten_versions_the_last_is_put_in(rt: HostRuntime) {
 }
 
 fn ten_versions<L: Ledger, R: Threads + Wait + Abort + Sync>(rt: &R, alloc: Global, blank: Blank)
-    requires name { blank.name ≡ L.name }
-    requires ledger { blank.parts ≡ L.parts }
-    requires parts { blank.parts ≡ 256 }
+    requires ledger { IsDeskLedger blank.name blank.parts L.name L.parts }
 {
     let (desk, mut seats) = opened::<L, R>(rt, alloc, 2, 1, blank);
     let mut worker = seats.pop().expect(rt, "a seat");
@@ -182,7 +177,7 @@ fn worked<L: Ledger, R: Wait>(rt: &R, desk: &GroupDesk<L>) -> Option<Done<GroupC
     desk.take(rt, 0).ok()??.work().ok()
 }
 
-/// Brings the outcome back. Whether it was put in.
+/// Commits the outcome. Whether it was put in.
 fn is_put_in<L: Ledger, R: Wait>(
     rt: &R,
     desk: &GroupDesk<L>,

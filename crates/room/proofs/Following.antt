@@ -19,5 +19,3 @@ with_call_goes_on s event reply t is = subst (λ (u : SeatBook). GoesOn s u) (sy
 
 pub goes_on_same : (s t : SeatBook) → t ≡ s → GoesOn s t
 goes_on_same s t is = subst (λ (u : SeatBook). GoesOn s u) (sym is) (goes_on_itself s)
-
-pub ruleset goes_on = (goes_on_itself, goes_on_same)

@@ -1,5 +1,5 @@
 -- A history that is one call longer.
-use Rattle.std.proofs.Common.{◌≡◌, ℕ, ◌+◌, ◌≤◌, Bool, true, false, not, ◌&&◌, cond, List, [], ◌∷◌, ◌++◌, length, fold, refl, sym, ap, ◌∙◌, subst, arith}
+use Rattle.std.proofs.Common.{◌≡◌, ℕ, ◌+◌, Bool, true, false, not, ◌&&◌, cond, List, [], ◌∷◌, ◌++◌, fold, refl, sym, ap, ◌∙◌, subst}
 use Rattle.sim_event.specs.declared.entry.Entry.{Entry}
 use Rattle.sim_event.specs.declared.event.Event.{Event}
 use Rattle.sim_event.specs.declared.reply.Reply.{Reply}
@@ -25,22 +25,6 @@ fold_push f a (y ∷ xs) x = fold_push f (f a y) xs x
 pub version_push : (es : List Entry) (e : Entry) → version_of (es ++ e ∷ []) ≡ version_of es + cond (is_accepted_edit e) 1 0
 version_push es e = fold_push (λ a x. a + cond (is_accepted_edit x) 1 0) 0 es e
 
-one_at_most : (b : Bool) → cond b 1 0 ≤ 1
-one_at_most true = omega arith
-one_at_most false = omega arith
-
-count_most : (a : ℕ) (es : List Entry) → fold (λ n x. n + cond (is_accepted_edit x) 1 0) a es ≤ a + length es
-count_most a [] = omega arith
-count_most a (e ∷ es) =
-    let later = count_most (a + cond (is_accepted_edit e) 1 0) es in
-    let one = one_at_most (is_accepted_edit e) in
-    omega (arith, later, one)
-
--- no more edits were accepted than calls were made
-pub version_most : (es : List Entry) → version_of es ≤ length es
-version_most es =
-    let most : version_of es ≤ 0 + length es = count_most 0 es in omega (arith, most)
-
 abbrev one_if : Bool → ℕ
 one_if b = cond b 1 0
 
@@ -63,13 +47,9 @@ pub kept_push : (es now : List Entry) (e e' : Engine) (n m : ℕ) (number : ℕ)
     → reply ≡ (step (network e) event).reply
     → network e' ≡ (step (network e) event).next
     → IsKept (record { history = now; engine = e'; seats = m })
-kept_push es now e e' n m number event reply kept is same moved =
+kept_push es now e e' n m number event reply kept is same next =
     let x : Entry = record { seat = number; event = event; reply = reply } in
     record {
       legal = subst IsLegal (sym is) (answered_push nothing es x kept.legal (same ∙ ap (λ s. (step s event).reply) kept.state));
-      state = moved ∙ ap (λ s. (step s event).next) kept.state ∙ sym (state_push nothing es x) ∙ ap state_after (sym is);
+      state = next ∙ ap (λ s. (step s event).next) kept.state ∙ sym (state_push nothing es x) ∙ ap state_after (sym is);
     }
-
--- and where the network stays
-pub kept_still : (es : List Entry) (e e' : Engine) (n m : ℕ) → IsKept (record { history = es; engine = e; seats = n }) → network e' ≡ network e → IsKept (record { history = es; engine = e'; seats = m })
-kept_still es e e' n m kept same = record { legal = kept.legal; state = same ∙ kept.state }

@@ -1,10 +1,10 @@
 pub mod Calls
 pub mod Apart
-pub mod Brought
 pub mod Deliverable
 pub mod Differing
 pub mod Following
 pub mod Grown
+pub mod InTurn
 pub mod Known
 pub mod Pushed
 pub mod Seats

@@ -14,7 +14,7 @@ use Rattle.room.specs.declared.room.commit.Newer.TheVariants.{ConfMoved, SiteMov
 use Rattle.room.specs.declared.room.commit.Committed.{Committed}
 use Rattle.room.specs.declared.room.commit.Committed.TheVariants.{Delivered, Stale}
 use Rattle.room.specs.Books.{RoomBook, SeatBook, version_of, with_call}
-use Rattle.room.specs.Jobs.{Seen, head_in, site_in}
+use Rattle.room.specs.Jobs.{Seen, HasSite, HasVersion, head_in, site_in}
 
 -- the delivery that the job was for
 abbrev pub delivery_of : Seen → Event
@@ -23,15 +23,26 @@ delivery_of x = Deliver x.direction.from x.direction.to
 abbrev pub head_seen : Seen → Option Message
 head_seen x = Option.Some x.head
 
+-- the job holds the head of the room's queue
+abbrev pub HasHead : RoomBook → Seen → Type 0
+HasHead room x = head_seen x ≡ head_in room x.direction
+
 -- what has moved, the first of these: the configuration, the receiver's site, the head of the queue, what the receiver has received
 abbrev pub IsNewer : RoomBook → Seen → Newer → Type 0
 IsNewer room x (ConfMoved had now) = (had ≡ x.version) × (now ≡ version_of room.history) × (had ≢ now)
-IsNewer room x (SiteMoved had now) = (x.version ≡ version_of room.history) × (had ≡ x.site) × (now ≡ site_in room x.direction) × (had ≢ now)
+IsNewer room x (SiteMoved had now) = HasVersion room x × (had ≡ x.site) × (now ≡ site_in room x.direction) × (had ≢ now)
 IsNewer room x (HeadMoved had now) =
-    (x.version ≡ version_of room.history) × (x.site ≡ site_in room x.direction) × (had ≡ head_seen x) × (now ≡ head_in room x.direction) × (had ≢ now)
+    HasVersion room x × HasSite room x × (had ≡ head_seen x) × (now ≡ head_in room x.direction) × (had ≢ now)
 IsNewer room x (CellMoved peer had now) =
-    (x.version ≡ version_of room.history) × (x.site ≡ site_in room x.direction) × (head_seen x ≡ head_in room x.direction)
+    HasVersion room x × HasSite room x × HasHead room x
     × (had ≡ route_of x.heard.received peer) × (now ≡ route_from (network room.engine).received x.direction.to (prefix_of x.head) peer) × (had ≢ now)
+
+-- nothing changes
+pub record IsUnchanged (room : RoomBook) (seat : SeatBook) (room' : RoomBook) (seat' : SeatBook) : Type 0 where
+  pub network : network room'.engine ≡ network room.engine
+  pub history : room'.history ≡ room.history
+  pub seats : room'.seats ≡ room.seats
+  pub notes : seat' ≡ seat
 
 -- the delivery is the machine's own step, the last of the history, and of the seat's notes
 pub record IsDelivered (room : RoomBook) (seat : SeatBook) (event : Event) (reply : Reply) (room' : RoomBook) (seat' : SeatBook) : Type 0 where
@@ -50,19 +61,18 @@ abbrev pub IsCommitted : RoomBook → SeatBook → Seen → Committed → RoomBo
 IsCommitted room seat x (Delivered reply) room' seat' = IsDelivered room seat (delivery_of x) reply room' seat'
 IsCommitted room seat x (Stale newer) room' seat' = IsNewer room x newer × (room' ≡ room) × (seat' ≡ seat)
 
--- the outcomes come back one after another
+-- the outcomes are committed one after another
 abbrev pub AreCommitted : RoomBook → SeatBook → List Seen → RoomBook → SeatBook → Type 0
 AreCommitted room seat [] room' seat' = (room' ≡ room) × (seat' ≡ seat)
 AreCommitted room seat (x ∷ xs) room' seat' =
     (next : RoomBook) × (after : SeatBook) × (told : Committed) × IsCommitted room seat x told next after × AreCommitted next after xs room' seat'
 
--- so do the first of them; then there is no memory, and the others are let go
+-- so are the first of them; then there is no memory, and the others are let go
 pub record IsBrokenOff (room : RoomBook) (seat : SeatBook) (xs : List Seen) (room' : RoomBook) (seat' : SeatBook) : Type 0 where
   pub first : List Seen
   pub others : List Seen
   pub parts : xs ≡ first ++ others
   pub next : RoomBook
-  pub committed : AreCommitted room seat first next seat'
-  pub network : network room'.engine ≡ network next.engine
-  pub history : room'.history ≡ next.history
-  pub seats : room'.seats ≡ next.seats
+  pub after : SeatBook
+  pub committed : AreCommitted room seat first next after
+  pub left : IsUnchanged next after room' seat'

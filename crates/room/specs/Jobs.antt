@@ -1,4 +1,4 @@
--- What a worker takes away from the room to decide, and what may have moved until it comes back.
+-- What a worker takes away from the room to decide, and what may have moved until it is committed.
 use Rattle.std.specs.Prelude.{◌≡◌, ◌≢◌, ℕ, ⊤, List, [], ◌∷◌, All, map, slice_get, Option, Some, None}
 use Rattle.std.specs.List.Sorted.{IsStrictlySortedBy}
 use Rattle.net_prefix.specs.declared.addr.Addr.{Addr}
@@ -9,6 +9,7 @@ use Rattle.net_conf.specs.RouterSites.{router_site}
 use Rattle.session_queue.specs.declared.message.Message.{Message}
 use Rattle.session_queue.specs.declared.direction.Direction.{Direction}
 use Rattle.session_queue.specs.Telling.{prefix_of}
+use Rattle.session_queue.specs.Shards.{shard_of}
 use Rattle.session_queue.specs.Waiting.{queue_at}
 use Rattle.cell_engine.specs.Cells.{Heard, Outcome, IsDecided}
 use Rattle.cell_engine.specs.Engine.{heard_at}
@@ -38,12 +39,28 @@ site_in room d = router_site room.engine.conf d.to
 abbrev pub heard_in : RoomBook → Direction → Message → Heard
 heard_in room d m = heard_at d.to (prefix_of m) room.engine.tables
 
--- the job holds what is in the room
+-- the job holds the room's version
+abbrev pub HasVersion : RoomBook → Seen → Type 0
+HasVersion room x = x.version ≡ version_of room.history
+
+-- and the receiver's site
+abbrev pub HasSite : RoomBook → Seen → Type 0
+HasSite room x = x.site ≡ site_in room x.direction
+
+-- all that the job holds is in the room
 pub record IsSeenIn (room : RoomBook) (x : Seen) : Type 0 where
-  pub version : x.version ≡ version_of room.history
-  pub site : x.site ≡ site_in room x.direction
+  pub version : HasVersion room x
+  pub site : HasSite room x
   pub head : head_in room x.direction ≡ Some x.head
   pub heard : x.heard ≡ heard_in room x.direction x.head
+
+-- no message waits for a receiver of the shard
+abbrev pub NoneWaits : RoomBook → ℕ → ℕ → Type 0
+NoneWaits room shard shards = (from to : Addr) → shard_of to shards ≡ shard → queue_at room.engine.queues from to ≡ []
+
+-- the job's receiver is of the shard
+abbrev pub IsOfShard : ℕ → ℕ → Seen → Type 0
+IsOfShard shard shards x = shard_of x.direction.to shards ≡ shard
 
 -- the jobs were taken at one time: there is a room in which each holds what is there
 abbrev pub AreTakenTogether : List Seen → Type 0

@@ -6,10 +6,10 @@ use Rattle.sim_event.specs.declared.entry.Entry.{Entry}
 use Rattle.sim_event.specs.declared.reply.Reply.{Reply}
 use Rattle.sim_event.specs.declared.reply.Reply.TheVariants.{Took}
 
--- a history as it is written; entries: the calls that were made, the first first; room: for how many more there is room
+-- a history as it is written; entries: the calls that were made, the first first; space: for how many more there is some
 pub record HistoryBook : Type 0 where
   pub entries : List Entry
-  pub room : ℕ
+  pub space : ℕ
 
 -- the number of the seat from which a call was made
 abbrev pub caller_of : Entry → ℕ

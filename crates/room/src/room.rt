@@ -256,7 +256,7 @@ impl<S: Selector + Drop, T: PrefixTable<Cell<S>> + Drop, L: Ledger> Room<S, T, L
         ensures same { OnErr result (self.new ≡ self.old) }
         ensures left { OnErr result (seat.new ≡ seat.old) }
     {
-        if !self.history.makes_room(&mut seat.notes) {
+        if !self.history.makes_space(&mut seat.notes) {
             drop((event, plan));
             return Err(AllocError);
         }
@@ -289,7 +289,7 @@ impl<S: Selector + Drop, T: PrefixTable<Cell<S>> + Drop, L: Ledger> Room<S, T, L
         ensures same { OnErr result (self.new ≡ self.old) }
         ensures left { OnErr result (seat.new ≡ seat.old) }
     {
-        if !self.history.makes_room(&mut seat.notes) {
+        if !self.history.makes_space(&mut seat.notes) {
             drop(event);
             return Err(AllocError);
         }

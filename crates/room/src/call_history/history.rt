@@ -11,7 +11,7 @@ use std::alloc::Global;
 use std::marker::Model;
 
 /// The calls that were made, the first first. The numbers of their seats stand in a list of their own beside them, so that the calls of one
-/// seat are found without a look at those of all others. Contracts see the entries, and for how many calls more there is room.
+/// seat are found without a look at those of all others. Contracts see the entries, and for how many calls more there is space.
 #[derive(Drop)]
 pub struct History {
     entries: Vec<Entry>,
@@ -25,15 +25,15 @@ impl Model for History {
 
     ghost Value = { HistoryBook };
 
-    ghost view = { λ h. record { entries = h.entries.items; room = min (vec_capacity h.entries - vec_len h.entries) (vec_capacity h.callers - vec_len h.callers) } };
+    ghost view = { λ h. record { entries = h.entries.items; space = min (vec_capacity h.entries - vec_len h.entries) (vec_capacity h.callers - vec_len h.callers) } };
 
     ghost invariant = { λ h. h.callers.items ≡ map caller_of h.entries.items };
 }
 
 impl History {
-    /// No calls, and room for none.
+    /// No calls, and space for none.
     pub fn new(alloc: Global) -> Self
-        ensures { result ≡ record { entries = []; room = 0 } }
+        ensures { result ≡ record { entries = []; space = 0 } }
     {
         History {
             entries: Vec::new(alloc),
@@ -57,35 +57,35 @@ impl History {
         entries
     }
 
-    /// Makes room for one call more, here and in the notes. False for want of memory, and only where there was no room here or in the notes. Where
-    /// there is room, all calls and that one can be counted in 64 bits.
-    pub fn makes_room(&mut self, notes: &mut Vec<Call>) -> bool
+    /// Makes space for one call more, here and in the notes. False for want of memory, and only where there was none here or in the notes. Where
+    /// there is space, all calls and that one can be counted in 64 bits.
+    pub fn makes_space(&mut self, notes: &mut Vec<Call>) -> bool
         ensures entries { self.new.entries ≡ self.old.entries }
         ensures notes { notes.new.items ≡ notes.old.items }
-        ensures here { result ≡ true → 1 ≤ self.new.room }
+        ensures here { result ≡ true → 1 ≤ self.new.space }
         ensures in_notes { result ≡ true → vec_len notes.new < vec_capacity notes.new }
         ensures few { result ≡ true → length self.new.entries < 18446744073709551615 }
-        ensures full { result ≡ false → (self.old.room ≡ 0) ⊎ (vec_len notes.old ≡ vec_capacity notes.old) }
+        ensures full { result ≡ false → (self.old.space ≡ 0) ⊎ (vec_len notes.old ≡ vec_capacity notes.old) }
     {
         self.reserve() && notes.reserve(1).is_ok()
     }
 
-    /// Makes room for one call more. False for want of memory, and only where there was no room.
+    /// Makes space for one call more. False for want of memory, and only where there was none.
     fn reserve(&mut self) -> bool
         ensures entries { self.new.entries ≡ self.old.entries }
-        ensures room { result ≡ true → 1 ≤ self.new.room }
+        ensures space { result ≡ true → 1 ≤ self.new.space }
         ensures few { result ≡ true → length self.new.entries < 18446744073709551615 }
-        ensures full { result ≡ false → self.old.room ≡ 0 }
+        ensures full { result ≡ false → self.old.space ≡ 0 }
     {
         self.entries.reserve(1).is_ok() && self.callers.reserve(1).is_ok()
     }
 
-    /// Writes the call down, here and in the notes, where there is room.
+    /// Writes the call down, here and in the notes, where there is space.
     pub fn write(&mut self, notes: &mut Vec<Call>, draft: Draft)
-        requires here { 1 ≤ self.old.room }
+        requires here { 1 ≤ self.old.space }
         requires in_notes { vec_len notes.old < vec_capacity notes.old }
         ensures entries { self.new.entries ≡ self.old.entries ++ draft.entry ∷ [] }
-        ensures room { self.new.room + 1 ≡ self.old.room }
+        ensures space { self.new.space + 1 ≡ self.old.space }
         ensures notes { notes.new.items ≡ notes.old.items ++ draft.call ∷ [] }
     {
         let Draft { entry, call } = draft;

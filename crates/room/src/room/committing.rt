@@ -1,11 +1,11 @@
-//! Outcomes come back.
+//! Outcomes are committed.
 
 ghost use Rattle.std.specs.Prelude.{◌≡◌, ◌↔◌, true, Some, None, IsTrue, IfOk, IfErr, IfSome, OnOk, OnErr};
 ghost use Rattle.cell_engine.specs.Cells.{route_of};
-ghost use Rattle.cell_engine.specs.Engine.{network, heard_at};
-ghost use Rattle.room.specs.Jobs.{IsSeenIn, site_in, head_in, outcome_of};
-ghost use Rattle.room.specs.Commits.{IsNewer, IsCommitted, AreCommitted, IsBrokenOff, IsDelivered, is_delivered, delivery_of, head_seen};
-ghost use Rattle.room.specs.Books.{GoesOn, version_of};
+ghost use Rattle.cell_engine.specs.Engine.{heard_at};
+ghost use Rattle.room.specs.Jobs.{HasSite, HasVersion, IsSeenIn, head_in, outcome_of};
+ghost use Rattle.room.specs.Commits.{HasHead, IsNewer, IsCommitted, AreCommitted, IsBrokenOff, IsDelivered, IsUnchanged, is_delivered, delivery_of};
+ghost use Rattle.room.specs.Books.{GoesOn};
 
 use crate::call_history::Draft;
 use crate::room::Room;
@@ -33,29 +33,23 @@ impl<S: Chosen + Drop, T: PrefixTable<Cell<S>> + Drop, L: Ledger> Room<S, T, L> 
     pub fn commit(&mut self, seat: &mut Seat<L>, done: Done<S>) -> Result<Committed, CommitFault<S>>
         ensures committed { IfOk result (λ committed. IsCommitted self.old seat.old done committed self.new seat.new) }
         ensures back { IfErr result (λ fault. fault.done ≡ done) }
-        ensures network { OnErr result (network self.new.engine ≡ network self.old.engine) }
-        ensures history { OnErr result (self.new.history ≡ self.old.history) }
-        ensures seats { OnErr result (self.new.seats ≡ self.old.seats) }
-        ensures seat { OnErr result (seat.new ≡ seat.old) }
+        ensures left { OnErr result (IsUnchanged self.old seat.old self.new seat.new) }
     {
-        self.bring(seat, done, false)
+        self.commit_one(seat, done, false)
     }
 
     /// The same. The receiver's site is not compared where it is known to be as the job had it; where the outcome is put in, it is, and stays so.
-    fn bring(
+    fn commit_one(
         &mut self,
         seat: &mut Seat<L>,
         done: Done<S>,
         is_site_known: bool,
     ) -> Result<Committed, CommitFault<S>>
-        requires { is_site_known ≡ true → done.site ≡ site_in self.old done.direction }
+        requires { is_site_known ≡ true → HasSite self.old done }
         ensures committed { IfOk result (λ committed. IsCommitted self.old seat.old done committed self.new seat.new) }
-        ensures site { IfOk result (λ committed. is_delivered committed ≡ true → done.site ≡ site_in self.new done.direction) }
+        ensures site { IfOk result (λ committed. is_delivered committed ≡ true → HasSite self.new done) }
         ensures back { IfErr result (λ fault. fault.done ≡ done) }
-        ensures network { OnErr result (network self.new.engine ≡ network self.old.engine) }
-        ensures history { OnErr result (self.new.history ≡ self.old.history) }
-        ensures seats { OnErr result (self.new.seats ≡ self.old.seats) }
-        ensures seat { OnErr result (seat.new ≡ seat.old) }
+        ensures left { OnErr result (IsUnchanged self.old seat.old self.new seat.new) }
     {
         match self.newer(&done, is_site_known) {
             Ok(Some(newer)) => {
@@ -73,13 +67,10 @@ impl<S: Chosen + Drop, T: PrefixTable<Cell<S>> + Drop, L: Ledger> Room<S, T, L> 
         ensures committed { IfOk result (λ committed. IsCommitted self.old seat.old done committed self.new seat.new) }
         ensures conf { self.new.engine.conf ≡ self.old.engine.conf }
         ensures back { IfErr result (λ fault. fault.done ≡ done) }
-        ensures network { OnErr result (network self.new.engine ≡ network self.old.engine) }
-        ensures history { OnErr result (self.new.history ≡ self.old.history) }
-        ensures seats { OnErr result (self.new.seats ≡ self.old.seats) }
-        ensures seat { OnErr result (seat.new ≡ seat.old) }
+        ensures left { OnErr result (IsUnchanged self.old seat.old self.new seat.new) }
     {
         let Done { job, site, outcome } = done;
-        match self.deliver(seat, &job, outcome) {
+        match self.install_outcome(seat, &job, outcome) {
             Ok(reply) => {
                 drop((job, site));
                 Ok(Committed::Delivered(reply))
@@ -105,7 +96,7 @@ impl<S: Chosen + Drop, T: PrefixTable<Cell<S>> + Drop, L: Ledger> Room<S, T, L> 
         for done in outcomes.into_vec() {
             let receiver = done.ends().1;
             let is_known = is_receiver(known, receiver);
-            let committed = match self.bring(seat, done, is_known) {
+            let committed = match self.commit_one(seat, done, is_known) {
                 Ok(committed) => committed,
                 Err(fault) => {
                     drop(fault);
@@ -121,7 +112,7 @@ impl<S: Chosen + Drop, T: PrefixTable<Cell<S>> + Drop, L: Ledger> Room<S, T, L> 
 
     /// What has moved since the job was taken. The site is not compared where it is known to be the same.
     fn newer(&self, done: &Done<S>, is_site_known: bool) -> Result<Option<Newer>, AllocError>
-        requires { is_site_known ≡ true → done.now.site ≡ site_in self.now done.now.direction }
+        requires { is_site_known ≡ true → HasSite self.now done.now }
         ensures newer { IfOk result (λ found. IfSome found (IsNewer self.now done.now)) }
         ensures none { IfOk result (λ found. found ≡ None → IsSeenIn self.now done.now) }
     {
@@ -143,8 +134,8 @@ impl<S: Chosen + Drop, T: PrefixTable<Cell<S>> + Drop, L: Ledger> Room<S, T, L> 
 
     /// Whether the message or what the receiver has received is another, where version and site are as the job had them.
     fn newer_delivery(&self, job: &Job<S>) -> Result<Option<Newer>, AllocError>
-        requires version { job.now.version ≡ version_of self.now.history }
-        requires site { job.now.site ≡ site_in self.now job.now.direction }
+        requires version { HasVersion self.now job.now }
+        requires site { HasSite self.now job.now }
         ensures newer { IfOk result (λ found. IfSome found (IsNewer self.now job.now)) }
         ensures none { IfOk result (λ found. found ≡ None → IsSeenIn self.now job.now) }
     {
@@ -156,9 +147,9 @@ impl<S: Chosen + Drop, T: PrefixTable<Cell<S>> + Drop, L: Ledger> Room<S, T, L> 
 
     /// Whether the receiver's site is another, where the version is as the job had it.
     fn newer_site(&self, done: &Done<S>) -> Result<Option<Newer>, AllocError>
-        requires version { done.now.version ≡ version_of self.now.history }
+        requires version { HasVersion self.now done.now }
         ensures newer { IfOk result (λ found. IfSome found (IsNewer self.now done.now)) }
-        ensures none { IfOk result (λ found. found ≡ None → done.now.site ≡ site_in self.now done.now.direction) }
+        ensures none { IfOk result (λ found. found ≡ None → HasSite self.now done.now) }
     {
         let conf = self.sim.state().conf();
         let now = conf.shared_site(self.alloc, done.ends().1)?;
@@ -175,10 +166,10 @@ impl<S: Chosen + Drop, T: PrefixTable<Cell<S>> + Drop, L: Ledger> Room<S, T, L> 
 
     /// Whether another message is at the head of the queue, or none, where version and site are as the job had them.
     fn newer_head(&self, job: &Job<S>) -> Result<Option<Newer>, AllocError>
-        requires version { job.now.version ≡ version_of self.now.history }
-        requires site { job.now.site ≡ site_in self.now job.now.direction }
+        requires version { HasVersion self.now job.now }
+        requires site { HasSite self.now job.now }
         ensures newer { IfOk result (λ found. IfSome found (IsNewer self.now job.now)) }
-        ensures none { IfOk result (λ found. found ≡ None → head_seen job.now ≡ head_in self.now job.now.direction) }
+        ensures none { IfOk result (λ found. found ≡ None → HasHead self.now job.now) }
     {
         let now = self.head_of(job)?;
         if is_same_head(&job.head, &now) {
@@ -197,9 +188,9 @@ impl<S: Chosen + Drop, T: PrefixTable<Cell<S>> + Drop, L: Ledger> Room<S, T, L> 
 
     /// Whether the receiver has received another route from a peer, where all else is as the job had it.
     fn newer_route(&self, job: &Job<S>) -> Result<Option<Newer>, AllocError>
-        requires version { job.now.version ≡ version_of self.now.history }
-        requires site { job.now.site ≡ site_in self.now job.now.direction }
-        requires head { head_seen job.now ≡ head_in self.now job.now.direction }
+        requires version { HasVersion self.now job.now }
+        requires site { HasSite self.now job.now }
+        requires head { HasHead self.now job.now }
         ensures newer { IfOk result (λ found. IfSome found (IsNewer self.now job.now)) }
         ensures none { IfOk result (λ found. found ≡ None → IsSeenIn self.now job.now) }
     {
@@ -238,7 +229,7 @@ impl<S: Chosen + Drop, T: PrefixTable<Cell<S>> + Drop, L: Ledger> Room<S, T, L> 
     }
 
     /// Puts in an outcome that was made from what is in the room.
-    fn deliver(
+    fn install_outcome(
         &mut self,
         seat: &mut Seat<L>,
         job: &Job<S>,
@@ -249,13 +240,10 @@ impl<S: Chosen + Drop, T: PrefixTable<Cell<S>> + Drop, L: Ledger> Room<S, T, L> 
         ensures delivered { IfOk result (λ reply. IsDelivered self.old seat.old (delivery_of job.now) reply self.new seat.new) }
         ensures conf { self.new.engine.conf ≡ self.old.engine.conf }
         ensures back { IfErr result (λ back. back ≡ outcome) }
-        ensures network { OnErr result (network self.new.engine ≡ network self.old.engine) }
-        ensures history { OnErr result (self.new.history ≡ self.old.history) }
-        ensures seats { OnErr result (self.new.seats ≡ self.old.seats) }
-        ensures seat { OnErr result (seat.new ≡ seat.old) }
+        ensures left { OnErr result (IsUnchanged self.old seat.old self.new seat.new) }
     {
         self.engine_facts();
-        if !self.history.makes_room(&mut seat.notes) {
+        if !self.history.makes_space(&mut seat.notes) {
             return Err(outcome);
         }
         let direction = job.direction();

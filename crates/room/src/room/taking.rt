@@ -2,11 +2,10 @@
 
 ghost use Rattle.std.specs.Prelude.{◌≡◌, ◌≢◌, ◌<◌, ◌≤◌, ◌+◌, ◌↔◌, ◌++◌, false, [], None, List, length, max, All, IfOk, IfSome};
 ghost use Rattle.std.specs.Bool.{OnFalse};
-ghost use Rattle.net_prefix.specs.declared.addr.Addr as address;
 ghost use Rattle.session_queue.specs.Shards.{shard_of};
 ghost use Rattle.session_queue.specs.Waiting.{queue_at};
 ghost use Rattle.cell_engine.specs.Engine.{heard_at};
-ghost use Rattle.room.specs.Jobs.{Seen, IsSeenIn, AreApart, cell_of};
+ghost use Rattle.room.specs.Jobs.{Seen, NoneWaits, IsOfShard, IsSeenIn, AreApart, cell_of};
 
 use crate::room::Room;
 use crate::room::job::Job;
@@ -24,7 +23,7 @@ impl<S: Chosen, T: PrefixTable<Cell<S>>, L: Ledger> Room<S, T, L> {
     /// Whether a message waits for a receiver of the shard.
     pub fn has_message(&self, shard: u64, shards: u64) -> bool
         requires { shard < shards }
-        ensures { (result ≡ false) ↔ ((from to : address.Addr) → shard_of to shards ≡ shard → queue_at self.now.engine.queues from to ≡ []) }
+        ensures { (result ≡ false) ↔ NoneWaits self.now shard shards }
     {
         self.sim.state().queues().next_in(shard, shards).is_some()
     }
@@ -36,8 +35,8 @@ impl<S: Selector + Drop, T: PrefixTable<Cell<S>>, L: Ledger> Room<S, T, L> {
     pub fn job(&self, shard: u64, shards: u64) -> Result<Option<Job<S>>, AllocError>
         requires { shard < shards }
         ensures seen { IfOk result (λ found. IfSome found (IsSeenIn self.now)) }
-        ensures shard { IfOk result (λ found. IfSome found (λ job. shard_of job.direction.to shards ≡ shard)) }
-        ensures none { IfOk result (λ found. found ≡ None → (from to : address.Addr) → shard_of to shards ≡ shard → queue_at self.now.engine.queues from to ≡ []) }
+        ensures shard { IfOk result (λ found. IfSome found (IsOfShard shard shards)) }
+        ensures none { IfOk result (λ found. found ≡ None → NoneWaits self.now shard shards) }
     {
         if self.is_quiet() {
             return Ok(None);
@@ -56,10 +55,10 @@ impl<S: Selector + Drop, T: PrefixTable<Cell<S>>, L: Ledger> Room<S, T, L> {
     pub fn jobs(&self, shard: u64, shards: u64, most: usize) -> Result<Jobs<S>, AllocError>
         requires { shard < shards }
         ensures seen { IfOk result (All (IsSeenIn self.now)) }
-        ensures shard { IfOk result (All (λ job. shard_of job.direction.to shards ≡ shard)) }
+        ensures shard { IfOk result (All (IsOfShard shard shards)) }
         ensures apart { IfOk result AreApart }
         ensures most { IfOk result (λ jobs. length jobs ≤ max most 1) }
-        ensures none { IfOk result (λ jobs. jobs ≡ [] → (from to : address.Addr) → shard_of to shards ≡ shard → queue_at self.now.engine.queues from to ≡ []) }
+        ensures none { IfOk result (λ jobs. jobs ≡ [] → NoneWaits self.now shard shards) }
     {
         let jobs = self.job_list(shard, shards, most)?;
         Ok(Jobs::of(jobs))
@@ -69,10 +68,10 @@ impl<S: Selector + Drop, T: PrefixTable<Cell<S>>, L: Ledger> Room<S, T, L> {
     fn job_list(&self, shard: u64, shards: u64, most: usize) -> Result<Vec<Job<S>>, AllocError>
         requires { shard < shards }
         ensures seen { IfOk result (λ jobs. All (IsSeenIn self.now) jobs.items) }
-        ensures shard { IfOk result (λ jobs. All (λ job. shard_of job.direction.to shards ≡ shard) jobs.items) }
+        ensures shard { IfOk result (λ jobs. All (IsOfShard shard shards) jobs.items) }
         ensures apart { IfOk result (λ jobs. AreApart jobs.items) }
         ensures most { IfOk result (λ jobs. length jobs.items ≤ max most 1) }
-        ensures none { IfOk result (λ jobs. jobs.items ≡ [] → (from to : address.Addr) → shard_of to shards ≡ shard → queue_at self.now.engine.queues from to ≡ []) }
+        ensures none { IfOk result (λ jobs. jobs.items ≡ [] → NoneWaits self.now shard shards) }
     {
         let Some(first) = self.job(shard, shards)? else {
             return Ok(Vec::new(self.alloc));
@@ -100,10 +99,10 @@ impl<S: Selector + Drop, T: PrefixTable<Cell<S>>, L: Ledger> Room<S, T, L> {
     )
         requires shard { shard < shards }
         requires seen { All (IsSeenIn self.now) jobs.old.items }
-        requires of_shard { All (λ job. shard_of job.direction.to shards ≡ shard) jobs.old.items }
+        requires of_shard { All (IsOfShard shard shards) jobs.old.items }
         requires apart { AreApart jobs.old.items }
         ensures seen { All (IsSeenIn self.now) jobs.new.items }
-        ensures shard { All (λ job. shard_of job.direction.to shards ≡ shard) jobs.new.items }
+        ensures shard { All (IsOfShard shard shards) jobs.new.items }
         ensures apart { AreApart jobs.new.items }
         ensures most { length jobs.new.items + 1 ≤ length jobs.old.items + max most 1 }
         ensures more { length jobs.old.items ≤ length jobs.new.items }

@@ -5,7 +5,7 @@ use Rattle.net_prefix.specs.declared.addr.Addr.{Addr}
 use Rattle.room.specs.Books.{SeatBook}
 use Rattle.room.specs.Jobs.{Seen, IsSeenIn, AreTakenTogether}
 use Rattle.room.specs.Commits.{AreCommitted}
-use Rattle.room.proofs.Brought.{committed_push, goes_on_all}
+use Rattle.room.proofs.InTurn.{committed_push, goes_on_all}
 use Rattle.room.proofs.Known.{IsKnown, none_known, known_site, site_known}
 use Rattle.room.proofs.room.Room.commit_all.Goals as goal
 
@@ -16,8 +16,8 @@ loop-done-init g c =
     subst AreTakenTogether (sym c.into_iter-done-iterator.ensures.into_iter_gives.0) c.into_vec-done-items.ensures.together in
     (tt, tt, ([], all, (refl, refl)), (together.0, together.1, none_known together.0 c.args.self.now))
 
-pub bring-requires : goal.bring-requires
-bring-requires g c known =
+pub commit_one-requires : goal.commit_one-requires
+commit_one-requires g c known =
     let room = c.loop-done.invariant.3.0 in
     let x = c.in-Some.done in
     let rest = c.next.new.self.rest.items in
@@ -33,17 +33,16 @@ returns-in-Err-clause-broken_off g c =
       others = c.in-Some.done ∷ c.next.new.self.rest.items;
       parts = c.loop-done.invariant.2.1 ∙ ap (λ (w : List Seen). first ++ w) c.in-Some.ensures.steps.0;
       next = c.loop-done.self;
-      committed = subst (λ (s : SeatBook). AreCommitted c.args.self.now c.args.seat.now first c.loop-done.self s) (sym c.in-Err.ensures.seat) c.loop-done.invariant.2.2;
-      network = c.in-Err.ensures.network;
-      history = c.in-Err.ensures.history;
-      seats = c.in-Err.ensures.seats;
+      after = c.loop-done.seat;
+      committed = c.loop-done.invariant.2.2;
+      left = c.in-Err.ensures.left;
     }
 
 pub returns-in-Err-clause-seat : goal.returns-in-Err-clause-seat
 returns-in-Err-clause-seat g c =
     let first = c.loop-done.invariant.2.0 in
-    goes_on_all c.args.self.now c.args.seat.now first c.loop-done.self c.bring.new.seat
-    (subst (λ (s : SeatBook). AreCommitted c.args.self.now c.args.seat.now first c.loop-done.self s) (sym c.in-Err.ensures.seat) c.loop-done.invariant.2.2)
+    goes_on_all c.args.self.now c.args.seat.now first c.loop-done.self c.commit_one.new.seat
+    (subst (λ (s : SeatBook). AreCommitted c.args.self.now c.args.seat.now first c.loop-done.self s) (sym c.in-Err.ensures.left.notes) c.loop-done.invariant.2.2)
 
 pub loop-done-preserved-then-is_same : goal.loop-done-preserved-then-is_same
 loop-done-preserved-then-is_same g c =
@@ -51,7 +50,7 @@ loop-done-preserved-then-is_same g c =
     let first = c.loop-done.invariant.2.0 in
     let x = c.in-Some.done in
     let rest = c.next.new.self.rest.items in
-    let now = c.bring.new.self in
+    let now = c.commit_one.new.self in
     let all : All (IsSeenIn room) (x ∷ rest) = subst (All (IsSeenIn room)) c.in-Some.ensures.steps.0 c.loop-done.invariant.3.1 in
     let known : IsKnown room now (Some x.direction.to) =
     site_known room now x (All-head (IsSeenIn room) x rest all) (c.in-Ok.ensures.site (sym c.is_delivered-is_same.ensures ∙ c.if-is_same.true)) in (
@@ -60,7 +59,7 @@ loop-done-preserved-then-is_same g c =
       (
         first ++ x ∷ [],
         c.loop-done.invariant.2.1 ∙ ap (λ (w : List Seen). first ++ w) c.in-Some.ensures.steps.0 ∙ sym (append_assoc first (x ∷ []) rest),
-        committed_push c.args.self.now c.args.seat.now first x c.loop-done.self c.loop-done.seat c.in-Ok.committed now c.bring.new.seat c.loop-done.invariant.2.2 c.in-Ok.ensures.committed,
+        committed_push c.args.self.now c.args.seat.now first x c.loop-done.self c.loop-done.seat c.in-Ok.committed now c.commit_one.new.seat c.loop-done.invariant.2.2 c.in-Ok.ensures.committed,
       ),
       (room, All-tail (IsSeenIn room) x rest all, subst (λ (e : Addr × Addr). IsKnown room now (Some e.1)) (sym c.ends.ensures) known),
     )
@@ -71,14 +70,14 @@ loop-done-preserved g c =
     let first = c.loop-done.invariant.2.0 in
     let x = c.in-Some.done in
     let rest = c.next.new.self.rest.items in
-    let now = c.bring.new.self in
+    let now = c.commit_one.new.self in
     let all : All (IsSeenIn room) (x ∷ rest) = subst (All (IsSeenIn room)) c.in-Some.ensures.steps.0 c.loop-done.invariant.3.1 in (
       tt,
       tt,
       (
         first ++ x ∷ [],
         c.loop-done.invariant.2.1 ∙ ap (λ (w : List Seen). first ++ w) c.in-Some.ensures.steps.0 ∙ sym (append_assoc first (x ∷ []) rest),
-        committed_push c.args.self.now c.args.seat.now first x c.loop-done.self c.loop-done.seat c.in-Ok.committed now c.bring.new.seat c.loop-done.invariant.2.2 c.in-Ok.ensures.committed,
+        committed_push c.args.self.now c.args.seat.now first x c.loop-done.self c.loop-done.seat c.in-Ok.committed now c.commit_one.new.seat c.loop-done.invariant.2.2 c.in-Ok.ensures.committed,
       ),
       (room, All-tail (IsSeenIn room) x rest all, none_known room now),
     )

@@ -11,7 +11,7 @@ use Rattle.room.specs.Commits.{delivery_of}
 use Rattle.room.proofs.Grown.{version_push, kept_push}
 use Rattle.room.proofs.Known.{conf_after_delivery, conf_still}
 use Rattle.room.proofs.Taken.{seen_allowed, seen_outcome, seen_took}
-use Rattle.room.proofs.room.Room.deliver.Goals as goal
+use Rattle.room.proofs.room.Room.install_outcome.Goals as goal
 
 pub install-requires-clause-allowed : goal.install-requires-clause-allowed
 install-requires-clause-allowed g c =
@@ -40,10 +40,10 @@ invariant_of-self-2 g c =
     let entry : Entry = record { seat = c.seat.inside.number; event = delivery_of x; reply = took } in
     let zero : version_of es ≡ version_of es + 0 = omega arith in
     let now : c.write.new.self.entries ≡ es ++ entry ∷ [] = search rules in
-    let moved : network c.install.new.self.engine ≡ (step (network e) (delivery_of x)).next = search rules in (
+    let next : network c.install.new.self.engine ≡ (step (network e) (delivery_of x)).next = search rules in (
       kept_push es c.write.new.self.entries e c.install.new.self.engine c.self.inside.seats c.self.inside.seats c.seat.inside.number (delivery_of x) took i.0 now
           (sym (seen_took room kept c.engine_facts.ensures.sound x c.requires.seen) ∙ ap (λ n. (step (network n) (delivery_of x)).reply) (sym state))
-          moved,
+          next,
       i.1 ∙ zero ∙ sym (version_push es entry) ∙ ap version_of (sym now),
       c.add.ensures.total ∙ ap (λ k. k + 1) i.2 ∙ sym (ap length now ∙ length-append _ _),
       i.3,

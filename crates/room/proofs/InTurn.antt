@@ -1,4 +1,4 @@
--- Outcomes that came back one after another.
+-- Outcomes that are committed one after another.
 use Rattle.std.proofs.Common.{List, [], ◌∷◌, ◌++◌, refl, subst}
 use Rattle.room.specs.declared.room.commit.Committed.{Committed}
 use Rattle.room.specs.declared.room.commit.Committed.TheVariants.{Delivered, Stale}
