@@ -9,8 +9,8 @@ pub(crate) struct FirstHasher {
 }
 
 impl FirstHasher {
-    /// Under these keys: whoever does not know them cannot choose attributes whose hashes meet. With none, under keys that everybody
-    /// knows: both are 0.
+    /// Under these keys: whoever does not know them cannot choose attributes whose hashes meet. With none, under keys
+    /// that everybody knows: both are 0.
     pub(crate) fn keyed(keys: Option<RandomState>) -> FirstHasher {
         let hasher = match keys {
             Some(keys) => keys.build_hasher(),

@@ -37,8 +37,8 @@ impl Model for Pool {
 }
 
 impl Pool {
-    /// The empty pool. It takes no memory. Nobody who does not know the keys can make it slow by a choice of attributes; with none,
-    /// whoever knows the program can.
+    /// The empty pool. It takes no memory. Nobody who does not know the keys can make it slow by a choice of
+    /// attributes; with none, whoever knows the program can.
     pub fn new(alloc: Global, keys: Option<RandomState>) -> Pool
         ensures { result ≡ [] }
     {
@@ -48,8 +48,8 @@ impl Pool {
         }
     }
 
-    /// The number of these attributes, which are put into the pool where they are new. The error, for new ones alone, is want
-    /// of memory or of numbers: it hands the attributes back, and changes nothing.
+    /// The number of these attributes, which are put into the pool where they are new. The error, for new ones alone,
+    /// is want of memory or of numbers: it hands the attributes back, and changes nothing.
     #[tactic(auto, using(crate::proofs::Numbers::has_of_number, crate::proofs::Numbers::with_present))]
     pub fn intern(&mut self, attr: Attr) -> Result<AttrId, Attr>
         ensures numbered { IfOk result (λ id. slice_get self.new id ≡ Some attr) }

@@ -16,8 +16,8 @@ use Rattle.std.specs.BTreeMap.{is_at, insert_entry}
 use Rattle.std.specs.BTreeSet.{insert_key}
 use Rattle.net_prefix.specs.declared.addr.Addr.{Addr}
 use Rattle.net_prefix.specs.Address.{same_addr, addr_cmp}
-use Rattle.net_prefix.specs.Block.{Block, block_cmp}
-use Rattle.net_prefix.specs.Orders.{addr_exact, block_exact}
+use Rattle.net_prefix.specs.Prefix.{Prefix, prefix_cmp}
+use Rattle.net_prefix.specs.Orders.{addr_exact, prefix_exact}
 use Rattle.route_policy.specs.declared.rule.Rule.{Rule}
 use Rattle.net_conf.specs.declared.tables.Ends.{Ends}
 use Rattle.net_conf.specs.declared.tables.Link.{Link as TheLink}
@@ -268,27 +268,27 @@ placed_before c configured e ok f t is = by (joins e f t) refl (sym (session_edi
 -- ORIGINS
 
 -- the edit makes the router originate the prefix
-abbrev pub adds : Edit → Addr → Block → Bool
+abbrev pub adds : Edit → Addr → Prefix → Bool
 adds (Origin a q) r p = is_at (origination_cmp (record { router = r; prefix = p })) (record { router = a; prefix = q })
 adds _ r p = false
 
 pub origin_exact : CmpEqualImpliesEq origination_cmp
 origin_exact x y is =
-    let origin : Addr × Block → Origination = λ parts. record { router = parts.0; prefix = parts.1 } in
-    ap origin (exact_pairs addr_cmp block_cmp addr_exact block_exact (x.router, x.prefix) (y.router, y.prefix) is)
+    let origin : Addr × Prefix → Origination = λ parts. record { router = parts.0; prefix = parts.1 } in
+    ap origin (exact_pairs addr_cmp prefix_cmp addr_exact prefix_exact (x.router, x.prefix) (y.router, y.prefix) is)
 
 either : (b c : Bool) → (b || c) ≡ true → (b ≡ true) ⊎ (c ≡ true)
 either true c h = inl refl
 either false c h = inr h
 
-abbrev OldOrNew : Configuration → Edit → Addr → Block → Type 0
+abbrev OldOrNew : Configuration → Edit → Addr → Prefix → Type 0
 OldOrNew c e r p = (adds e r p ≡ true) ⊎ (originates c r p ≡ true)
 
-same_origin : (c d : Configuration) (r : Addr) (p : Block) → Leaves c d → originates d r p ≡ true → originates c r p ≡ true
+same_origin : (c d : Configuration) (r : Addr) (p : Prefix) → Leaves c d → originates d r p ≡ true → originates c r p ≡ true
 same_origin c d r p leaves h = ap (list_any (is_at (origination_cmp (record { router = r; prefix = p })))) (sym leaves.origins) ∙ h
 
 -- each origin was there, or is what the edit adds
-pub origin_old_or_new : (c : Configuration) (e : Edit) (r : Addr) (p : Block) → originates (edited c e) r p ≡ true → OldOrNew c e r p
+pub origin_old_or_new : (c : Configuration) (e : Edit) (r : Addr) (p : Prefix) → originates (edited c e) r p ≡ true → OldOrNew c e r p
 origin_old_or_new c (Metric x y m) r p h = inr (same_origin c _ r p (link_leaves c x y _ (link_between c x y)) h)
 origin_old_or_new c (Fail x y) r p h = inr (same_origin c _ r p (link_leaves c x y _ (link_between c x y)) h)
 origin_old_or_new c (Mend x y) r p h = inr (same_origin c _ r p (link_leaves c x y _ (link_between c x y)) h)

@@ -4,11 +4,11 @@ use Rattle.std.proofs.lemmas.List.Elements.{All-weaker}
 use Rattle.net_prefix.specs.declared.addr.Addr.{Addr}
 use Rattle.session_queue.specs.declared.message.Message.{Message}
 use Rattle.session_queue.specs.declared.message.Message.TheVariants.{Update, Withdraw}
-use Rattle.session_queue.specs.Waiting.{WaitingByDirection, IsAdmitted, KeepsAdmitted}
+use Rattle.session_queue.specs.Waiting.{Queues, IsAdmitted, KeepsAdmitted}
 use Rattle.cell_engine.specs.Admitting.{AreAdmitted, AreAllAdmitted}
 use Rattle.cell_engine.specs.CellEdits.{CellEdit, edit_sends}
 
-module _ (q r : WaitingByDirection) (keeps : KeepsAdmitted q r) where
+module _ (q r : Queues) (keeps : KeepsAdmitted q r) where
   still_admitted : (m : Message) → IsAdmitted q m → IsAdmitted r m
   still_admitted (Update p attr) is = keeps attr is
   still_admitted (Withdraw p) is = tt

@@ -11,25 +11,25 @@ use Rattle.std.specs.FinMap as finite
 use Rattle.std.specs.FinMap.Entries as entries
 use Rattle.net_prefix.specs.declared.addr.Addr.{Addr}
 use Rattle.net_prefix.specs.Address.{addr_cmp}
-use Rattle.net_prefix.specs.Block.{Block, block_cmp}
+use Rattle.net_prefix.specs.Prefix.{Prefix, prefix_cmp}
 use Rattle.net_prefix.specs.Orders.{addr_total}
 use Rattle.prefix_table.specs.Tables.{Table}
 use Rattle.net_conf.specs.Configuration.{Configuration}
 use Rattle.net_conf.specs.declared.edit.Scope.{Scope}
 use Rattle.net_conf.specs.declared.edit.Scope.TheVariants.{Network, Site, Route}
 use Rattle.cell_engine.specs.RouterTables.{table_at, value_at}
-use Rattle.cell_engine.specs.Cells.{Heard}
+use Rattle.cell_engine.specs.Cells.{Cell}
 use Rattle.cell_engine.specs.Changes.{Change, Choice, cell_change, router_changes, changes_where}
 use Rattle.cell_engine.specs.Decisions.{cell_cmp}
 use Rattle.cell_engine.proofs.Chunks.{of_T}
 use Rattle.cell_engine.proofs.Refreshed.{less_of}
 
 -- the router and prefix of a change
-abbrev pub cell_of : Change → Addr × Block
+abbrev pub cell_of : Change → Addr × Prefix
 cell_of x = (x.router, x.prefix)
 
 -- all of these come after the cell
-abbrev AreAfter : Addr × Block → List Change → Type 0
+abbrev AreAfter : Addr × Prefix → List Change → Type 0
 AreAfter x ys = AllByRecursion (λ y. cell_cmp x y ≡ Less) (map cell_of ys)
 
 abbrev AreInOrder : List Change → Type 0
@@ -37,11 +37,11 @@ AreInOrder xs = IsStrictlySortedBy cell_cmp (map cell_of xs)
 
 -- LISTS
 
-after_both : (x : Addr × Block) (xs ys : List Change) → AreAfter x xs → AreAfter x ys → AreAfter x (xs ++ ys)
+after_both : (x : Addr × Prefix) (xs ys : List Change) → AreAfter x xs → AreAfter x ys → AreAfter x (xs ++ ys)
 after_both x [] ys all more = more
 after_both x (z ∷ xs) ys all more = (all.0, after_both x xs ys all.1 more)
 
-after_chosen : (f : Change → Bool) (x : Addr × Block) (ys : List Change) → AreAfter x ys → AreAfter x (filter f ys)
+after_chosen : (f : Change → Bool) (x : Addr × Prefix) (ys : List Change) → AreAfter x ys → AreAfter x (filter f ys)
 after_chosen f x [] all = tt
 after_chosen f x (y ∷ ys) all = by (f y) (after_chosen f x ys all.1)
   where
@@ -66,57 +66,57 @@ in_order_both (x ∷ xs) ys sorted more all = (after_both (cell_of x) xs ys sort
 
 -- CELLS
 
-later_prefix : (r : Addr) (p q : Block) → block_cmp p q ≡ Less → cell_cmp (r, p) (r, q) ≡ Less
-later_prefix r p q less = ap (λ o. ordering_then o (block_cmp p q)) (tied_itself addr_total r) ∙ less
+later_prefix : (r : Addr) (p q : Prefix) → prefix_cmp p q ≡ Less → cell_cmp (r, p) (r, q) ≡ Less
+later_prefix r p q less = ap (λ o. ordering_then o (prefix_cmp p q)) (tied_itself addr_total r) ∙ less
 
-later_router : (r s : Addr) (p q : Block) → addr_cmp r s ≡ Less → cell_cmp (r, p) (s, q) ≡ Less
-later_router r s p q less = ap (λ o. ordering_then o (block_cmp p q)) less
+later_router : (r s : Addr) (p q : Prefix) → addr_cmp r s ≡ Less → cell_cmp (r, p) (s, q) ≡ Less
+later_router r s p q less = ap (λ o. ordering_then o (prefix_cmp p q)) less
 
 module _ (holds : Choice) (c d : Configuration) where
   module _ (r : Addr) where
-    after_prefix : (p : Block) (cells : List (Block × Heard)) → entries.below_all block_cmp p cells ≡ true → AreAfter (r, p) (router_changes holds c d r cells)
+    after_prefix : (p : Prefix) (cells : List (Prefix × Cell)) → entries.below_all prefix_cmp p cells ≡ true → AreAfter (r, p) (router_changes holds c d r cells)
     after_prefix p [] below = tt
     after_prefix p (e ∷ es) below =
-        let parts = and_parts (is_lt (block_cmp p e.0)) (entries.below_all block_cmp p es) below in
+        let parts = and_parts (is_lt (prefix_cmp p e.0)) (entries.below_all prefix_cmp p es) below in
         by (holds r e.0 e.1) parts.0 (after_prefix p es parts.1)
       where
-        by : (b : Bool) → is_lt (block_cmp p e.0) ≡ true → AreAfter (r, p) (router_changes holds c d r es) → AreAfter (r, p) (map (λ (x : Block × Heard). cell_change c d r x.0 x.1) (cond b (e ∷ filter (λ x. holds r x.0 x.1) es) (filter (λ x. holds r x.0 x.1) es)))
-        by true less rest = (later_prefix r p e.0 (less_of (block_cmp p e.0) less), rest)
+        by : (b : Bool) → is_lt (prefix_cmp p e.0) ≡ true → AreAfter (r, p) (router_changes holds c d r es) → AreAfter (r, p) (map (λ (x : Prefix × Cell). cell_change c d r x.0 x.1) (cond b (e ∷ filter (λ x. holds r x.0 x.1) es) (filter (λ x. holds r x.0 x.1) es)))
+        by true less rest = (later_prefix r p e.0 (less_of (prefix_cmp p e.0) less), rest)
         by false less rest = rest
 
-    router_in_order : (cells : List (Block × Heard)) → entries.is_sorted block_cmp cells ≡ true → AreInOrder (router_changes holds c d r cells)
+    router_in_order : (cells : List (Prefix × Cell)) → entries.is_sorted prefix_cmp cells ≡ true → AreInOrder (router_changes holds c d r cells)
     unfolding IsStrictlySortedBy
     router_in_order [] sorted = tt
     router_in_order (e ∷ es) sorted =
-        let parts = and_parts (entries.below_all block_cmp e.0 es) (entries.is_sorted block_cmp es) sorted in
+        let parts = and_parts (entries.below_all prefix_cmp e.0 es) (entries.is_sorted prefix_cmp es) sorted in
         by (holds r e.0 e.1) (after_prefix e.0 es parts.0) (router_in_order es parts.1)
       where
-        by : (b : Bool) → AreAfter (r, e.0) (router_changes holds c d r es) → AreInOrder (router_changes holds c d r es) → AreInOrder (map (λ (x : Block × Heard). cell_change c d r x.0 x.1) (cond b (e ∷ filter (λ x. holds r x.0 x.1) es) (filter (λ x. holds r x.0 x.1) es)))
+        by : (b : Bool) → AreAfter (r, e.0) (router_changes holds c d r es) → AreInOrder (router_changes holds c d r es) → AreInOrder (map (λ (x : Prefix × Cell). cell_change c d r x.0 x.1) (cond b (e ∷ filter (λ x. holds r x.0 x.1) es) (filter (λ x. holds r x.0 x.1) es)))
         by true after rest = (after, rest)
         by false after rest = rest
 
     -- all of a router come after the cells of one before it
-    after_router : (s : Addr) (p : Block) (cells : List (Block × Heard)) → addr_cmp s r ≡ Less → AreAfter (s, p) (router_changes holds c d r cells)
+    after_router : (s : Addr) (p : Prefix) (cells : List (Prefix × Cell)) → addr_cmp s r ≡ Less → AreAfter (s, p) (router_changes holds c d r cells)
     after_router s p [] less = tt
     after_router s p (e ∷ es) less = by (holds r e.0 e.1) (after_router s p es less)
       where
-        by : (b : Bool) → AreAfter (s, p) (router_changes holds c d r es) → AreAfter (s, p) (map (λ (x : Block × Heard). cell_change c d r x.0 x.1) (cond b (e ∷ filter (λ x. holds r x.0 x.1) es) (filter (λ x. holds r x.0 x.1) es)))
+        by : (b : Bool) → AreAfter (s, p) (router_changes holds c d r es) → AreAfter (s, p) (map (λ (x : Prefix × Cell). cell_change c d r x.0 x.1) (cond b (e ∷ filter (λ x. holds r x.0 x.1) es) (filter (λ x. holds r x.0 x.1) es)))
         by true rest = (later_router s r p e.0 less, rest)
         by false rest = rest
 
     -- what holds of each cell of a router holds of its changes
-    of_router : (P : Addr × Block → Type 0) → ((p : Block) → P (r, p)) → (cells : List (Block × Heard)) → AllByRecursion (λ x. P (cell_of x)) (router_changes holds c d r cells)
+    of_router : (P : Addr × Prefix → Type 0) → ((p : Prefix) → P (r, p)) → (cells : List (Prefix × Cell)) → AllByRecursion (λ x. P (cell_of x)) (router_changes holds c d r cells)
     of_router P all [] = tt
     of_router P all (e ∷ es) = by (holds r e.0 e.1) (of_router P all es)
       where
-        by : (b : Bool) → AllByRecursion (λ x. P (cell_of x)) (router_changes holds c d r es) → AllByRecursion (λ x. P (cell_of x)) (map (λ (x : Block × Heard). cell_change c d r x.0 x.1) (cond b (e ∷ filter (λ x. holds r x.0 x.1) es) (filter (λ x. holds r x.0 x.1) es)))
+        by : (b : Bool) → AllByRecursion (λ x. P (cell_of x)) (router_changes holds c d r es) → AllByRecursion (λ x. P (cell_of x)) (map (λ (x : Prefix × Cell). cell_change c d r x.0 x.1) (cond b (e ∷ filter (λ x. holds r x.0 x.1) es) (filter (λ x. holds r x.0 x.1) es)))
         by true rest = (all e.0, rest)
         by false rest = rest
 
-  abbrev all_changes : List (Addr × Table Heard) → List Change
+  abbrev all_changes : List (Addr × Table Cell) → List Change
   all_changes ts = flat_map (λ t. router_changes holds c d t.0 (finite.entries t.1)) ts
 
-  after_tables : (r : Addr) (p : Block) (ts : List (Addr × Table Heard)) → entries.below_all addr_cmp r ts ≡ true → AreAfter (r, p) (all_changes ts)
+  after_tables : (r : Addr) (p : Prefix) (ts : List (Addr × Table Cell)) → entries.below_all addr_cmp r ts ≡ true → AreAfter (r, p) (all_changes ts)
   after_tables r p [] below = tt
   after_tables r p (t ∷ ts) below =
       let parts = and_parts (is_lt (addr_cmp r t.0)) (entries.below_all addr_cmp r ts) below in
@@ -124,7 +124,7 @@ module _ (holds : Choice) (c d : Configuration) where
       (after_router t.0 r p (finite.entries t.1) (less_of (addr_cmp r t.0) parts.0))
       (after_tables r p ts parts.1)
 
-  tables_in_order : (ts : List (Addr × Table Heard)) → entries.is_sorted addr_cmp ts ≡ true → AreInOrder (all_changes ts)
+  tables_in_order : (ts : List (Addr × Table Cell)) → entries.is_sorted addr_cmp ts ≡ true → AreInOrder (all_changes ts)
   unfolding IsStrictlySortedBy
   tables_in_order [] sorted = tt
   tables_in_order (t ∷ ts) sorted =
@@ -134,11 +134,11 @@ module _ (holds : Choice) (c d : Configuration) where
       (tables_in_order ts parts.1)
       (of_router t.0 (λ x. AreAfter x (all_changes ts)) (λ p. after_tables t.0 p ts parts.0) (finite.entries t.1))
 
-  pub changes_in_order : (s : Scope) (ts : List (Addr × Table Heard)) → entries.is_sorted addr_cmp ts ≡ true → IsStrictlySortedBy cell_cmp (map cell_of (changes_where holds s c d ts))
+  pub changes_in_order : (s : Scope) (ts : List (Addr × Table Cell)) → entries.is_sorted addr_cmp ts ≡ true → IsStrictlySortedBy cell_cmp (map cell_of (changes_where holds s c d ts))
   changes_in_order Network ts sorted = tables_in_order ts sorted
   changes_in_order (Site a) ts sorted = router_in_order a (finite.entries (table_at a ts)) (of_T _ (finite.entries_sorted (table_at a ts)))
   changes_in_order (Route a p) ts sorted = by (value_at a p ts)
     where
-      by : (o : Option Heard) → AreInOrder (router_changes holds c d a (option_to_list (option_map (λ h. (p, h)) o)))
+      by : (o : Option Cell) → AreInOrder (router_changes holds c d a (option_to_list (option_map (λ h. (p, h)) o)))
       by None = router_in_order a [] refl
       by (Some h) = router_in_order a ((p, h) ∷ []) refl

@@ -9,7 +9,7 @@ use Rattle.std.proofs.lemmas.List.Folds.{list_any_more}
 use Rattle.std.specs.Map.{keys_of}
 use Rattle.net_prefix.specs.declared.addr.Addr.{Addr}
 use Rattle.net_prefix.specs.Address.{same_addr}
-use Rattle.session_queue.specs.Waiting.{WaitingByDirection, queue_at, spare_at, same_direction, KeepsOthers}
+use Rattle.session_queue.specs.Waiting.{Queues, queue_at, spare_at, same_direction, KeepsOthers}
 use Rattle.net_conf.specs.declared.tables.Ends.{Ends}
 use Rattle.net_conf.specs.Configuration.{Configuration, ends_of, ends_cmp, has_session}
 use Rattle.net_conf.specs.Costs.{is_up, down_sessions}
@@ -27,7 +27,7 @@ either_cleared false true q = refl
 either_cleared false false q = refl
 
 -- one direction cleared
-one_cleared : (from to : Addr) (q r : WaitingByDirection) → queue_at r from to ≡ [] → KeepsOthers from to q r → (f t : Addr) → queue_at r f t ≡ (if same_direction from to f t then [] else queue_at q f t)
+one_cleared : (from to : Addr) (q r : Queues) → queue_at r from to ≡ [] → KeepsOthers from to q r → (f t : Addr) → queue_at r f t ≡ (if same_direction from to f t then [] else queue_at q f t)
 one_cleared from to q r none keeps f t = by (same_addr f from) (same_addr t to) refl refl
   where
     by : (first second : Bool) → same_addr f from ≡ first → same_addr t to ≡ second → queue_at r f t ≡ (if same_addr f from && same_addr t to then [] else queue_at q f t)
@@ -35,7 +35,7 @@ one_cleared from to q r none keeps f t = by (same_addr f from) (same_addr t to) 
     by true false is is' = keeps.queue f t (λ i. is i && is' i) ∙ sym (λ i. if is i && is' i then [] else queue_at q f t)
     by false second is is' = keeps.queue f t (λ i. is i && same_addr t to) ∙ sym (λ i. if is i && same_addr t to then [] else queue_at q f t)
 
-one_kept : (from to : Addr) (q r : WaitingByDirection) → spare_at r from to ≡ spare_at q from to → KeepsOthers from to q r → (f t : Addr) → spare_at r f t ≡ spare_at q f t
+one_kept : (from to : Addr) (q r : Queues) → spare_at r from to ≡ spare_at q from to → KeepsOthers from to q r → (f t : Addr) → spare_at r f t ≡ spare_at q f t
 one_kept from to q r same keeps f t = by (same_addr f from) (same_addr t to) refl refl
   where
     by : (first second : Bool) → same_addr f from ≡ first → same_addr t to ≡ second → spare_at r f t ≡ spare_at q f t
@@ -46,7 +46,7 @@ one_kept from to q r same keeps f t = by (same_addr f from) (same_addr t to) ref
     by true false is is' = keeps.spare f t (λ i. is i && is' i)
     by false second is is' = keeps.spare f t (λ i. is i && same_addr t to)
 
-module _ (e : Ends) (q r s : WaitingByDirection) (keeps : KeepsOthers e.low e.high q r) (keeps' : KeepsOthers e.high e.low r s) where
+module _ (e : Ends) (q r s : Queues) (keeps : KeepsOthers e.low e.high q r) (keeps' : KeepsOthers e.high e.low r s) where
   pub both_cleared : queue_at r e.low e.high ≡ [] → queue_at s e.high e.low ≡ [] → (f t : Addr) → queue_at s f t ≡ (if is_of f t e then [] else queue_at q f t)
   both_cleared none none' f t =
       one_cleared e.high e.low r s none' keeps' f t
@@ -57,7 +57,7 @@ module _ (e : Ends) (q r s : WaitingByDirection) (keeps : KeepsOthers e.low e.hi
   both_kept same same' f t = one_kept e.high e.low r s same' keeps' f t ∙ one_kept e.low e.high q r same keeps f t
 
 -- one session more
-pub one_more_cleared : (f t : Addr) (es : List Ends) (i : ℕ) (d : Ends) → i < length es → (q : WaitingByDirection) → (if is_of f t (get_or es i d) then [] else if list_any (is_of f t) (take i es) then [] else queue_at q f t) ≡ (if list_any (is_of f t) (take (i + 1) es) then [] else queue_at q f t)
+pub one_more_cleared : (f t : Addr) (es : List Ends) (i : ℕ) (d : Ends) → i < length es → (q : Queues) → (if is_of f t (get_or es i d) then [] else if list_any (is_of f t) (take i es) then [] else queue_at q f t) ≡ (if list_any (is_of f t) (take (i + 1) es) then [] else queue_at q f t)
 one_more_cleared f t es i d lt q =
     either_cleared (list_any (is_of f t) (take i es)) (is_of f t (get_or es i d)) (queue_at q f t)
     ∙ ap (λ b. if b then [] else queue_at q f t) (sym (list_any_more (is_of f t) es i d lt))

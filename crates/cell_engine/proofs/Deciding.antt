@@ -7,10 +7,10 @@ use Rattle.std.specs.List.{AllZip}
 use Rattle.std.specs.declared.vec.Vec.{Vec}
 use Rattle.std.specs.FinMap as finite
 use Rattle.net_prefix.specs.declared.addr.Addr.{Addr}
-use Rattle.net_prefix.specs.Block.{Block}
+use Rattle.net_prefix.specs.Prefix.{Prefix}
 use Rattle.prefix_table.specs.Tables.{Table}
 use Rattle.cell_engine.specs.RouterTables.{table_at}
-use Rattle.cell_engine.specs.Cells.{Heard}
+use Rattle.cell_engine.specs.Cells.{Cell}
 use Rattle.cell_engine.specs.Changes.{router_changes}
 use Rattle.cell_engine.specs.Moves.{moves}
 use Rattle.cell_engine.specs.Becomings.{Becoming, can_change, change_at, moved_cells, all_moved, becoming_changes, all_changes}
@@ -40,14 +40,14 @@ mapped_twice f g [] = refl
 mapped_twice f g (x ∷ xs) = ap (λ l. f (g x) ∷ l) (mapped_twice f g xs)
 
 -- what becomes of those that can change
-pub decided_cells : (b : Becoming) (cells : List (Block × Heard)) → map change_at (moved_cells b cells) ≡ router_changes (moves b.before b.after) b.before b.after b.address cells
-decided_cells b cells = mapped_twice change_at (λ e. record { becoming = b; prefix = e.0; heard = e.1 }) (filter (λ e. can_change b e.0 e.1) cells)
+pub decided_cells : (b : Becoming) (cells : List (Prefix × Cell)) → map change_at (moved_cells b cells) ≡ router_changes (moves b.before b.after) b.before b.after b.address cells
+decided_cells b cells = mapped_twice change_at (λ e. record { becoming = b; prefix = e.0; cell = e.1 }) (filter (λ e. can_change b e.0 e.1) cells)
 
 -- wherever the edit is seen
-pub decided_all : (ts : List (Addr × Table Heard)) (bs : List Becoming) → map change_at (all_moved bs ts) ≡ all_changes bs ts
+pub decided_all : (ts : List (Addr × Table Cell)) (bs : List Becoming) → map change_at (all_moved bs ts) ≡ all_changes bs ts
 decided_all ts [] = refl
 decided_all ts (b ∷ bs) =
-    let cells : List (Block × Heard) = finite.entries (table_at b.address ts) in
+    let cells : List (Prefix × Cell) = finite.entries (table_at b.address ts) in
     map-append change_at (moved_cells b cells) (all_moved bs ts)
     ∙ ap (λ l. l ++ map change_at (all_moved bs ts)) (decided_cells b cells)
     ∙ ap (λ l. becoming_changes ts b ++ l) (decided_all ts bs)

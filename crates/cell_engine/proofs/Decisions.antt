@@ -4,7 +4,7 @@ use Rattle.std.proofs.lemmas.Option.{none-some}
 use Rattle.std.specs.Option.{option_map_or, option_or}
 use Rattle.std.specs.FinMap as finite
 use Rattle.net_prefix.specs.declared.addr.Addr.{Addr}
-use Rattle.net_prefix.specs.Block.{Block}
+use Rattle.net_prefix.specs.Prefix.{Prefix}
 use Rattle.path_attr.specs.declared.attr.Attr.{Attr}
 use Rattle.net_conf.specs.Configuration.{Configuration, node_at}
 use Rattle.net_conf.specs.RouterSites.{router_site}
@@ -18,12 +18,12 @@ use Rattle.route_select.specs.declared.candidate.Source.TheVariants.{Own, Peer a
 use Rattle.route_select.specs.declared.candidate.Standing.{Standing}
 use Rattle.route_select.specs.declared.candidate.Standing.TheVariants.{Considered}
 use Rattle.reference_machine.specs.Decision.{own_candidate, is_originated, added, standings, peer_standing}
-use Rattle.cell_engine.specs.Cells.{Heard, route_of, standings_of, decided}
+use Rattle.cell_engine.specs.Cells.{Cell, route_of, standings_of, decided}
 use Rattle.route_select.proofs.EntryLemmas.{source_total}
 use Rattle.cell_engine.proofs.StandingsAfter.{ArePeersInOrder, stood, stood_or, own_stands, peer_stands}
-use Rattle.cell_engine.specs.Engine.{Engine, IsSound, heard_at, all_entries, network}
+use Rattle.cell_engine.specs.State.{State, IsConsistent, cell_at, all_entries, network}
 use Rattle.cell_engine.specs.Decisions.{standings_at}
-use Rattle.cell_engine.proofs.Decided.{site_at, heard_decided, standings_heard}
+use Rattle.cell_engine.proofs.Decided.{site_at, cell_decided, standings_at_cell}
 use Rattle.cell_engine.proofs.Sites.{site_of_router}
 
 -- HOW ROUTES STAND
@@ -37,23 +37,23 @@ unfolding site_of
 me_in c r site at = me_by c r site (node_at c r) (site_of_router c r site at)
 
 -- in the network routes stand as in the cell
-pub standings_in_cell : (e : Engine) → IsSound e → (r : Addr) (p : Block) → standings_at (network e) r p ≡ (heard_at r p e.tables).standings
+pub standings_in_cell : (e : State) → IsConsistent e → (r : Addr) (p : Prefix) → standings_at (network e) r p ≡ (cell_at r p e.tables).standings
 unfolding network
 standings_in_cell e sound r p = by (router_site e.conf r) refl
   where
-    by : (o : Option SiteConf) → router_site e.conf r ≡ o → option_map_or (λ site. standings site p (all_entries e.tables)) (router_site e.conf r) finite.empty ≡ (heard_at r p e.tables).standings
+    by : (o : Option SiteConf) → router_site e.conf r ≡ o → option_map_or (λ site. standings site p (all_entries e.tables)) (router_site e.conf r) finite.empty ≡ (cell_at r p e.tables).standings
     by None at =
         ap (λ o. option_map_or (λ site. standings site p (all_entries e.tables)) o finite.empty) at
-        ∙ sym (ap (λ (h : Heard). h.standings) (heard_decided e sound r p ∙ ap (λ o. decided o p (heard_at r p e.tables).received) at))
+        ∙ sym (ap (λ (h : Cell). h.standings) (cell_decided e sound r p ∙ ap (λ o. decided o p (cell_at r p e.tables).received) at))
     by (Some site) at =
         ap (λ o. option_map_or (λ site. standings site p (all_entries e.tables)) o finite.empty) at
-        ∙ standings_heard site p e.tables sound.by_address
-        ∙ ap (λ x. standings_of site p (heard_at x p e.tables).received) (me_in e.conf r site at)
-        ∙ sym (ap (λ (h : Heard). h.standings) (heard_decided e sound r p ∙ ap (λ o. decided o p (heard_at r p e.tables).received) at))
+        ∙ standings_at_cell site p e.tables sound.by_address
+        ∙ ap (λ x. standings_of site p (cell_at x p e.tables).received) (me_in e.conf r site at)
+        ∙ sym (ap (λ (h : Cell). h.standings) (cell_decided e sound r p ∙ ap (λ o. decided o p (cell_at r p e.tables).received) at))
 
 -- STANDINGS OF A SITE
 
-module _ (site : SiteConf) (p : Block) (routes : List (Addr × Attr)) where
+module _ (site : SiteConf) (p : Prefix) (routes : List (Addr × Attr)) where
   own_by : (own : Bool) → is_originated site p ≡ own → finite.get (standings_of site p routes) Own ≡ cond own (Some (Considered (own_candidate site.me))) None
   own_by true is =
       own_stands site p routes

@@ -6,11 +6,11 @@ use Rattle.std.proofs.lemmas.Option.{none-some}
 use Rattle.std.specs.Option.{option_to_list}
 use Rattle.net_prefix.specs.declared.addr.Addr.{Addr}
 use Rattle.net_prefix.specs.Address.{same_addr}
-use Rattle.net_prefix.specs.Block.{Block, same_block}
+use Rattle.net_prefix.specs.Prefix.{Prefix, same_prefix}
 use Rattle.session_queue.specs.declared.direction.Direction.{Direction}
 use Rattle.session_queue.specs.declared.message.Message.{Message}
 use Rattle.session_queue.specs.Telling.{prefix_of}
-use Rattle.session_queue.specs.Waiting.{WaitingByDirection, queue_at, same_direction, KeepsOthers}
+use Rattle.session_queue.specs.Waiting.{Queues, queue_at, same_direction, KeepsOthers}
 use Rattle.net_conf.specs.Configuration.{Configuration, node_at, has_node, is_virtual, has_session, session_between}
 use Rattle.net_conf.specs.Configured.{IsConfigured}
 use Rattle.net_conf.specs.Costs.{is_connected, session_up, is_up}
@@ -24,28 +24,28 @@ use Rattle.reference_machine.specs.Decision.{best}
 use Rattle.reference_machine.specs.Advertising.{advert_of, sends, changes, sent, advertised, change_of}
 use Rattle.reference_machine.specs.Machine.{taken, head_step, with_sent}
 use Rattle.cell_engine.specs.RouterTables.{with_value}
-use Rattle.cell_engine.specs.Cells.{Heard, Outcome, with_news, decided, is_up_in, delivered, stored}
-use Rattle.cell_engine.specs.Engine.{Engine, IsSound, heard_at, network}
+use Rattle.cell_engine.specs.Cells.{Cell, Outcome, with_news, decided, is_up_in, delivered, stored}
+use Rattle.cell_engine.specs.State.{State, IsConsistent, cell_at, network}
 use Rattle.cell_engine.specs.Keeping.{kept_from}
 use Rattle.cell_engine.specs.Changes.{AreOverSessionsUp}
 use Rattle.cell_engine.specs.Sending.{told, told_from}
-use Rattle.cell_engine.proofs.Decided.{best_heard}
+use Rattle.cell_engine.proofs.Decided.{best_in_cell}
 use Rattle.cell_engine.proofs.Offers.{best_stays, sent_by_one, same_addr_true, nothing_if}
 use Rattle.cell_engine.proofs.Queues.{network_popped, network_sent, messages_on_session}
 use Rattle.cell_engine.proofs.OverSessions.{up_with_cell, delivered_kept, stored_kept}
 use Rattle.cell_engine.proofs.Sites.{up_in_site, site_of_router}
-use Rattle.cell_engine.proofs.Taken.{cell_after, after_news, heard_here, route_elsewhere, sound_after_news, network_after_news}
+use Rattle.cell_engine.proofs.Taken.{cell_after, after_news, cell_here, route_elsewhere, sound_after_news, network_after_news}
 use Rattle.cell_engine.proofs.Told.{told_one, delivered_is_sent}
 use Rattle.cell_engine.specs.Deliveries.{outcome_by, outcome_at, IsOfHead}
 
 -- QUEUES OF SOUND ENGINES
 
 -- where there is no session no message is on its way
-abbrev pub IsSilent : Engine → WaitingByDirection → Type 0
+abbrev pub IsSilent : State → Queues → Type 0
 IsSilent e q = (from to : Addr) → has_session e.conf from to ≡ false → queue_at q from to ≡ []
 
 -- other queues leave an engine sound
-pub sound_with_queues : (e : Engine) (q : WaitingByDirection) → IsSound e → IsSilent e q → IsSound (record e { queues = q })
+pub sound_with_queues : (e : State) (q : Queues) → IsConsistent e → IsSilent e q → IsConsistent (record e { queues = q })
 sound_with_queues e q sound silent = record {
   by_address = sound.by_address;
   cells = sound.cells;
@@ -58,10 +58,10 @@ sound_with_queues e q sound silent = record {
 -- THE OUTCOME
 
 -- its cell is decided by the receiver's site
-pub outcome_heard : (site : Option SiteConf) (h : Heard) (u : Addr) (m : Message) → (outcome_by site h u m).heard ≡ decided site (prefix_of m) (with_news u m h.received)
+pub outcome_cell : (site : Option SiteConf) (h : Cell) (u : Addr) (m : Message) → (outcome_by site h u m).cell ≡ decided site (prefix_of m) (with_news u m h.received)
 unfolding delivered stored
-outcome_heard None h u m = refl
-outcome_heard (Some site) h u m = refl
+outcome_cell None h u m = refl
+outcome_cell (Some site) h u m = refl
 
 -- WHO SENDS NOTHING
 
@@ -124,7 +124,7 @@ one_if : {A : Type 0} (b : Bool) (o : Option A) → length (if b then option_to_
 one_if true o = at_most_one o
 one_if false o = omega arith
 
-told_at_most_one : (c : Configuration) (r : Addr) → IsConfigured c → (x : Option SiteConf) → router_site c r ≡ x → (h : Heard) (u : Addr) (m : Message) (t : Addr) → length (told t (outcome_by x h u m).sends) ≤ 1
+told_at_most_one : (c : Configuration) (r : Addr) → IsConfigured c → (x : Option SiteConf) → router_site c r ≡ x → (h : Cell) (u : Addr) (m : Message) (t : Addr) → length (told t (outcome_by x h u m).sends) ≤ 1
 unfolding delivered stored
 told_at_most_one c r configured None at h u m t = omega arith
 told_at_most_one c r configured (Some site) at h u m t =
@@ -135,28 +135,28 @@ told_at_most_one c r configured (Some site) at h u m t =
     (one_if (is_up_in site t) (change_of p (advert_of (is_up_in site t) (Some site) t p had) (advert_of true (Some site) t p has)))
 
 -- no peer is told more than one message by an outcome
-pub outcome_tells_one : (e : Engine) → IsConfigured e.conf → (d : Direction) (m : Message) (t : Addr) → length (told t (outcome_at e d m).sends) ≤ 1
-outcome_tells_one e configured d m t = told_at_most_one e.conf d.to configured (router_site e.conf d.to) refl (heard_at d.to (prefix_of m) e.tables) d.from m t
+pub outcome_tells_one : (e : State) → IsConfigured e.conf → (d : Direction) (m : Message) (t : Addr) → length (told t (outcome_at e d m).sends) ≤ 1
+outcome_tells_one e configured d m t = told_at_most_one e.conf d.to configured (router_site e.conf d.to) refl (cell_at d.to (prefix_of m) e.tables) d.from m t
 
 -- THE DELIVERY
 
-module _ (e : Engine) (sound : IsSound e) (configured : IsConfigured e.conf) (d : Direction) (m : Message) (o : Outcome) (is : o ≡ outcome_at e d m) where
-  abbrev heard : Heard
-  heard = heard_at d.to (prefix_of m) e.tables
+module _ (e : State) (sound : IsConsistent e) (configured : IsConfigured e.conf) (d : Direction) (m : Message) (o : Outcome) (is : o ≡ outcome_at e d m) where
+  abbrev cell : Cell
+  cell = cell_at d.to (prefix_of m) e.tables
 
-  heard_is : o.heard ≡ cell_after e d m
-  heard_is = ap (λ x. x.heard) is ∙ outcome_heard (router_site e.conf d.to) heard d.from m
+  cell_is : o.cell ≡ cell_after e d m
+  cell_is = ap (λ x. x.cell) is ∙ outcome_cell (router_site e.conf d.to) cell d.from m
 
   -- before anything is sent
-  module _ (q : WaitingByDirection) (silent : IsSilent e q) where
-    abbrev before_sends : Engine
+  module _ (q : Queues) (silent : IsSilent e q) where
+    abbrev before_sends : State
     before_sends = record (after_news e d m) { queues = q }
 
-    sound_before : IsSound before_sends
+    sound_before : IsConsistent before_sends
     sound_before = sound_with_queues (after_news e d m) q (sound_after_news e sound d m) silent
 
     -- no other choice is another
-    others_stay : (f : Addr) (x : Block) → (same_addr f d.to && same_block x (prefix_of m)) ≡ false → best (network before_sends) f x ≡ best (network e) f x
+    others_stay : (f : Addr) (x : Prefix) → (same_addr f d.to && same_prefix x (prefix_of m)) ≡ false → best (network before_sends) f x ≡ best (network e) f x
     unfolding network
     others_stay f x other = best_stays (network e) (network before_sends) refl f x (λ u. route_elsewhere d.to (prefix_of m) (cell_after e d m) e.tables f x other sound.by_address u)
 
@@ -164,7 +164,7 @@ module _ (e : Engine) (sound : IsSound e) (configured : IsConfigured e.conf) (d 
     no_sends_by f t true at none = ap (λ r. sends e.conf r t) (same_addr_true f d.to at) ∙ sends_without_site e.conf d.to t none
     no_sends_by f t false at none = refl
 
-    told_by : (x : Option SiteConf) → router_site e.conf d.to ≡ x → (f t : Addr) → told_from d.to (outcome_by x heard d.from m).sends f t ≡ sent (network e) (network before_sends) f t
+    told_by : (x : Option SiteConf) → router_site e.conf d.to ≡ x → (f t : Addr) → told_from d.to (outcome_by x cell d.from m).sends f t ≡ sent (network e) (network before_sends) f t
     unfolding network delivered stored
     told_by None at f t =
         nothing_if (same_addr f d.to)
@@ -173,21 +173,21 @@ module _ (e : Engine) (sound : IsSound e) (configured : IsConfigured e.conf) (d 
     told_by (Some site) at f t =
         let here = site_of_router e.conf d.to site at in
         let router = router_if_site e.conf d.to site at in
-        let routes = with_news d.from m heard.received in
+        let routes = with_news d.from m cell.received in
         let has : best (network before_sends) d.to (prefix_of m) ≡ best_of (decided (Some site) (prefix_of m) routes).standings =
-        best_heard before_sends sound_before d.to (prefix_of m) router
-        ∙ ap (λ (h : Heard). best_of h.standings) (heard_here d.to (prefix_of m) (cell_after e d m) e.tables)
+        best_in_cell before_sends sound_before d.to (prefix_of m) router
+        ∙ ap (λ (h : Cell). best_of h.standings) (cell_here d.to (prefix_of m) (cell_after e d m) e.tables)
         ∙ ap (λ x. best_of (decided x (prefix_of m) routes).standings) at in
         delivered_is_sent (network e) (network before_sends) refl d.to (prefix_of m) others_stay site here
         (site_sessions_in_order e.conf d.to site configured here) router (up_in_site e.conf d.to site here)
-        (best_of heard.standings) (best_of (decided (Some site) (prefix_of m) routes).standings)
-        (best_heard e sound d.to (prefix_of m) router) has f t
+        (best_of cell.standings) (best_of (decided (Some site) (prefix_of m) routes).standings)
+        (best_in_cell e sound d.to (prefix_of m) router) has f t
 
     -- the outcome's messages are those that the machine sends
     told_is_sent : (f t : Addr) → told_from d.to o.sends f t ≡ sent (network e) (network before_sends) f t
     told_is_sent f t = ap (λ x. told_from d.to x.sends f t) is ∙ told_by (router_site e.conf d.to) refl f t
 
-  module _ (q r : WaitingByDirection) (popped : queue_at q d.from d.to ≡ drop 1 (queue_at e.queues d.from d.to)) (others : KeepsOthers d.from d.to e.queues q) (pushed : (f t : Addr) → queue_at r f t ≡ queue_at q f t ++ told_from d.to o.sends f t) where
+  module _ (q r : Queues) (popped : queue_at q d.from d.to ≡ drop 1 (queue_at e.queues d.from d.to)) (others : KeepsOthers d.from d.to e.queues q) (pushed : (f t : Addr) → queue_at r f t ≡ queue_at q f t ++ told_from d.to o.sends f t) where
     silent_by : (f t : Addr) (here : Bool) → same_direction d.from d.to f t ≡ here → has_session e.conf f t ≡ false → queue_at q f t ≡ []
     silent_by f t true at none =
         let parts = and_parts (same_addr f d.from) (same_addr t d.to) at in
@@ -211,43 +211,43 @@ module _ (e : Engine) (sound : IsSound e) (configured : IsConfigured e.conf) (d 
     taken_is = network_popped (after_news e d m) q d popped others ∙ ap (λ (n : Network). record n { queues = without_head d n.queues }) (network_after_news e sound d m)
 
     -- the engine with the cell put in, the head taken and the outcome's messages sent
-    abbrev delivered_to : Engine
-    delivered_to = record e { tables = with_value d.to (prefix_of m) o.heard e.tables; queues = r }
+    abbrev delivered_to : State
+    delivered_to = record e { tables = with_value d.to (prefix_of m) o.cell e.tables; queues = r }
 
-    pub delivered_sound : IsSound delivered_to
+    pub delivered_sound : IsConsistent delivered_to
     delivered_sound =
-        subst (λ h. IsSound (record e { tables = with_value d.to (prefix_of m) h e.tables; queues = r })) (sym heard_is)
+        subst (λ h. IsConsistent (record e { tables = with_value d.to (prefix_of m) h e.tables; queues = r })) (sym cell_is)
         (sound_with_queues (after_news e d m) r (sound_after_news e sound d m) silent_pushed)
 
     -- has the machine's own next state as its network
     pub delivered_next : (rest : List Message) → has_session e.conf d.from d.to ≡ true → queue_at e.queues d.from d.to ≡ m ∷ rest → network delivered_to ≡ (head_step (network e) d (messages_in (network e).queues d)).next
     delivered_next rest session waits =
-        ap (λ h. network (record e { tables = with_value d.to (prefix_of m) h e.tables; queues = r })) heard_is
+        ap (λ h. network (record e { tables = with_value d.to (prefix_of m) h e.tables; queues = r })) cell_is
         ∙ network_sent (network e) (before_sends q silent_popped) r (λ f t. pushed f t ∙ ap (λ l. queue_at q f t ++ l) (told_is_sent q silent_popped f t))
         ∙ ap (with_sent (network e)) taken_is
         ∙ sym (ap (λ ms. (head_step (network e) d ms).next) (messages_on_session e sound d session ∙ ap Some waits))
 
 -- the same of the head's outcome
-module _ (e : Engine) (sound : IsSound e) (configured : IsConfigured e.conf) (d : Direction) (p : Block) (o : Outcome) (head : IsOfHead e d p o) (q r : WaitingByDirection) (popped : queue_at q d.from d.to ≡ drop 1 (queue_at e.queues d.from d.to)) (others : KeepsOthers d.from d.to e.queues q) (pushed : (f t : Addr) → queue_at r f t ≡ queue_at q f t ++ told_from d.to o.sends f t) where
-  pub sound_after_head : IsSound (record e { tables = with_value d.to p o.heard e.tables; queues = r })
+module _ (e : State) (sound : IsConsistent e) (configured : IsConfigured e.conf) (d : Direction) (p : Prefix) (o : Outcome) (head : IsOfHead e d p o) (q r : Queues) (popped : queue_at q d.from d.to ≡ drop 1 (queue_at e.queues d.from d.to)) (others : KeepsOthers d.from d.to e.queues q) (pushed : (f t : Addr) → queue_at r f t ≡ queue_at q f t ++ told_from d.to o.sends f t) where
+  pub sound_after_head : IsConsistent (record e { tables = with_value d.to p o.cell e.tables; queues = r })
   sound_after_head =
-      subst (λ x. IsSound (record e { tables = with_value d.to x o.heard e.tables; queues = r })) (sym head.prefix)
+      subst (λ x. IsConsistent (record e { tables = with_value d.to x o.cell e.tables; queues = r })) (sym head.prefix)
       (delivered_sound e sound configured d head.message o head.outcome q r popped others pushed)
 
-  pub next_after_head : has_session e.conf d.from d.to ≡ true → network (record e { tables = with_value d.to p o.heard e.tables; queues = r }) ≡ (head_step (network e) d (messages_in (network e).queues d)).next
+  pub next_after_head : has_session e.conf d.from d.to ≡ true → network (record e { tables = with_value d.to p o.cell e.tables; queues = r }) ≡ (head_step (network e) d (messages_in (network e).queues d)).next
   next_after_head session =
-      ap (λ x. network (record e { tables = with_value d.to x o.heard e.tables; queues = r })) head.prefix
+      ap (λ x. network (record e { tables = with_value d.to x o.cell e.tables; queues = r })) head.prefix
       ∙ delivered_next e sound configured d head.message o head.outcome q r popped others pushed head.rest session head.waits
 
   -- all routes come over sessions that are up still
-  pub ups_after_head : is_up e.conf d.from d.to ≡ true → AreOverSessionsUp e.conf e.tables → AreOverSessionsUp e.conf (with_value d.to p o.heard e.tables)
+  pub ups_after_head : is_up e.conf d.from d.to ≡ true → AreOverSessionsUp e.conf e.tables → AreOverSessionsUp e.conf (with_value d.to p o.cell e.tables)
   ups_after_head on up =
       let m = head.message in
-      let h = heard_at d.to (prefix_of m) e.tables in
-      let kept : (x : Option SiteConf) → kept_from e.conf d.to (outcome_by x h d.from m).heard.received ≡ (outcome_by x h d.from m).heard.received =
+      let h = cell_at d.to (prefix_of m) e.tables in
+      let kept : (x : Option SiteConf) → kept_from e.conf d.to (outcome_by x h d.from m).cell.received ≡ (outcome_by x h d.from m).cell.received =
       λ x. kept_by x h (up d.to (prefix_of m)) in
-      up_with_cell e.conf e.tables d.to p o.heard up (subst (λ (y : Outcome). kept_from e.conf d.to y.heard.received ≡ y.heard.received) (sym head.outcome) (kept (router_site e.conf d.to)))
+      up_with_cell e.conf e.tables d.to p o.cell up (subst (λ (y : Outcome). kept_from e.conf d.to y.cell.received ≡ y.cell.received) (sym head.outcome) (kept (router_site e.conf d.to)))
     where
-      kept_by : (x : Option SiteConf) (h : Heard) → kept_from e.conf d.to h.received ≡ h.received → kept_from e.conf d.to (outcome_by x h d.from head.message).heard.received ≡ (outcome_by x h d.from head.message).heard.received
+      kept_by : (x : Option SiteConf) (h : Cell) → kept_from e.conf d.to h.received ≡ h.received → kept_from e.conf d.to (outcome_by x h d.from head.message).cell.received ≡ (outcome_by x h d.from head.message).cell.received
       kept_by None h is = stored_kept e.conf d.to d.from h head.message on is
       kept_by (Some site) h is = delivered_kept e.conf d.to d.from site h head.message on is

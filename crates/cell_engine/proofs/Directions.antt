@@ -14,7 +14,7 @@ use Rattle.net_prefix.specs.Address.{same_addr, addr_cmp}
 use Rattle.net_prefix.specs.Orders.{addr_exact}
 use Rattle.session_queue.specs.declared.message.Message.{Message}
 use Rattle.session_queue.specs.declared.direction.Direction.{Direction}
-use Rattle.session_queue.specs.Waiting.{WaitingByDirection, direction_cmp, queue_at}
+use Rattle.session_queue.specs.Waiting.{Queues, direction_cmp, queue_at}
 use Rattle.session_queue.proofs.Places.{direction_total}
 use Rattle.net_conf.specs.Configuration.{Configuration, session_between, has_session}
 use Rattle.net_conf.specs.Costs.{session_up, is_connected, is_up}
@@ -24,7 +24,7 @@ use Rattle.net_conf.specs.declared.edit.Edit.TheVariants.{Join}
 use Rattle.reference_machine.specs.declared.rows.Queue.{Queue}
 use Rattle.reference_machine.specs.Network.{with_direction, with_more}
 use Rattle.reference_machine.specs.Machine.{with_queues, emptied}
-use Rattle.cell_engine.specs.Engine.{queue_of, is_direction}
+use Rattle.cell_engine.specs.State.{queue_of, is_direction}
 use Rattle.cell_engine.specs.Editing.{with_directions, left_at}
 use Rattle.cell_engine.proofs.Picks.{sorted_inserted}
 use Rattle.cell_engine.proofs.AcceptedEdits.{Passes, joins, session_either, session_edited, same_pair, any_inserted}
@@ -66,7 +66,7 @@ joined_in_order e ds sorted = sorted
 
 -- A QUEUE FOR A NEW DIRECTION
 
-module _ (q : WaitingByDirection) (d : Direction) where
+module _ (q : Queues) (d : Direction) where
   abbrev before : List Direction → List Queue
   before ds = filter (λ x. is_gt (direction_cmp d x.of)) (map (queue_of q) ds)
 
@@ -113,7 +113,7 @@ module _ (q : WaitingByDirection) (d : Direction) where
 swapped_apart : (a b : Addr) → (a.0 == b.0) ≡ false → is_direction (direction a b) (direction b a) ≡ false
 swapped_apart a b two = ap (λ x. x && same_addr b a) two
 
-module _ (c : Configuration) (q : WaitingByDirection) (ds : List Direction) (sorted : IsStrictlySortedBy direction_cmp ds) (are : (d : Direction) → list_any (is_direction d) ds ≡ has_session c d.from d.to) (silent : (f t : Addr) → has_session c f t ≡ false → queue_at q f t ≡ []) where
+module _ (c : Configuration) (q : Queues) (ds : List Direction) (sorted : IsStrictlySortedBy direction_cmp ds) (are : (d : Direction) → list_any (is_direction d) ds ≡ has_session c d.from d.to) (silent : (f t : Addr) → has_session c f t ≡ false → queue_at q f t ≡ []) where
   -- the queues of a new session come to their places
   pub queues_joined : (e : Edit) → Passes c e → with_queues e (map (queue_of q) ds) ≡ map (queue_of q) (with_directions e ds)
   queues_joined (Join a b) ok =
@@ -138,15 +138,15 @@ session_if_up c a b up = some_if_up (session_between c a b) (λ enabled. enabled
 pub down_without_session : (c : Configuration) (a b : Addr) → has_session c a b ≡ false → is_up c a b ≡ false
 down_without_session c a b alone = false_from_ne_true (is_up c a b) (λ up. true≢false (sym (session_if_up c a b up) ∙ alone))
 
-pub none_left : (c : Configuration) (q : WaitingByDirection) (f t : Addr) → has_session c f t ≡ false → left_at c q f t ≡ []
+pub none_left : (c : Configuration) (q : Queues) (f t : Addr) → has_session c f t ≡ false → left_at c q f t ≡ []
 none_left c q f t alone = ap (λ b. if b then queue_at q f t else []) (down_without_session c f t alone)
 
-module _ (c : Configuration) (q : WaitingByDirection) where
+module _ (c : Configuration) (q : Queues) where
   left_by : (x : Direction) (up : Bool) → ◌≡◌ {A = Queue} (record { of = x; messages = if up then queue_at q x.from x.to else [] }) (if up then queue_of q x else record { of = x; messages = [] })
   left_by x true = refl
   left_by x false = refl
 
-  pub queues_left : (r : WaitingByDirection) → ((f t : Addr) → queue_at r f t ≡ left_at c q f t) → (ds : List Direction) → map (queue_of r) ds ≡ map (emptied c) (map (queue_of q) ds)
+  pub queues_left : (r : Queues) → ((f t : Addr) → queue_at r f t ≡ left_at c q f t) → (ds : List Direction) → map (queue_of r) ds ≡ map (emptied c) (map (queue_of q) ds)
   queues_left r is [] = refl
   queues_left r is (x ∷ xs) =
       let here : ◌≡◌ {A = Queue} (queue_of r x) (record { of = x; messages = left_at c q x.from x.to }) = λ i. record { of = x; messages = is x.from x.to i } in
@@ -158,7 +158,7 @@ module _ (c : Configuration) (q : WaitingByDirection) where
     more_by x false = refl
 
     -- and what comes to the ends
-    pub queues_left_and_more : (r : WaitingByDirection) → ((f t : Addr) → queue_at r f t ≡ left_at c q f t ++ more f t) → (ds : List Direction) → map (queue_of r) ds ≡ map (λ y. with_more y (more y.of.from y.of.to)) (map (emptied c) (map (queue_of q) ds))
+    pub queues_left_and_more : (r : Queues) → ((f t : Addr) → queue_at r f t ≡ left_at c q f t ++ more f t) → (ds : List Direction) → map (queue_of r) ds ≡ map (λ y. with_more y (more y.of.from y.of.to)) (map (emptied c) (map (queue_of q) ds))
     queues_left_and_more r is [] = refl
     queues_left_and_more r is (x ∷ xs) =
         let here : ◌≡◌ {A = Queue} (queue_of r x) (record { of = x; messages = left_at c q x.from x.to ++ more x.from x.to }) = λ i. record { of = x; messages = is x.from x.to i } in

@@ -1,5 +1,5 @@
 pub mod Halving
-pub mod Seen
+pub mod Job
 mod Costless
 pub mod Entries
 mod Lists

@@ -10,7 +10,7 @@ use Rattle.std.specs.BTreeMap.{is_at}
 use Rattle.std.specs.FinMap as finite
 use Rattle.net_prefix.specs.declared.addr.Addr.{Addr}
 use Rattle.net_prefix.specs.Address.{addr_cmp}
-use Rattle.net_prefix.specs.Block.{Block}
+use Rattle.net_prefix.specs.Prefix.{Prefix}
 use Rattle.path_attr.specs.Path.{holds}
 use Rattle.path_attr.specs.Number.{same_number}
 use Rattle.path_attr.specs.Attribute.{same_maybe_addr}
@@ -39,7 +39,7 @@ use Rattle.route_select.specs.declared.candidate.Standing.TheVariants.{Considere
 use Rattle.reflect_out.specs.Advertising.{advert}
 use Rattle.reference_machine.specs.Decision.{own_candidate, is_originated, has_cluster_loop, is_denial, exclusion, imported, preference, peer_candidate, standing_by, peer_standing, standing_over, added}
 use Rattle.reference_machine.specs.Advertising.{advert_of, change_of}
-use Rattle.cell_engine.specs.Cells.{Heard, nothing_heard, route_of, standing_of, decided, is_up_in, send_to, send_over, sends_of, refreshed}
+use Rattle.cell_engine.specs.Cells.{Cell, new_cell, route_of, standing_of, decided, is_up_in, send_to, send_over, sends_of, refreshed}
 use Rattle.cell_engine.specs.SiteMoves.{SitePair, is_about_cost, is_cost_moved, is_route_moved, is_own_moved, is_any, has_route}
 use Rattle.cell_engine.proofs.Outcomes.{decided_nothing}
 use Rattle.cell_engine.proofs.StandingsAfter.{one_addr}
@@ -107,7 +107,7 @@ no_cost false false false true n m x y h = refl
 no_cost false false false false None m x y h = absurd (true≢false h)
 no_cost false false false false (Some c) m x y h = absurd (true≢false h)
 
-module _ (s : SiteConf) (os : List Block) (k : Reached) (p : Block) where
+module _ (s : SiteConf) (os : List Prefix) (k : Reached) (p : Prefix) where
   -- the site, with other originated prefixes and costs
   abbrev pub new : SiteConf
   new = with_facts_of s os k
@@ -127,7 +127,7 @@ module _ (s : SiteConf) (os : List Block) (k : Reached) (p : Block) where
       pref = preference x.external action attr;
       external = x.external;
       cost = unwrap_or n 0;
-      ident = unwrap_or attr.oid x.peer;
+      ident = x.peer;
     })
 
     same_cost : cost_in k attr.next ≡ cost_in s.costs attr.next → peer_standing new p x attr ≡ peer_standing s p x attr
@@ -178,7 +178,7 @@ nothing_there : {A : Type 0} (xs : List A) → is_any xs ≡ false → xs ≡ []
 nothing_there [] h = refl
 nothing_there (x ∷ xs) h = absurd (true≢false h)
 
-module _ (s t : SiteConf) (p : Block) where
+module _ (s t : SiteConf) (p : Prefix) where
   silent_over : (x : SiteSession) (had up : Bool) → send_to x.peer (change_of p (advert_of had (Some s) x.peer p None) (advert_of up (Some t) x.peer p None)) ≡ None
   silent_over x true true = refl
   silent_over x true false = refl
@@ -190,16 +190,16 @@ module _ (s t : SiteConf) (p : Block) where
   silent_all (x ∷ xs) = λ i. cons_option (silent_over x (is_up_in s x.peer) x.up i) (silent_all xs i)
 
 -- where there is no route, before or after, nothing is sent
-nothing_sent : (o : Option SiteConf) (t : SiteConf) (p : Block) → is_originated t p ≡ false → sends_between o (Some t) p nothing_heard ≡ []
+nothing_sent : (o : Option SiteConf) (t : SiteConf) (p : Prefix) → is_originated t p ≡ false → sends_between o (Some t) p new_cell ≡ []
 unfolding refreshed
 nothing_sent o t p off =
     let s : SiteConf = unwrap_or o t in
-    (λ i. sends_of s t p (none_best i) ((ap (λ (h : Heard). best_of h.standings) (sym (decided_nothing t p off)) ∙ none_best) i))
+    (λ i. sends_of s t p (none_best i) ((ap (λ (h : Cell). best_of h.standings) (sym (decided_nothing t p off)) ∙ none_best) i))
     ∙ silent_all s t p (filter (λ x. x.up) t.sessions)
 
 -- A CELL
 
-module _ (c d : Configuration) (configured : IsConfigured c) (r : Addr) (p : Block) (h : Heard) (kept : kept_from c r h.received ≡ h.received) (was : h ≡ decided (router_site c r) p h.received) where
+module _ (c d : Configuration) (configured : IsConfigured c) (r : Addr) (p : Prefix) (h : Cell) (kept : kept_from c r h.received ≡ h.received) (was : h ≡ decided (router_site c r) p h.received) where
   -- a router, of which settings and sessions stay
   alike_settled : (s t : SiteConf) → router_site c r ≡ Some s → router_site d r ≡ Some t → same_facts s t ≡ true → is_own_moved (record { old = s; new = t }) p ≡ false → list_any (is_route_moved (record { old = s; new = t }) p) h.received ≡ false → IsSettled c d r p h
   alike_settled s t at at' same own unmoved = by t at' own unmoved (facts_exact s t same)
@@ -221,15 +221,15 @@ module _ (c d : Configuration) (configured : IsConfigured c) (r : Addr) (p : Blo
           up was
 
   -- nothing was heard where no route was received, and the router does not originate the prefix
-  unheard : (o : Option SiteConf) → router_site c r ≡ o → ((s : SiteConf) → o ≡ Some s → is_originated s p ≡ false) → h.received ≡ [] → h ≡ nothing_heard
-  unheard None at off none = was ∙ λ i. decided (at i) p (none i)
-  unheard (Some s) at off none = was ∙ (λ i. decided (at i) p (none i)) ∙ sym (decided_nothing s p (off s refl))
+  not_in_cell : (o : Option SiteConf) → router_site c r ≡ o → ((s : SiteConf) → o ≡ Some s → is_originated s p ≡ false) → h.received ≡ [] → h ≡ new_cell
+  not_in_cell None at off none = was ∙ λ i. decided (at i) p (none i)
+  not_in_cell (Some s) at off none = was ∙ (λ i. decided (at i) p (none i)) ∙ sym (decided_nothing s p (off s refl))
 
   -- a router without a route to the prefix
-  routeless_settled : (o : Option SiteConf) (t : SiteConf) → router_site c r ≡ o → router_site d r ≡ Some t → h ≡ nothing_heard → is_originated t p ≡ false → IsSettled c d r p h
+  routeless_settled : (o : Option SiteConf) (t : SiteConf) → router_site c r ≡ o → router_site d r ≡ Some t → h ≡ new_cell → is_originated t p ≡ false → IsSettled c d r p h
   routeless_settled o t at at' empty off = subst (IsSettled c d r p) (sym empty) (record {
     cell = ap (λ x. decided x p []) at' ∙ sym (decided_nothing t p off);
-    silent = (λ i. sends_between (at i) (at' i) p nothing_heard) ∙ nothing_sent o t p off;
+    silent = (λ i. sends_between (at i) (at' i) p new_cell) ∙ nothing_sent o t p off;
   })
 
   all_up : (routes : List (Addr × Attr)) → list_any (λ e. not (is_up d e.0 r)) routes ≡ false → kept_from d r routes ≡ routes
@@ -260,12 +260,12 @@ module _ (c d : Configuration) (configured : IsConfigured c) (r : Addr) (p : Blo
           let no_route = left_false (has_route s p h.received) (is_originated t p) none in
           let received = nothing_there h.received (left_false (is_any h.received) (is_originated s p) no_route) in
           let off : (u : SiteConf) → Some s ≡ Some u → is_originated u p ≡ false = λ u is. subst (λ x. is_originated x p ≡ false) (same_Some s u is) (right_false (is_any h.received) (is_originated s p) no_route) in
-          routeless_settled (Some s) t at at' (unheard (Some s) at off received) (right_false (has_route s p h.received) (is_originated t p) none)
+          routeless_settled (Some s) t at at' (not_in_cell (Some s) at off received) (right_false (has_route s p h.received) (is_originated t p) none)
 
       by : (x y : Option SiteConf) → router_site c r ≡ x → router_site d r ≡ y → is_moved_by x y d r p h ≡ false → IsSettled c d r p h
       by None None at at' none = peer_settled at at' none
       by (Some s) (Some t) at at' none = router_by s t (same_facts s t) at at' refl none
       by None (Some t) at at' none =
           let received = nothing_there h.received (left_false (is_any h.received) (is_originated t p) none) in
-          routeless_settled None t at at' (unheard None at (λ s is. absurd (none-some s is)) received) (right_false (is_any h.received) (is_originated t p) none)
+          routeless_settled None t at at' (not_in_cell None at (λ s is. absurd (none-some s is)) received) (right_false (is_any h.received) (is_originated t p) none)
       by (Some s) None at at' none = absurd (true≢false none)

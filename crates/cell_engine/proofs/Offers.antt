@@ -9,8 +9,8 @@ use Rattle.std.specs.FinMap as finite
 use Rattle.std.specs.Cmp.{both_tied, unsigned_ties, unsigned_Decides}
 use Rattle.net_prefix.specs.declared.addr.Addr.{Addr}
 use Rattle.net_prefix.specs.Address.{same_addr}
-use Rattle.net_prefix.specs.Block.{Block, same_block, block_cmp}
-use Rattle.net_prefix.specs.Orders.{block_total, block_exact}
+use Rattle.net_prefix.specs.Prefix.{Prefix, same_prefix, prefix_cmp}
+use Rattle.net_prefix.specs.Orders.{prefix_total, prefix_exact}
 use Rattle.path_attr.specs.declared.attr.Attr.{Attr}
 use Rattle.path_attr.specs.Sameness.{attrs_exact}
 use Rattle.session_queue.specs.declared.message.Message.{Message}
@@ -35,11 +35,11 @@ same_addr_true a b h = ap (λ n. record { 0 = n }) ((unsigned_Decides a.0 b.0).0
 pub same_addr_itself : (a : Addr) → same_addr a a ≡ true
 same_addr_itself a = (unsigned_Decides a.0 a.0).1 refl
 
-pub block_tied : (p q : Block) → same_block p q ≡ is_eq (block_cmp p q)
-block_tied p q = both_tied _ _ _ _ (unsigned_ties p.addr.0 q.addr.0) (unsigned_ties p.len q.len)
+pub prefix_tied : (p q : Prefix) → same_prefix p q ≡ is_eq (prefix_cmp p q)
+prefix_tied p q = both_tied _ _ _ _ (unsigned_ties p.addr.0 q.addr.0) (unsigned_ties p.len q.len)
 
 -- an advert that stays sends nothing
-pub change_none : (p : Block) (a : Option Attr) → change_of p a a ≡ None
+pub change_none : (p : Prefix) (a : Option Attr) → change_of p a a ≡ None
 change_none p None = refl
 change_none p (Some a) = ap (λ b. if b then None else Some (Update p a)) ((attrs_exact a a).1 refl)
 
@@ -53,10 +53,10 @@ none_if false = refl
 abbrev site_at : Configuration → Addr → Node → SiteConf
 site_at c r n = record { me = r; asn = n.asn; cluster = cluster_id c r; reflector = is_reflector c r; origins = origins_of c r; sessions = sessions_of c r; costs = costs_of c r }
 
-unknown : (p : Block) (ps : List Block) → list_any (eq_by_cmp block_cmp p) ps ≡ false → list_any (same_block p) ps ≡ false
-unknown p ps h = (λ i. list_any (λ q. block_tied p q i) ps) ∙ h
+unknown : (p : Prefix) (ps : List Prefix) → list_any (eq_by_cmp prefix_cmp p) ps ≡ false → list_any (same_prefix p) ps ≡ false
+unknown p ps h = (λ i. list_any (λ q. prefix_tied p q i) ps) ∙ h
 
-advertised_none : (s : Network) (r t : Addr) (p : Block) → list_any (eq_by_cmp block_cmp p) (prefixes_at s r) ≡ false → advertised s r t p ≡ None
+advertised_none : (s : Network) (r t : Addr) (p : Prefix) → list_any (eq_by_cmp prefix_cmp p) (prefixes_at s r) ≡ false → advertised s r t p ≡ None
 unfolding advertised
 advertised_none s r t p h =
     ap (advert_of (is_up s.conf r t) (site_of s.conf r) t p) (best_none s r p (unknown p (prefixes_at s r) h)) ∙ none_if (is_up s.conf r t)
@@ -65,24 +65,24 @@ advertised_none s r t p h =
 
 module _ (s s' : Network) (r t : Addr) where
   -- the message for a prefix
-  abbrev pub turn : Block → Option Message
+  abbrev pub turn : Prefix → Option Message
   turn p = change_of p (advertised s r t p) (advertised s' r t p)
 
-  all_known : LeavesNoneOut block_total block_exact turn (in_order (prefixes_at s r ++ prefixes_at s' r))
+  all_known : LeavesNoneOut prefix_total prefix_exact turn (in_order (prefixes_at s r ++ prefixes_at s' r))
   all_known q off =
-      let parts = not_gathered block_total block_exact q (prefixes_at s r) (prefixes_at s' r) off in
+      let parts = not_gathered prefix_total prefix_exact q (prefixes_at s r) (prefixes_at s' r) off in
       λ i. change_of q (advertised_none s r t q parts.0 i) (advertised_none s' r t q parts.1 i)
 
   -- prefixes in order, of which none is left out whose advert changes, give what is sent
-  pub changes_from : (ps : List Block) → IsStrictlySortedBy block_cmp ps → LeavesNoneOut block_total block_exact turn ps → changes s s' r t ≡ filter_map turn ps
+  pub changes_from : (ps : List Prefix) → IsStrictlySortedBy prefix_cmp ps → LeavesNoneOut prefix_total prefix_exact turn ps → changes s s' r t ≡ filter_map turn ps
   unfolding changes
   changes_from ps sorted all =
-      same_picks block_total block_exact turn (in_order (prefixes_at s r ++ prefixes_at s' r)) ps (sorted_gathered block_total block_exact (prefixes_at s r ++ prefixes_at s' r)) sorted all_known all
+      same_picks prefix_total prefix_exact turn (in_order (prefixes_at s r ++ prefixes_at s' r)) ps (sorted_gathered prefix_total prefix_exact (prefixes_at s r ++ prefixes_at s' r)) sorted all_known all
 
 -- WHERE THE CONFIGURATION STAYS
 
 -- a choice depends on the configuration and on the routes received for it
-pub best_stays : (s s' : Network) → s'.conf ≡ s.conf → (r : Addr) (p : Block) → ((u : Addr) → route_from s'.received r p u ≡ route_from s.received r p u) → best s' r p ≡ best s r p
+pub best_stays : (s s' : Network) → s'.conf ≡ s.conf → (r : Addr) (p : Prefix) → ((u : Addr) → route_from s'.received r p u ≡ route_from s.received r p u) → best s' r p ≡ best s r p
 unfolding best site_of
 best_stays s s' conf r p same =
     (λ i. option_and_then (λ site. best_of (standings site p s'.received)) (site_of (conf i) r))
@@ -109,29 +109,29 @@ if_both false c l = nothing_if c
 
 module _ (s s' : Network) (conf : s'.conf ≡ s.conf) where
   -- where the router's choice stays, so does what it advertises
-  turn_none : (f t : Addr) (q : Block) → best s' f q ≡ best s f q → turn s s' f t q ≡ None
+  turn_none : (f t : Addr) (q : Prefix) → best s' f q ≡ best s f q → turn s s' f t q ≡ None
   unfolding advertised
   turn_none f t q stays =
       ap (change_of q (advertised s f t q)) (λ i. advert_of (is_up (conf i) f t) (site_of (conf i) f) t q (stays i)) ∙ change_none q (advertised s f t q)
 
-  changes_none : (f t : Addr) → ((q : Block) → best s' f q ≡ best s f q) → changes s s' f t ≡ []
+  changes_none : (f t : Addr) → ((q : Prefix) → best s' f q ≡ best s f q) → changes s s' f t ≡ []
   unfolding IsStrictlySortedBy
   changes_none f t stays = changes_from s s' f t [] tt (λ q off. turn_none f t q (stays q))
 
   -- where each choice stays, nothing is sent
-  pub sent_none : ((f : Addr) (q : Block) → best s' f q ≡ best s f q) → (f t : Addr) → sent s s' f t ≡ []
+  pub sent_none : ((f : Addr) (q : Prefix) → best s' f q ≡ best s f q) → (f t : Addr) → sent s s' f t ≡ []
   unfolding sent
   sent_none stays f t = ap (λ l. if sends s'.conf f t then l else []) (changes_none f t (stays f)) ∙ nothing_if (sends s'.conf f t)
 
   -- where each choice stays but one
-  module _ (r : Addr) (p : Block) (stays : (f : Addr) (q : Block) → (same_addr f r && same_block q p) ≡ false → best s' f q ≡ best s f q) where
+  module _ (r : Addr) (p : Prefix) (stays : (f : Addr) (q : Prefix) → (same_addr f r && same_prefix q p) ≡ false → best s' f q ≡ best s f q) where
     changes_by : (f t : Addr) (here : Bool) → same_addr f r ≡ here → changes s s' f t ≡ (if here then option_to_list (turn s s' r t p) else [])
     unfolding IsStrictlySortedBy
     changes_by f t true is =
-        changes_from s s' f t (p ∷ []) (tt, tt) (λ q off. turn_none f t q (stays f q (ap (λ b. b && same_block q p) is ∙ head_only (same_block q p) (eq_by_cmp block_cmp q p) (block_tied q p) off)))
+        changes_from s s' f t (p ∷ []) (tt, tt) (λ q off. turn_none f t q (stays f q (ap (λ b. b && same_prefix q p) is ∙ head_only (same_prefix q p) (eq_by_cmp prefix_cmp q p) (prefix_tied q p) off)))
         ∙ one_of (turn s s' f t p)
         ∙ ap (λ x. option_to_list (turn s s' x t p)) (same_addr_true f r is)
-    changes_by f t false is = changes_none f t (λ q. stays f q (ap (λ b. b && same_block q p) is))
+    changes_by f t false is = changes_none f t (λ q. stays f q (ap (λ b. b && same_prefix q p) is))
 
     -- its router alone sends, for its prefix alone
     pub sent_by_one : (f t : Addr) → sent s s' f t ≡ (if same_addr f r && sends s.conf f t then option_to_list (change_of p (advertised s r t p) (advertised s' r t p)) else [])

@@ -3,7 +3,7 @@ use Rattle.std.proofs.Common.{◌≡◌, false, cond, List, [], ◌∷◌, ◌++
 use Rattle.std.specs.List.{filter_map}
 use Rattle.std.specs.FinMap as finite
 use Rattle.net_prefix.specs.declared.addr.Addr.{Addr}
-use Rattle.net_prefix.specs.Block.{Block}
+use Rattle.net_prefix.specs.Prefix.{Prefix}
 use Rattle.net_conf.specs.declared.site.SiteConf.{SiteConf}
 use Rattle.net_conf.specs.declared.site.SiteSession.{SiteSession}
 use Rattle.route_select.specs.declared.candidate.Source.TheVariants.{Own}
@@ -11,44 +11,44 @@ use Rattle.route_select.specs.declared.candidate.Standing.TheVariants.{Considere
 use Rattle.session_queue.specs.declared.message.Message.{Message}
 use Rattle.session_queue.specs.Telling.{prefix_of}
 use Rattle.reference_machine.specs.Decision.{own_candidate, is_originated, added}
-use Rattle.cell_engine.specs.Cells.{Heard, nothing_heard, standing_of, IsDecided, delivered, stored, refreshed}
+use Rattle.cell_engine.specs.Cells.{Cell, new_cell, standing_of, IsDecided, delivered, stored, refreshed}
 use Rattle.cell_engine.specs.Senders.{AreInOrder}
 use Rattle.cell_engine.proofs.SendersInOrder.{order_with_news, order_kept}
 
 -- IN ORDER
 
-pub order_delivered : (site : SiteConf) (h : Heard) (u : Addr) (m : Message) → AreInOrder h.received → AreInOrder (delivered site h u m).heard.received
+pub order_delivered : (site : SiteConf) (h : Cell) (u : Addr) (m : Message) → AreInOrder h.received → AreInOrder (delivered site h u m).cell.received
 unfolding delivered
 order_delivered site h u m order = order_with_news u m h.received order
 
-pub order_stored : (h : Heard) (u : Addr) (m : Message) → AreInOrder h.received → AreInOrder (stored h u m).heard.received
+pub order_stored : (h : Cell) (u : Addr) (m : Message) → AreInOrder h.received → AreInOrder (stored h u m).cell.received
 unfolding stored
 order_stored h u m order = order_with_news u m h.received order
 
-pub order_refreshed : (old new : SiteConf) (p : Block) (h : Heard) → AreInOrder h.received → AreInOrder (refreshed old new p h).heard.received
+pub order_refreshed : (old new : SiteConf) (p : Prefix) (h : Cell) → AreInOrder h.received → AreInOrder (refreshed old new p h).cell.received
 unfolding refreshed
 order_refreshed old new p h order = order_kept new h.received order
 
 -- DECIDED
 
-pub decided_delivered : (site : SiteConf) (h : Heard) (u : Addr) (m : Message) → IsDecided (Some site) (prefix_of m) (delivered site h u m).heard
+pub decided_delivered : (site : SiteConf) (h : Cell) (u : Addr) (m : Message) → IsDecided (Some site) (prefix_of m) (delivered site h u m).cell
 unfolding delivered
 decided_delivered site h u m = refl
 
-pub decided_stored : (h : Heard) (u : Addr) (m : Message) → IsDecided None (prefix_of m) (stored h u m).heard
+pub decided_stored : (h : Cell) (u : Addr) (m : Message) → IsDecided None (prefix_of m) (stored h u m).cell
 unfolding stored
 decided_stored h u m = refl
 
-pub decided_refreshed : (old new : SiteConf) (p : Block) (h : Heard) → IsDecided (Some new) p (refreshed old new p h).heard
+pub decided_refreshed : (old new : SiteConf) (p : Prefix) (h : Cell) → IsDecided (Some new) p (refreshed old new p h).cell
 unfolding refreshed
 decided_refreshed old new p h = refl
 
-none_stand : (site : SiteConf) (p : Block) (xs : List SiteSession) → filter_map (standing_of site p []) xs ≡ []
+none_stand : (site : SiteConf) (p : Prefix) (xs : List SiteSession) → filter_map (standing_of site p []) xs ≡ []
 none_stand site p [] = refl
 none_stand site p (x ∷ xs) = none_stand site p xs
 
 -- where nothing was received, and the router does not originate the prefix, nothing stands
-pub decided_nothing : (site : SiteConf) (p : Block) → is_originated site p ≡ false → IsDecided (Some site) p nothing_heard
+pub decided_nothing : (site : SiteConf) (p : Prefix) → is_originated site p ≡ false → IsDecided (Some site) p new_cell
 decided_nothing site p other = λ i. record {
   received = [];
   standings = added finite.empty (cond (sym other i) ((Own, Considered (own_candidate site.me)) ∷ []) [] ++ sym (none_stand site p site.sessions) i);

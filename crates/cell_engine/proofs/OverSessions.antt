@@ -7,7 +7,7 @@ use Rattle.std.specs.Map.{remove_entry}
 use Rattle.std.specs.BTreeMap.{insert_entry, is_at}
 use Rattle.net_prefix.specs.declared.addr.Addr.{Addr}
 use Rattle.net_prefix.specs.Address.{addr_cmp}
-use Rattle.net_prefix.specs.Block.{Block, block_cmp}
+use Rattle.net_prefix.specs.Prefix.{Prefix, prefix_cmp}
 use Rattle.net_prefix.specs.Orders.{addr_exact}
 use Rattle.path_attr.specs.declared.attr.Attr.{Attr}
 use Rattle.session_queue.specs.declared.message.Message.{Message}
@@ -19,7 +19,7 @@ use Rattle.net_conf.specs.declared.site.SiteConf.{SiteConf}
 use Rattle.net_conf.proofs.KeptTrees.{equal_when}
 use Rattle.prefix_table.specs.Tables.{Table}
 use Rattle.cell_engine.specs.RouterTables.{value_at, with_value}
-use Rattle.cell_engine.specs.Cells.{Heard, nothing_heard, with_news, delivered, stored}
+use Rattle.cell_engine.specs.Cells.{Cell, new_cell, with_news, delivered, stored}
 use Rattle.cell_engine.specs.Keeping.{kept_from, kept_cell, kept_tables}
 use Rattle.cell_engine.specs.Changes.{AreOverSessionsUp}
 use Rattle.cell_engine.proofs.Decided.{decided_received, value_with_cell}
@@ -78,28 +78,28 @@ module _ (test : Addr → Bool) where
 
 module _ (c : Configuration) where
   -- all routes in the router's cell came over sessions that are up
-  abbrev IsOverSessionsUp : Addr → Heard → Type 0
+  abbrev IsOverSessionsUp : Addr → Cell → Type 0
   IsOverSessionsUp r h = kept_from c r h.received ≡ h.received
 
-  kept_is_over : (r : Addr) (p : Block) (h : Heard) → IsOverSessionsUp r (kept_cell c r p h)
+  kept_is_over : (r : Addr) (p : Prefix) (h : Cell) → IsOverSessionsUp r (kept_cell c r p h)
   kept_is_over r p h =
       subst (λ routes. kept_from c r routes ≡ routes) (sym (decided_received (router_site c r) p (kept_from c r h.received)))
       (all_left (λ u. is_up c u r) (kept_from c r h.received) (passing_pass (λ u. is_up c u r) h.received))
 
-  kept_or_none : (r : Addr) (p : Block) (x : Option Heard) → IsOverSessionsUp r (unwrap_or (option_map (kept_cell c r p) x) nothing_heard)
+  kept_or_none : (r : Addr) (p : Prefix) (x : Option Cell) → IsOverSessionsUp r (unwrap_or (option_map (kept_cell c r p) x) new_cell)
   kept_or_none r p None = refl
   kept_or_none r p (Some h) = kept_is_over r p h
 
 -- so it is once each cell was decided anew
-pub up_after : (d : Configuration) (ts : List (Addr × Table Heard)) → AreOverSessionsUp d (kept_tables d ts)
-up_after d ts r p = subst (λ x. IsOverSessionsUp d r (unwrap_or x nothing_heard)) (sym (value_kept d r p ts)) (kept_or_none d r p (value_at r p ts))
+pub up_after : (d : Configuration) (ts : List (Addr × Table Cell)) → AreOverSessionsUp d (kept_tables d ts)
+up_after d ts r p = subst (λ x. IsOverSessionsUp d r (unwrap_or x new_cell)) (sym (value_kept d r p ts)) (kept_or_none d r p (value_at r p ts))
 
 -- and still, where a cell with such routes is put in
-pub up_with_cell : (c : Configuration) (ts : List (Addr × Table Heard)) (r : Addr) (p : Block) (h : Heard) → AreOverSessionsUp c ts → kept_from c r h.received ≡ h.received → AreOverSessionsUp c (with_value r p h ts)
+pub up_with_cell : (c : Configuration) (ts : List (Addr × Table Cell)) (r : Addr) (p : Prefix) (h : Cell) → AreOverSessionsUp c ts → kept_from c r h.received ≡ h.received → AreOverSessionsUp c (with_value r p h ts)
 up_with_cell c ts r p h up is s q =
-    subst (λ x. IsOverSessionsUp c s (unwrap_or x nothing_heard)) (sym (value_with_cell r p h ts s q)) (by (eq_by_cmp addr_cmp s r) (eq_by_cmp block_cmp q p) refl)
+    subst (λ x. IsOverSessionsUp c s (unwrap_or x new_cell)) (sym (value_with_cell r p h ts s q)) (by (eq_by_cmp addr_cmp s r) (eq_by_cmp prefix_cmp q p) refl)
   where
-    by : (here same : Bool) → eq_by_cmp addr_cmp s r ≡ here → IsOverSessionsUp c s (unwrap_or (cond here (cond same (Some h) (value_at s q ts)) (value_at s q ts)) nothing_heard)
+    by : (here same : Bool) → eq_by_cmp addr_cmp s r ≡ here → IsOverSessionsUp c s (unwrap_or (cond here (cond same (Some h) (value_at s q ts)) (value_at s q ts)) new_cell)
     by true true at = subst (λ x. IsOverSessionsUp c x h) (sym (addr_exact s r (equal_when (addr_cmp s r) at))) is
     by true false at = up s q
     by false same at = up s q
@@ -112,10 +112,10 @@ news_kept c r u routes m is kept =
     let test : Addr → Bool = λ v. is_up c v r in
     all_left test (with_news u m routes) (all_pass_news test u m routes is (all_pass test routes kept))
 
-pub delivered_kept : (c : Configuration) (r u : Addr) (site : SiteConf) (h : Heard) (m : Message) → is_up c u r ≡ true → kept_from c r h.received ≡ h.received → kept_from c r (delivered site h u m).heard.received ≡ (delivered site h u m).heard.received
+pub delivered_kept : (c : Configuration) (r u : Addr) (site : SiteConf) (h : Cell) (m : Message) → is_up c u r ≡ true → kept_from c r h.received ≡ h.received → kept_from c r (delivered site h u m).cell.received ≡ (delivered site h u m).cell.received
 unfolding delivered
 delivered_kept c r u site h m is kept = news_kept c r u h.received m is kept
 
-pub stored_kept : (c : Configuration) (r u : Addr) (h : Heard) (m : Message) → is_up c u r ≡ true → kept_from c r h.received ≡ h.received → kept_from c r (stored h u m).heard.received ≡ (stored h u m).heard.received
+pub stored_kept : (c : Configuration) (r u : Addr) (h : Cell) (m : Message) → is_up c u r ≡ true → kept_from c r h.received ≡ h.received → kept_from c r (stored h u m).cell.received ≡ (stored h u m).cell.received
 unfolding stored
 stored_kept c r u h m is kept = news_kept c r u h.received m is kept

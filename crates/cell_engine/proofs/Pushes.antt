@@ -3,7 +3,7 @@ use Rattle.std.proofs.Common.{◌≡◌, ℕ, ◌+◌, ◌<◌, ◌≤◌, max, 
 use Rattle.net_prefix.specs.declared.addr.Addr.{Addr}
 use Rattle.net_prefix.specs.Address.{same_addr}
 use Rattle.session_queue.specs.declared.message.Message.{Message}
-use Rattle.session_queue.specs.Waiting.{WaitingByDirection, queue_at, spare_at, same_direction, KeepsOthers}
+use Rattle.session_queue.specs.Waiting.{Queues, queue_at, spare_at, same_direction, KeepsOthers}
 use Rattle.cell_engine.specs.Sending.{told, told_from}
 use Rattle.cell_engine.proofs.Offers.{same_addr_true, same_addr_itself}
 use Rattle.cell_engine.proofs.Told.{told_step}
@@ -19,7 +19,7 @@ direction_by from to f t = both_by from to f t (same_addr f from) (same_addr t t
 
 -- PLACES
 
-module _ (from to : Addr) (q r : WaitingByDirection) (others : KeepsOthers from to q r) where
+module _ (from to : Addr) (q r : Queues) (others : KeepsOthers from to q r) where
   -- where the queue of the direction stays, all do
   pub queue_kept : queue_at r from to ≡ queue_at q from to → (f t : Addr) → queue_at r f t ≡ queue_at q f t
   queue_kept is f t = ⊎_elim (λ h. (λ i. queue_at r (h.0 i) (h.1 i)) ∙ is ∙ sym (λ i. queue_at q (h.0 i) (h.1 i))) (λ h. others.queue f t h) (direction_by from to f t)
@@ -44,10 +44,10 @@ not_told true b m ms h = ap (λ b. cond b (m ∷ ms) ms) h
 not_told false b m ms h = refl
 
 -- who is told has a place
-pub place_for : (r : Addr) (e : Addr × Message) (rest : List (Addr × Message)) (q : WaitingByDirection) → length (told e.0 (e ∷ rest)) ≤ spare_at q r e.0 → 0 < spare_at q r e.0
+pub place_for : (r : Addr) (e : Addr × Message) (rest : List (Addr × Message)) (q : Queues) → length (told e.0 (e ∷ rest)) ≤ spare_at q r e.0 → 0 < spare_at q r e.0
 place_for r e rest q room = omega (arith, room, ap length (told_here e rest))
 
-module _ (r : Addr) (e : Addr × Message) (rest : List (Addr × Message)) (q p : WaitingByDirection) (others : KeepsOthers r e.0 q p) where
+module _ (r : Addr) (e : Addr × Message) (rest : List (Addr × Message)) (q p : Queues) (others : KeepsOthers r e.0 q p) where
   from_here : (l : List (Addr × Message)) → told_from r l r e.0 ≡ told e.0 l
   from_here l = ap (λ b. if b then told e.0 l else []) (same_addr_itself r)
 

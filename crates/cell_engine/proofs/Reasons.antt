@@ -10,7 +10,7 @@ use Rattle.std.specs.FinMap as finite
 use Rattle.std.specs.FinMap.Entries.{is_sorted}
 use Rattle.net_prefix.specs.declared.addr.Addr.{Addr}
 use Rattle.net_prefix.specs.Address.{addr_cmp}
-use Rattle.net_prefix.specs.Block.{Block}
+use Rattle.net_prefix.specs.Prefix.{Prefix}
 use Rattle.path_attr.specs.declared.attr.Attr.{Attr}
 use Rattle.prefix_table.specs.Tables.{Table}
 use Rattle.net_conf.specs.Configuration.{Configuration, node_at, is_virtual}
@@ -27,10 +27,10 @@ use Rattle.route_select.proofs.EntryLemmas.{same_source, source_total}
 use Rattle.reference_machine.specs.Decision.{own_standings, is_originated, standing_over, added}
 use Rattle.reference_machine.specs.Reports.{why, reasons_of, reasons_at, reasons}
 use Rattle.cell_engine.specs.RouterTables.{value_at}
-use Rattle.cell_engine.specs.Cells.{Heard, nothing_heard, route_of, standing_of, standings_of, decided}
-use Rattle.cell_engine.specs.Engine.{Engine, IsSound, heard_at, all_entries, network}
+use Rattle.cell_engine.specs.Cells.{Cell, new_cell, route_of, standing_of, standings_of, decided}
+use Rattle.cell_engine.specs.State.{State, IsConsistent, cell_at, all_entries, network}
 use Rattle.cell_engine.specs.Reporting.{sources_in, reason_at, reasons_in}
-use Rattle.cell_engine.proofs.Decided.{site_at, is_cell, heard_decided, standings_heard, no_standings}
+use Rattle.cell_engine.proofs.Decided.{site_at, is_cell, cell_decided, standings_at_cell, no_standings}
 use Rattle.cell_engine.proofs.Listed.{listed}
 use Rattle.cell_engine.proofs.Picks.{is_equal}
 use Rattle.cell_engine.proofs.Reports.{not_true}
@@ -55,7 +55,7 @@ module _ (q : Source) where
   own_by true v off = (off, tt)
   own_by false v off = tt
 
-  module _ (site : SiteConf) (p : Block) (routes : List (Addr × Attr)) where
+  module _ (site : SiteConf) (p : Prefix) (routes : List (Addr × Attr)) where
     over_if : (up : Bool) (e : Source × Standing) (es : List (Source × Standing)) → eq_by_cmp source_cmp q e.0 ≡ false → AreOfOthers es → AreOfOthers (cons_option (if up then Some e else None) es)
     over_if true e es off rest = (off, rest)
     over_if false e es off rest = rest
@@ -92,7 +92,7 @@ module _ (q : Source) (routes : List (Addr × Attr)) (off : list_any (eq_by_cmp 
       true≢false (sym (is_sender u routes ∙ there) ∙ ap (λ s. list_any (eq_by_cmp source_cmp s) (map (λ e. FromPeer e.0) routes)) (sym is) ∙ (or_parts (eq_by_cmp source_cmp q Own) _ off).1))
 
   -- a source that neither is the router nor has sent a route has no standing
-  no_standing : (site : Option SiteConf) (p : Block) → finite.get (decided site p routes).standings q ≡ None
+  no_standing : (site : Option SiteConf) (p : Prefix) → finite.get (decided site p routes).standings q ≡ None
   no_standing None p = finite.get-empty source_cmp q
   no_standing (Some site) p = none_stands q site p routes no_sender not_own
 
@@ -111,7 +111,7 @@ unfolding IsStrictlySortedBy
 senders_sorted [] h = tt
 senders_sorted (e ∷ es) h = (past_sender e.0 es h.0, senders_sorted es h.1)
 
-sources_sorted : (h : Heard) → IsStrictlySortedBy addr_cmp (keys_of h.received) → IsStrictlySortedBy source_cmp (sources_in h)
+sources_sorted : (h : Cell) → IsStrictlySortedBy addr_cmp (keys_of h.received) → IsStrictlySortedBy source_cmp (sources_in h)
 unfolding IsStrictlySortedBy
 sources_sorted h sorted = (all_above h.received, senders_sorted h.received sorted)
 
@@ -120,37 +120,37 @@ all_said [] m = refl
 all_said (e ∷ es) m = ap (λ l. why (considered m) e ∷ l) (all_said es m)
 
 -- what is said of each source of a cell is what is said of each standing
-by_sources : (site : Option SiteConf) (p : Block) (h : Heard) → h ≡ decided site p h.received → IsStrictlySortedBy addr_cmp (keys_of h.received) → reasons_in h ≡ reasons_of h.standings
+by_sources : (site : Option SiteConf) (p : Prefix) (h : Cell) → h ≡ decided site p h.received → IsStrictlySortedBy addr_cmp (keys_of h.received) → reasons_in h ≡ reasons_of h.standings
 by_sources site p h is sorted =
     let said = reason_at h.standings in
     listed source_total same_source h.standings said (λ e. Some (why (considered h.standings) e))
     (λ s v at. ap (λ o. option_map (λ reason. (s, reason)) (option_map (reason_for (considered h.standings)) o)) at)
     (λ s none. ap (λ o. option_map (λ reason. (s, reason)) (option_map (reason_for (considered h.standings)) o)) none)
     (sources_in h) (sources_sorted h sorted)
-    (λ s off. ap (λ o. option_map (λ reason. (s, reason)) (option_map (reason_for (considered h.standings)) o)) (ap (λ (x : Heard). finite.get x.standings s) is ∙ no_standing s h.received off site p))
+    (λ s off. ap (λ o. option_map (λ reason. (s, reason)) (option_map (reason_for (considered h.standings)) o)) (ap (λ (x : Cell). finite.get x.standings s) is ∙ no_standing s h.received off site p))
     ∙ all_said (finite.entries h.standings) h.standings
 
 -- THE ROUTER
 
-at_node : (c : Configuration) (r : Addr) (p : Block) (ts : List (Addr × Table Heard)) → IsTrue (is_sorted addr_cmp ts) → (n : Option Node)
-    → reasons_at p (all_entries ts) (option_map (site_at c r) n) ≡ reasons_of (decided (option_map (site_at c r) n) p (heard_at r p ts).received).standings
+at_node : (c : Configuration) (r : Addr) (p : Prefix) (ts : List (Addr × Table Cell)) → IsTrue (is_sorted addr_cmp ts) → (n : Option Node)
+    → reasons_at p (all_entries ts) (option_map (site_at c r) n) ≡ reasons_of (decided (option_map (site_at c r) n) p (cell_at r p ts).received).standings
 at_node c r p ts sorted None = sym (ap (map (why (considered finite.empty))) no_standings)
-at_node c r p ts sorted (Some n) = ap reasons_of (standings_heard (site_at c r n) p ts sorted)
+at_node c r p ts sorted (Some n) = ap reasons_of (standings_at_cell (site_at c r n) p ts sorted)
 
 -- the routes that were heard are by sender
-heard_in_order : (e : Engine) → IsSound e → (r : Addr) (p : Block) → IsStrictlySortedBy addr_cmp (keys_of (heard_at r p e.tables).received)
+cell_in_order : (e : State) → IsConsistent e → (r : Addr) (p : Prefix) → IsStrictlySortedBy addr_cmp (keys_of (cell_at r p e.tables).received)
 unfolding IsStrictlySortedBy
-heard_in_order e sound r p =
-    elim (value_at r p e.tables) as (λ x. value_at r p e.tables ≡ x → IsStrictlySortedBy addr_cmp (keys_of (unwrap_or x nothing_heard).received)) [
+cell_in_order e sound r p =
+    elim (value_at r p e.tables) as (λ x. value_at r p e.tables ≡ x → IsStrictlySortedBy addr_cmp (keys_of (unwrap_or x new_cell).received)) [
       | None ↦ λ is. tt
       | Some h ↦ λ is. (is_cell e sound r p h is).by_sender
     ] refl
 
 -- why routes were chosen or dropped is said of each source of the cell, in order
-pub reasons_by_cell : (e : Engine) → IsSound e → (r : Addr) (p : Block) → is_virtual e.conf r ≡ false → reasons (network e) r p ≡ reasons_in (heard_at r p e.tables)
+pub reasons_by_cell : (e : State) → IsConsistent e → (r : Addr) (p : Prefix) → is_virtual e.conf r ≡ false → reasons (network e) r p ≡ reasons_in (cell_at r p e.tables)
 unfolding reasons network site_of
 reasons_by_cell e sound r p router =
     at_node e.conf r p e.tables sound.by_address (node_at e.conf r)
-    ∙ ap (λ b. reasons_of (decided (cond b None (site_of e.conf r)) p (heard_at r p e.tables).received).standings) (sym router)
-    ∙ ap (λ (h : Heard). reasons_of h.standings) (sym (heard_decided e sound r p))
-    ∙ sym (by_sources (router_site e.conf r) p (heard_at r p e.tables) (heard_decided e sound r p) (heard_in_order e sound r p))
+    ∙ ap (λ b. reasons_of (decided (cond b None (site_of e.conf r)) p (cell_at r p e.tables).received).standings) (sym router)
+    ∙ ap (λ (h : Cell). reasons_of h.standings) (sym (cell_decided e sound r p))
+    ∙ sym (by_sources (router_site e.conf r) p (cell_at r p e.tables) (cell_decided e sound r p) (cell_in_order e sound r p))

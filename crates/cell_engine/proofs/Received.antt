@@ -11,7 +11,7 @@ use Rattle.std.specs.BTreeMap.{insert_entry, is_at}
 use Rattle.std.specs.FinMap.Entries.{is_sorted}
 use Rattle.net_prefix.specs.declared.addr.Addr.{Addr}
 use Rattle.net_prefix.specs.Address.{addr_cmp}
-use Rattle.net_prefix.specs.Block.{Block}
+use Rattle.net_prefix.specs.Prefix.{Prefix}
 use Rattle.net_prefix.specs.Orders.{addr_total}
 use Rattle.path_attr.specs.declared.attr.Attr.{Attr}
 use Rattle.prefix_table.specs.Tables.{Table}
@@ -23,14 +23,14 @@ use Rattle.reference_machine.specs.Network.{route_cmp, with_route, without_route
 use Rattle.reference_machine.specs.Decision.{route_from}
 use Rattle.reference_machine.specs.Machine.{received_after}
 use Rattle.cell_engine.specs.RouterTables.{value_at, with_value}
-use Rattle.cell_engine.specs.Cells.{Heard, nothing_heard, route_of, with_news}
-use Rattle.cell_engine.specs.Engine.{heard_at, entry_of, all_entries}
+use Rattle.cell_engine.specs.Cells.{Cell, new_cell, route_of, with_news}
+use Rattle.cell_engine.specs.State.{cell_at, entry_of, all_entries}
 use Rattle.cell_engine.proofs.Chunks.{no_edit, insert_edit, remove_edit, lookup_look}
 use Rattle.cell_engine.proofs.Flat.{route_at, from_key, by_sender, entries_changed, entries_seen}
 
 -- ONE CELL
 
-module _ (r : Addr) (p : Block) (u : Addr) where
+module _ (r : Addr) (p : Prefix) (u : Addr) where
   -- a route put into a cell is put into the cell's entries
   cell_with_route : (attr : Attr) (es : List (Addr × Attr)) → map (entry_of r p) (insert_entry addr_cmp es u attr) ≡ with_route (route_at r p u) attr (map (entry_of r p) es)
   cell_with_route attr [] = refl
@@ -60,33 +60,33 @@ module _ (r : Addr) (p : Block) (u : Addr) where
 
 -- ALL TABLES
 
-module _ (ts : List (Addr × Table Heard)) (sorted : IsTrue (is_sorted addr_cmp ts)) where
+module _ (ts : List (Addr × Table Cell)) (sorted : IsTrue (is_sorted addr_cmp ts)) where
   -- a cell with a route more, or another from the sender
-  pub entries_with_route : (r : Addr) (p : Block) (u : Addr) (attr : Attr) (h : Heard) → h.received ≡ insert_entry addr_cmp (heard_at r p ts).received u attr → all_entries (with_value r p h ts) ≡ with_route (route_at r p u) attr (all_entries ts)
+  pub entries_with_route : (r : Addr) (p : Prefix) (u : Addr) (attr : Attr) (h : Cell) → h.received ≡ insert_entry addr_cmp (cell_at r p ts).received u attr → all_entries (with_value r p h ts) ≡ with_route (route_at r p u) attr (all_entries ts)
   entries_with_route r p u attr h is =
-      entries_changed r p u (insert_edit route_cmp (route_at r p u) attr) h ts sorted (ap (map (entry_of r p)) is ∙ cell_with_route r p u attr (heard_at r p ts).received)
+      entries_changed r p u (insert_edit route_cmp (route_at r p u) attr) h ts sorted (ap (map (entry_of r p)) is ∙ cell_with_route r p u attr (cell_at r p ts).received)
 
   -- a cell without the sender's route
-  pub entries_without_route : (r : Addr) (p : Block) (u : Addr) (h : Heard) → h.received ≡ remove_entry (is_at (addr_cmp u)) (heard_at r p ts).received → all_entries (with_value r p h ts) ≡ without_route (route_at r p u) (all_entries ts)
+  pub entries_without_route : (r : Addr) (p : Prefix) (u : Addr) (h : Cell) → h.received ≡ remove_entry (is_at (addr_cmp u)) (cell_at r p ts).received → all_entries (with_value r p h ts) ≡ without_route (route_at r p u) (all_entries ts)
   entries_without_route r p u h is =
-      entries_changed r p u (remove_edit route_cmp (route_at r p u)) h ts sorted (ap (map (entry_of r p)) is ∙ cell_without_route r p u (heard_at r p ts).received)
+      entries_changed r p u (remove_edit route_cmp (route_at r p u)) h ts sorted (ap (map (entry_of r p)) is ∙ cell_without_route r p u (cell_at r p ts).received)
 
   -- a message taken into the receiver's cell is taken into the network
-  pub entries_with_news : (d : Direction) (m : Message) (h : Heard) → h.received ≡ with_news d.from m (heard_at d.to (prefix_of m) ts).received → all_entries (with_value d.to (prefix_of m) h ts) ≡ received_after d m (all_entries ts)
+  pub entries_with_news : (d : Direction) (m : Message) (h : Cell) → h.received ≡ with_news d.from m (cell_at d.to (prefix_of m) ts).received → all_entries (with_value d.to (prefix_of m) h ts) ≡ received_after d m (all_entries ts)
   entries_with_news d (Update p attr) h is = entries_with_route d.to p d.from attr h is
   entries_with_news d (Withdraw p) h is = entries_without_route d.to p d.from h is
 
   -- a cell with the same routes changes nothing
-  pub entries_same : (r : Addr) (p : Block) (h : Heard) → h.received ≡ (heard_at r p ts).received → all_entries (with_value r p h ts) ≡ all_entries ts
+  pub entries_same : (r : Addr) (p : Prefix) (h : Cell) → h.received ≡ (cell_at r p ts).received → all_entries (with_value r p h ts) ≡ all_entries ts
   entries_same r p h is = entries_changed r p r (no_edit (from_key (route_at r p r))) h ts sorted (ap (map (entry_of r p)) is)
 
   -- nor does an empty cell where there is none
-  pub entries_with_empty_cell : (r : Addr) (p : Block) → value_at r p ts ≡ None → all_entries (with_value r p nothing_heard ts) ≡ all_entries ts
-  entries_with_empty_cell r p none = entries_same r p nothing_heard (ap (λ (x : Option Heard). (unwrap_or x nothing_heard).received) (sym none))
+  pub entries_with_empty_cell : (r : Addr) (p : Prefix) → value_at r p ts ≡ None → all_entries (with_value r p new_cell ts) ≡ all_entries ts
+  entries_with_empty_cell r p none = entries_same r p new_cell (ap (λ (x : Option Cell). (unwrap_or x new_cell).received) (sym none))
 
   -- the route that the network has is that of the cell
-  pub route_heard : (r : Addr) (p : Block) (u : Addr) → route_from (all_entries ts) r p u ≡ route_of (heard_at r p ts).received u
-  route_heard r p u = entries_seen r p u (lookup_look route_cmp (route_at r p u)) ts sorted ∙ cell_route r p u (heard_at r p ts).received
+  pub route_in_cell : (r : Addr) (p : Prefix) (u : Addr) → route_from (all_entries ts) r p u ≡ route_of (cell_at r p ts).received u
+  route_in_cell r p u = entries_seen r p u (lookup_look route_cmp (route_at r p u)) ts sorted ∙ cell_route r p u (cell_at r p ts).received
 
 -- THE ORDER OF SENDERS
 

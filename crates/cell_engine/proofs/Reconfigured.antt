@@ -2,7 +2,7 @@
 -- machine's own next state, and the engine stays sound.
 use Rattle.std.proofs.Common.{◌≡◌, Bool, true, false, [], ◌++◌, None, unwrap_or, if◌then◌else◌, refl, sym, ap, subst, ◌∙◌}
 use Rattle.net_prefix.specs.declared.addr.Addr.{Addr}
-use Rattle.session_queue.specs.Waiting.{WaitingByDirection, queue_at}
+use Rattle.session_queue.specs.Waiting.{Queues, queue_at}
 use Rattle.net_conf.specs.declared.edit.Edit.{Edit}
 use Rattle.net_conf.specs.Configuration.{Configuration, has_session}
 use Rattle.net_conf.specs.Configured.{IsConfigured}
@@ -13,8 +13,8 @@ use Rattle.net_conf.proofs.KeptTrees.{or_right}
 use Rattle.net_conf.proofs.OthersStay.{sites_of_others, sessions_stay, origins_alone, other_origins}
 use Rattle.reference_machine.specs.Advertising.{sent}
 use Rattle.reference_machine.specs.Machine.{after_edit, with_sent, reconfigured}
-use Rattle.cell_engine.specs.Cells.{nothing_heard}
-use Rattle.cell_engine.specs.Engine.{Engine, IsSound, network}
+use Rattle.cell_engine.specs.Cells.{new_cell}
+use Rattle.cell_engine.specs.State.{State, IsConsistent, network}
 use Rattle.cell_engine.specs.Keeping.{kept_from, kept_tables}
 use Rattle.cell_engine.specs.Editing.{with_origin, left_at, edited_tables, edited_engine, all_sends, told_by_all}
 use Rattle.cell_engine.specs.Changes.{with_changes, sends_for, AreOverSessionsUp}
@@ -35,12 +35,12 @@ use Rattle.cell_engine.specs.Edits.{Made, planned, IsMade}
 use Rattle.cell_engine.proofs.Delivered.{down_without_session, sent_without_session}
 
 -- the directions of the sessions that are down are cleared
-pub record IsCleared (e : Engine) (c : Configuration) (q : WaitingByDirection) : Type 0 where
+pub record IsCleared (e : State) (c : Configuration) (q : Queues) : Type 0 where
   pub up : (f t : Addr) → is_up c f t ≡ true → queue_at q f t ≡ queue_at e.queues f t
   pub down : (f t : Addr) → has_session c f t ≡ true → is_up c f t ≡ false → queue_at q f t ≡ []
   pub empty : (f t : Addr) → queue_at e.queues f t ≡ [] → queue_at q f t ≡ []
 
-module _ (e : Engine) (sound : IsSound e) (c : Configuration) (still : (f t : Addr) → has_session e.conf f t ≡ true → has_session c f t ≡ true) (q : WaitingByDirection) (cleared : IsCleared e c q) where
+module _ (e : State) (sound : IsConsistent e) (c : Configuration) (still : (f t : Addr) → has_session e.conf f t ≡ true → has_session c f t ≡ true) (q : Queues) (cleared : IsCleared e c q) where
   -- what is left is what was on its way over sessions that are up
   left_over : (f t : Addr) → queue_at q f t ≡ left_at c e.queues f t
   left_over f t = by (is_up c f t) refl where
@@ -53,14 +53,14 @@ module _ (e : Engine) (sound : IsSound e) (c : Configuration) (still : (f t : Ad
     by false is = none_by (has_session e.conf f t) refl is
 
 -- the engine with what the plan makes and these queues
-abbrev pub with_plan : Engine → Made → WaitingByDirection → Engine
+abbrev pub with_plan : State → Made → Queues → State
 with_plan e x r = record { conf = x.conf; tables = with_changes x.changes e.tables; directions = x.directions; queues = r }
 
 -- the queues are those that were cleared, with the plan's messages at their ends
-abbrev pub IsPushed : Made → WaitingByDirection → WaitingByDirection → Type 0
+abbrev pub IsPushed : Made → Queues → Queues → Type 0
 IsPushed x q r = (f t : Addr) → queue_at r f t ≡ queue_at q f t ++ told_by_all (sends_for x.changes) f t
 
-module _ (e : Engine) (sound : IsSound e) (configured : IsConfigured e.conf) (up : AreOverSessionsUp e.conf e.tables) (edit : Edit) where
+module _ (e : State) (sound : IsConsistent e) (configured : IsConfigured e.conf) (up : AreOverSessionsUp e.conf e.tables) (edit : Edit) where
   abbrev new : Configuration
   new = edited e.conf edit
 
@@ -71,7 +71,7 @@ module _ (e : Engine) (sound : IsSound e) (configured : IsConfigured e.conf) (up
   pub unmoved : AreSettledBut (moves e.conf new) e.conf new e.tables
   unmoved r p h at off =
       settled_but_moved e.conf new configured r p h
-      (subst (λ x. kept_from e.conf r (unwrap_or x nothing_heard).received ≡ (unwrap_or x nothing_heard).received) at (up r p))
+      (subst (λ x. kept_from e.conf r (unwrap_or x new_cell).received ≡ (unwrap_or x new_cell).received) at (up r p))
       (is_cell e sound r p h at).decided off
 
   -- with the changes in their places, each cell is decided anew
@@ -91,7 +91,7 @@ module _ (e : Engine) (sound : IsSound e) (configured : IsConfigured e.conf) (up
   plan_of_prefixes x is are = subst (λ (y : Made). AreOfPrefixes (with_changes y.changes e.tables)) (sym is.plan) (subst AreOfPrefixes (sym tables_are) (prefixes_kept new e.tables are))
 
   abbrev Follows : Made → Type 0
-  Follows x = IsConfigured x.conf → (q r : WaitingByDirection) → IsCleared e x.conf q → IsPushed x q r → IsSound (with_plan e x r) × (network (with_plan e x r) ≡ with_sent (network e) (after_edit (network e) edit))
+  Follows x = IsConfigured x.conf → (q r : Queues) → IsCleared e x.conf q → IsPushed x q r → IsConsistent (with_plan e x r) × (network (with_plan e x r) ≡ with_sent (network e) (after_edit (network e) edit))
 
   module _ (allowed : refusal_of e.conf edit ≡ None) (origin : with_origin edit e.tables ≡ e.tables) where
     sent_without : (f t : Addr) → has_session new f t ≡ false → sent (network e) (after_edit (network e) edit) f t ≡ []
@@ -118,7 +118,7 @@ module _ (e : Engine) (sound : IsSound e) (configured : IsConfigured e.conf) (up
         let silent : (f t : Addr) → has_session new f t ≡ false → queue_at r f t ≡ [] =
         λ f t none. queued f t ∙ (λ i. (left f t ∙ ap (λ b. if b then queue_at e.queues f t else []) (down_without_session new f t none)) i ++ (told_edited e sound edit configured then_ allowed f t ∙ sent_without f t none) i) in
         let engine : with_plan e (planned e edit) r ≡ edited_engine e edit r = ap (λ ts. record (edited_engine e edit r) { tables = ts }) all_tables in (
-          subst IsSound (sym engine) (sound_edited e sound edit allowed r silent),
+          subst IsConsistent (sym engine) (sound_edited e sound edit allowed r silent),
           ap network engine ∙ network_edited e sound edit configured then_ allowed r (λ f t. queued f t ∙ ap (λ l. l ++ told_by_all sends f t) (left f t)),
         )
 

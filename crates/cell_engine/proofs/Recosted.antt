@@ -11,7 +11,7 @@ use Rattle.std.specs.FinMap as finite
 use Rattle.std.specs.FinMap.Entries.{put}
 use Rattle.net_prefix.specs.declared.addr.Addr.{Addr}
 use Rattle.net_prefix.specs.Address.{addr_cmp}
-use Rattle.net_prefix.specs.Block.{Block}
+use Rattle.net_prefix.specs.Prefix.{Prefix}
 use Rattle.path_attr.specs.Attribute.{same_maybe_addr}
 use Rattle.path_attr.specs.Path.{holds}
 use Rattle.path_attr.specs.declared.attr.Attr.{Attr}
@@ -33,7 +33,7 @@ use Rattle.route_select.specs.declared.candidate.Standing.TheVariants.{Considere
 use Rattle.route_select.specs.Selection.{source_cmp, Standings, considered_in, best_among, best_of}
 use Rattle.route_select.proofs.EntryLemmas.{source_total, same_source, map_of_none}
 use Rattle.reference_machine.specs.Decision.{own_candidate, is_originated, exclusion, peer_candidate, peer_standing, standing_by, added, has_cluster_loop, is_denial}
-use Rattle.cell_engine.specs.Cells.{Heard, IsDecided, route_of, standings_of, kept_routes, decision, refreshed}
+use Rattle.cell_engine.specs.Cells.{Cell, IsDecided, route_of, standings_of, kept_routes, decision, refreshed}
 use Rattle.cell_engine.specs.SiteMoves.{SitePair, is_about_cost, counts_cost, is_route_moved, is_cost_moved, has_route, is_moved}
 use Rattle.cell_engine.specs.Recosting.{recosted, lone_cost, is_own, recost}
 use Rattle.cell_engine.specs.Updates.{costless}
@@ -43,7 +43,7 @@ use Rattle.cell_engine.proofs.StandingsAfter.{ArePeersInOrder, tied, one_addr, p
 
 -- ONE ROUTE STANDS
 
-module _ (site : SiteConf) (p : Block) (e : Addr × Attr) (x : SiteSession) (found : session_with site e.0 ≡ Some x) (up : x.up ≡ true) where
+module _ (site : SiteConf) (p : Prefix) (e : Addr × Attr) (x : SiteSession) (found : session_with site e.0 ≡ Some x) (up : x.up ≡ true) where
   abbrev alone : Standings
   alone = finite.insert finite.empty (FromPeer e.0) (peer_standing site p x e.1)
 
@@ -126,7 +126,7 @@ kept_by false false true d m h = absurd (true≢false (sym h))
 kept_by false false false true m h = absurd (true≢false (sym h))
 kept_by false false false false m h = refl
 
-module _ (site : SiteConf) (p : Block) (x : SiteSession) (attr : Attr) where
+module _ (site : SiteConf) (p : Prefix) (x : SiteSession) (attr : Attr) where
   abbrev loops : Bool
   loops = holds site.asn attr.path
 
@@ -153,14 +153,14 @@ module _ (site : SiteConf) (p : Block) (x : SiteSession) (attr : Attr) where
 -- BEFORE AND AFTER
 
 -- decided anew, the cell is the same at this cost, and nothing is sent
-abbrev IsSilent : SiteConf → SiteConf → Block → ℕ → Heard → Type 0
-IsSilent old new p k h = refreshed old new p h ≡ record { heard = recosted k h; sends = [] }
+abbrev IsSilent : SiteConf → SiteConf → Prefix → ℕ → Cell → Type 0
+IsSilent old new p k h = refreshed old new p h ≡ record { cell = recosted k h; sends = [] }
 
 -- the cell with one route
-abbrev holding : Addr × Attr → Standings → Heard
+abbrev holding : Addr × Attr → Standings → Cell
 holding e w = record { received = e ∷ []; standings = w }
 
-module _ (s : SiteConf) (os : List Block) (n : Reached) (p : Block) (peers : ArePeersInOrder s.sessions) where
+module _ (s : SiteConf) (os : List Prefix) (n : Reached) (p : Prefix) (peers : ArePeersInOrder s.sessions) where
   abbrev t : SiteConf
   t = with_facts_of s os n
 
@@ -192,7 +192,7 @@ module _ (s : SiteConf) (os : List Block) (n : Reached) (p : Block) (peers : Are
         ap (λ es. decision s t p (holding e w) (record { received = es; standings = standings_of t p es })) is_kept
         ∙ ap (λ v. decision s t p (holding e v) (holding e (standings_of t p (e ∷ [])))) decided
         ∙ (λ i. record {
-          heard = holding e ((costs_k ∙ ap (at_cost k) (sym decided)) i);
+          cell = holding e ((costs_k ∙ ap (at_cost k) (sym decided)) i);
           sends = costs_are_silent s t p _ _ (facts_itself s os n) same_best peers i;
         })
 
@@ -225,7 +225,7 @@ before_too : (o : Option ℕ) (l : Option ℕ) (k : ℕ) → cond (is_some o) l 
 before_too None l k h = absurd (none_some k h)
 before_too (Some m) l k h = (m, refl, h)
 
-module _ (s : SitePair) (p : Block) (k : ℕ) (alike : same_facts s.old s.new ≡ true) (before : is_originated s.old p ≡ false) (after : is_originated s.new p ≡ false) where
+module _ (s : SitePair) (p : Prefix) (k : ℕ) (alike : same_facts s.old s.new ≡ true) (before : is_originated s.old p ≡ false) (after : is_originated s.new p ≡ false) where
   moved_alone : (e : Addr × Attr) → is_moved s p (e ∷ []) ≡ true → option_map_or (counts_cost s.old p e.1) (session_with s.old e.0) false ≡ true
   moved_alone e moved =
       let route : (is_route_moved s p e || false) ≡ true = sym (λ i. cond (alike i) (not (beq (before i) (after i)) || list_any (is_route_moved s p) (e ∷ [])) (has_route s.old p (e ∷ []) || is_originated s.new p)) ∙ moved in
@@ -240,7 +240,7 @@ module _ (s : SitePair) (p : Block) (k : ℕ) (alike : same_facts s.old s.new �
       ∙ over_session s.old s.new.origins s.new.costs p peers (session_with s.old e.0) e known.0 k w refl (moved_alone e moved) known.1 known.2 before after decided
 
 -- where the edit moves the cell, and leaves it its one route at this cost
-pub recosted_alone : (s : SitePair) (p : Block) (h : Heard) (k : ℕ) → IsDecided (Some s.old) p h → ArePeersInOrder s.old.sessions → is_moved s p h.received ≡ true → recost s p h.received ≡ Some k → refreshed s.old s.new p h ≡ record { heard = recosted k h; sends = [] }
+pub recosted_alone : (s : SitePair) (p : Prefix) (h : Cell) (k : ℕ) → IsDecided (Some s.old) p h → ArePeersInOrder s.old.sessions → is_moved s p h.received ≡ true → recost s p h.received ≡ Some k → refreshed s.old s.new p h ≡ record { cell = recosted k h; sends = [] }
 recosted_alone s p h k decided peers moved cost =
     let told = told_by (same_facts s.old s.new) (is_own s p) (lone_cost s h.received) k cost in
     let own = neither (is_originated s.old p) (is_originated s.new p) told.1 in

@@ -10,7 +10,7 @@ use Rattle.std.specs.FinMap as finite
 use Rattle.net_prefix.specs.declared.addr.Addr.{Addr}
 use Rattle.net_prefix.specs.Address.{addr_cmp}
 use Rattle.net_prefix.specs.Orders.{addr_exact}
-use Rattle.net_prefix.specs.Block.{Block, block_cmp}
+use Rattle.net_prefix.specs.Prefix.{Prefix, prefix_cmp}
 use Rattle.session_queue.specs.Lines.{messages_at}
 use Rattle.session_queue.specs.Waiting.{nothing_waits, queue_at}
 use Rattle.net_conf.specs.declared.edit.Edit.{Edit}
@@ -25,11 +25,11 @@ use Rattle.net_conf.specs.Scopes.{scope}
 use Rattle.reference_machine.specs.Decision.{standings}
 use Rattle.reference_machine.specs.Machine.{after_edit, with_sent, reconfigured}
 use Rattle.reference_machine.specs.Network.{Network}
-use Rattle.cell_engine.specs.Cells.{Heard, nothing_heard}
+use Rattle.cell_engine.specs.Cells.{Cell, new_cell}
 use Rattle.cell_engine.specs.Changes.{Change, AreOverSessionsUp, changes_in}
 use Rattle.cell_engine.specs.Decisions.{standings_at, HasStanding, AreFactsMoved, IsTouched, is_cell_of, IsRefreshed}
 use Rattle.cell_engine.specs.Editing.{with_origin, edited_engine}
-use Rattle.cell_engine.specs.Engine.{Engine, IsSound, heard_at, network}
+use Rattle.cell_engine.specs.State.{State, IsConsistent, cell_at, network}
 use Rattle.cell_engine.specs.Keeping.{kept_from, kept_cell, kept_tables}
 use Rattle.cell_engine.specs.Moves.{moves}
 use Rattle.cell_engine.proofs.Ascending.{changes_in_order, chosen_in_order}
@@ -38,9 +38,9 @@ use Rattle.cell_engine.proofs.Decisions.{standings_in_cell}
 use Rattle.cell_engine.proofs.AfterEdit.{sound_edited, received_edited}
 use Rattle.cell_engine.proofs.Kept.{value_kept}
 use Rattle.cell_engine.proofs.Placed.{has_one, IsChosen, changes_chosen, value_unchanged}
-use Rattle.cell_engine.proofs.Routers.{is_router_node, site_of_node, no_router_before, new_router_heard_nothing}
+use Rattle.cell_engine.proofs.Routers.{is_router_node, site_of_node, no_router_before, new_router_has_no_cell}
 use Rattle.cell_engine.proofs.Touched.{Touches, touched}
-use Rattle.cell_engine.specs.Edits.{Planned, planned, IsPlanned, refreshed_by, has_router_kind}
+use Rattle.cell_engine.specs.Edits.{Edited, planned, IsPlanned, refreshed_by, has_router_kind}
 use Rattle.cell_engine.proofs.Reconfigured.{settled, unmoved, tables_are}
 use Rattle.cell_engine.proofs.Whole.{refreshed_of, refreshed_whole}
 
@@ -61,7 +61,7 @@ then_equal Less b = refl
 then_equal Equal b = refl
 then_equal Greater b = refl
 
-module _ (d : Configuration) (r : Addr) (p : Block) (router : is_some (router_site d r) ≡ true) where
+module _ (d : Configuration) (r : Addr) (p : Prefix) (router : is_some (router_site d r) ≡ true) where
   abbrev at_routers : List Change → List Change
   at_routers xs = filter (λ y. is_some (router_site d y.router)) xs
 
@@ -82,8 +82,8 @@ module _ (d : Configuration) (r : Addr) (p : Block) (router : is_some (router_si
       by : (here : Bool) → is_some (router_site d x.router) ≡ here → list_any (is_cell_of r p) (map (λ (y : Change). (y.router, y.prefix)) (cond here (x ∷ at_routers xs) (at_routers xs))) ≡ false → (list_any (is_cell_of r p) (map (λ (y : Change). (y.router, y.prefix)) (at_routers xs)) ≡ false → has_one r p xs ≡ false) → has_one r p (x ∷ xs) ≡ false
       by true is off later =
           let parts = either_false (is_cell_of r p (x.router, x.prefix)) (list_any (is_cell_of r p) (map (λ (y : Change). (y.router, y.prefix)) (at_routers xs))) off in
-          (λ i. (sym (then_equal (addr_cmp r x.router) (block_cmp p x.prefix)) ∙ parts.0) i || later parts.1 i)
-      by false is off later = (λ i. (other (addr_cmp r x.router) refl is i && is_eq (block_cmp p x.prefix)) || later off i)
+          (λ i. (sym (then_equal (addr_cmp r x.router) (prefix_cmp p x.prefix)) ∙ parts.0) i || later parts.1 i)
+      by false is off later = (λ i. (other (addr_cmp r x.router) refl is i && is_eq (prefix_cmp p x.prefix)) || later off i)
 
 -- what holds of each holds of those that are chosen, with the choice
 chosen_all : (P Q : Change → Type 0) (f : Change → Bool) → ((x : Change) → P x → f x ≡ true → Q x) → (xs : List Change) → AllByRecursion P xs → AllByRecursion Q (filter f xs)
@@ -94,11 +94,11 @@ chosen_all P Q f h (x ∷ xs) all = by (f x) refl (chosen_all P Q f h xs all.1)
     by true is rest = (h x all.0 is, rest)
     by false is rest = rest
 
-mapped_all : (Q : Addr × Block → Type 0) (xs : List Change) → AllByRecursion (λ x. Q (x.router, x.prefix)) xs → AllByRecursion Q (map (λ (x : Change). (x.router, x.prefix)) xs)
+mapped_all : (Q : Addr × Prefix → Type 0) (xs : List Change) → AllByRecursion (λ x. Q (x.router, x.prefix)) xs → AllByRecursion Q (map (λ (x : Change). (x.router, x.prefix)) xs)
 mapped_all Q [] all = tt
 mapped_all Q (x ∷ xs) all = (all.0, mapped_all Q xs all.1)
 
-module _ (e : Engine) (sound : IsSound e) (configured : IsConfigured e.conf) (up : AreOverSessionsUp e.conf e.tables) (edit : Edit) (allowed : refusal_of e.conf edit ≡ None) (origin : with_origin edit e.tables ≡ e.tables) where
+module _ (e : State) (sound : IsConsistent e) (configured : IsConfigured e.conf) (up : AreOverSessionsUp e.conf e.tables) (edit : Edit) (allowed : refusal_of e.conf edit ≡ None) (origin : with_origin edit e.tables ≡ e.tables) where
   abbrev new : Configuration
   new = edited e.conf edit
 
@@ -112,46 +112,46 @@ module _ (e : Engine) (sound : IsSound e) (configured : IsConfigured e.conf) (up
   unfolding queue_at messages_at
   no_queue f t = refl
 
-  abbrev later : Engine
+  abbrev later : State
   later = edited_engine e edit nothing_waits
 
-  later_sound : IsSound later
+  later_sound : IsConsistent later
   later_sound = sound_edited e sound edit allowed nothing_waits (λ f t off. no_queue f t)
 
-  same_network : (r : Addr) (p : Block) → standings_at next r p ≡ standings_at (network later) r p
+  same_network : (r : Addr) (p : Prefix) → standings_at next r p ≡ standings_at (network later) r p
   unfolding with_sent reconfigured network
   same_network r p = ap (λ es. option_map_or (λ site. standings site p es) (router_site new r) finite.empty) (sym (received_edited e sound edit allowed))
 
-  stood_before : (r : Addr) (p : Block) → standings_at (network e) r p ≡ (heard_at r p e.tables).standings
+  stood_before : (r : Addr) (p : Prefix) → standings_at (network e) r p ≡ (cell_at r p e.tables).standings
   stood_before r p = standings_in_cell e sound r p
 
-  stood_after : (r : Addr) (p : Block) → standings_at next r p ≡ (heard_at r p (kept_tables new e.tables)).standings
+  stood_after : (r : Addr) (p : Prefix) → standings_at next r p ≡ (cell_at r p (kept_tables new e.tables)).standings
   stood_after r p =
       same_network r p
       ∙ standings_in_cell later later_sound r p
-      ∙ ap (λ ts. (heard_at r p (kept_tables new ts)).standings) origin
+      ∙ ap (λ ts. (cell_at r p (kept_tables new ts)).standings) origin
 
-  empty_before : (r : Addr) (p : Block) → router_site e.conf r ≡ None → standings_at (network e) r p ≡ finite.empty
+  empty_before : (r : Addr) (p : Prefix) → router_site e.conf r ≡ None → standings_at (network e) r p ≡ finite.empty
   unfolding network
   empty_before r p at = ap (λ o. option_map_or (λ site. standings site p (network e).received) o finite.empty) at
 
-  empty_later : (r : Addr) (p : Block) → router_site new r ≡ None → standings_at (network later) r p ≡ finite.empty
+  empty_later : (r : Addr) (p : Prefix) → router_site new r ≡ None → standings_at (network later) r p ≡ finite.empty
   unfolding network
   empty_later r p at = ap (λ o. option_map_or (λ site. standings site p (network later).received) o finite.empty) at
 
-  no_standings : (r : Addr) (p : Block) → router_site new r ≡ None → standings_at (network e) r p ≡ standings_at next r p
+  no_standings : (r : Addr) (p : Prefix) → router_site new r ≡ None → standings_at (network e) r p ≡ standings_at next r p
   no_standings r p at = empty_before r p (no_router_before e.conf edit allowed r at) ∙ sym (same_network r p ∙ empty_later r p at)
 
   -- where a cell is not decided anew, each route stands as before
-  complete : (r : Addr) (p : Block) → list_any (is_cell_of r p) (refreshed_of (planned e edit)) ≡ false → standings_at (network e) r p ≡ standings_at next r p
+  complete : (r : Addr) (p : Prefix) → list_any (is_cell_of r p) (refreshed_of (planned e edit)) ≡ false → standings_at (network e) r p ≡ standings_at next r p
   complete r p none = by (router_site new r) refl
     where
       by : (o : Option SiteConf) → router_site new r ≡ o → standings_at (network e) r p ≡ standings_at next r p
       by None at = no_standings r p at
       by (Some site) at =
           stood_before r p
-          ∙ ap (λ (o : Option Heard). (unwrap_or o nothing_heard).standings) (sym (value_unchanged (moves e.conf new) (scope edit) e.conf new e.tables sound.by_address (settled e sound configured up edit) (unmoved e sound configured up edit) r p (not_among new r p (ap is_some at) changes none)))
-          ∙ ap (λ ts. (heard_at r p ts).standings) (tables_are e sound configured up edit)
+          ∙ ap (λ (o : Option Cell). (unwrap_or o new_cell).standings) (sym (value_unchanged (moves e.conf new) (scope edit) e.conf new e.tables sound.by_address (settled e sound configured up edit) (unmoved e sound configured up edit) r p (not_among new r p (ap is_some at) changes none)))
+          ∙ ap (λ ts. (cell_at r p ts).standings) (tables_are e sound configured up edit)
           ∙ sym (stood_after r p)
 
   -- each is touched
@@ -159,27 +159,27 @@ module _ (e : Engine) (sound : IsSound e) (configured : IsConfigured e.conf) (up
     abbrev r : Addr
     r = x.router
 
-    abbrev p : Block
+    abbrev p : Prefix
     p = x.prefix
 
-    abbrev h : Heard
-    h = chosen.heard
+    abbrev h : Cell
+    h = chosen.cell
 
     before_is : standings_at (network e) r p ≡ h.standings
-    before_is = stood_before r p ∙ ap (λ (o : Option Heard). (unwrap_or o nothing_heard).standings) chosen.at
+    before_is = stood_before r p ∙ ap (λ (o : Option Cell). (unwrap_or o new_cell).standings) chosen.at
 
     after_is : standings_at next r p ≡ (kept_cell new r p h).standings
     after_is =
         stood_after r p
-        ∙ ap (λ (o : Option Heard). (unwrap_or o nothing_heard).standings) (value_kept new r p e.tables ∙ ap (option_map (kept_cell new r p)) chosen.at)
+        ∙ ap (λ (o : Option Cell). (unwrap_or o new_cell).standings) (value_kept new r p e.tables ∙ ap (option_map (kept_cell new r p)) chosen.at)
 
     kept : kept_from e.conf r h.received ≡ h.received
-    kept = subst (λ o. kept_from e.conf r (unwrap_or o nothing_heard).received ≡ (unwrap_or o nothing_heard).received) chosen.at (up r p)
+    kept = subst (λ o. kept_from e.conf r (unwrap_or o new_cell).received ≡ (unwrap_or o new_cell).received) chosen.at (up r p)
 
     touches : Touches e.conf new configured r p h (is_cell e sound r p h chosen.at).by_sender kept (is_cell e sound r p h chosen.at).decided
     touches =
         touched e.conf new configured r p h (is_cell e sound r p h chosen.at).by_sender kept (is_cell e sound r p h chosen.at).decided chosen.chosen
-        (λ at. new_router_heard_nothing e.conf edit allowed configured r at router h.received kept)
+        (λ at. new_router_has_no_cell e.conf edit allowed configured r at router h.received kept)
         (λ gone. true≢false (sym router ∙ ap is_some gone))
 
     standing_by : (h.standings ≡ finite.empty → ⊥) ⊎ ((kept_cell new r p h).standings ≡ finite.empty → ⊥) → HasStanding (network e) r p ⊎ HasStanding next r p
@@ -205,5 +205,5 @@ module _ (e : Engine) (sound : IsSound e) (configured : IsConfigured e.conf) (up
   }
 
   -- what its plan does
-  pub refreshes : (x : Planned) → IsPlanned e edit x → IsRefreshed (network e) next (refreshed_by x)
+  pub refreshes : (x : Edited) → IsPlanned e edit x → IsRefreshed (network e) next (refreshed_by x)
   refreshes x is = subst (IsRefreshed (network e) next) (sym (refreshed_whole e.tables x ∙ ap refreshed_of is.plan)) made_refreshes

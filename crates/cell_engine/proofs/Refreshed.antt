@@ -15,12 +15,12 @@ use Rattle.std.specs.FinMap as finite
 use Rattle.std.specs.FinMap.Entries as entries
 use Rattle.net_prefix.specs.declared.addr.Addr.{Addr}
 use Rattle.net_prefix.specs.Address.{same_addr, addr_cmp}
-use Rattle.net_prefix.specs.Block.{Block, block_cmp}
-use Rattle.net_prefix.specs.Orders.{block_total}
+use Rattle.net_prefix.specs.Prefix.{Prefix, prefix_cmp}
+use Rattle.net_prefix.specs.Orders.{prefix_total}
 use Rattle.prefix_table.specs.Tables.{Table}
 use Rattle.session_queue.specs.declared.message.Message.{Message}
 use Rattle.session_queue.specs.Lines.{messages_at}
-use Rattle.session_queue.specs.Waiting.{WaitingByDirection, nothing_waits, queue_at}
+use Rattle.session_queue.specs.Waiting.{Queues, nothing_waits, queue_at}
 use Rattle.net_conf.specs.Configuration.{Configuration, node_at, has_node, is_virtual, is_kind_virtual, has_session}
 use Rattle.net_conf.specs.Configured.{IsConfigured}
 use Rattle.net_conf.specs.Costs.{is_up}
@@ -37,14 +37,14 @@ use Rattle.reference_machine.specs.Decision.{best, standings}
 use Rattle.reference_machine.specs.Advertising.{advert_of, advertised, change_of, sends, changes, sent}
 use Rattle.reference_machine.specs.Machine.{reconfigured, after_edit, with_sent}
 use Rattle.cell_engine.specs.RouterTables.{table_at, value_at}
-use Rattle.cell_engine.specs.Cells.{Heard, nothing_heard, is_up_in, refreshed}
-use Rattle.cell_engine.specs.Engine.{Engine, IsSound, heard_at, network}
+use Rattle.cell_engine.specs.Cells.{Cell, new_cell, is_up_in, refreshed}
+use Rattle.cell_engine.specs.State.{State, IsConsistent, cell_at, network}
 use Rattle.cell_engine.specs.Keeping.{kept_cell, kept_tables}
 use Rattle.cell_engine.specs.Sending.{told}
 use Rattle.cell_engine.specs.Editing.{left_at, with_origin, sends_between, cell_sends, router_sends, all_sends, told_by_all, edited_engine}
 use Rattle.cell_engine.proofs.Chunks.{of_T}
 use Rattle.cell_engine.proofs.Flat.{no_cells}
-use Rattle.cell_engine.proofs.Decided.{site_at, none_best, best_heard}
+use Rattle.cell_engine.proofs.Decided.{site_at, none_best, best_in_cell}
 use Rattle.cell_engine.proofs.Sites.{up_in_site, refreshed_is_kept, site_of_router}
 use Rattle.cell_engine.proofs.Kept.{value_kept}
 use Rattle.cell_engine.proofs.Offers.{same_addr_true, turn, changes_from}
@@ -115,31 +115,31 @@ told_append t xs ys =
     ap (map (λ e. e.1)) (filter-append (λ e. same_addr t e.0) xs ys) ∙ map-append (λ e. e.1) (filter (λ e. same_addr t e.0) xs) (filter (λ e. same_addr t e.0) ys)
 
 module _ (c d : Configuration) (t : Addr) where
-  told_cells : (r : Addr) (cells : List (Block × Heard)) → told t (router_sends c d r cells) ≡ flat_map (λ e. told t (cell_sends c d r e.0 e.1)) cells
+  told_cells : (r : Addr) (cells : List (Prefix × Cell)) → told t (router_sends c d r cells) ≡ flat_map (λ e. told t (cell_sends c d r e.0 e.1)) cells
   told_cells r [] = refl
   told_cells r (e ∷ es) = told_append t (cell_sends c d r e.0 e.1) (router_sends c d r es) ∙ ap (λ l. told t (cell_sends c d r e.0 e.1) ++ l) (told_cells r es)
 
-  abbrev by_all : List (Addr × Table Heard) → Addr → List Message
+  abbrev by_all : List (Addr × Table Cell) → Addr → List Message
   by_all ts f = told_by_all (all_sends c d ts) f t
 
   not_tied : (r : Ordering) → r ≡ Less → is_eq r ≡ false
   not_tied r h = ap is_eq h
 
   -- nothing by routers that come after
-  told_past : (f : Addr) (ts : List (Addr × Table Heard)) → entries.below_all addr_cmp f ts ≡ true → by_all ts f ≡ []
+  told_past : (f : Addr) (ts : List (Addr × Table Cell)) → entries.below_all addr_cmp f ts ≡ true → by_all ts f ≡ []
   told_past f [] h = refl
   told_past f (x ∷ xs) h =
       let parts = and_parts (is_lt (addr_cmp f x.0)) (entries.below_all addr_cmp f xs) h in
       ap (λ b. (if b then told t (router_sends c d x.0 (finite.entries x.1)) else []) ++ by_all xs f) (unsigned_ties f.0 x.0.0 ∙ not_tied (addr_cmp f x.0) (less_of (addr_cmp f x.0) parts.0))
       ∙ told_past f xs parts.1
 
-  abbrev by_router : Addr → Table Heard → List Message
+  abbrev by_router : Addr → Table Cell → List Message
   by_router r cells = told t (router_sends c d r (finite.entries cells))
 
-  abbrev Told : Addr → List (Addr × Table Heard) → Type 0
+  abbrev Told : Addr → List (Addr × Table Cell) → Type 0
   Told f ts = by_all ts f ≡ by_router f (table_at f ts)
 
-  told_by : (b : Bool) (f : Addr) (x : Addr × Table Heard) (xs : List (Addr × Table Heard)) → same_addr f x.0 ≡ b → entries.below_all addr_cmp x.0 xs ≡ true → Told f xs → (if b then by_router x.0 x.1 else []) ++ by_all xs f ≡ by_router f (unwrap_or (cond b (Some x.1) (entries.find addr_cmp f xs)) finite.empty)
+  told_by : (b : Bool) (f : Addr) (x : Addr × Table Cell) (xs : List (Addr × Table Cell)) → same_addr f x.0 ≡ b → entries.below_all addr_cmp x.0 xs ≡ true → Told f xs → (if b then by_router x.0 x.1 else []) ++ by_all xs f ≡ by_router f (unwrap_or (cond b (Some x.1) (entries.find addr_cmp f xs)) finite.empty)
   told_by true f x xs is below rest =
       let at : f ≡ x.0 = same_addr_true f x.0 is in
       let none : by_all xs f ≡ [] = told_past f xs (ap (λ k. entries.below_all addr_cmp k xs) at ∙ below) in
@@ -147,7 +147,7 @@ module _ (c d : Configuration) (t : Addr) where
   told_by false f x xs is below rest = rest
 
   -- what a router sends it sends for the cells of its table
-  pub told_at : (f : Addr) (ts : List (Addr × Table Heard)) → entries.is_sorted addr_cmp ts ≡ true → Told f ts
+  pub told_at : (f : Addr) (ts : List (Addr × Table Cell)) → entries.is_sorted addr_cmp ts ≡ true → Told f ts
   told_at f [] h = sym (ap (λ es. told t (router_sends c d f es)) no_cells)
   told_at f (x ∷ xs) h =
       let parts = and_parts (entries.below_all addr_cmp x.0 xs) (entries.is_sorted addr_cmp xs) h in
@@ -193,20 +193,20 @@ none_if true = refl
 none_if false = refl
 
 -- nothing is advertised where nothing is chosen
-none_advertised : (s : Network) (f t : Addr) (p : Block) → best s f p ≡ None → advertised s f t p ≡ None
+none_advertised : (s : Network) (f t : Addr) (p : Prefix) → best s f p ≡ None → advertised s f t p ≡ None
 unfolding advertised
 none_advertised s f t p none = ap (advert_of (is_up s.conf f t) (site_of s.conf f) t p) none ∙ none_if (is_up s.conf f t)
 
 -- THE EDIT
 
-module _ (e : Engine) (sound : IsSound e) (edit : Edit) (configured : IsConfigured e.conf) (configured_then : IsConfigured (edited e.conf edit)) (none : refusal_of e.conf edit ≡ None) where
+module _ (e : State) (sound : IsConsistent e) (edit : Edit) (configured : IsConfigured e.conf) (configured_then : IsConfigured (edited e.conf edit)) (none : refusal_of e.conf edit ≡ None) where
   abbrev old : Configuration
   old = e.conf
 
   abbrev new : Configuration
   new = edited e.conf edit
 
-  abbrev ts : List (Addr × Table Heard)
+  abbrev ts : List (Addr × Table Cell)
   ts = with_origin edit e.tables
 
   abbrev before : Network
@@ -217,24 +217,24 @@ module _ (e : Engine) (sound : IsSound e) (edit : Edit) (configured : IsConfigur
 
   -- CHOICES
 
-  best_before : (f : Addr) (p : Block) → is_virtual old f ≡ false → best before f p ≡ best_of (heard_at f p ts).standings
+  best_before : (f : Addr) (p : Prefix) → is_virtual old f ≡ false → best before f p ≡ best_of (cell_at f p ts).standings
   best_before f p router =
-      ap (λ s. best s f p) (sym (network_originating e sound edit)) ∙ best_heard (originating e sound edit) (sound_originating e sound edit) f p router
+      ap (λ s. best s f p) (sym (network_originating e sound edit)) ∙ best_in_cell (originating e sound edit) (sound_originating e sound edit) f p router
 
   none_waits : (f t : Addr) → queue_at nothing_waits f t ≡ []
   unfolding queue_at messages_at
   none_waits f t = refl
 
-  same_after : (f : Addr) (p : Block) → best after f p ≡ best (network (edited_engine e edit nothing_waits)) f p
+  same_after : (f : Addr) (p : Prefix) → best after f p ≡ best (network (edited_engine e edit nothing_waits)) f p
   unfolding best network reconfigured
   same_after f p = ap (λ es. option_and_then (λ site. best_of (standings site p es)) (site_of new f)) (sym (received_edited e sound edit none))
 
-  best_after : (f : Addr) (p : Block) → is_virtual new f ≡ false → best after f p ≡ best_of (heard_at f p (kept_tables new ts)).standings
+  best_after : (f : Addr) (p : Prefix) → is_virtual new f ≡ false → best after f p ≡ best_of (cell_at f p (kept_tables new ts)).standings
   best_after f p router =
-      same_after f p ∙ best_heard (edited_engine e edit nothing_waits) (sound_edited e sound edit none nothing_waits (λ f t alone. none_waits f t)) f p router
+      same_after f p ∙ best_in_cell (edited_engine e edit nothing_waits) (sound_edited e sound edit none nothing_waits (λ f t alone. none_waits f t)) f p router
 
-  kept_heard : (f : Addr) (p : Block) (x : Option Heard) → value_at f p ts ≡ x → heard_at f p (kept_tables new ts) ≡ unwrap_or (option_map (kept_cell new f p) x) nothing_heard
-  kept_heard f p x is = ap (λ y. unwrap_or y nothing_heard) (value_kept new f p ts ∙ ap (option_map (kept_cell new f p)) is)
+  kept_cell_is : (f : Addr) (p : Prefix) (x : Option Cell) → value_at f p ts ≡ x → cell_at f p (kept_tables new ts) ≡ unwrap_or (option_map (kept_cell new f p) x) new_cell
+  kept_cell_is f p x is = ap (λ y. unwrap_or y new_cell) (value_kept new f p ts ∙ ap (option_map (kept_cell new f p)) is)
 
   -- ONE CELL
 
@@ -242,21 +242,21 @@ module _ (e : Engine) (sound : IsSound e) (edit : Edit) (configured : IsConfigur
     abbrev in_site : site_of new f ≡ Some site
     in_site = site_of_router new f site is
 
-    abbrev cells : List (Block × Heard)
+    abbrev cells : List (Prefix × Cell)
     cells = finite.entries (table_at f ts)
 
-    abbrev change_sent : SiteConf → Block → Heard → Option Message
-    change_sent had p h = change_of p (advert_of (is_up_in had t) (Some had) t p (best_of h.standings)) (advert_of true (Some site) t p (best_of (refreshed had site p h).heard.standings))
+    abbrev change_sent : SiteConf → Prefix → Cell → Option Message
+    change_sent had p h = change_of p (advert_of (is_up_in had t) (Some had) t p (best_of h.standings)) (advert_of true (Some site) t p (best_of (refreshed had site p h).cell.standings))
 
-    told_cell : (had : SiteConf) (p : Block) (h : Heard) → told t (refreshed had site p h).sends ≡ (if is_up_in site t then option_to_list (change_sent had p h) else [])
+    told_cell : (had : SiteConf) (p : Prefix) (h : Cell) → told t (refreshed had site p h).sends ≡ (if is_up_in site t then option_to_list (change_sent had p h) else [])
     unfolding refreshed
-    told_cell had p h = told_one had site p (best_of h.standings) (best_of (refreshed had site p h).heard.standings) (site_sessions_in_order new f site configured_then in_site) t
+    told_cell had p h = told_one had site p (best_of h.standings) (best_of (refreshed had site p h).cell.standings) (site_sessions_in_order new f site configured_then in_site) t
 
-    sends_are : (had : Option SiteConf) → router_site old f ≡ had → (p : Block) (h : Heard) → cell_sends old new f p h ≡ (refreshed (unwrap_or had site) site p h).sends
+    sends_are : (had : Option SiteConf) → router_site old f ≡ had → (p : Prefix) (h : Cell) → cell_sends old new f p h ≡ (refreshed (unwrap_or had site) site p h).sends
     sends_are had was p h = λ i. sends_between (was i) (is i) p h
 
     -- nothing over a session that is down
-    cell_down : is_up_in site t ≡ false → (x : Block × Heard) → told t (cell_sends old new f x.0 x.1) ≡ []
+    cell_down : is_up_in site t ≡ false → (x : Prefix × Cell) → told t (cell_sends old new f x.0 x.1) ≡ []
     cell_down down x =
         let had = unwrap_or (router_site old f) site in
         ap (told t) (sends_are (router_site old f) refl x.0 x.1) ∙ told_cell had x.0 x.1 ∙ ap (λ b. if b then option_to_list (change_sent had x.0 x.1) else []) down
@@ -266,19 +266,19 @@ module _ (e : Engine) (sound : IsSound e) (edit : Edit) (configured : IsConfigur
       was_site = site_of_router old f had was
 
       -- a cell's change is the machine's
-      same_change : (p : Block) (h : Heard) → value_at f p ts ≡ Some h → change_sent had p h ≡ turn before after f t p
+      same_change : (p : Prefix) (h : Cell) → value_at f p ts ≡ Some h → change_sent had p h ≡ turn before after f t p
       unfolding advertised network reconfigured
       same_change p h here =
           let was_up : is_up_in had t ≡ is_up old f t = up_in_site old f had was_site t in
           let up_now : true ≡ is_up new f t = sym up ∙ up_in_site new f site in_site t in
           let chosen_before : best_of h.standings ≡ best before f p =
-          sym (best_before f p (not_virtual old f had was) ∙ ap (λ x. best_of (unwrap_or x nothing_heard).standings) here) in
-          let chosen_after : best_of (refreshed had site p h).heard.standings ≡ best after f p =
-          ap (λ (x : Heard). best_of x.standings) (refreshed_is_kept new f had site p h is)
-          ∙ sym (best_after f p (not_virtual new f site is) ∙ ap (λ (x : Heard). best_of x.standings) (kept_heard f p (Some h) here)) in
+          sym (best_before f p (not_virtual old f had was) ∙ ap (λ x. best_of (unwrap_or x new_cell).standings) here) in
+          let chosen_after : best_of (refreshed had site p h).cell.standings ≡ best after f p =
+          ap (λ (x : Cell). best_of x.standings) (refreshed_is_kept new f had site p h is)
+          ∙ sym (best_after f p (not_virtual new f site is) ∙ ap (λ (x : Cell). best_of x.standings) (kept_cell_is f p (Some h) here)) in
           λ i. change_of p (advert_of (was_up i) (sym was_site i) t p (chosen_before i)) (advert_of (up_now i) (sym in_site i) t p (chosen_after i))
 
-      cell_up : (x : Block × Heard) → entries.find block_cmp x.0 cells ≡ Some x.1 → told t (cell_sends old new f x.0 x.1) ≡ option_to_list (turn before after f t x.0)
+      cell_up : (x : Prefix × Cell) → entries.find prefix_cmp x.0 cells ≡ Some x.1 → told t (cell_sends old new f x.0 x.1) ≡ option_to_list (turn before after f t x.0)
       cell_up x found =
           ap (told t) (sends_are (Some had) was x.0 x.1)
           ∙ told_cell had x.0 x.1
@@ -286,24 +286,24 @@ module _ (e : Engine) (sound : IsSound e) (edit : Edit) (configured : IsConfigur
           ∙ ap option_to_list (same_change x.0 x.1 (finite.get-entries (table_at f ts) x.0 ∙ found))
 
       -- and so is that of no cell: none
-      no_cell : (q : Block) → list_any (eq_by_cmp block_cmp q) (keys_of cells) ≡ false → value_at f q ts ≡ None
-      no_cell q off = finite.get-entries (table_at f ts) q ∙ none_found (entries.find block_cmp q cells) (entries.is_some-find block_cmp q cells ∙ off) where
-        none_found : (x : Option Heard) → is_some x ≡ false → x ≡ None
+      no_cell : (q : Prefix) → list_any (eq_by_cmp prefix_cmp q) (keys_of cells) ≡ false → value_at f q ts ≡ None
+      no_cell q off = finite.get-entries (table_at f ts) q ∙ none_found (entries.find prefix_cmp q cells) (entries.is_some-find prefix_cmp q cells ∙ off) where
+        none_found : (x : Option Cell) → is_some x ≡ false → x ≡ None
         none_found None h = refl
         none_found (Some h) h' = absurd (true≢false h')
 
-      none_sent : (q : Block) → list_any (eq_by_cmp block_cmp q) (keys_of cells) ≡ false → turn before after f t q ≡ None
+      none_sent : (q : Prefix) → list_any (eq_by_cmp prefix_cmp q) (keys_of cells) ≡ false → turn before after f t q ≡ None
       none_sent q off =
           let gone = no_cell q off in
-          let was_none = best_before f q (not_virtual old f had was) ∙ ap (λ x. best_of (unwrap_or x nothing_heard).standings) gone ∙ none_best in
-          let is_none = best_after f q (not_virtual new f site is) ∙ ap (λ (x : Heard). best_of x.standings) (kept_heard f q None gone) ∙ none_best in
+          let was_none = best_before f q (not_virtual old f had was) ∙ ap (λ x. best_of (unwrap_or x new_cell).standings) gone ∙ none_best in
+          let is_none = best_after f q (not_virtual new f site is) ∙ ap (λ (x : Cell). best_of x.standings) (kept_cell_is f q None gone) ∙ none_best in
           λ i. change_of q (none_advertised before f t q was_none i) (none_advertised after f t q is_none i)
 
       told_changes : flat_map (λ x. told t (cell_sends old new f x.0 x.1)) cells ≡ changes before after f t
       told_changes =
           let sorted = of_T _ (finite.entries_sorted (table_at f ts)) in
-          picked_each (λ x. told t (cell_sends old new f x.0 x.1)) (turn before after f t) cells (all_from (λ x. entries.find block_cmp x.0 cells ≡ Some x.1) _ cell_up cells (found_each block_total cells sorted))
-          ∙ sym (changes_from before after f t (keys_of cells) (keys_in_order block_total cells sorted) none_sent)
+          picked_each (λ x. told t (cell_sends old new f x.0 x.1)) (turn before after f t) cells (all_from (λ x. entries.find prefix_cmp x.0 cells ≡ Some x.1) _ cell_up cells (found_each prefix_total cells sorted))
+          ∙ sym (changes_from before after f t (keys_of cells) (keys_in_order prefix_total cells sorted) none_sent)
 
     -- a router that is new has no session
     not_new : router_site old f ≡ None → is_up_in site t ≡ true → ⊥
@@ -354,7 +354,7 @@ module _ (e : Engine) (sound : IsSound e) (edit : Edit) (configured : IsConfigur
   queued_at f t = left_at new e.queues f t ++ told_by_all (all_sends old new ts) f t
 
   -- and the network is the machine's own after the edit
-  pub network_edited : (q : WaitingByDirection) → ((f t : Addr) → queue_at q f t ≡ queued_at f t) → network (edited_engine e edit q) ≡ with_sent before after
+  pub network_edited : (q : Queues) → ((f t : Addr) → queue_at q f t ≡ queued_at f t) → network (edited_engine e edit q) ≡ with_sent before after
   unfolding with_sent
   network_edited q is =
       network_left_and_more e sound edit none (sent before after) q (λ f t. is f t ∙ ap (λ l. left_at new e.queues f t ++ l) (told_edited f t))

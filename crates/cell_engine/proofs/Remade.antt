@@ -4,11 +4,11 @@ use Rattle.std.proofs.lemmas.List.{append-nil}
 use Rattle.std.proofs.lemmas.Option.{none-some, same_Some}
 use Rattle.std.specs.FinMap as finite
 use Rattle.net_prefix.specs.declared.addr.Addr.{Addr}
-use Rattle.net_prefix.specs.Block.{Block}
+use Rattle.net_prefix.specs.Prefix.{Prefix}
 use Rattle.net_conf.specs.Configuration.{Configuration}
 use Rattle.net_conf.specs.RouterSites.{router_site}
 use Rattle.net_conf.specs.declared.site.SiteConf.{SiteConf}
-use Rattle.cell_engine.specs.Cells.{Heard, Outcome, decided, refreshed}
+use Rattle.cell_engine.specs.Cells.{Cell, Outcome, decided, refreshed}
 use Rattle.cell_engine.specs.SiteMoves.{SitePair}
 use Rattle.cell_engine.specs.Keeping.{kept_from, kept_cell}
 use Rattle.cell_engine.specs.Editing.{sends_between}
@@ -18,12 +18,12 @@ use Rattle.cell_engine.specs.Becomings.{pair_of}
 -- ONE CELL
 
 -- what becomes of the cell, and what is sent for that
-abbrev pub remade : Configuration → Option SiteConf → Option SiteConf → Addr → Block → Heard → Outcome
-remade c old new r p h = record { heard = kept_cell c r p h; sends = sends_between old new p h }
+abbrev pub remade : Configuration → Option SiteConf → Option SiteConf → Addr → Prefix → Cell → Outcome
+remade c old new r p h = record { cell = kept_cell c r p h; sends = sends_between old new p h }
 
 -- at a router
-pub remade_by_router : (c : Configuration) (old : Option SiteConf) (site : SiteConf) (r : Addr) (p : Block) (h : Heard) → router_site c r ≡ Some site → refreshed (unwrap_or old site) site p h ≡ remade c old (Some site) r p h
-remade_by_router c old site r p h is = λ i. record { heard = refreshed_is_kept c r (unwrap_or old site) site p h is i; sends = (refreshed (unwrap_or old site) site p h).sends }
+pub remade_by_router : (c : Configuration) (old : Option SiteConf) (site : SiteConf) (r : Addr) (p : Prefix) (h : Cell) → router_site c r ≡ Some site → refreshed (unwrap_or old site) site p h ≡ remade c old (Some site) r p h
+remade_by_router c old site r p h is = λ i. record { cell = refreshed_is_kept c r (unwrap_or old site) site p h is i; sends = (refreshed (unwrap_or old site) site p h).sends }
 
 -- where both parts are compared, these are they
 pub pair_some : (old new : Option SiteConf) (s : SitePair) → Some s ≡ pair_of old new → (old ≡ Some s.old) × (new ≡ Some s.new)
@@ -40,7 +40,7 @@ pair_none None new is = refl
 pair_none (Some a) new is = absurd (none-some (record { old = a; new = new }) is)
 
 -- at a virtual peer, or where nobody is
-pub remade_by_peer : (c : Configuration) (r : Addr) (p : Block) (h : Heard) → router_site c r ≡ None → ◌≡◌ {A = Heard} (record { received = kept_from c r h.received; standings = finite.empty }) (kept_cell c r p h)
+pub remade_by_peer : (c : Configuration) (r : Addr) (p : Prefix) (h : Cell) → router_site c r ≡ None → ◌≡◌ {A = Cell} (record { received = kept_from c r h.received; standings = finite.empty }) (kept_cell c r p h)
 remade_by_peer c r p h is = ap (λ site. decided site p (kept_from c r h.received)) (sym is)
 
 -- IN A WALK

@@ -4,8 +4,8 @@ use Rattle.std.proofs.lemmas.Bool.{true≢false}
 use Rattle.std.specs.List.{list_any, filter_map}
 use Rattle.std.specs.Ordering.{eq_by_cmp}
 use Rattle.net_prefix.specs.declared.addr.Addr.{Addr}
-use Rattle.net_prefix.specs.Block.{Block, block_cmp}
-use Rattle.net_prefix.specs.Orders.{block_total, block_exact}
+use Rattle.net_prefix.specs.Prefix.{Prefix, prefix_cmp}
+use Rattle.net_prefix.specs.Orders.{prefix_total, prefix_exact}
 use Rattle.session_queue.specs.declared.direction.Direction.{Direction}
 use Rattle.session_queue.specs.declared.message.Message.{Message}
 use Rattle.session_queue.specs.Waiting.{queue_at, IsQuiet}
@@ -21,12 +21,12 @@ use Rattle.reference_machine.specs.Advertising.{advert_of, advertised, prefixes_
 use Rattle.reference_machine.specs.Reports.{held_of, loc_rib, choice, adj_rib_out, queue, is_quiet}
 use Rattle.reference_machine.proofs.Known.{chosen_known}
 use Rattle.cell_engine.specs.RouterTables.{table_at}
-use Rattle.cell_engine.specs.Cells.{nothing_heard}
-use Rattle.cell_engine.specs.Engine.{Engine, IsSound, heard_at, network}
+use Rattle.cell_engine.specs.Cells.{new_cell}
+use Rattle.cell_engine.specs.State.{State, IsConsistent, cell_at, network}
 use Rattle.cell_engine.specs.Reporting.{cells_of, routes_chosen, adverts_to, queue_in}
-use Rattle.cell_engine.proofs.Decided.{best_heard, none_best}
+use Rattle.cell_engine.proofs.Decided.{best_in_cell, none_best}
 use Rattle.cell_engine.proofs.Listed.{listed}
-use Rattle.cell_engine.proofs.Offers.{block_tied, none_if}
+use Rattle.cell_engine.proofs.Offers.{prefix_tied, none_if}
 use Rattle.cell_engine.proofs.Picks.{sorted_gathered}
 use Rattle.cell_engine.proofs.Queues.{messages_of_network, quiet_network, quiet_queues}
 
@@ -37,20 +37,20 @@ not_true true h = absurd (h refl)
 not_true false h = refl
 
 -- nothing is chosen for a prefix that the router does not know
-unknown : (s : Network) (r : Addr) (q : Block) → list_any (eq_by_cmp block_cmp q) (in_order (prefixes_at s r)) ≡ false → best s r q ≡ None
+unknown : (s : Network) (r : Addr) (q : Prefix) → list_any (eq_by_cmp prefix_cmp q) (in_order (prefixes_at s r)) ≡ false → best s r q ≡ None
 unknown s r q off =
-    none_from (best s r q) (not_true _ (λ some. true≢false (sym (chosen_known s r q some) ∙ (λ i. list_any (λ p. block_tied q p i) (in_order (prefixes_at s r))) ∙ off)))
+    none_from (best s r q) (not_true _ (λ some. true≢false (sym (chosen_known s r q some) ∙ (λ i. list_any (λ p. prefix_tied q p i) (in_order (prefixes_at s r))) ∙ off)))
 
-module _ (e : Engine) (sound : IsSound e) (r : Addr) (router : is_virtual e.conf r ≡ false) where
-  module _ {V : Type 0} (G : Block → Option Candidate → Option V) (nothing : (p : Block) → G p None ≡ None) where
+module _ (e : State) (sound : IsConsistent e) (r : Addr) (router : is_virtual e.conf r ≡ false) where
+  module _ {V : Type 0} (G : Prefix → Option Candidate → Option V) (nothing : (p : Prefix) → G p None ≡ None) where
     -- what is said of each prefix that the router knows, by its choice, is said of its cells
     by_cells : filter_map (λ p. G p (best (network e) r p)) (in_order (prefixes_at (network e) r)) ≡ filter_map (λ c. G c.0 (best_of c.1.standings)) (cells_of r e.tables)
     by_cells =
-        listed block_total block_exact (table_at r e.tables) (λ p. G p (best (network e) r p)) (λ c. G c.0 (best_of c.1.standings))
-        (λ p h is. ap (G p) (best_heard e sound r p router ∙ ap (λ x. best_of (unwrap_or x nothing_heard).standings) is))
-        (λ p none. ap (G p) (best_heard e sound r p router ∙ ap (λ x. best_of (unwrap_or x nothing_heard).standings) none ∙ none_best) ∙ nothing p)
+        listed prefix_total prefix_exact (table_at r e.tables) (λ p. G p (best (network e) r p)) (λ c. G c.0 (best_of c.1.standings))
+        (λ p h is. ap (G p) (best_in_cell e sound r p router ∙ ap (λ x. best_of (unwrap_or x new_cell).standings) is))
+        (λ p none. ap (G p) (best_in_cell e sound r p router ∙ ap (λ x. best_of (unwrap_or x new_cell).standings) none ∙ none_best) ∙ nothing p)
         (in_order (prefixes_at (network e) r))
-        (sorted_gathered block_total block_exact (prefixes_at (network e) r))
+        (sorted_gathered prefix_total prefix_exact (prefixes_at (network e) r))
         (λ q off. ap (G q) (unknown (network e) r q off) ∙ nothing q)
 
   -- the Loc-RIB has what is chosen in each cell
@@ -59,9 +59,9 @@ module _ (e : Engine) (sound : IsSound e) (r : Addr) (router : is_virtual e.conf
   loc_rib_by_cells = by_cells held_of (λ p. refl)
 
   -- a choice is the best that stands in its cell
-  pub choice_by_cell : (p : Block) → choice (network e) r p ≡ held_of p (best_of (heard_at r p e.tables).standings)
+  pub choice_by_cell : (p : Prefix) → choice (network e) r p ≡ held_of p (best_of (cell_at r p e.tables).standings)
   unfolding choice
-  choice_by_cell p = ap (held_of p) (best_heard e sound r p router)
+  choice_by_cell p = ap (held_of p) (best_in_cell e sound r p router)
 
   -- the Adj-RIB-Out for a peer has what is advertised of each cell
   pub adj_rib_out_by_cells : (t : Addr) → adj_rib_out (network e) r t ≡ adverts_to e.conf r t e.tables
@@ -76,11 +76,11 @@ none_there true ms silent = refl
 none_there false ms silent = sym (silent refl)
 
 -- the messages on their way are those of the engine's queue
-pub queue_by_direction : (e : Engine) → IsSound e → (d : Direction) → queue (network e) d ≡ queue_in e.conf e.queues d
+pub queue_by_direction : (e : State) → IsConsistent e → (d : Direction) → queue (network e) d ≡ queue_in e.conf e.queues d
 unfolding queue network
 queue_by_direction e sound d =
     ap (λ ms. if is_up e.conf d.from d.to then ms else []) (ap (λ o. unwrap_or o []) (messages_of_network e sound d) ∙ none_there (has_session e.conf d.from d.to) (queue_at e.queues d.from d.to) (sound.silent d.from d.to))
 
 -- and none is on its way where none is in those queues
-pub quiet_by_queues : (e : Engine) → IsSound e → (is_quiet (network e) ≡ true) ↔ IsQuiet e.queues
+pub quiet_by_queues : (e : State) → IsConsistent e → (is_quiet (network e) ≡ true) ↔ IsQuiet e.queues
 quiet_by_queues e sound = (quiet_queues e sound, quiet_network e sound)

@@ -67,8 +67,8 @@ module _ (c : Configuration) (e : Edit) (none : refusal_of c e ≡ None) where
 
   module _ (configured : IsConfigured c) where
     -- and so nothing came to it
-    pub new_router_heard_nothing : (r : Addr) → router_site c r ≡ None → is_some (router_site (edited c e) r) ≡ true → (routes : List (Addr × Attr)) → kept_from c r routes ≡ routes → routes ≡ []
-    new_router_heard_nothing r at router [] kept = refl
-    new_router_heard_nothing r at router (x ∷ xs) kept =
+    pub new_router_has_no_cell : (r : Addr) → router_site c r ≡ None → is_some (router_site (edited c e) r) ≡ true → (routes : List (Addr × Attr)) → kept_from c r routes ≡ routes → routes ≡ []
+    new_router_has_no_cell r at router [] kept = refl
+    new_router_has_no_cell r at router (x ∷ xs) kept =
         let up : is_up c x.0 r ≡ true = (all_pass (λ u. is_up c u r) (x ∷ xs) kept).0 in
         absurd (true≢false (sym (session_placed c configured r x.0 (session_turned c x.0 r (session_if_up c x.0 r up))) ∙ new_router r at router))

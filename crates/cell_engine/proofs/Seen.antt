@@ -9,7 +9,7 @@ use Rattle.std.proofs.lemmas.List.{map-set}
 use Rattle.std.proofs.lemmas.Option.{slice_get-map}
 use Rattle.net_prefix.specs.declared.addr.Addr.{Addr}
 use Rattle.net_prefix.specs.Address.{addr_cmp}
-use Rattle.net_prefix.specs.Block.{Block, block_cmp}
+use Rattle.net_prefix.specs.Prefix.{Prefix, prefix_cmp}
 use Rattle.prefix_table.specs.Tables.{Table, adjusted, adjusted_by}
 use Rattle.cell_engine.specs.RouterTables.{tables_of, table_at, value_at, with_value, adjusted_value, adjusted_at, is_past, next_of}
 use Rattle.cell_engine.specs.TablePlaces.{IsAt, IsFor}
@@ -69,15 +69,15 @@ module _ {V A : Type 0} (f : A → Table V) where
   table_absent r ts is = ap (λ y. unwrap_or y finite.empty) (find_seen r ts ∙ ap (option_map f) is)
 
   -- the value in the table that is found
-  pub value_found : (r : Addr) (p : Block) (ts : List (Addr × A)) (x : A) → find addr_cmp r ts ≡ Some x → value_at r p (tables_of f ts) ≡ finite.get (f x) p
+  pub value_found : (r : Addr) (p : Prefix) (ts : List (Addr × A)) (x : A) → find addr_cmp r ts ≡ Some x → value_at r p (tables_of f ts) ≡ finite.get (f x) p
   value_found r p ts x is = ap (λ t. finite.get t p) (table_found r ts x is)
 
-  pub value_absent : (r : Addr) (p : Block) (ts : List (Addr × A)) → find addr_cmp r ts ≡ None → value_at r p (tables_of f ts) ≡ None
-  value_absent r p ts is = ap (λ t. finite.get t p) (table_absent r ts is) ∙ finite.get-empty block_cmp p
+  pub value_absent : (r : Addr) (p : Prefix) (ts : List (Addr × A)) → find addr_cmp r ts ≡ None → value_at r p (tables_of f ts) ≡ None
+  value_absent r p ts is = ap (λ t. finite.get t p) (table_absent r ts is) ∙ finite.get-empty prefix_cmp p
 
   module _ (r : Addr) (ts : List (Addr × A)) (i : ℕ) where
     -- a table with a value put in is written at its place
-    pub set_value : (p : Block) (v : V) (e : Addr × A) (new : A) → IsAt ts r i → slice_get ts i ≡ Some e → f new ≡ finite.insert (f e.1) p v
+    pub set_value : (p : Prefix) (v : V) (e : Addr × A) (new : A) → IsAt ts r i → slice_get ts i ≡ Some e → f new ≡ finite.insert (f e.1) p v
         → tables_of f (set ts i (e.0, new)) ≡ with_value r p v (tables_of f ts)
     set_value p v e new at_ got made =
         ap (λ k. tables_of f (set ts i (k, new))) (at_.key e got)
@@ -92,7 +92,7 @@ module _ {V A : Type 0} (f : A → Table V) where
         ∙ set_got (tables_of f ts) i (e.0, f e.1) (slice_get-map (λ t. (t.0, f t.1)) ts i ∙ ap (option_map (λ t. (t.0, f t.1))) got)
 
     -- a table whose value is changed where it stands
-    pub set_adjusted : (change : V → V) (p : Block) (e : Addr × A) (new : A) → IsAt ts r i → slice_get ts i ≡ Some e → f new ≡ adjusted change p (f e.1)
+    pub set_adjusted : (change : V → V) (p : Prefix) (e : Addr × A) (new : A) → IsAt ts r i → slice_get ts i ≡ Some e → f new ≡ adjusted change p (f e.1)
         → tables_of f (set ts i (e.0, new)) ≡ adjusted_at change r p (tables_of f ts)
     set_adjusted change p e new at_ got made =
         elim (finite.get (f e.1) p) as (λ o. finite.get (f e.1) p ≡ o → f new ≡ adjusted_by change p (f e.1) o → tables_of f (set ts i (e.0, new)) ≡ adjusted_at change r p (tables_of f ts)) [
@@ -101,7 +101,7 @@ module _ {V A : Type 0} (f : A → Table V) where
         ] refl made
 
     -- a new router's table with one value goes to its place
-    pub insert_value : (p : Block) (v : V) (empty new : A) → IsFor ts r i → f empty ≡ finite.empty → f new ≡ finite.insert (f empty) p v
+    pub insert_value : (p : Prefix) (v : V) (empty new : A) → IsFor ts r i → f empty ≡ finite.empty → f new ≡ finite.insert (f empty) p v
         → tables_of f (insert ts i (r, new)) ≡ with_value r p v (tables_of f ts)
     insert_value p v empty new away none made =
         ap (tables_of f) (away.added new)
@@ -114,12 +114,12 @@ module _ {V A : Type 0} (f : A → Table V) where
   sorted_kept (Ok x) r t ts ts' sorted ok err = sym (sorted_seen ts') ∙ ap (is_sorted addr_cmp) ok ∙ sorted-put r t (tables_of f ts) (sorted_seen ts ∙ sorted)
   sorted_kept (Err x) r t ts ts' sorted ok err = sym (sorted_seen ts') ∙ ap (is_sorted addr_cmp) err ∙ sorted_seen ts ∙ sorted
 
-  order_adjusted : (change : V → V) (r : Addr) (p : Block) (ts : List (Addr × Table V)) (o : Option V) → IsTrue (is_sorted addr_cmp ts) → IsTrue (is_sorted addr_cmp (adjusted_value change r p ts o))
+  order_adjusted : (change : V → V) (r : Addr) (p : Prefix) (ts : List (Addr × Table V)) (o : Option V) → IsTrue (is_sorted addr_cmp ts) → IsTrue (is_sorted addr_cmp (adjusted_value change r p ts o))
   order_adjusted change r p ts None sorted = sorted
   order_adjusted change r p ts (Some v) sorted = sorted-put r (finite.insert (table_at r ts) p (change v)) ts sorted
 
   -- so it is where a value is changed
-  pub adjusted_kept : (change : V → V) (r : Addr) (p : Block) (ts ts' : List (Addr × A)) → IsTrue (is_sorted addr_cmp ts)
+  pub adjusted_kept : (change : V → V) (r : Addr) (p : Prefix) (ts ts' : List (Addr × A)) → IsTrue (is_sorted addr_cmp ts)
       → tables_of f ts' ≡ adjusted_at change r p (tables_of f ts) → IsTrue (is_sorted addr_cmp ts')
   adjusted_kept change r p ts ts' sorted made =
       sym (sorted_seen ts') ∙ ap (is_sorted addr_cmp) made ∙ order_adjusted change r p (tables_of f ts) (value_at r p (tables_of f ts)) (sorted_seen ts ∙ sorted)

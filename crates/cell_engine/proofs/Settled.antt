@@ -7,7 +7,7 @@ use Rattle.std.specs.List.Sorted.{IsStrictlySortedBy}
 use Rattle.std.specs.FinMap as finite
 use Rattle.net_prefix.specs.declared.addr.Addr.{Addr}
 use Rattle.net_prefix.specs.Address.{same_addr, addr_cmp}
-use Rattle.net_prefix.specs.Block.{Block, same_block}
+use Rattle.net_prefix.specs.Prefix.{Prefix, same_prefix}
 use Rattle.path_attr.specs.declared.attr.Attr.{Attr}
 use Rattle.session_queue.specs.declared.message.Message.{Message}
 use Rattle.net_conf.specs.declared.edit.Edit.{Edit}
@@ -27,10 +27,10 @@ use Rattle.reflect_out.specs.Advertising.{advert}
 use Rattle.reference_machine.specs.Decision.{own_candidate, added}
 use Rattle.reference_machine.specs.Advertising.{advert_of, change_of}
 use Rattle.cell_engine.specs.RouterTables.{value_at}
-use Rattle.cell_engine.specs.Cells.{Heard, nothing_heard, standing_of, decided, is_up_in, sends_of, refreshed}
+use Rattle.cell_engine.specs.Cells.{Cell, new_cell, standing_of, decided, is_up_in, sends_of, refreshed}
 use Rattle.cell_engine.specs.Changes.{AreOverSessionsUp}
 use Rattle.cell_engine.specs.Editing.{sends_between}
-use Rattle.cell_engine.specs.Engine.{Engine, IsSound}
+use Rattle.cell_engine.specs.State.{State, IsConsistent}
 use Rattle.cell_engine.specs.Keeping.{kept_from, kept_cell}
 use Rattle.net_conf.specs.declared.edit.Scope.{Scope}
 use Rattle.net_conf.specs.declared.edit.Scope.TheVariants.{Network, Site, Route}
@@ -52,7 +52,7 @@ nobody_told (e ∷ es) none =
     let no : e.1 ∷ told e.0 es ≡ [] = sym one ∙ none e.0 in
     cc
 
-module _ (site : SiteConf) (p : Block) (chosen : Option Candidate) where
+module _ (site : SiteConf) (p : Prefix) (chosen : Option Candidate) where
   same_told : (t : Addr) (up : Bool) → is_up_in site t ≡ up → (if up then option_to_list (change_of p (advert_of (is_up_in site t) (Some site) t p chosen) (advert_of true (Some site) t p chosen)) else []) ≡ []
   same_told t true is =
       ap (λ b. option_to_list (change_of p (advert_of b (Some site) t p chosen) (advert_of true (Some site) t p chosen))) is
@@ -65,12 +65,12 @@ module _ (site : SiteConf) (p : Block) (chosen : Option Candidate) where
 -- OTHER ORIGINS
 
 -- the site, where it originates these prefixes
-abbrev originating : List Block → SiteConf → SiteConf
+abbrev originating : List Prefix → SiteConf → SiteConf
 originating os site = record site { origins = os }
 
-module _ (os : List Block) (p : Block) where
+module _ (os : List Prefix) (p : Prefix) where
   -- it decides alike of a prefix that it originates as before, or did not and does not originate
-  decided_alike : (site : SiteConf) (routes : List (Addr × Attr)) → list_any (same_block p) os ≡ list_any (same_block p) site.origins → decided (Some (originating os site)) p routes ≡ decided (Some site) p routes
+  decided_alike : (site : SiteConf) (routes : List (Addr × Attr)) → list_any (same_prefix p) os ≡ list_any (same_prefix p) site.origins → decided (Some (originating os site)) p routes ≡ decided (Some site) p routes
   decided_alike site routes alike =
       λ i. record { received = routes; standings = added finite.empty (cond (alike i) ((Own, Considered (own_candidate site.me)) ∷ []) [] ++ filter_map (standing_of site p routes) site.sessions) }
 
@@ -90,7 +90,7 @@ origins_in c r site at = origins_by c r site (node_at c r) (site_of_router c r s
 -- A CELL THAT STAYS
 
 -- where the router's site becomes one that decides and sends alike, and no session over which a route came goes down
-module _ (c d : Configuration) (configured : IsConfigured c) (r : Addr) (p : Block) (h : Heard) (now : SiteConf → SiteConf) (becomes : router_site d r ≡ option_map now (router_site c r)) where
+module _ (c d : Configuration) (configured : IsConfigured c) (r : Addr) (p : Prefix) (h : Cell) (now : SiteConf → SiteConf) (becomes : router_site d r ≡ option_map now (router_site c r)) where
   module _ (decides : (site : SiteConf) → router_site c r ≡ Some site → decided (Some (now site)) p h.received ≡ decided (Some site) p h.received) (sends : (site : SiteConf) (had has : Option Candidate) → sends_of site (now site) p had has ≡ sends_of site site p had has) where
     module _ (kept : kept_from d r h.received ≡ h.received) (was : h ≡ decided (router_site c r) p h.received) where
       as_before : (x : Option SiteConf) → router_site c r ≡ x → decided (option_map now x) p h.received ≡ decided x p h.received
@@ -109,7 +109,7 @@ module _ (c d : Configuration) (configured : IsConfigured c) (r : Addr) (p : Blo
       silent_by None is = refl
       silent_by (Some site) is =
           let chosen : Option Candidate = best_of h.standings in
-          ap (λ (x : Heard). sends_of site (now site) p chosen (best_of x.standings)) (refreshed_is_kept d r site (now site) p h (becomes ∙ ap (option_map now) is) ∙ stays)
+          ap (λ (x : Cell). sends_of site (now site) p chosen (best_of x.standings)) (refreshed_is_kept d r site (now site) p h (becomes ∙ ap (option_map now) is) ∙ stays)
           ∙ sends site chosen chosen
           ∙ nothing_sent site p chosen (site_sessions_in_order c r site configured (site_of_router c r site is))
 
@@ -125,17 +125,17 @@ itself : {A : Type 0} (x : Option A) → x ≡ option_map (λ a. a) x
 itself None = refl
 itself (Some a) = refl
 
-module _ (others : SitesOfOthersStay) (sessions : SessionsStay) (alone : OriginsAloneChange) (origins : OtherOriginsStay) (e : Engine) (sound : IsSound e) (configured : IsConfigured e.conf) (edit : Edit) (up : AreOverSessionsUp e.conf e.tables) where
+module _ (others : SitesOfOthersStay) (sessions : SessionsStay) (alone : OriginsAloneChange) (origins : OtherOriginsStay) (e : State) (sound : IsConsistent e) (configured : IsConfigured e.conf) (edit : Edit) (up : AreOverSessionsUp e.conf e.tables) where
   abbrev new : Configuration
   new = edited e.conf edit
 
-  kept_at : (a r : Addr) (p : Block) (h : Heard) → router_in (scope edit) ≡ Some a → value_at r p e.tables ≡ Some h → kept_from new r h.received ≡ h.received
+  kept_at : (a r : Addr) (p : Prefix) (h : Cell) → router_in (scope edit) ≡ Some a → value_at r p e.tables ≡ Some h → kept_from new r h.received ≡ h.received
   kept_at a r p h is at =
       (λ i. filter (λ x. sessions e.conf edit a x.0 r is i) h.received)
-      ∙ subst (λ x. kept_from e.conf r (unwrap_or x nothing_heard).received ≡ (unwrap_or x nothing_heard).received) at (up r p)
+      ∙ subst (λ x. kept_from e.conf r (unwrap_or x new_cell).received ≡ (unwrap_or x new_cell).received) at (up r p)
 
   -- a router whose part of the configuration stays
-  other_router : (a r : Addr) (p : Block) (h : Heard) → router_in (scope edit) ≡ Some a → same_addr r a ≡ false → value_at r p e.tables ≡ Some h → IsSettled e.conf new r p h
+  other_router : (a r : Addr) (p : Prefix) (h : Cell) → router_in (scope edit) ≡ Some a → same_addr r a ≡ false → value_at r p e.tables ≡ Some h → IsSettled e.conf new r p h
   other_router a r p h is off at =
       settled e.conf new configured r p h (λ site. site) (others e.conf edit a r is off ∙ itself (router_site e.conf r))
       (λ site here. refl)
@@ -144,11 +144,11 @@ module _ (others : SitesOfOthersStay) (sessions : SessionsStay) (alone : Origins
       (is_cell e sound r p h at).decided
 
   -- a prefix other than the one that the router comes or ceases to originate
-  other_prefix : (a : Addr) (q p : Block) (h : Heard) → scope edit ≡ Route a q → same_block p q ≡ false → value_at a p e.tables ≡ Some h → IsSettled e.conf new a p h
+  other_prefix : (a : Addr) (q p : Prefix) (h : Cell) → scope edit ≡ Route a q → same_prefix p q ≡ false → value_at a p e.tables ≡ Some h → IsSettled e.conf new a p h
   other_prefix a q p h is off at =
       let os = origins_of new a in
       settled e.conf new configured a p h (originating os) (alone e.conf edit a q is)
-      (λ site here. decided_alike os p site h.received (origins e.conf edit a q p is off ∙ ap (list_any (same_block p)) (sym (origins_in e.conf a site here))))
+      (λ site here. decided_alike os p site h.received (origins e.conf edit a q p is off ∙ ap (list_any (same_prefix p)) (sym (origins_in e.conf a site here))))
       (sent_alike os p)
       (kept_at a a p h (ap router_in is) at)
       (is_cell e sound a p h at).decided
@@ -157,7 +157,7 @@ module _ (others : SitesOfOthersStay) (sessions : SessionsStay) (alone : Origins
   pub settled_outside : AreSettledOutside (scope edit) e.conf new e.tables
   settled_outside = by (scope edit) refl
     where
-      route_by : (a : Addr) (q : Block) (r : Addr) (p : Block) (h : Heard) (here same : Bool) → scope edit ≡ Route a q → value_at r p e.tables ≡ Some h → same_addr r a ≡ here → same_block p q ≡ same → (here && same) ≡ false → IsSettled e.conf new r p h
+      route_by : (a : Addr) (q : Prefix) (r : Addr) (p : Prefix) (h : Cell) (here same : Bool) → scope edit ≡ Route a q → value_at r p e.tables ≡ Some h → same_addr r a ≡ here → same_prefix p q ≡ same → (here && same) ≡ false → IsSettled e.conf new r p h
       route_by a q r p h true true is at here same out = absurd (true≢false out)
       route_by a q r p h true false is at here same out =
           let this : r ≡ a = same_addr_true r a here in
@@ -167,4 +167,4 @@ module _ (others : SitesOfOthersStay) (sessions : SessionsStay) (alone : Origins
       by : (s : Scope) → scope edit ≡ s → AreSettledOutside s e.conf new e.tables
       by Network is r p h at out = absurd (true≢false out)
       by (Site a) is r p h at out = other_router a r p h (ap router_in is) out at
-      by (Route a q) is r p h at out = route_by a q r p h (same_addr r a) (same_block p q) is at refl refl out
+      by (Route a q) is r p h at out = route_by a q r p h (same_addr r a) (same_prefix p q) is at refl refl out

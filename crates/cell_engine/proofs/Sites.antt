@@ -12,7 +12,7 @@ use Rattle.std.specs.Map.{lookup}
 use Rattle.std.specs.BTreeMap.{is_at}
 use Rattle.net_prefix.specs.declared.addr.Addr.{Addr}
 use Rattle.net_prefix.specs.Address.{addr_cmp}
-use Rattle.net_prefix.specs.Block.{Block}
+use Rattle.net_prefix.specs.Prefix.{Prefix}
 use Rattle.net_prefix.specs.Orders.{addr_exact}
 use Rattle.path_attr.specs.declared.attr.Attr.{Attr}
 use Rattle.path_attr.specs.Number.{same_number}
@@ -22,7 +22,7 @@ use Rattle.net_conf.specs.Sites.{peer_in, session_of, peers_of, sessions_of, sit
 use Rattle.net_conf.specs.declared.tables.Ends.{Ends}
 use Rattle.net_conf.specs.declared.tables.Node.{Node}
 use Rattle.net_conf.specs.declared.site.SiteConf.{SiteConf}
-use Rattle.cell_engine.specs.Cells.{Heard, decided, is_up_in, kept_routes, refreshed}
+use Rattle.cell_engine.specs.Cells.{Cell, decided, is_up_in, kept_routes, refreshed}
 use Rattle.net_conf.specs.RouterSites.{router_site}
 use Rattle.cell_engine.specs.Keeping.{kept_from, kept_cell}
 use Rattle.cell_engine.proofs.Decided.{site_at}
@@ -162,7 +162,7 @@ pub site_of_router : (c : Configuration) (r : Addr) (site : SiteConf) → router
 site_of_router c r site h = site_if (is_virtual c r) (site_of c r) site h
 
 -- a cell that the router decides again under its new site is the one that is kept
-pub refreshed_is_kept : (c : Configuration) (r : Addr) (old new : SiteConf) (p : Block) (h : Heard) → router_site c r ≡ Some new → (refreshed old new p h).heard ≡ kept_cell c r p h
+pub refreshed_is_kept : (c : Configuration) (r : Addr) (old new : SiteConf) (p : Prefix) (h : Cell) → router_site c r ≡ Some new → (refreshed old new p h).cell ≡ kept_cell c r p h
 unfolding refreshed
 refreshed_is_kept c r old new p h at =
     ap (decided (Some new) p) (kept_routes_is c r new (site_of_router c r new at) h.received)

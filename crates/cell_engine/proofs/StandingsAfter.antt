@@ -12,7 +12,7 @@ use Rattle.std.proofs.lemmas.List.Sums.{fold-append}
 use Rattle.net_prefix.specs.declared.addr.Addr.{Addr}
 use Rattle.net_prefix.specs.Address.{addr_cmp}
 use Rattle.net_prefix.specs.Orders.{addr_exact}
-use Rattle.net_prefix.specs.Block.{Block}
+use Rattle.net_prefix.specs.Prefix.{Prefix}
 use Rattle.path_attr.specs.declared.attr.Attr.{Attr}
 use Rattle.net_conf.specs.declared.site.SiteConf.{SiteConf}
 use Rattle.net_conf.specs.declared.site.SiteSession.{SiteSession}
@@ -73,7 +73,7 @@ added_first : (m : Standings) (o : Option (Source × Standing)) (es : List (Sour
 added_first m None es = refl
 added_first m (Some e) es = refl
 
-module _ (site : SiteConf) (p : Block) where
+module _ (site : SiteConf) (p : Prefix) where
   -- the standing of a route over the session
   abbrev pub stood : SiteSession → Option Attr → Option Standing
   stood x a = option_map (λ (e : Source × Standing). e.1) (standing_over site p x a)
@@ -152,7 +152,7 @@ module _ (site : SiteConf) (p : Block) where
 -- A MESSAGE
 
 module _ (site : SiteConf) (u : Addr) (m : Message) (routes : List (Addr × Attr)) (peers : ArePeersInOrder site.sessions) (order : AreInOrder routes) where
-  abbrev p : Block
+  abbrev p : Prefix
   p = prefix_of m
 
   abbrev news : List (Addr × Attr)
@@ -169,7 +169,7 @@ module _ (site : SiteConf) (u : Addr) (m : Message) (routes : List (Addr × Attr
       ap (λ a. option_or (stood site p x a) None) (route_with_news u m routes order x.peer ∙ ap (λ w. cond (is_eq (addr_cmp w u)) (told m) (route_of routes x.peer)) (peer_found site.sessions v x is))
       ∙ restands_by (is_eq (addr_cmp v u)) x
 
-module _ (site : SiteConf) (u : Addr) (p : Block) (routes : List (Addr × Attr)) (peers : ArePeersInOrder site.sessions) (order : AreInOrder routes) where
+module _ (site : SiteConf) (u : Addr) (p : Prefix) (routes : List (Addr × Attr)) (peers : ArePeersInOrder site.sessions) (order : AreInOrder routes) where
   abbrev old : Standings
   old = standings_of site p routes
 

@@ -8,7 +8,7 @@ use Rattle.std.specs.Ordering.{is_eq}
 use Rattle.std.specs.Cmp.{nat_eq_equiv, unsigned_ties}
 use Rattle.net_prefix.specs.declared.addr.Addr.{Addr}
 use Rattle.net_prefix.specs.Address.{same_addr, addr_cmp}
-use Rattle.net_prefix.specs.Block.{Block, same_block}
+use Rattle.net_prefix.specs.Prefix.{Prefix, same_prefix}
 use Rattle.session_queue.specs.declared.message.Message.{Message}
 use Rattle.net_conf.specs.Configuration.{Configuration, node_at, has_node, is_virtual}
 use Rattle.net_conf.specs.Costs.{is_up}
@@ -88,7 +88,7 @@ module _ (change : Addr → Bool → Option Message) (t : Addr) where
   tells_one (x ∷ xs) sorted = one_by x xs (x.peer.0 == t.0) refl sorted.0 (tells_one xs sorted.1)
 
 -- each peer is told the change of what is advertised to it, where its session is up
-pub told_one : (old new : SiteConf) (p : Block) (had has : Option Candidate) → IsStrictlySortedBy addr_cmp (map (λ x. x.peer) new.sessions) → (t : Addr) → told t (sends_of old new p had has) ≡ (if is_up_in new t then option_to_list (change_of p (advert_of (is_up_in old t) (Some old) t p had) (advert_of true (Some new) t p has)) else [])
+pub told_one : (old new : SiteConf) (p : Prefix) (had has : Option Candidate) → IsStrictlySortedBy addr_cmp (map (λ x. x.peer) new.sessions) → (t : Addr) → told t (sends_of old new p had has) ≡ (if is_up_in new t then option_to_list (change_of p (advert_of (is_up_in old t) (Some old) t p had) (advert_of true (Some new) t p has)) else [])
 told_one old new p had has sorted t =
     tells_one (λ u up. change_of p (advert_of (is_up_in old u) (Some old) u p had) (advert_of up (Some new) u p has)) t new.sessions sorted
 
@@ -106,7 +106,7 @@ never : (a b : Bool) → (a && not true && b) ≡ false
 never true b = refl
 never false b = refl
 
-module _ (s s' : Network) (conf : s'.conf ≡ s.conf) (r : Addr) (p : Block) (stays : (f : Addr) (q : Block) → (same_addr f r && same_block q p) ≡ false → best s' f q ≡ best s f q) where
+module _ (s s' : Network) (conf : s'.conf ≡ s.conf) (r : Addr) (p : Prefix) (stays : (f : Addr) (q : Prefix) → (same_addr f r && same_prefix q p) ≡ false → best s' f q ≡ best s f q) where
   module _ (site : SiteConf) (at : site_of s.conf r ≡ Some site) (sorted : IsStrictlySortedBy addr_cmp (map (λ x. x.peer) site.sessions)) (router : is_virtual s.conf r ≡ false) (ups : (t : Addr) → is_up_in site t ≡ is_up s.conf r t) where
     module _ (had has : Option Candidate) (was : best s r p ≡ had) (is : best s' r p ≡ has) where
       sends_if_up : (t : Addr) → sends s.conf r t ≡ is_up_in site t

@@ -15,7 +15,7 @@ use Rattle.std.specs.FinMap as finite
 use Rattle.net_prefix.specs.declared.addr.Addr.{Addr}
 use Rattle.net_prefix.specs.Address.{addr_cmp}
 use Rattle.net_prefix.specs.Orders.{addr_total}
-use Rattle.net_prefix.specs.Block.{Block}
+use Rattle.net_prefix.specs.Prefix.{Prefix}
 use Rattle.path_attr.specs.Number.{same_number}
 use Rattle.path_attr.specs.Path.{holds}
 use Rattle.path_attr.specs.Attribute.{same_maybe_addr}
@@ -38,7 +38,7 @@ use Rattle.route_select.specs.declared.candidate.Source.TheVariants.{Own, Peer a
 use Rattle.route_select.specs.declared.candidate.Standing.{Standing}
 use Rattle.route_select.specs.declared.candidate.Standing.TheVariants.{Excluded, Considered}
 use Rattle.reference_machine.specs.Decision.{own_candidate, is_originated, has_cluster_loop, is_denial, standing_by, exclusion, peer_standing}
-use Rattle.cell_engine.specs.Cells.{Heard, route_of, standings_of, decided, is_up_in}
+use Rattle.cell_engine.specs.Cells.{Cell, route_of, standings_of, decided, is_up_in}
 use Rattle.cell_engine.specs.SiteMoves.{is_about_cost, counts_cost, is_cost_moved, is_route_moved, is_own_moved, is_any, has_route}
 use Rattle.cell_engine.proofs.StandingsAfter.{ArePeersInOrder, one_addr, peer_found}
 use Rattle.cell_engine.specs.Decisions.{AreFactsMoved}
@@ -104,7 +104,7 @@ apart_by false false false false (Some n) (Some m) x y at at' about moved same =
     let one : n ≡ m = sym at ∙ same_Some x.cost y.cost (ap cost_of same) ∙ at' in
     true≢false (sym moved ∙ ap not ((unsigned_Decides n m).1 one))
 
-module _ (s : SiteConf) (os : List Block) (k : Reached) (p : Block) (x : SiteSession) (attr : Attr) where
+module _ (s : SiteConf) (os : List Prefix) (k : Reached) (p : Prefix) (x : SiteSession) (attr : Attr) where
   abbrev stood_then : Option ℕ → Standing
   stood_then n = stands s os k p x attr n
 
@@ -115,7 +115,7 @@ module _ (s : SiteConf) (os : List Block) (k : Reached) (p : Block) (x : SiteSes
 
 -- THE CELL
 
-module _ (c d : Configuration) (configured : IsConfigured c) (r : Addr) (p : Block) (h : Heard) (senders : IsStrictlySortedBy addr_cmp (keys_of h.received)) (kept : kept_from c r h.received ≡ h.received) (was : h ≡ decided (router_site c r) p h.received) where
+module _ (c d : Configuration) (configured : IsConfigured c) (r : Addr) (p : Prefix) (h : Cell) (senders : IsStrictlySortedBy addr_cmp (keys_of h.received)) (kept : kept_from c r h.received ≡ h.received) (was : h ≡ decided (router_site c r) p h.received) where
   abbrev pub after : Standings
   after = (kept_cell d r p h).standings
 
@@ -124,7 +124,7 @@ module _ (c d : Configuration) (configured : IsConfigured c) (r : Addr) (p : Blo
   Touches = (h.standings ≡ after → ⊥) ⊎ (AreFactsMoved (router_site c r) (router_site d r) × ((h.standings ≡ finite.empty → ⊥) ⊎ (after ≡ finite.empty → ⊥)))
 
   stood_at : (s : SiteConf) → router_site c r ≡ Some s → h.standings ≡ standings_of s p h.received
-  stood_at s at = ap (λ (x : Heard). x.standings) (was ∙ ap (λ o. decided o p h.received) at)
+  stood_at s at = ap (λ (x : Cell). x.standings) (was ∙ ap (λ o. decided o p h.received) at)
 
   stands_at : (t : SiteConf) → router_site d r ≡ Some t → after ≡ standings_of t p (kept_from d r h.received)
   stands_at t at' = ap (λ o. (decided o p (kept_from d r h.received)).standings) at'
@@ -185,7 +185,7 @@ module _ (c d : Configuration) (configured : IsConfigured c) (r : Addr) (p : Blo
       by false false is same = true≢false (sym is)
 
   -- where a cost that counts becomes another
-  cost_apart : (s : SiteConf) (os : List Block) (k : Reached) → router_site c r ≡ Some s → router_site d r ≡ Some (new s os k p) → list_any (is_route_moved (pair s os k p) p) h.received ≡ true → h.standings ≡ after → ⊥
+  cost_apart : (s : SiteConf) (os : List Prefix) (k : Reached) → router_site c r ≡ Some s → router_site d r ≡ Some (new s os k p) → list_any (is_route_moved (pair s os k p) p) h.received ≡ true → h.standings ≡ after → ⊥
   cost_apart s os k at at' moved =
       let t = new s os k p in
       let one = one_passes (is_route_moved (pair s os k p) p) h.received senders moved in
@@ -228,7 +228,7 @@ module _ (c d : Configuration) (configured : IsConfigured c) (r : Addr) (p : Blo
       new_by : (t : SiteConf) → router_site c r ≡ None → router_site d r ≡ Some t → is_originated t p ≡ true → h.standings ≡ after → ⊥
       new_by t at at' own =
           differ_at h.standings after Own (λ same. none-some (Considered (own_candidate t.me))
-          (sym (ap (λ (x : Heard). finite.get x.standings Own) (was ∙ ap (λ o. decided o p h.received) at) ∙ finite.get-empty source_cmp Own)
+          (sym (ap (λ (x : Cell). finite.get x.standings Own) (was ∙ ap (λ o. decided o p h.received) at) ∙ finite.get-empty source_cmp Own)
           ∙ same ∙ own_after t at' ∙ ap (λ b. cond b (Some (Considered (own_candidate t.me))) None) own))
 
       by : (x y : Option SiteConf) → router_site c r ≡ x → router_site d r ≡ y → is_moved_by x y d r p h ≡ true → Touches

@@ -9,7 +9,7 @@ use Rattle.std.specs.Cmp.{unsigned_Decides}
 use Rattle.net_prefix.specs.declared.addr.Addr.{Addr}
 use Rattle.net_prefix.specs.Address.{addr_cmp}
 use Rattle.net_prefix.specs.Orders.{addr_total}
-use Rattle.net_prefix.specs.Block.{Block}
+use Rattle.net_prefix.specs.Prefix.{Prefix}
 use Rattle.path_attr.specs.declared.attr.Attr.{Attr}
 use Rattle.path_attr.specs.Sameness.{attrs_exact}
 use Rattle.net_conf.specs.declared.site.SiteConf.{SiteConf}
@@ -52,11 +52,11 @@ each_found (x ∷ xs) h =
 -- NOTHING IS SENT
 
 -- an advert that stays takes no message
-no_change : (p : Block) (a : Option Attr) → change_of p a a ≡ None
+no_change : (p : Prefix) (a : Option Attr) → change_of p a a ≡ None
 no_change p None = refl
 no_change p (Some attr) = ap (λ b. cond b None (Some (Update p attr))) ((attrs_exact attr attr).1 refl)
 
-module _ (site : SiteConf) (p : Block) (b : Option Candidate) where
+module _ (site : SiteConf) (p : Prefix) (b : Option Candidate) where
   silent_by : (up : Bool) (u : Addr) → cond up (send_to u (change_of p (advert_of up (Some site) u p b) (advert_of up (Some site) u p b))) None ≡ None
   silent_by up u = ap (λ m. cond up (send_to u m) None) (no_change p (advert_of up (Some site) u p b)) ∙ (elim up as (λ c. cond c (send_to u None) None ≡ None) [ true ↦ refl | false ↦ refl ])
 

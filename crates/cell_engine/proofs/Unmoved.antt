@@ -6,7 +6,7 @@ use Rattle.std.specs.Option.{option_map_or}
 use Rattle.std.specs.List.{AllByRecursion, list_any}
 use Rattle.std.specs.FinMap as finite
 use Rattle.net_prefix.specs.declared.addr.Addr.{Addr}
-use Rattle.net_prefix.specs.Block.{Block}
+use Rattle.net_prefix.specs.Prefix.{Prefix}
 use Rattle.path_attr.specs.Number.{same_number}
 use Rattle.path_attr.specs.declared.attr.Attr.{Attr}
 use Rattle.igp_cost.specs.Trees.{Reached, cost_in}
@@ -22,7 +22,7 @@ use Rattle.net_conf.specs.declared.tables.Node.{Node}
 use Rattle.net_conf.proofs.KeptTrees.{session_turned, session_ends}
 use Rattle.prefix_table.specs.Tables.{Table}
 use Rattle.cell_engine.specs.RouterTables.{table_at, value_at}
-use Rattle.cell_engine.specs.Cells.{Heard, nothing_heard}
+use Rattle.cell_engine.specs.Cells.{Cell, new_cell}
 use Rattle.cell_engine.specs.SiteMoves.{SitePair, is_cost_moved, is_route_moved, is_own_moved, is_moved, has_route, counts_cost}
 use Rattle.cell_engine.specs.Changes.{AreOverSessionsUp, cell_change, router_changes}
 use Rattle.cell_engine.specs.Keeping.{kept_from}
@@ -37,7 +37,7 @@ use Rattle.cell_engine.proofs.Sites.{site_of_router}
 both_false : (a b : Bool) → a ≡ false → b ≡ false → (a || b) ≡ false
 both_false a b h g = (λ i. h i || b) ∙ g
 
-module _ (s : SiteConf) (k : Reached) (p : Block) where
+module _ (s : SiteConf) (k : Reached) (p : Prefix) where
   abbrev pair : SitePair
   pair = record { old = s; new = record s { costs = k } }
 
@@ -68,7 +68,7 @@ unfolding site_of
 costs_in c r site at = costs_by c r site (node_at c r) (site_of_router c r site at)
 
 module _ (c d : Configuration) (r : Addr) (stays : StaysAt c d r) where
-  module _ (p : Block) (h : Heard) (kept : kept_from c r h.received ≡ h.received) where
+  module _ (p : Prefix) (h : Cell) (kept : kept_from c r h.received ≡ h.received) where
     none_lost : (es : List (Addr × Attr)) → AllByRecursion (λ e. is_up c e.0 r ≡ true) es → list_any (λ e. not (is_up d e.0 r)) es ≡ false
     none_lost [] all = refl
     none_lost (e ∷ es) all = both_false (not (is_up d e.0 r)) (list_any (λ x. not (is_up d x.0 r)) es) (ap not (stays.up e.0 ∙ all.0)) (none_lost es all.1)
@@ -92,16 +92,16 @@ module _ (c d : Configuration) (r : Addr) (stays : StaysAt c d r) where
         by None at = none_lost h.received over_sessions
         by (Some s) at = unmoved_pair s (costs_of d r) p h.received (routes s at (ends_session c r) refl)
 
-  none_chosen : (cells : List (Block × Heard)) → AllByRecursion (λ e. moves c d r e.0 e.1 ≡ false) cells → router_changes (moves c d) c d r cells ≡ []
+  none_chosen : (cells : List (Prefix × Cell)) → AllByRecursion (λ e. moves c d r e.0 e.1 ≡ false) cells → router_changes (moves c d) c d r cells ≡ []
   none_chosen [] all = refl
   none_chosen (e ∷ es) all =
-      ap (λ b. map (λ (x : Block × Heard). cell_change c d r x.0 x.1) (cond b (e ∷ filter (λ x. moves c d r x.0 x.1) es) (filter (λ x. moves c d r x.0 x.1) es))) all.0
+      ap (λ b. map (λ (x : Prefix × Cell). cell_change c d r x.0 x.1) (cond b (e ∷ filter (λ x. moves c d r x.0 x.1) es) (filter (λ x. moves c d r x.0 x.1) es))) all.0
       ∙ none_chosen es all.1
 
   -- an edit that does not concern the router changes none of its cells
-  pub none_of_router : (ts : List (Addr × Table Heard)) → AreOverSessionsUp c ts → router_changes (moves c d) c d r (finite.entries (table_at r ts)) ≡ []
+  pub none_of_router : (ts : List (Addr × Table Cell)) → AreOverSessionsUp c ts → router_changes (moves c d) c d r (finite.entries (table_at r ts)) ≡ []
   none_of_router ts up =
       let cells = finite.entries (table_at r ts) in
       none_chosen cells (all_from (λ e. value_at r e.0 ts ≡ Some e.1) (λ e. moves c d r e.0 e.1 ≡ false)
-      (λ e at. unmoved e.0 e.1 (subst (λ x. kept_from c r (unwrap_or x nothing_heard).received ≡ (unwrap_or x nothing_heard).received) at (up r e.0)))
+      (λ e at. unmoved e.0 e.1 (subst (λ x. kept_from c r (unwrap_or x new_cell).received ≡ (unwrap_or x new_cell).received) at (up r e.0)))
       cells (cells_found c d ts r (table_at r ts) refl))

@@ -11,13 +11,13 @@ use Rattle.std.specs.FinMap as finite
 use Rattle.std.specs.FinMap.Entries.{find as find_entry}
 use Rattle.net_prefix.specs.declared.addr.Addr.{Addr}
 use Rattle.net_prefix.specs.Address.{addr_cmp}
-use Rattle.net_prefix.specs.Block.{Block}
-use Rattle.net_prefix.specs.Orders.{addr_total, block_total}
+use Rattle.net_prefix.specs.Prefix.{Prefix}
+use Rattle.net_prefix.specs.Orders.{addr_total, prefix_total}
 use Rattle.path_attr.specs.declared.attr.Attr.{Attr}
 use Rattle.prefix_table.specs.Tables.{Table, first_after}
 use Rattle.prefix_table.proofs.Entries.{T_of, less_of}
 use Rattle.cell_engine.specs.RouterTables.{table_at}
-use Rattle.cell_engine.specs.Cells.{Heard}
+use Rattle.cell_engine.specs.Cells.{Cell}
 use Rattle.cell_engine.specs.Senders.{AreInOrder, first_past}
 use Rattle.cell_engine.specs.Reporting.{cells_of, cells_after, received_past}
 use Rattle.cell_engine.proofs.Flat.{no_cells}
@@ -84,20 +84,20 @@ module _ {K X : Type 0} {R : K → K → Ordering} (o : IsTotalOrder R) where
 
 -- THE CELLS OF A ROUTER
 
-module _ (r : Addr) (ts : List (Addr × Table Heard)) where
+module _ (r : Addr) (ts : List (Addr × Table Cell)) where
   -- there are none where the router has no table
   pub cells_without_table : find_entry addr_cmp r ts ≡ None → cells_of r ts ≡ []
   cells_without_table none = ap (λ t. finite.entries (unwrap_or t finite.empty)) none ∙ no_cells
 
   -- a walk begins with all of them, comes to the next, and ends where there is no next
   pub cells_begin : cells_after r ts None ≡ cells_of r ts
-  cells_begin = left_all block_total (cells_of r ts)
+  cells_begin = left_all prefix_total (cells_of r ts)
 
-  pub cells_step : (after : Option Block) (f : Block × Heard) → first_after (table_at r ts) after ≡ Some f → cells_after r ts after ≡ f ∷ cells_after r ts (Some f.0)
-  cells_step after f is = left_step block_total after (cells_of r ts) f (keys_sorted block_total (cells_of r ts) (finite.entries_sorted (table_at r ts))) is
+  pub cells_step : (after : Option Prefix) (f : Prefix × Cell) → first_after (table_at r ts) after ≡ Some f → cells_after r ts after ≡ f ∷ cells_after r ts (Some f.0)
+  cells_step after f is = left_step prefix_total after (cells_of r ts) f (keys_sorted prefix_total (cells_of r ts) (finite.entries_sorted (table_at r ts))) is
 
-  pub cells_end : (after : Option Block) → first_after (table_at r ts) after ≡ None → cells_after r ts after ≡ []
-  cells_end after is = left_end block_total after (cells_of r ts) is
+  pub cells_end : (after : Option Prefix) → first_after (table_at r ts) after ≡ None → cells_after r ts after ≡ []
+  cells_end after is = left_end prefix_total after (cells_of r ts) is
 
 -- THE SENDERS OF A CELL
 

@@ -4,9 +4,9 @@ use Rattle.std.specs.FinMap as finite
 use Rattle.net_prefix.specs.declared.addr.Addr.{Addr}
 use Rattle.net_prefix.specs.Address.{same_addr}
 use Rattle.path_attr.specs.declared.attr.Attr.{Attr}
-use Rattle.net_prefix.specs.Block.{Block}
+use Rattle.net_prefix.specs.Prefix.{Prefix}
 use Rattle.prefix_table.specs.Tables.{Table}
-use Rattle.cell_engine.specs.Cells.{Heard}
+use Rattle.cell_engine.specs.Cells.{Cell}
 use Rattle.cell_engine.specs.declared.hop_table.hops.Hops.{Hops}
 use Rattle.cell_engine.specs.declared.hop_table.hops.Hops.TheVariants.{Nothing, Only, Several}
 
@@ -17,8 +17,8 @@ Have (Only a) routes = All (λ e. e.1.next ≡ a) routes
 Have Several routes = ⊤
 
 -- and so have those of each cell
-abbrev pub AreKnown : Hops → Table Heard → Type 0
-AreKnown known t = (p : Block) (h : Heard) → finite.get t p ≡ Some h → Have known h.received
+abbrev pub AreKnown : Hops → Table Cell → Type 0
+AreKnown known t = (p : Prefix) (h : Cell) → finite.get t p ≡ Some h → Have known h.received
 
 -- what is known once there is a route with this NEXT_HOP besides
 abbrev pub with_hop : Hops → Addr → Hops

@@ -10,7 +10,7 @@ pub mod MoveTests
 pub mod Hops
 pub mod Changes
 pub mod Editing
-pub mod Engine
+pub mod State
 pub mod Keeping
 pub mod Reporting
 pub mod Sending

@@ -1,14 +1,14 @@
 -- What stays of a router's part of the configuration. No public contract cites this file.
 use Rattle.std.specs.Prelude.{Bool, false, Option, Some}
 use Rattle.std.specs.Cmp.Lexicographic.{pointwise}
-use Rattle.net_prefix.specs.Block.{same_block}
+use Rattle.net_prefix.specs.Prefix.{same_prefix}
 use Rattle.net_conf.specs.declared.site.SiteConf.{SiteConf}
 use Rattle.net_conf.specs.Facts.{same_facts}
 use Rattle.cell_engine.specs.declared.route_cell.moves.Stays.{Stays}
 
 -- the two originate the same prefixes
 abbrev pub same_origins : SiteConf → SiteConf → Bool
-same_origins s t = pointwise same_block s.origins t.origins
+same_origins s t = pointwise same_prefix s.origins t.origins
 
 -- what stays between the two
 abbrev pub stays_between : SiteConf → SiteConf → Stays

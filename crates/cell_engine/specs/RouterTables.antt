@@ -5,7 +5,7 @@ use Rattle.std.specs.FinMap.Entries as entries
 use Rattle.std.specs.Ordering.{is_lt}
 use Rattle.net_prefix.specs.declared.addr.Addr.{Addr}
 use Rattle.net_prefix.specs.Address.{addr_cmp}
-use Rattle.net_prefix.specs.Block.{Block}
+use Rattle.net_prefix.specs.Prefix.{Prefix}
 use Rattle.prefix_table.specs.Tables.{Table}
 
 -- by address, each once
@@ -21,20 +21,20 @@ abbrev pub table_at : {V : Type 0} → Addr → List (Addr × Table V) → Table
 table_at r ts = unwrap_or (entries.find addr_cmp r ts) finite.empty
 
 -- the value of the router and prefix, where there is one
-abbrev pub value_at : {V : Type 0} → Addr → Block → List (Addr × Table V) → Option V
+abbrev pub value_at : {V : Type 0} → Addr → Prefix → List (Addr × Table V) → Option V
 value_at r p ts = finite.get (table_at r ts) p
 
 -- the tables, with this value of the router and prefix
-abbrev pub with_value : {V : Type 0} → Addr → Block → V → List (Addr × Table V) → List (Addr × Table V)
+abbrev pub with_value : {V : Type 0} → Addr → Prefix → V → List (Addr × Table V) → List (Addr × Table V)
 with_value r p v ts = entries.put addr_cmp r (finite.insert (table_at r ts) p v) ts
 
 -- the tables, with this value of the router and prefix, if it is one, changed
-abbrev pub adjusted_value : {V : Type 0} → (V → V) → Addr → Block → List (Addr × Table V) → Option V → List (Addr × Table V)
+abbrev pub adjusted_value : {V : Type 0} → (V → V) → Addr → Prefix → List (Addr × Table V) → Option V → List (Addr × Table V)
 adjusted_value f r p ts None = ts
 adjusted_value f r p ts (Some v) = with_value r p (f v) ts
 
 -- the tables, with the value of the router and prefix, where there is one, changed
-abbrev pub adjusted_at : {V : Type 0} → (V → V) → Addr → Block → List (Addr × Table V) → List (Addr × Table V)
+abbrev pub adjusted_at : {V : Type 0} → (V → V) → Addr → Prefix → List (Addr × Table V) → List (Addr × Table V)
 adjusted_at f r p ts = adjusted_value f r p ts (value_at r p ts)
 
 -- the address comes after this one, if one is given

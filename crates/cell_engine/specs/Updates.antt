@@ -3,7 +3,7 @@ use Rattle.std.specs.Prelude.{Option, Some, None, option_map, if◌then◌else�
 use Rattle.std.specs.Option.{option_map_or, option_to_list}
 use Rattle.std.specs.FinMap as finite
 use Rattle.net_prefix.specs.declared.addr.Addr.{Addr}
-use Rattle.net_prefix.specs.Block.{Block}
+use Rattle.net_prefix.specs.Prefix.{Prefix}
 use Rattle.net_conf.specs.declared.site.SiteConf.{SiteConf}
 use Rattle.net_conf.specs.declared.site.SiteSession.{SiteSession}
 use Rattle.net_conf.specs.Sites.{session_with}
@@ -26,7 +26,7 @@ pub record Basis : Type 0 where
   pub best : Option Candidate
 
 -- what is sent over the session: nothing while it is down
-abbrev pub send_if_up : SiteConf → SiteConf → Block → Option Candidate → Option Candidate → SiteSession → Option (Addr × Message)
+abbrev pub send_if_up : SiteConf → SiteConf → Prefix → Option Candidate → Option Candidate → SiteSession → Option (Addr × Message)
 send_if_up old new p had has to = if to.up then send_over old new p had has to else None
 
 -- the route, whatever its cost: no path attribute holds it (RFC 4271, 5)

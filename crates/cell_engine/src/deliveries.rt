@@ -1,14 +1,14 @@
-//! What the engine does with a message at the head of a queue, with one whose outcome was made beside the state (`installs`), and
-//! with one that a virtual peer feeds (`feeds`).
+//! What the engine does with a message at the head of a queue, with one whose outcome was made beside the state
+//! (`installs`), and with one that a virtual peer feeds (`feeds`).
 
 ghost use Rattle.std.specs.Prelude.{◌≡◌, ◌≤◌, length, true, false, is_some, IfOk, OnOk, OnErr};
 ghost use Rattle.net_conf.specs.Costs.{is_up};
 ghost use Rattle.session_queue.specs.Telling.{prefix_of};
 ghost use Rattle.cell_engine.specs.RouterTables.{value_at, with_value};
-ghost use Rattle.cell_engine.specs.Cells.{nothing_heard};
+ghost use Rattle.cell_engine.specs.Cells.{new_cell};
 ghost use Rattle.reference_machine.specs.Network.{messages_in};
 ghost use Rattle.reference_machine.specs.Machine.{head_step};
-ghost use Rattle.cell_engine.specs.Engine.{network};
+ghost use Rattle.cell_engine.specs.State.{network};
 ghost use Rattle.cell_engine.specs.Sending.{told};
 ghost use Rattle.cell_engine.specs.Deliveries.{outcome_at, HasRoom, IsOfHead, KeepsSame};
 
@@ -32,7 +32,7 @@ fn add_cell<S: Selector + Drop, T: PrefixTable<Cell<S>> + Drop>(
     router: Addr,
     prefix: Prefix,
 ) -> Result<(), AllocError>
-    ensures ok { OnOk result (tables.new ≡ with_value router prefix nothing_heard tables.old) }
+    ensures ok { OnOk result (tables.new ≡ with_value router prefix new_cell tables.old) }
     ensures err { OnErr result (tables.new ≡ tables.old) }
 {
     match tables.insert(alloc, router, prefix, Cell::new(alloc)) {
@@ -42,9 +42,10 @@ fn add_cell<S: Selector + Drop, T: PrefixTable<Cell<S>> + Drop>(
 }
 
 impl<S: Selector + Drop, T: PrefixTable<Cell<S>> + Drop> State<S, T> {
-    /// What the receiver makes of the message (RFC 4271, 9): its cell of the prefix, and what it sends. A router decides by its own
-    /// site, a virtual peer keeps what it receives. What it takes to put that in is there afterwards: a cell, the attributes that are
-    /// sent, and a place for each message. The network stays as it is, also at an error, which is want of memory.
+    /// What the receiver makes of the message (RFC 4271, 9): its cell of the prefix, and what it sends. A router
+    /// decides by its own site, a virtual peer keeps what it receives. What it takes to put that in is there
+    /// afterwards: a cell, the attributes that are sent, and a place for each message. The network stays as it is, also
+    /// at an error, which is want of memory.
     pub fn outcome(
         &mut self,
         direction: Direction,
@@ -61,14 +62,16 @@ impl<S: Selector + Drop, T: PrefixTable<Cell<S>> + Drop> State<S, T> {
         Ok(outcome)
     }
 
-    /// What the receiver makes of the message, and whether it has a cell of the prefix. Want of memory is the only error.
+    /// What the receiver makes of the message, and whether it has a cell of the prefix. Want of memory is the only
+    /// error.
     fn worked(
         &self,
         direction: Direction,
         message: &Message,
     ) -> Result<(Outcome<S>, bool), AllocError>
         ensures outcome { IfOk result (λ worked. worked.0 ≡ outcome_at self.now direction message.now) }
-        ensures cell { IfOk result (λ worked. worked.1 ≡ is_some (value_at direction.to (prefix_of message.now) self.now.tables)) }
+        ensures cell { IfOk result (λ worked.
+            worked.1 ≡ is_some (value_at direction.to (prefix_of message.now) self.now.tables)) }
     {
         self.facts();
         let made = self.made_site(direction.to)?;
@@ -84,8 +87,8 @@ impl<S: Selector + Drop, T: PrefixTable<Cell<S>> + Drop> State<S, T> {
         Ok((outcome?, has_cell))
     }
 
-    /// Sees to it that what the outcome needs is there: a cell, which the router has or not, the attributes that are sent, and a place
-    /// for each message. The network stays as it is, also at an error, which is want of memory.
+    /// Sees to it that what the outcome needs is there: a cell, which the router has or not, the attributes that are
+    /// sent, and a place for each message. The network stays as it is, also at an error, which is want of memory.
     fn make_room(
         &mut self,
         router: Addr,
@@ -143,13 +146,14 @@ impl<S: Selector + Drop, T: PrefixTable<Cell<S>> + Drop> State<S, T> {
         add_cell(self.alloc, &mut self.tables, router, prefix)
     }
 
-    /// Takes the message at the head of the direction's queue: its outcome's cell takes the place of the receiver's, and the
-    /// receiver sends what changed. This is the machine's own next state. It takes no memory.
+    /// Takes the message at the head of the direction's queue: its outcome's cell takes the place of the receiver's,
+    /// and the receiver sends what changed. This is the machine's own next state. It takes no memory.
     pub fn take(&mut self, direction: Direction, prefix: Prefix, outcome: Outcome<S>)
         requires up { is_up self.old.conf direction.from direction.to ≡ true }
         requires head { IsOfHead self.old direction prefix outcome }
         requires room { HasRoom self.old direction.to prefix outcome.sends }
-        ensures { network self.new ≡ (head_step (network self.old) direction (messages_in (network self.old).queues direction)).next }
+        ensures { network self.new ≡
+            (head_step (network self.old) direction (messages_in (network self.old).queues direction)).next }
     {
         self.conf.facts();
         let Outcome { cell, sends } = outcome;

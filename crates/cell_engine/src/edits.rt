@@ -1,12 +1,12 @@
 //! What the engine does with an edit: first all that takes memory, beside the state; then the change, which takes none.
-//! The way there: whose cells it can change (`changes`), what becomes of who stands at an address (`becoming`), which cells can change
-//! (`moved_cells`), what is done to each (`cell_edits`), and places for what is sent (`places`).
+//! The way there: whose cells it can change (`changes`), what becomes of who stands at an address (`becoming`), which
+//! cells can change (`moved_cells`), what is done to each (`cell_edits`), and places for what is sent (`places`).
 
 ghost use Rattle.std.specs.Prelude.{◌≡◌, None, IfOk, OnOk};
 ghost use Rattle.net_conf.specs.Concerned.{ConcernsAlone};
 ghost use Rattle.net_conf.specs.Edits.{refusal_of};
 ghost use Rattle.reference_machine.specs.Machine.{with_sent, after_edit};
-ghost use Rattle.cell_engine.specs.Engine.{network};
+ghost use Rattle.cell_engine.specs.State.{network};
 ghost use Rattle.cell_engine.specs.Changes.{changes_in};
 ghost use Rattle.cell_engine.specs.Editing.{with_origin};
 ghost use Rattle.cell_engine.specs.Deliveries.{KeepsSame};
@@ -40,8 +40,8 @@ use std::marker::Model;
 use std::sync::Arc;
 use std::thread::Threads;
 
-/// What an edit will do: the configuration that it makes, the directions for that, and what is done to cells, with what each router
-/// sends for that.
+/// What an edit will do: the configuration that it makes, the directions for that, and what is done to cells, with what
+/// each router sends for that.
 #[derive(Drop)]
 pub struct Edited<S: Selector> {
     parts: Box<Parts<S>>,
@@ -59,13 +59,17 @@ impl<S: Selector> Model for Edited<S> {
     ghost use Rattle.std.specs.Arc.{arc_value};
     ghost use Rattle.std.specs.Coded.{codes};
     ghost use Rattle.cell_engine.specs.Coding.{coded_edit};
-    ghost use Rattle.cell_engine.specs.Edits.{Planned};
+    ghost use Rattle.cell_engine.specs.Edits.{Edited};
 
-    ghost Value = { Planned };
+    ghost Value = { Edited };
 
     ghost coded = { Prim.hlevel (codes, coded_edit) };
 
-    ghost view = { λ x. record { conf = arc_value x.parts.value.conf; directions = x.parts.value.directions; edits = x.parts.value.edits } };
+    ghost view = { λ x. record {
+      conf = arc_value x.parts.value.conf;
+      directions = x.parts.value.directions;
+      edits = x.parts.value.edits;
+    } };
 }
 
 impl<S: Selector> Edited<S> {
@@ -103,8 +107,9 @@ fn boxed<S: Selector + Drop>(
 }
 
 impl<S: Selector + Send + Sync + Drop, T: PrefixTable<Cell<S>> + Drop> State<S, T> {
-    /// What the edit will do, worked out in threads where that is much. The network stays as it is, also at an error, which is want of memory; of the state no more changes than
-    /// that a router gets an empty cell for a prefix that it is to originate.
+    /// What the edit will do, worked out in threads where that is much. The network stays as it is, also at an error,
+    /// which is want of memory; of the state no more changes than that a router gets an empty cell for a prefix that it
+    /// is to originate.
     pub fn edited<R: Threads + Sync>(
         &mut self,
         rt: &R,
@@ -147,7 +152,8 @@ impl<S: Selector + Send + Sync + Drop, T: PrefixTable<Cell<S>> + Drop> State<S, 
         made: &EditedConf,
     ) -> Result<Seq<CellEdit<S>>, AllocError>
         requires { ConcernsAlone self.now.conf made.now.conf made.now.concerned.keys }
-        ensures { IfOk result (λ edits. whole_changes self.now.tables edits ≡ changes_in scope self.now.conf made.now.conf self.now.tables) }
+        ensures { IfOk result (λ edits.
+            whole_changes self.now.tables edits ≡ changes_in scope self.now.conf made.now.conf self.now.tables) }
     {
         match scope {
             Scope::Network => self.network_changes(rt, &made.conf, &made.concerned),
@@ -169,8 +175,8 @@ impl<S: Selector + Drop, T: PrefixTable<Cell<S>> + Drop> State<S, T> {
         }
     }
 
-    /// Sees to it that each message that will be sent may be, and has a place. The network stays as it is, also at an error, which is
-    /// want of memory.
+    /// Sees to it that each message that will be sent may be, and has a place. The network stays as it is, also at an
+    /// error, which is want of memory.
     pub fn make_room_for(&mut self, edited: &Edited<S>) -> Result<(), AllocError>
         ensures same { KeepsSame self.old self.new }
         ensures tables { self.new.tables ≡ self.old.tables }
@@ -180,12 +186,13 @@ impl<S: Selector + Drop, T: PrefixTable<Cell<S>> + Drop> State<S, T> {
         reserve_each(self.alloc, &mut self.queues, edited.parts.edits.as_slice())
     }
 
-    /// Does what the edit will do: this is the machine's own next state (RFC 4271, 6, 8 and 9). What was on its way over sessions that
-    /// are not up is lost. It takes no memory.
+    /// Does what the edit will do: this is the machine's own next state (RFC 4271, 6, 8 and 9). What was on its way
+    /// over sessions that are not up is lost. It takes no memory.
     pub fn reconfigure(&mut self, edited: Edited<S>)
         requires of { IsOfEdit self.old edited }
         requires room { HasPlaces self.old edited }
-        ensures { (edit : Edit) → IsPlanned self.old edit edited → network self.new ≡ with_sent (network self.old) (after_edit (network self.old) edit) }
+        ensures { (edit : Edit) → IsPlanned self.old edit edited →
+            network self.new ≡ with_sent (network self.old) (after_edit (network self.old) edit) }
     {
         self.conf.facts();
         let Parts {

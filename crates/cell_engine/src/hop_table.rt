@@ -4,7 +4,7 @@ ghost use Rattle.std.specs.Prelude.{◌≡◌, Some, List};
 ghost use Rattle.std.specs.FinMap as finite;
 ghost use Rattle.net_prefix.specs.declared.addr.Addr as addr;
 ghost use Rattle.path_attr.specs.declared.attr.Attr as attr;
-ghost use Rattle.cell_engine.specs.Cells.{Heard};
+ghost use Rattle.cell_engine.specs.Cells.{Cell};
 ghost use Rattle.cell_engine.specs.Hops.{Have, AreKnown};
 
 mod hops;
@@ -17,9 +17,9 @@ use route_select::Chosen;
 use std::alloc::{AllocError, Global};
 use std::marker::{Model, PhantomData};
 
-/// A table of cells that knows the NEXT_HOP of their routes, where they all have the same one: one look tells whether a change of the
-/// cost to an address can concern any of them. It knows no more than that, and takes no memory for it. What is known is never taken
-/// back: the NEXT_HOP of a route that is gone still counts.
+/// A table of cells that knows the NEXT_HOP of their routes, where they all have the same one: one look tells whether a
+/// change of the cost to an address can concern any of them. It knows no more than that, and takes no memory for it.
+/// What is known is never taken back: the NEXT_HOP of a route that is gone still counts.
 #[derive(Drop)]
 pub struct HopTable<S: Chosen, T: PrefixTable<Cell<S>>> {
     cells: T,
@@ -29,14 +29,14 @@ pub struct HopTable<S: Chosen, T: PrefixTable<Cell<S>>> {
 
 impl<S: Chosen, T: PrefixTable<Cell<S>>> Model for HopTable<S, T> {
     ghost use Rattle.std.specs.FinMap as finite;
-    ghost use Rattle.prefix_table.specs.Tables.{Table, coded_block};
-    ghost use Rattle.cell_engine.specs.Cells.{Heard};
-    ghost use Rattle.cell_engine.specs.CellCoding.{coded_heard};
+    ghost use Rattle.prefix_table.specs.Tables.{Table, coded_prefix};
+    ghost use Rattle.cell_engine.specs.Cells.{Cell};
+    ghost use Rattle.cell_engine.specs.CellCoding.{coded_cell};
     ghost use Rattle.cell_engine.specs.Hops.{AreKnown};
 
-    ghost Value = { Table Heard };
+    ghost Value = { Table Cell };
 
-    ghost coded = { finite.code coded_block coded_heard };
+    ghost coded = { finite.code coded_prefix coded_cell };
 
     ghost view = { λ s. T.table s.cells };
 
@@ -45,7 +45,7 @@ impl<S: Chosen, T: PrefixTable<Cell<S>>> Model for HopTable<S, T> {
 
 /// What is known once there are the routes of the prefix's cell besides.
 fn with_cell<S: Chosen, T: PrefixTable<Cell<S>>>(hops: Hops, cells: &T, prefix: Prefix) -> Hops
-    ensures covers { (h : Heard) → finite.get (T.table cells.now) prefix ≡ Some h → Have result h.received }
+    ensures covers { (h : Cell) → finite.get (T.table cells.now) prefix ≡ Some h → Have result h.received }
     ensures keeps { (known : List (addr.Addr × attr.Attr)) → Have hops known → Have result known }
 {
     if let Hops::Several = hops {

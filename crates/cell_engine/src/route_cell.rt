@@ -1,4 +1,5 @@
-//! What one router has received for one prefix, how each route stands there, and what the router sends when that changes.
+//! What one router has received for one prefix, how each route stands there, and what the router sends when that
+//! changes.
 
 mod cell;
 mod changes;

@@ -1,4 +1,5 @@
-//! Sending without memory: a message's attributes are admitted, and there is a place for it, before it goes into its queue.
+//! Sending without memory: a message's attributes are admitted, and there is a place for it, before it goes into its
+//! queue.
 
 ghost use Rattle.std.specs.Prelude.{◌≡◌, ◌≤◌, ◌+◌, ◌++◌, length, OnOk};
 ghost use Rattle.session_queue.specs.Waiting.{queue_at, spare_at, IsAdmitted, KeepsAdmitted};
@@ -73,8 +74,10 @@ pub(crate) fn make_ready(
 pub(crate) fn push_all(queues: &mut Queues, router: Addr, sends: Vec<(Addr, Message)>)
     requires places { (t : Addr) → length (told t sends.items) ≤ spare_at queues.old router t }
     requires admitted { AreAdmitted queues.old.admitted sends.items }
-    ensures queue { (f t : Addr) → queue_at queues.new f t ≡ queue_at queues.old f t ++ told_from router sends.items f t }
-    ensures spare { (f t : Addr) → spare_at queues.new f t + length (told_from router sends.items f t) ≡ spare_at queues.old f t }
+    ensures queue { (f t : Addr) →
+        queue_at queues.new f t ≡ queue_at queues.old f t ++ told_from router sends.items f t }
+    ensures spare { (f t : Addr) →
+        spare_at queues.new f t + length (told_from router sends.items f t) ≡ spare_at queues.old f t }
     ensures admitted { queues.new.admitted ≡ queues.old.admitted }
 {
     for (peer, message) in sends {

@@ -8,7 +8,7 @@ ghost use Rattle.reference_machine.specs.Machine.{nothing};
 ghost use Rattle.cell_engine.specs.RouterTables.{value_at, next_of};
 ghost use Rattle.std.specs.FinMap.Entries.{find};
 ghost use Rattle.net_prefix.specs.Address.{addr_cmp};
-ghost use Rattle.cell_engine.specs.Engine.{network, IsSound};
+ghost use Rattle.cell_engine.specs.State.{network, IsConsistent};
 ghost use Rattle.cell_engine.specs.Reporting.{AreOfPrefixes};
 ghost use Rattle.cell_engine.specs.Changes.{AreOverSessionsUp};
 ghost use Rattle.cell_engine.specs.Sharing.{conf_shown};
@@ -47,23 +47,25 @@ pub struct State<S: Chosen, T: PrefixTable<Cell<S>>> {
 impl<S: Chosen, T: PrefixTable<Cell<S>>> Model for State<S, T> {
     ghost use Rattle.std.specs.Prelude.{◌≡◌};
     ghost use Rattle.std.specs.Coded.{codes};
-    ghost use Rattle.cell_engine.specs.Engine.{Engine, IsSound};
+    ghost use Rattle.cell_engine.specs.State.{State, IsConsistent};
     ghost use Rattle.cell_engine.specs.Reporting.{AreOfPrefixes};
     ghost use Rattle.cell_engine.specs.Changes.{AreOverSessionsUp};
     ghost use Rattle.cell_engine.specs.Coding.{coded_table};
 
-    ghost Value = { Engine };
+    ghost Value = { State };
 
     ghost coded = { Prim.hlevel (codes, coded_table) };
 
     ghost view = { λ s. record { conf = s.conf; tables = s.tables; directions = s.directions; queues = s.queues } };
 
-    ghost invariant = { λ s. IsSound (record { conf = s.conf; tables = s.tables; directions = s.directions; queues = s.queues }) × AreOfPrefixes s.tables × AreOverSessionsUp s.conf s.tables };
+    ghost invariant = { λ s.
+        IsConsistent (record { conf = s.conf; tables = s.tables; directions = s.directions; queues = s.queues }) ×
+        AreOfPrefixes s.tables × AreOverSessionsUp s.conf s.tables };
 }
 
 impl<S: Chosen, T: PrefixTable<Cell<S>>> State<S, T> {
-    /// Nothing is configured, received or on its way. It takes no memory. Nobody who does not know the keys can make it slow by a choice
-    /// of attributes; with none, whoever knows the program can.
+    /// Nothing is configured, received or on its way. It takes no memory. Nobody who does not know the keys can make it
+    /// slow by a choice of attributes; with none, whoever knows the program can.
     pub fn new(alloc: Global, keys: Option<RandomState>) -> Self
         ensures { network result ≡ nothing }
     {
@@ -78,7 +80,7 @@ impl<S: Chosen, T: PrefixTable<Cell<S>>> State<S, T> {
 
     /// A call gives the caller's proof what holds of every state.
     pub fn facts(&self)
-        ensures sound { IsSound self.now }
+        ensures sound { IsConsistent self.now }
         ensures configured { IsConfigured self.now.conf }
         ensures prefixes { AreOfPrefixes self.now.tables }
         ensures sessions { AreOverSessionsUp self.now.conf self.now.tables }
@@ -93,8 +95,8 @@ impl<S: Chosen, T: PrefixTable<Cell<S>>> State<S, T> {
         self.conf.get()
     }
 
-    /// What is configured, to be kept while the state goes on: one owner more, and no copy. None until an edit was accepted. The error is
-    /// that 2^63 owners share it.
+    /// What is configured, to be kept while the state goes on: one owner more, and no copy. None until an edit was
+    /// accepted. The error is that 2^63 owners share it.
     pub fn share(&self) -> Result<Option<Arc<Conf>>, AllocError>
         ensures { IfOk result (λ share. conf_shown share ≡ self.now.conf) }
     {
@@ -108,7 +110,8 @@ impl<S: Chosen, T: PrefixTable<Cell<S>>> State<S, T> {
         &self.queues
     }
 
-    /// The router's site, where the configuration keeps none: of a router that ends a session it does, and this makes none.
+    /// The router's site, where the configuration keeps none: of a router that ends a session it does, and this makes
+    /// none.
     pub fn made_site(&self, router: Addr) -> Result<Option<SiteConf>, AllocError>
         ensures { IfOk result (λ made. made ≡ site_made self.now.conf router) }
     {

@@ -10,8 +10,8 @@ use Rattle.decimal.specs.Separators.{Lacks, decimal_lacks}
 use Rattle.net_prefix.specs.declared.addr.Addr.{Addr}
 use Rattle.net_prefix.specs.Address.{addr_text}
 use Rattle.net_prefix.specs.AddressText.{addr_text_exact}
-use Rattle.net_prefix.specs.Block.{Block, block_text}
-use Rattle.net_prefix.specs.BlockText.{block_text_exact}
+use Rattle.net_prefix.specs.Prefix.{Prefix, prefix_text}
+use Rattle.net_prefix.specs.PrefixText.{prefix_text_exact}
 use Rattle.path_attr.specs.declared.path.Segment.{Segment}
 use Rattle.path_attr.specs.declared.path.Segment.TheVariants.{Seq as Sequence, Set}
 use Rattle.path_attr.specs.declared.origin.Origin.{Origin}
@@ -37,8 +37,8 @@ use Rattle.command_text.proofs.Segments.{segment_lacks, segments_parts}
 pub address_exact : (a b : Addr) → IsAddress a → IsAddress b → addr_text a ≡ addr_text b → a ≡ b
 address_exact a b h g e = addr_text_exact a b h g e
 
-pub prefix_exact : (p q : Block) → IsPrefix p → IsPrefix q → block_text p ≡ block_text q → p ≡ q
-prefix_exact p q h g e = block_text_exact p q h.0 g.0 h.1.0 g.1.0 e
+pub prefix_exact : (p q : Prefix) → IsPrefix p → IsPrefix q → prefix_text p ≡ prefix_text q → p ≡ q
+prefix_exact p q h g e = prefix_text_exact p q h.0 g.0 h.1.0 g.1.0 e
 
 -- numbers below 2^32
 pub small_exact : (m n : ℕ) → m < 2 ^ 32 → n < 2 ^ 32 → decimal m ≡ decimal n → m ≡ n

@@ -2,7 +2,7 @@
 use Rattle.std.proofs.Common.{◌≡◌, ℕ, Bool, List, [], ◌∷◌, cond, codes, Option, Some, None, refl, sym, ap, subst, ◌∙◌, arith}
 use Rattle.std.specs.Str.{bytes_eq}
 use Rattle.net_prefix.specs.declared.addr.Addr.{Addr}
-use Rattle.net_prefix.specs.Block.{Block}
+use Rattle.net_prefix.specs.Prefix.{Prefix}
 use Rattle.route_policy.specs.declared.rule.Rule.{Rule}
 use Rattle.net_conf.specs.declared.tables.PolicySide.{PolicySide}
 use Rattle.net_conf.specs.declared.edit.Edit.TheVariants.{Router, Virtual, Link, Metric, Fail, Mend, Join, Stop, Start, Client, OwnNext, Cluster, Rule as AddRule, Clear, Origin, NoOrigin}
@@ -93,7 +93,7 @@ Follows (verb.Node v) = Addr × ℕ
 Follows (verb.Link v) = Addr × Addr × ℕ
 Follows (verb.Pair v) = Addr × Addr
 Follows (verb.Switch v) = Addr × Addr × Bool
-Follows (verb.Prefix v) = Addr × Block
+Follows (verb.Prefix v) = Addr × Prefix
 Follows verb.Rule = Addr × Addr × PolicySide × Rule
 Follows verb.Clear = Addr × Addr × PolicySide
 Follows verb.Routes = Addr

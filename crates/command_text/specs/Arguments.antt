@@ -4,7 +4,7 @@ use Rattle.std.specs.Fmt.{decimal}
 use Rattle.igp_cost.specs.Metric.{IsMetric}
 use Rattle.net_prefix.specs.declared.addr.Addr.{Addr}
 use Rattle.net_prefix.specs.Address.{addr_text}
-use Rattle.net_prefix.specs.Block.{Block, block_text}
+use Rattle.net_prefix.specs.Prefix.{Prefix, prefix_text}
 use Rattle.route_policy.specs.declared.rule.Rule.{Rule}
 use Rattle.net_conf.specs.declared.tables.PolicySide.{PolicySide}
 use Rattle.sim_event.specs.Events.{IsAddress, IsAsNumber, IsPrefix}
@@ -32,11 +32,11 @@ AreEndsAndMetric v = IsAddress v.0 × IsAddress v.1 × IsMetric v.2
 abbrev pub metric_words : Addr × Addr × ℕ → List (List ℕ)
 metric_words v = addr_text v.0 ∷ addr_text v.1 ∷ decimal v.2 ∷ []
 
-abbrev pub IsAddressAndPrefix : Addr × Block → Type 0
+abbrev pub IsAddressAndPrefix : Addr × Prefix → Type 0
 IsAddressAndPrefix v = IsAddress v.0 × IsPrefix v.1
 
-abbrev pub prefix_words : Addr × Block → List (List ℕ)
-prefix_words v = addr_text v.0 ∷ block_text v.1 ∷ []
+abbrev pub prefix_words : Addr × Prefix → List (List ℕ)
+prefix_words v = addr_text v.0 ∷ prefix_text v.1 ∷ []
 
 abbrev pub AreEnds : {X : Type 0} → Addr × Addr × X → Type 0
 AreEnds v = IsAddress v.0 × IsAddress v.1

@@ -2,7 +2,7 @@
 use Rattle.std.specs.Prelude.{ℕ, Bool, true, false, List, [], ◌∷◌, ◌++◌, codes, Option, Some, None}
 use Rattle.std.specs.Fmt.{decimal}
 use Rattle.net_prefix.specs.Address.{addr_text}
-use Rattle.net_prefix.specs.Block.{block_text}
+use Rattle.net_prefix.specs.Prefix.{prefix_text}
 use Rattle.route_policy.specs.declared.rule.Match.{Match}
 use Rattle.route_policy.specs.declared.rule.Match.TheVariants.{Any, Is, Under, Path, First}
 use Rattle.route_policy.specs.declared.rule.Action.{Action}
@@ -29,8 +29,8 @@ side_word Export = codes "out"
 
 abbrev pub match_words : Match → List (List ℕ)
 match_words Any = codes "any" ∷ []
-match_words (Is p) = codes "is" ∷ block_text p ∷ []
-match_words (Under p) = codes "under" ∷ block_text p ∷ []
+match_words (Is p) = codes "is" ∷ prefix_text p ∷ []
+match_words (Under p) = codes "under" ∷ prefix_text p ∷ []
 match_words (Path n) = codes "path" ∷ decimal n ∷ []
 match_words (First n) = codes "first" ∷ decimal n ∷ []
 
@@ -58,17 +58,17 @@ edit_words (OwnNext a b on) = codes "self" ∷ addr_text a ∷ addr_text b ∷ s
 edit_words (Cluster a id) = codes "cluster" ∷ addr_text a ∷ addr_text id ∷ []
 edit_words (AddRule a b side rule) = codes "rule" ∷ addr_text a ∷ addr_text b ∷ side_word side ∷ match_words rule.cond ++ action_words rule.act
 edit_words (Clear a b side) = codes "clear" ∷ addr_text a ∷ addr_text b ∷ side_word side ∷ []
-edit_words (Origin a p) = codes "origin" ∷ addr_text a ∷ block_text p ∷ []
-edit_words (NoOrigin a p) = codes "noorigin" ∷ addr_text a ∷ block_text p ∷ []
+edit_words (Origin a p) = codes "origin" ∷ addr_text a ∷ prefix_text p ∷ []
+edit_words (NoOrigin a p) = codes "noorigin" ∷ addr_text a ∷ prefix_text p ∷ []
 
 abbrev pub news_words : News → List (List ℕ)
-news_words (Update p path origin med) = codes "update" ∷ block_text p ∷ path_text path ∷ origin_text origin ∷ maybe_number_text med ∷ []
-news_words (Withdraw p) = codes "withdraw" ∷ block_text p ∷ []
+news_words (Update p path origin med) = codes "update" ∷ prefix_text p ∷ path_text path ∷ origin_text origin ∷ maybe_number_text med ∷ []
+news_words (Withdraw p) = codes "withdraw" ∷ prefix_text p ∷ []
 
 abbrev pub ask_words : Ask → List (List ℕ)
 ask_words (Routes r) = codes "routes" ∷ addr_text r ∷ []
-ask_words (Best r p) = codes "best" ∷ addr_text r ∷ block_text p ∷ []
-ask_words (Why r p) = codes "why" ∷ addr_text r ∷ block_text p ∷ []
+ask_words (Best r p) = codes "best" ∷ addr_text r ∷ prefix_text p ∷ []
+ask_words (Why r p) = codes "why" ∷ addr_text r ∷ prefix_text p ∷ []
 ask_words (In r x) = codes "in" ∷ addr_text r ∷ addr_text x ∷ []
 ask_words (Out r x) = codes "out" ∷ addr_text r ∷ addr_text x ∷ []
 ask_words (Queue a b) = codes "queue" ∷ addr_text a ∷ addr_text b ∷ []

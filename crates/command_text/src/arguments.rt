@@ -86,7 +86,8 @@ pub(crate) fn next_address(words: &[u8]) -> Option<(Addr, &[u8])>
     ensures address { IfSome result (λ next. IsAddress next.0) }
     ensures found { IfSome result (λ next. tokens words.now ≡ addr_text next.0 ∷ tokens next.1.now) }
     ensures shorter { IfSome result (λ next. length next.1.now ≤ length words.now) }
-    ensures none { IfNone result ((a : Addr) (more : List (List ℕ)) → IsAddress a → tokens words.now ≡ addr_text a ∷ more → ⊥) }
+    ensures none { IfNone result ((a : Addr) (more : List (List ℕ)) → IsAddress a →
+        tokens words.now ≡ addr_text a ∷ more → ⊥) }
 {
     let (word, rest) = next_word(words)?;
     Some((addr_of(word)?, rest))

@@ -1,7 +1,7 @@
 //! Feeds: the news that a virtual peer tells a router.
 
 ghost use Rattle.std.specs.Prelude.{◌≡◌, ◌≤◌, ◌<◌, ◌^◌, [], ◌∷◌, length, codes, IfSome, IfNone};
-ghost use Rattle.net_prefix.specs.Block.{block_text};
+ghost use Rattle.net_prefix.specs.Prefix.{prefix_text};
 ghost use Rattle.sim_event.specs.declared.event.News.{News};
 ghost use Rattle.sim_event.specs.Events.{IsEvent, IsNews, IsPrefix};
 ghost use Rattle.sim_event.specs.Wording.{origin_text, maybe_number_text};
@@ -82,7 +82,8 @@ struct UpdateWords<'a> {
 /// The four words of an update. It takes no memory.
 fn update_of(words: &[u8]) -> Option<UpdateWords<'_>>
     requires { length words.now ≤ MAX_LINE }
-    ensures found { IfSome result (λ u. tokens words.now ≡ block_text u.prefix ∷ u.path.now ∷ origin_text u.origin ∷ maybe_number_text u.med ∷ []) }
+    ensures found { IfSome result (λ u.
+        tokens words.now ≡ prefix_text u.prefix ∷ u.path.now ∷ origin_text u.origin ∷ maybe_number_text u.med ∷ []) }
     ensures prefix { IfSome result (λ u. IsPrefix u.prefix) }
     ensures path { IfSome result (λ u. HasPath u.path.now) }
     ensures med { IfSome result (λ u. IfSome u.med (λ m. m < 2 ^ 32)) }

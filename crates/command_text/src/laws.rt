@@ -1,5 +1,5 @@
-//! What holds of the command language, whoever reads it. A function here does nothing: a call gives the caller's proof what it
-//! ensures.
+//! What holds of the command language, whoever reads it. A function here does nothing: a call gives the caller's proof
+//! what it ensures.
 
 ghost use Rattle.command_text.specs.Spelling.{WordsTell, OneMeaning};
 

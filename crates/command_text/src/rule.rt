@@ -29,7 +29,8 @@ pub(crate) fn rule_of(words: &[u8]) -> Option<Rule>
 fn next_match(words: &[u8]) -> Option<(Match, &[u8])>
     ensures range { IfSome result (λ next. IsMatch next.0) }
     ensures found { IfSome result (λ next. tokens words.now ≡ match_words next.0 ++ tokens next.1.now) }
-    ensures none { IfNone result ((m : Match) (more : List (List ℕ)) → IsMatch m → tokens words.now ≡ match_words m ++ more → ⊥) }
+    ensures none { IfNone result ((m : Match) (more : List (List ℕ)) → IsMatch m →
+        tokens words.now ≡ match_words m ++ more → ⊥) }
 {
     let (kind, rest) = next_word(words)?;
     if kind == b"any".as_slice() {
@@ -81,8 +82,10 @@ fn permit_of(words: &[u8]) -> Option<Action>
 fn next_setting<'a>(text: &'a [u8], name: &[u8]) -> Option<(Option<u32>, &'a [u8])>
     ensures range { IfSome result (λ next. IsMaybeNumber next.0) }
     ensures found { IfSome result (λ next. tokens text.now ≡ setting_words name.now next.0 ++ tokens next.1.now) }
-    ensures after { IfSome result (λ next. (n : Option ℕ) (more : List (List ℕ)) → (BeginsWith name.now more → ⊥) → tokens text.now ≡ setting_words name.now n ++ more → tokens next.1.now ≡ more) }
-    ensures none { IfNone result ((n : Option ℕ) (more : List (List ℕ)) → IsMaybeNumber n → (BeginsWith name.now more → ⊥) → tokens text.now ≡ setting_words name.now n ++ more → ⊥) }
+    ensures after { IfSome result (λ next. (n : Option ℕ) (more : List (List ℕ)) → (BeginsWith name.now more → ⊥) →
+        tokens text.now ≡ setting_words name.now n ++ more → tokens next.1.now ≡ more) }
+    ensures none { IfNone result ((n : Option ℕ) (more : List (List ℕ)) → IsMaybeNumber n →
+        (BeginsWith name.now more → ⊥) → tokens text.now ≡ setting_words name.now n ++ more → ⊥) }
 {
     match named_value(text, name) {
         Some((value, rest)) => Some((Some(read_decimal(value)?), rest)),

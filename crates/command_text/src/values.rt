@@ -4,7 +4,7 @@ ghost use Rattle.std.specs.Prelude.{◌≡◌, ◌↔◌, ℕ, ◌<◌, ◌^◌,
 ghost use Rattle.std.specs.Fmt.{decimal};
 ghost use Rattle.igp_cost.specs.Metric.{IsMetric};
 ghost use Rattle.net_prefix.specs.Address.{addr_text};
-ghost use Rattle.net_prefix.specs.Block.{block_text};
+ghost use Rattle.net_prefix.specs.Prefix.{prefix_text};
 ghost use Rattle.route_policy.specs.Repeats.{IsRepeat};
 ghost use Rattle.sim_event.specs.Events.{IsAddress, IsAsNumber, IsPrefix};
 ghost use Rattle.sim_event.specs.Wording.{none_text, maybe_number_text, origin_text};
@@ -26,7 +26,7 @@ pub(crate) fn addr_of(word: &[u8]) -> Option<Addr>
 
 /// A prefix, a.b.c.d/len.
 pub(crate) fn prefix_of(word: &[u8]) -> Option<Prefix>
-    ensures { Reads IsPrefix block_text word.now result }
+    ensures { Reads IsPrefix prefix_text word.now result }
 {
     read_prefix(word)
 }

@@ -1,6 +1,7 @@
 //! The first words of the commands that take no memory, by what follows them.
 //!
-//! Each shape of what follows has an enum of its verbs: so it has one reader, proved once, which is handed no verb of another shape.
+//! Each shape of what follows has an enum of its verbs: so it has one reader, proved once, which is handed no verb of
+//! another shape.
 
 ghost use Rattle.std.specs.Prelude.{◌≡◌, ◌∷◌, ⊤};
 ghost use Rattle.sim_event.specs.Events.{IsEvent};

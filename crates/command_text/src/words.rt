@@ -66,7 +66,8 @@ pub(crate) fn three_words(text: &[u8]) -> Option<(&[u8], &[u8], &[u8])>
 
 /// The four words of a text.
 pub(crate) fn four_words(text: &[u8]) -> Option<(&[u8], &[u8], &[u8], &[u8])>
-    ensures found { IfSome result (λ words. tokens text.now ≡ words.0.now ∷ words.1.now ∷ words.2.now ∷ words.3.now ∷ []) }
+    ensures found { IfSome result (λ words.
+        tokens text.now ≡ words.0.now ∷ words.1.now ∷ words.2.now ∷ words.3.now ∷ []) }
     ensures within { IfSome result (λ words. length words.1.now ≤ length text.now) }
     ensures none { IfNone result ((a b c d : List ℕ) → tokens text.now ≡ a ∷ b ∷ c ∷ d ∷ [] → ⊥) }
 {

@@ -11,7 +11,7 @@ use Rattle.room.specs.declared.room.commit.Committed.TheVariants.{Delivered, Sta
 use Rattle.desk.specs.declared.desk.OpenFault.{OpenFault}
 use Rattle.desk.specs.declared.desk.OpenFault.TheVariants.{Seats, Shards, Memory}
 use Rattle.room.specs.Books.{RoomBook, SeatBook, IsKept, GoesOn, with_call}
-use Rattle.room.specs.Jobs.{Seen, IsSeenIn, NoneWaits}
+use Rattle.room.specs.Jobs.{Job, IsSeenIn, NoneWaits}
 use Rattle.room.specs.Commits.{delivery_of, IsNewer}
 
 -- a desk: how many shards it has
@@ -45,7 +45,7 @@ pub record IsReplied (event : Event) (reply : Reply) : Type 0 where
   pub replies : reply ≡ (step (state_after history) event).reply
 
 -- there is a room, with a legal history, in which the job sees what it holds
-pub record IsTaken (x : Seen) : Type 0 where
+pub record IsTaken (x : Job) : Type 0 where
   pub room : RoomBook
   pub kept : IsKept room
   pub seen : IsSeenIn room x
@@ -57,7 +57,7 @@ pub record IsWithout (shard shards : ℕ) : Type 0 where
   pub none : NoneWaits room shard shards
 
 -- there is a room, with a legal history, in which this has moved since the job was taken
-pub record IsMoved (x : Seen) (newer : Newer) : Type 0 where
+pub record IsMoved (x : Job) (newer : Newer) : Type 0 where
   pub room : RoomBook
   pub kept : IsKept room
   pub moved : IsNewer room x newer
@@ -75,7 +75,7 @@ pub record IsNoted (seat : SeatBook) : Type 0 where
   pub calls : calls_of seat.number history ≡ seat.notes
 
 -- after its outcome is committed the seat has one call more, with the machine's reply; or something has moved, and the seat is as it was
-abbrev pub IsSeatAfter : SeatBook → Seen → Committed → SeatBook → Type 0
+abbrev pub IsSeatAfter : SeatBook → Job → Committed → SeatBook → Type 0
 IsSeatAfter seat x (Delivered reply) new = (new ≡ with_call seat (delivery_of x) reply) × IsReplied (delivery_of x) reply
 IsSeatAfter seat x (Stale newer) new = (new ≡ seat) × IsMoved x newer
 

@@ -1,6 +1,7 @@
 //! Workers who back off from a lock that others hold often.
 
-/// After how many turns at once of little work a worker wakes another, at first and at most: twice as many after each one who backs off.
+/// After how many turns at once of little work a worker wakes another, at first and at most: twice as many after each
+/// one who backs off.
 const FIRST_TURNS_TO_A_WAKEUP: u64 = 1_024;
 
 const MOST_TURNS_TO_A_WAKEUP: u64 = 8_192;
@@ -16,8 +17,8 @@ pub(crate) enum Between {
     WakeOne,
 }
 
-/// How a worker has found the lock since it last waited for a message or backed off, what work its last jobs were, after how many turns at once
-/// it wakes another, and the version of the configuration that it has waited for.
+/// How a worker has found the lock since it last waited for a message or backed off, what work its last jobs were,
+/// after how many turns at once it wakes another, and the version of the configuration that it has waited for.
 #[derive(Clone, Copy)]
 pub(crate) struct Backoff {
     /// How often somebody else held it.
@@ -66,8 +67,9 @@ impl Backoff {
         is_new
     }
 
-    /// What the worker does after its turns at once. After much work it wakes another. After little it backs off where it has found the lock
-    /// taken often for the turns that it made: so who has just come makes way for who has long been at work.
+    /// What the worker does after its turns at once. After much work it wakes another. After little it backs off where
+    /// it has found the lock taken often for the turns that it made: so who has just come makes way for who has long
+    /// been at work.
     pub(crate) fn after_turns(&mut self) -> Between {
         self.turns = self.turns.saturating_add(1);
         if self.is_much_work {

@@ -46,8 +46,9 @@ struct Guarded<S: Chosen, T: PrefixTable<Cell<S>>, L: Ledger> {
     workers: Workers,
 }
 
-/// A room under one lock, at which several work: engineers make calls, and workers take jobs, each of the receivers of one shard. Contracts
-/// see how many shards there are. What is under the lock is known by what holds of every room: its history is legal.
+/// A room under one lock, at which several work: engineers make calls, and workers take jobs, each of the receivers of
+/// one shard. Contracts see how many shards there are. What is under the lock is known by what holds of every room: its
+/// history is legal.
 #[derive(Drop)]
 pub struct Desk<S: Chosen, T: PrefixTable<Cell<S>>, L: Ledger> {
     alloc: Global,
@@ -74,8 +75,8 @@ pub(crate) enum Turn<S: Chosen> {
 }
 
 impl<S: Chosen, T: PrefixTable<Cell<S>>, L: Ledger> Desk<S, T, L> {
-    /// A desk of an empty room, its machine under these keys, with its seats, by number, and so many shards: 1 to 256 seats, and 1 to 64
-    /// shards.
+    /// A desk of an empty room, its machine under these keys, with its seats, by number, and so many shards: 1 to 256
+    /// seats, and 1 to 64 shards.
     pub fn open(
         alloc: Global,
         keys: Option<RandomState>,
@@ -193,7 +194,8 @@ impl<S: Chosen, T: PrefixTable<Cell<S>>, L: Ledger> Desk<S, T, L> {
         guarded.workers.resume();
     }
 
-    /// Wakes the workers of one shard for whom a message may wait, or else a worker who has backed off, if there are any.
+    /// Wakes the workers of one shard for whom a message may wait, or else a worker who has backed off, if there are
+    /// any.
     pub(crate) fn wake_one<R: Wait>(&self, rt: &R) {
         let mut guarded = self.guarded.lock(rt);
         self.wake_next(&mut guarded);
@@ -277,7 +279,8 @@ impl<S: Chosen, T: PrefixTable<Cell<S>>, L: Ledger> Desk<S, T, L> {
         }
     }
 
-    /// Wakes the workers of one shard who are ready, and for whom a message waits, or else a worker who has backed off, if there are any.
+    /// Wakes the workers of one shard who are ready, and for whom a message waits, or else a worker who has backed off,
+    /// if there are any.
     fn wake_next(&self, guarded: &mut Guarded<S, T, L>) {
         self.make_idle(guarded);
         self.scheduler.wake_one(&mut guarded.workers);
@@ -337,8 +340,8 @@ impl<S: Chosen, T: PrefixTable<Cell<S>>, L: Ledger> Desk<S, T, L> {
 }
 
 impl<S: Selector + Send + Sync + Drop, T: PrefixTable<Cell<S>> + Drop, L: Ledger> Desk<S, T, L> {
-    /// Makes a call from the seat: the reply is the machine's own, in a state that a legal history leaves, and it is the last of the seat's
-    /// notes. For want of memory the reply is the refusal `Memory`, and the seat stays as it is.
+    /// Makes a call from the seat: the reply is the machine's own, in a state that a legal history leaves, and it is
+    /// the last of the seat's notes. For want of memory the reply is the refusal `Memory`, and the seat stays as it is.
     pub fn call<R: Threads + Wait + Sync>(&self, rt: &R, seat: &mut Seat<L>, event: Event) -> Reply
         ensures seat { seat.new ≡ noted seat.old event result }
         ensures reply { is_memory result ≡ false → IsReplied event result }
@@ -354,9 +357,9 @@ impl<S: Selector + Send + Sync + Drop, T: PrefixTable<Cell<S>> + Drop, L: Ledger
 }
 
 impl<S: Chosen + Drop, T: PrefixTable<Cell<S>> + Drop, L: Ledger> Desk<S, T, L> {
-    /// Puts in an outcome where all that its job held is still as it was: this is the machine's own step of the delivery, in a state that
-    /// a legal history leaves, and the last of the seat's notes. Else it is told what has moved, and the seat stays as it is. For want of
-    /// memory the outcome is handed back. Nothing is decided here.
+    /// Puts in an outcome where all that its job held is still as it was: this is the machine's own step of the
+    /// delivery, in a state that a legal history leaves, and the last of the seat's notes. Else it is told what has
+    /// moved, and the seat stays as it is. For want of memory the outcome is handed back. Nothing is decided here.
     pub fn commit<R: Wait>(
         &self,
         rt: &R,
@@ -374,8 +377,8 @@ impl<S: Chosen + Drop, T: PrefixTable<Cell<S>> + Drop, L: Ledger> Desk<S, T, L> 
         committed
     }
 
-    /// Puts in each outcome in turn, as `commit` does: one that came too late is let go. For want of memory it stops, and those that are left
-    /// are let go.
+    /// Puts in each outcome in turn, as `commit` does: one that came too late is let go. For want of memory it stops,
+    /// and those that are left are let go.
     pub(crate) fn commit_all<R: Wait>(
         &self,
         rt: &R,
@@ -406,8 +409,9 @@ impl<S: Selector + Drop, T: PrefixTable<Cell<S>> + Drop, L: Ledger> Desk<S, T, L
         self.guarded.lock(rt).take(shard, self.scheduler.shards())
     }
 
-    /// What a worker of the shard does next, so many jobs at most. It waits, without looking again and again, until there is something.
-    /// Where it finds no job it wakes another. No job is taken while an edit is asked for, nor till a little while after.
+    /// What a worker of the shard does next, so many jobs at most. It waits, without looking again and again, until
+    /// there is something. Where it finds no job it wakes another. No job is taken while an edit is asked for, nor till
+    /// a little while after.
     pub(crate) fn next_turn<R: Wait>(
         &self,
         rt: &R,

@@ -7,7 +7,8 @@ use route_select::Chosen;
 /// So many sessions and rules of a router are many: to look at them all takes longer than all else in a delivery.
 const MANY: usize = 1_000;
 
-/// Whether one of the deliveries is much work, as far as one can tell: its receiver is a router that has many sessions and rules.
+/// Whether one of the deliveries is much work, as far as one can tell: its receiver is a router that has many sessions
+/// and rules.
 pub(crate) fn are_much_work<S: Chosen>(outcomes: &Outcomes<S>) -> bool {
     outcomes
         .as_slice()

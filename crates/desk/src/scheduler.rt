@@ -68,7 +68,8 @@ impl Workers {
         self.waits.idle() > 0
     }
 
-    /// Whether it changes anything to make a shard ready: somebody is idle, or has been ready before and is to be woken at once.
+    /// Whether it changes anything to make a shard ready: somebody is idle, or has been ready before and is to be woken
+    /// at once.
     pub(crate) fn can_be_made_ready(&self) -> bool {
         self.waits.idle() > 0 || (self.waits.ready() > 0 && self.wakes_at_once())
     }
@@ -116,7 +117,8 @@ impl Workers {
         self.may_be_held || self.is_much_work
     }
 
-    /// Whether a worker for whom a message may wait is woken at once, and not when another finds no job, or after many turns of another.
+    /// Whether a worker for whom a message may wait is woken at once, and not when another finds no job, or after many
+    /// turns of another.
     fn wakes_at_once(&self) -> bool {
         self.wakes_each() || self.at_work() == 0
     }
@@ -243,7 +245,8 @@ impl Scheduler {
         }
     }
 
-    /// A message may wait for the receiver: the workers of its shard who are idle are ready, and woken at once or later.
+    /// A message may wait for the receiver: the workers of its shard who are idle are ready, and woken at once or
+    /// later.
     pub(crate) fn make_ready(&self, workers: &mut Workers, receiver: Addr) {
         let shard = u64::from(receiver.0) % self.shards;
         workers.waits.make_ready(shard);
@@ -252,7 +255,8 @@ impl Scheduler {
         }
     }
 
-    /// Messages may wait for receivers of all shards: all workers who are idle are ready. They are woken at once where each is.
+    /// Messages may wait for receivers of all shards: all workers who are idle are ready. They are woken at once where
+    /// each is.
     pub(crate) fn make_all_ready(&self, workers: &mut Workers) {
         for shard in 0..self.shards {
             workers.waits.make_ready(shard);
@@ -269,7 +273,8 @@ impl Scheduler {
         self.backoff_ends.notify_all();
     }
 
-    /// Somebody asks for the event. Whether it is an edit: from now on no worker begins a job, which the edit would make come too late.
+    /// Somebody asks for the event. Whether it is an edit: from now on no worker begins a job, which the edit would
+    /// make come too late.
     pub(crate) fn begin_call(&self, event: &Event) -> bool {
         let is_edit = matches!(event, Event::Edit(_));
         if is_edit {

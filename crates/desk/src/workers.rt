@@ -29,21 +29,22 @@ pub trait Gate {
     /// A worker has the outcome of its job.
     fn worked(&self, worker: usize, n: u64);
 
-    /// Whether it may hold one worker until another has gone on. Where it does not, a worker who finds the lock taken may back off, and leave
-    /// it to others for a while.
+    /// Whether it may hold one worker until another has gone on. Where it does not, a worker who finds the lock taken
+    /// may back off, and leave it to others for a while.
     fn may_hold(&self) -> bool {
         true
     }
 }
 
-/// A thread for each seat: the worker of the i-th, from 0 on, serves the shard i modulo the shards. A turn takes a job, works it without the lock, and
-/// commits the outcome; want of memory ends the turn, and so does an outcome that came too late. Up to sixteen turns are made at once, where
-/// as many deliveries wait of which none changes what another depends on: their jobs are taken together, worked one after another, and
-/// committed together. A worker begins with one turn at once, may make twice as many after turns whose outcomes were all put in, and one after others.
-/// Where there is no job the worker waits. Where the gate holds nobody, a worker who often finds the lock taken after deliveries that are little work
-/// backs off while another is at work: so of such deliveries one worker makes as many as it can, and then another.
-/// It ends after so many turns, or once `finish_calls` was called and no message waits, or none that a worker who is left could bring.
-/// A thread that cannot be started is left out, with its seat as it was.
+/// A thread for each seat: the worker of the i-th, from 0 on, serves the shard i modulo the shards. A turn takes a job,
+/// works it without the lock, and commits the outcome; want of memory ends the turn, and so does an outcome that came
+/// too late. Up to sixteen turns are made at once, where as many deliveries wait of which none changes what another
+/// depends on: their jobs are taken together, worked one after another, and committed together. A worker begins with
+/// one turn at once, may make twice as many after turns whose outcomes were all put in, and one after others. Where
+/// there is no job the worker waits. Where the gate holds nobody, a worker who often finds the lock taken after
+/// deliveries that are little work backs off while another is at work: so of such deliveries one worker makes as many
+/// as it can, and then another. It ends after so many turns, or once `finish_calls` was called and no message waits, or
+/// none that a worker who is left could bring. A thread that cannot be started is left out, with its seat as it was.
 pub fn run_workers<
     S: Selector + Drop + Send,
     T: PrefixTable<Cell<S>> + Drop + Send,
@@ -107,7 +108,8 @@ impl<
             thread::scope_env(),
             self.rt,
             |scope| -> (Vec<Seat<L>>, Seat<L>)
-                ensures { AllGoOn seats.items result.0.items × GoesOn seat result.1 × (vec_len result.0 ≡ vec_len seats) × (vec_capacity result.0 ≡ vec_capacity seats) }
+                ensures { AllGoOn seats.items result.0.items × GoesOn seat result.1 ×
+                    (vec_len result.0 ≡ vec_len seats) × (vec_capacity result.0 ≡ vec_capacity seats) }
             {
                 let promise = SeatGoesOn(Snapshot::of(&seat));
                 let job = move || -> Seat<L>
@@ -192,7 +194,8 @@ impl<'a, S: Selector + Drop, T: PrefixTable<Cell<S>> + Drop, L: Ledger, G: Gate,
         }
     }
 
-    /// Works jobs one after another, of which the first is one more than so many, and commits their outcomes. How many were put in.
+    /// Works jobs one after another, of which the first is one more than so many, and commits their outcomes. How many
+    /// were put in.
     fn do_jobs(
         &self,
         worker: usize,
@@ -222,7 +225,8 @@ impl<'a, S: Selector + Drop, T: PrefixTable<Cell<S>> + Drop, L: Ledger, G: Gate,
 
     /// Works a job, and keeps its outcome where there is memory.
     fn do_job(&self, worker: usize, n: u64, job: Job<S>, outcomes: &mut Vec<Done<S>>)
-        ensures { (room : RoomBook) → IsSeenIn room job → All (IsSeenIn room) outcomes.old.items → All (IsSeenIn room) outcomes.new.items }
+        ensures { (room : RoomBook) → IsSeenIn room job → All (IsSeenIn room) outcomes.old.items →
+            All (IsSeenIn room) outcomes.new.items }
     {
         self.gate.taken(worker, n);
         let Ok(done) = job.work() else {

@@ -81,7 +81,8 @@ fn is_record_of<L: Ledger, R: Threads + Abort + Sync>(
     );
 }
 
-/// The first two seats make their calls at once. Whether each call gets its reply, and the seats' notes agree with the history.
+/// The first two seats make their calls at once. Whether each call gets its reply, and the seats' notes agree with the
+/// history.
 fn make_calls<L: Ledger + Send + Sync, R: Threads + Wait + Sync>(
     rt: &R,
     alloc: Global,

@@ -29,7 +29,8 @@ const TAKEN: [Asked<'static>; 3] = [
     ),
 ];
 
-/// Holds worker 0's first job until worker 1 has worked one, and the configuration was edited; and worker 1's first until worker 0 has one.
+/// Holds worker 0's first job until worker 1 has worked one, and the configuration was edited; and worker 1's first
+/// until worker 0 has one.
 #[derive(Drop)]
 struct Meeting {
     has_taken: AtomicBool,

@@ -88,7 +88,8 @@ impl Graph {
         requires { IsTrue (is_node self.now.nodes source) }
         ensures least { IfOk result (λ t. IsTreeOf self.now.nodes self.now.edges source t) }
         ensures costs { IfOk result (λ t. (x : Addr) → cost_in t x ≡ cost self.now.nodes self.now.edges source x) }
-        ensures first_hops { IfOk result (λ t. (x : Addr) → first_hop_in t x ≡ first_hop self.now.nodes self.now.edges source x) }
+        ensures first_hops { IfOk result (λ t. (x : Addr) →
+            first_hop_in t x ≡ first_hop self.now.nodes self.now.edges source x) }
         ensures whole { IfOk result (λ t. t ≡ tree_of self.now.nodes self.now.edges source) }
     {
         let Some(graph) = self.rooted(source) else {
@@ -98,14 +99,17 @@ impl Graph {
         Tree::from_labels(alloc, source, graph.nodes, &labels)
     }
 
-    /// The least costs and first hops from the source of an old tree, the same as `tree` gives, made from what the old tree says.
-    /// It is faster than `tree` where the old tree was made before one change, this one, and where that moved little: it mends the labels
-    /// near the change and looks once at each edge. Where that does not do, it makes the tree afresh.
+    /// The least costs and first hops from the source of an old tree, the same as `tree` gives, made from what the old
+    /// tree says. It is faster than `tree` where the old tree was made before one change, this one, and where that
+    /// moved little: it mends the labels near the change and looks once at each edge. Where that does not do, it makes
+    /// the tree afresh.
     pub fn retouch(&self, alloc: Global, old: &Tree, change: Change) -> Result<Tree, AllocError>
         requires { IsTrue (is_node self.now.nodes (source_of old.now)) }
         ensures least { IfOk result (λ t. IsTreeOf self.now.nodes self.now.edges (source_of old.now) t) }
-        ensures costs { IfOk result (λ t. (x : Addr) → cost_in t x ≡ cost self.now.nodes self.now.edges (source_of old.now) x) }
-        ensures first_hops { IfOk result (λ t. (x : Addr) → first_hop_in t x ≡ first_hop self.now.nodes self.now.edges (source_of old.now) x) }
+        ensures costs { IfOk result (λ t. (x : Addr) →
+            cost_in t x ≡ cost self.now.nodes self.now.edges (source_of old.now) x) }
+        ensures first_hops { IfOk result (λ t. (x : Addr) →
+            first_hop_in t x ≡ first_hop self.now.nodes self.now.edges (source_of old.now) x) }
         ensures whole { IfOk result (λ t. t ≡ tree_of self.now.nodes self.now.edges (source_of old.now)) }
     {
         let source = old.source();
@@ -119,8 +123,9 @@ impl Graph {
         }
     }
 
-    /// Whether a tree that was made before one change, this one, is seen to be the tree after it. It looks at the labels of the edge's
-    /// ends, and where an edge is gone at the links of its ends, and at no other edge. It takes no memory.
+    /// Whether a tree that was made before one change, this one, is seen to be the tree after it. It looks at the
+    /// labels of the edge's ends, and where an edge is gone at the links of its ends, and at no other edge. It takes no
+    /// memory.
     pub fn keeps(&self, tree: &Tree, change: &Change) -> bool
         ensures { OnTrue result (Stays change.now self.now.nodes self.now.edges tree.now) }
     {
@@ -133,7 +138,8 @@ impl Graph {
     // The tree after a new edge, where that leads to one node more and moves nothing else. None elsewhere.
     fn grown(&self, alloc: Global, old: &Tree, change: &Change) -> Result<Option<Tree>, AllocError>
         ensures source { IfOk result (λ o. IfSome o (λ t. source_of t ≡ source_of old.now)) }
-        ensures follows { IfOk result (λ o. IfSome o (λ t. Follows change.now self.now.nodes self.now.edges old.now t)) }
+        ensures follows { IfOk result (λ o.
+            IfSome o (λ t. Follows change.now self.now.nodes self.now.edges old.now t)) }
     {
         if change.loses() {
             return Ok(None);
@@ -152,7 +158,8 @@ impl Graph {
         change: &Change,
     ) -> Result<Option<Tree>, AllocError>
         ensures source { IfOk result (λ o. IfSome o (λ t. source_of t ≡ source_of old.now)) }
-        ensures follows { IfOk result (λ o. IfSome o (λ t. Follows change.now self.now.nodes self.now.edges old.now t)) }
+        ensures follows { IfOk result (λ o.
+            IfSome o (λ t. Follows change.now self.now.nodes self.now.edges old.now t)) }
     {
         match self.rooted(old.source()) {
             Some(graph) => graph.mended_tree(alloc, old, change),
@@ -160,9 +167,10 @@ impl Graph {
         }
     }
 
-    /// The tree after one change, this one, where it is mended from the tree before it and seen to be right. None where mending it did not
-    /// do. Where a new edge leads to a node that no walk reached, and to no other from there, it copies the rows and adds one. Else it looks
-    /// once at each node's label, and at the links around the nodes whose labels differ and at the ends of the edge.
+    /// The tree after one change, this one, where it is mended from the tree before it and seen to be right. None where
+    /// mending it did not do. Where a new edge leads to a node that no walk reached, and to no other from there, it
+    /// copies the rows and adds one. Else it looks once at each node's label, and at the links around the nodes whose
+    /// labels differ and at the ends of the edge.
     pub fn mended(
         &self,
         alloc: Global,
@@ -170,7 +178,8 @@ impl Graph {
         change: &Change,
     ) -> Result<Option<Tree>, AllocError>
         ensures source { IfOk result (λ o. IfSome o (λ t. source_of t ≡ source_of old.now)) }
-        ensures follows { IfOk result (λ o. IfSome o (λ t. Follows change.now self.now.nodes self.now.edges old.now t)) }
+        ensures follows { IfOk result (λ o.
+            IfSome o (λ t. Follows change.now self.now.nodes self.now.edges old.now t)) }
     {
         match self.grown(alloc, old, change)? {
             Some(made) => Ok(Some(made)),

@@ -1,4 +1,5 @@
-//! What holds of costs, first hops and trees in any graph. These functions do nothing: a call gives the caller's proof what they ensure.
+//! What holds of costs, first hops and trees in any graph. These functions do nothing: a call gives the caller's proof
+//! what they ensure.
 
 ghost use Rattle.igp_cost.specs.Laws.{CostsAreLeast, FirstHopsAreLeast, CostsAreOne, FirstHopsAreOne, TreesAreOne, OneEdgeIsAChange, TreeOfIsATree, LoneNodeMovesNoTree, MoreEdgesReachMore};
 

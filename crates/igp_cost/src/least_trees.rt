@@ -1,5 +1,5 @@
-//! Topology and least trees: what a graph is made of, its links by the places of nodes, the search of the least labels from a source,
-//! and the trees that hold them.
+//! Topology and least trees: what a graph is made of, its links by the places of nodes, the search of the least labels
+//! from a source, and the trees that hold them.
 
 mod conditions;
 mod link;

@@ -1,5 +1,6 @@
 //! Interior costs: the least cost and the first hop from a router to every other, over the edges of one network.
-//! `Graph` is what callers see of both modules: `least_trees` makes a tree of a graph, `repair` one of a tree from before a change.
+//! `Graph` is what callers see of both modules: `least_trees` makes a tree of a graph, `repair` one of a tree from
+//! before a change.
 #![tactic(auto)]
 
 mod change;

@@ -9,8 +9,8 @@ use Rattle.decimal.specs.Digits.{decimal_some}
 use Rattle.net_prefix.specs.declared.addr.Addr.{Addr}
 use Rattle.net_prefix.specs.Address.{addr_text}
 use Rattle.net_prefix.specs.AddressText.{addr_text_some}
-use Rattle.net_prefix.specs.Block.{Block, block_text}
-use Rattle.net_prefix.specs.BlockText.{block_text_some}
+use Rattle.net_prefix.specs.Prefix.{Prefix, prefix_text}
+use Rattle.net_prefix.specs.PrefixText.{prefix_text_some}
 use Rattle.path_attr.specs.declared.path.Segment.{Segment}
 use Rattle.path_attr.specs.declared.path.Segment.TheVariants.{Seq as Sequence, Set}
 use Rattle.path_attr.specs.declared.origin.Origin.{Origin}
@@ -34,7 +34,7 @@ use Rattle.sim_event.specs.Wording.{maybe_number_text, origin_text, path_text, s
 use Rattle.sim_event.specs.Events.{IsEvent, IsNews}
 use Rattle.command_text.specs.Words.{words_of, edit_words, news_words, ask_words, match_words, action_words, setting_words, switch_word, side_word}
 use Rattle.command_text.specs.Lines.{are_silent}
-use Rattle.reply_text.specs.Visible.{AreVisible, are_visible, visible_word, visible_both, visible_decimal, visible_addr, visible_block, visible_path}
+use Rattle.reply_text.specs.Visible.{AreVisible, are_visible, visible_word, visible_both, visible_decimal, visible_addr, visible_prefix, visible_path}
 
 -- a word: not empty, and of visible bytes
 abbrev pub IsSolid : List ℕ → Type 0
@@ -53,8 +53,8 @@ number n = (decimal_some n, visible_decimal n)
 address : (a : Addr) → IsSolid (addr_text a)
 address a = (addr_text_some a, visible_addr a)
 
-block : (p : Block) → IsSolid (block_text p)
-block p = (block_text_some p, visible_block p)
+block : (p : Prefix) → IsSolid (prefix_text p)
+block p = (prefix_text_some p, visible_prefix p)
 
 switch : (on : Bool) → IsSolid (switch_word on)
 switch true = literal (switch_word true) refl refl
@@ -119,7 +119,7 @@ pub record IsSpelled (words : List (List ℕ)) : Type 0 where
 two : (a b : Addr) → AreSolid (addr_text a ∷ addr_text b ∷ [])
 two a b = (address a, (address b, tt))
 
-prefixed : (a : Addr) (p : Block) → AreSolid (addr_text a ∷ block_text p ∷ [])
+prefixed : (a : Addr) (p : Prefix) → AreSolid (addr_text a ∷ prefix_text p ∷ [])
 prefixed a p = (address a, (block p, tt))
 
 edit : (e : Edit) → IsSpelled (edit_words e)

@@ -20,7 +20,8 @@ pub(crate) fn answer<M: Machine>(
     event: &Event,
     machine: &mut M,
 ) -> Result<Vec<u8>, AllocError>
-    ensures due { IfOk result (λ due. due.items ≡ marked reply_mark (reply_lines (step (M.network machine.old) event.now).reply)) }
+    ensures due { IfOk result (λ due.
+        due.items ≡ marked reply_mark (reply_lines (step (M.network machine.old) event.now).reply)) }
     ensures state { OnOk result (M.network machine.new ≡ (step (M.network machine.old) event.now).next) }
 {
     let reply = machine.step(rt, event);

@@ -10,8 +10,8 @@ use net_conf::Refusal;
 use sim_event::Event;
 use std::alloc::{AllocError, Global};
 
-/// The event of a call's line: `@`, the number of a seat, and a command with single spaces. None where the line is no call;
-/// want of memory only where it is one.
+/// The event of a call's line: `@`, the number of a seat, and a command with single spaces. None where the line is no
+/// call; want of memory only where it is one.
 pub(crate) fn read_call(alloc: Global, line: &[u8]) -> Result<Option<Event>, AllocError>
     ensures { ReadsCall line.now result }
 {
@@ -23,8 +23,10 @@ pub(crate) fn read_call(alloc: Global, line: &[u8]) -> Result<Option<Event>, All
 
 /// What follows the number of a seat.
 fn command_of(line: &[u8]) -> Option<&[u8]>
-    ensures found { IfSome result (λ command. (seat : ℕ) × (seat < 256) × (line.now ≡ codes "@" ++ decimal seat ++ codes " " ++ command.now)) }
-    ensures none { IfNone result ((seat : ℕ) (command : List ℕ) → seat < 256 → line.now ≡ codes "@" ++ decimal seat ++ codes " " ++ command → ⊥) }
+    ensures found { IfSome result (λ command. (seat : ℕ) × (seat < 256) ×
+        (line.now ≡ codes "@" ++ decimal seat ++ codes " " ++ command.now)) }
+    ensures none { IfNone result ((seat : ℕ) (command : List ℕ) → seat < 256 →
+        line.now ≡ codes "@" ++ decimal seat ++ codes " " ++ command → ⊥) }
 {
     let rest = after_sign(line)?;
     let (seat, command) = cut_at(rest, b' ')?;

@@ -54,7 +54,8 @@ pub(crate) fn check_line<M: Machine>(
     machine: &mut M,
 ) -> Result<Checked, AllocError>
     requires { checker.old.entries < 2 ^ 63 }
-    ensures checked { (p : Place) → IsAt checker.old (M.network machine.old) p → IsChecked p line.now result checker.new (M.network machine.new) }
+    ensures checked { (p : Place) → IsAt checker.old (M.network machine.old) p →
+        IsChecked p line.now result checker.new (M.network machine.new) }
     ensures count { OnOk result (checker.new.entries ≤ checker.old.entries + 1) }
 {
     match checker.stage {
@@ -87,7 +88,8 @@ fn check_within<M: Machine>(
 ) -> Result<Checked, AllocError>
     requires stage { checker.old.stage ≡ Stage.Within }
     requires few { checker.old.entries < 2 ^ 63 }
-    ensures checked { (p : Place) → IsAt checker.old (M.network machine.old) p → IsChecked p line.now result checker.new (M.network machine.new) }
+    ensures checked { (p : Place) → IsAt checker.old (M.network machine.old) p →
+        IsChecked p line.now result checker.new (M.network machine.new) }
     ensures count { OnOk result (checker.new.entries ≤ checker.old.entries + 1) }
 {
     let Some((next, rest)) = cut_at(due_text(checker), b'\n') else {
@@ -112,7 +114,8 @@ fn check_between<M: Machine>(
     requires stage { checker.old.stage ≡ Stage.Within }
     requires few { checker.old.entries < 2 ^ 63 }
     requires none { Lacks 10 (drop checker.old.at checker.old.due.items) }
-    ensures checked { (p : Place) → IsAt checker.old (M.network machine.old) p → IsChecked p line.now result checker.new (M.network machine.new) }
+    ensures checked { (p : Place) → IsAt checker.old (M.network machine.old) p →
+        IsChecked p line.now result checker.new (M.network machine.new) }
     ensures count { OnOk result (checker.new.entries ≤ checker.old.entries + 1) }
 {
     if is_end(line, checker.entries) {

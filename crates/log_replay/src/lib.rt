@@ -1,5 +1,5 @@
-//! Logs read again: each command is run anew, and each reply compared. And a log that is replayed by a program: how that ends, with its
-//! exit status.
+//! Logs read again: each command is run anew, and each reply compared. And a log that is replayed by a program: how
+//! that ends, with its exit status.
 #![tactic(auto)]
 
 mod answer;

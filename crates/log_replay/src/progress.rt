@@ -59,7 +59,8 @@ fn next_line(pending: &LineBuffer<CAPACITY>, lines: u64) -> Next
     }
 }
 
-/// Takes the line that ends in the buffer. What follows it is not known yet, so all is said for every rest of the input.
+/// Takes the line that ends in the buffer. What follows it is not known yet, so all is said for every rest of the
+/// input.
 fn take_line<M: Machine>(
     rt: &(impl Threads + Sync),
     alloc: Global,
@@ -72,7 +73,8 @@ fn take_line<M: Machine>(
     ensures calm { is_read_fault result ≡ false }
     ensures taken { (bytes : List ℕ) (rest : List ℕ) (i : Reading) →
         Comes bytes (progress.old.pending ++ rest) progress.old.lines progress.old.checker (M.network machine.old) →
-        IsTakenLine bytes (progress.new.pending ++ rest) result progress.new.lines progress.new.checker (M.network machine.new) i }
+        IsTakenLine bytes (progress.new.pending ++ rest) result progress.new.lines progress.new.checker
+        (M.network machine.new) i }
     ensures next { IfOk result (λ verdict. verdict ≡ None → progress.new.lines ≡ progress.old.lines + 1) }
     ensures each { IfOk result (λ verdict. verdict ≡ None → progress.new.checker.entries ≤ progress.new.lines) }
 {
@@ -145,7 +147,8 @@ pub(crate) fn advance<R: Read, M: Machine>(
     ensures reader { input.new.failed ≡ is_read_fault result }
     ensures advance { (bytes : List ℕ) (rest : List ℕ) → input.old.remaining ≡ Some rest →
         Comes bytes (progress.old.pending ++ rest) progress.old.lines progress.old.checker (M.network machine.old) →
-        IsAdvance bytes result progress.new.pending progress.new.lines progress.new.checker (M.network machine.new) input.new }
+        IsAdvance bytes result progress.new.pending progress.new.lines progress.new.checker
+        (M.network machine.new) input.new }
     ensures few { IfOk result (λ verdict. verdict ≡ None → progress.new.lines ≤ 16000000) }
     ensures each { IfOk result (λ verdict. verdict ≡ None → progress.new.checker.entries ≤ progress.new.lines) }
     ensures smaller { IfOk result (λ verdict. verdict ≡ None →

@@ -16,9 +16,9 @@ use std::io::{Read, Write};
 use std::thread::Threads;
 use watched::{Input, Output, WriterFailed};
 
-/// Replays the log on the reader by a machine that begins with the empty network, writes what the log is found to be, and tells a
-/// fault on the third stream, whose own failure is passed over. The exit status: 0 the log agrees, 1 it does not, 3 read fault,
-/// 4 write fault, 5 want of memory.
+/// Replays the log on the reader by a machine that begins with the empty network, writes what the log is found to be,
+/// and tells a fault on the third stream, whose own failure is passed over. The exit status: 0 the log agrees, 1 it
+/// does not, 3 read fault, 4 write fault, 5 want of memory.
 pub fn run_replay<M: Machine, R: Read, W: Write, E: Write>(
     rt: &(impl Threads + Sync),
     alloc: Global,

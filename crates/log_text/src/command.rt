@@ -4,7 +4,7 @@ ghost use Rattle.std.specs.Prelude.{◌≡◌, ◌∷◌, [], codes};
 ghost use Rattle.std.specs.Fmt.{decimal};
 ghost use Rattle.std.specs.List.{join_with_byte};
 ghost use Rattle.net_prefix.specs.Address.{addr_text};
-ghost use Rattle.net_prefix.specs.Block.{block_text};
+ghost use Rattle.net_prefix.specs.Prefix.{prefix_text};
 ghost use Rattle.command_text.specs.Words.{ask_words, edit_words, news_words, side_word, switch_word};
 ghost use Rattle.log_text.specs.Logs.{command_text};
 ghost use Rattle.watched.specs.Streams.{Writes};
@@ -17,8 +17,8 @@ use sim_event::{Ask, Event, Feed, News};
 use std::io::Write;
 use watched::{Output, WriterFailed};
 
-/// Writes the command that spells the event: its words, with one space between each and the next. At an error a front of
-/// it went out.
+/// Writes the command that spells the event: its words, with one space between each and the next. At an error a front
+/// of it went out.
 pub fn write_command<W: Write>(event: &Event, output: &mut Output<W>) -> Result<(), WriterFailed>
     ensures { Writes output.old (command_text event.now) result output.new }
 {
@@ -77,7 +77,9 @@ fn write_ask<W: Write>(ask: &Ask, output: &mut Output<W>) -> Result<(), WriterFa
 
 /// Writes the words of a feed.
 fn write_feed<W: Write>(feed: &Feed, output: &mut Output<W>) -> Result<(), WriterFailed>
-    ensures { Writes output.old (join_with_byte 32 (codes "feed" ∷ addr_text feed.now.from ∷ addr_text feed.now.to ∷ news_words feed.now.news)) result output.new }
+    ensures { Writes output.old
+        (join_with_byte 32 (codes "feed" ∷ addr_text feed.now.from ∷ addr_text feed.now.to ∷ news_words feed.now.news))
+        result output.new }
 {
     let (verb, from, to) = (
         Part::Bytes(b"feed"),
@@ -118,7 +120,8 @@ fn write_pair<W: Write>(
     second: Addr,
     output: &mut Output<W>,
 ) -> Result<(), WriterFailed>
-    ensures { Writes output.old (join_with_byte 32 (verb.now ∷ addr_text first ∷ addr_text second ∷ [])) result output.new }
+    ensures { Writes output.old (join_with_byte 32 (verb.now ∷ addr_text first ∷ addr_text second ∷ [])) result
+        output.new }
 {
     let words = [Part::Bytes(verb), Part::Addr(first), Part::Addr(second)];
     write_joined(b' ', &words, output)
@@ -131,7 +134,8 @@ fn write_numbered<W: Write>(
     number: u32,
     output: &mut Output<W>,
 ) -> Result<(), WriterFailed>
-    ensures { Writes output.old (join_with_byte 32 (verb.now ∷ addr_text addr ∷ decimal number ∷ [])) result output.new }
+    ensures { Writes output.old (join_with_byte 32 (verb.now ∷ addr_text addr ∷ decimal number ∷ [])) result
+        output.new }
 {
     let words = [
         Part::Bytes(verb),
@@ -149,7 +153,8 @@ fn write_cost<W: Write>(
     cost: u32,
     output: &mut Output<W>,
 ) -> Result<(), WriterFailed>
-    ensures { Writes output.old (join_with_byte 32 (verb.now ∷ addr_text first ∷ addr_text second ∷ decimal cost ∷ [])) result output.new }
+    ensures { Writes output.old (join_with_byte 32 (verb.now ∷ addr_text first ∷ addr_text second ∷ decimal cost ∷ []))
+        result output.new }
 {
     let words = [
         Part::Bytes(verb),
@@ -167,7 +172,8 @@ fn write_prefixed<W: Write>(
     prefix: Prefix,
     output: &mut Output<W>,
 ) -> Result<(), WriterFailed>
-    ensures { Writes output.old (join_with_byte 32 (verb.now ∷ addr_text addr ∷ block_text prefix ∷ [])) result output.new }
+    ensures { Writes output.old (join_with_byte 32 (verb.now ∷ addr_text addr ∷ prefix_text prefix ∷ [])) result
+        output.new }
 {
     let words = [Part::Bytes(verb), Part::Addr(addr), Part::Prefix(prefix)];
     write_joined(b' ', &words, output)
@@ -181,7 +187,8 @@ fn write_switch<W: Write>(
     on: bool,
     output: &mut Output<W>,
 ) -> Result<(), WriterFailed>
-    ensures { Writes output.old (join_with_byte 32 (verb.now ∷ addr_text first ∷ addr_text second ∷ switch_word on ∷ [])) result output.new }
+    ensures { Writes output.old
+        (join_with_byte 32 (verb.now ∷ addr_text first ∷ addr_text second ∷ switch_word on ∷ [])) result output.new }
 {
     let switch = if on { "on" } else { "off" };
     let words = [
@@ -200,7 +207,9 @@ fn write_clear<W: Write>(
     side: PolicySide,
     output: &mut Output<W>,
 ) -> Result<(), WriterFailed>
-    ensures { Writes output.old (join_with_byte 32 (codes "clear" ∷ addr_text first ∷ addr_text second ∷ side_word side ∷ [])) result output.new }
+    ensures { Writes output.old
+        (join_with_byte 32 (codes "clear" ∷ addr_text first ∷ addr_text second ∷ side_word side ∷ [])) result
+        output.new }
 {
     let words = [
         Part::Bytes(b"clear"),

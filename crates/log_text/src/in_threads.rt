@@ -18,8 +18,9 @@ use watched::{Output, WriterFailed};
 /// The most calls of which one thread makes the text before it is written.
 const CALLS_AT_A_TIME: usize = 4_096;
 
-/// Writes the log of the history, as `write_log` does. Where there are to be several threads, these make the text, of some thousand calls each at
-/// a time, and this one writes it; where there is no memory for that, this one does all. At an error a front of the log went out.
+/// Writes the log of the history, as `write_log` does. Where there are to be several threads, these make the text, of
+/// some thousand calls each at a time, and this one writes it; where there is no memory for that, this one does all. At
+/// an error a front of the log went out.
 pub fn write_log_in_threads<W: Write, R: Threads + Sync>(
     rt: &R,
     alloc: Global,

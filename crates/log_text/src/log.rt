@@ -13,8 +13,8 @@ use sim_event::{Entry, Event};
 use std::io::Write;
 use watched::{Output, WriterFailed};
 
-/// Writes the log of the history: a header, each call with its seat and its reply, and how many calls there are. Takes no
-/// memory. At an error a front of it went out.
+/// Writes the log of the history: a header, each call with its seat and its reply, and how many calls there are. Takes
+/// no memory. At an error a front of it went out.
 pub fn write_log<W: Write>(entries: &[Entry], output: &mut Output<W>) -> Result<(), WriterFailed>
     ensures { Writes output.old (log_text entries.now) result output.new }
 {

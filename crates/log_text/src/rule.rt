@@ -4,7 +4,7 @@ ghost use Rattle.std.specs.Prelude.{◌≡◌, ◌∷◌, ◌++◌, [], codes};
 ghost use Rattle.std.specs.List.{join_with_byte};
 ghost use Rattle.std.specs.Fmt.{decimal};
 ghost use Rattle.net_prefix.specs.Address.{addr_text};
-ghost use Rattle.net_prefix.specs.Block.{block_text};
+ghost use Rattle.net_prefix.specs.Prefix.{prefix_text};
 ghost use Rattle.command_text.specs.Words.{action_words, match_words, setting_words, side_word};
 ghost use Rattle.log_text.specs.Rules.{spaced};
 ghost use Rattle.watched.specs.Streams.{Writes};
@@ -25,7 +25,9 @@ pub(crate) fn write_rule<W: Write>(
     rule: &Rule,
     output: &mut Output<W>,
 ) -> Result<(), WriterFailed>
-    ensures { Writes output.old (join_with_byte 32 (codes "rule" ∷ addr_text first ∷ addr_text second ∷ side_word side ∷ match_words rule.now.cond ++ action_words rule.now.act)) result output.new }
+    ensures { Writes output.old
+        (join_with_byte 32 (codes "rule" ∷ addr_text first ∷ addr_text second ∷ side_word side
+        ∷ match_words rule.now.cond ++ action_words rule.now.act)) result output.new }
 {
     write_policy(first, second, side, output)?;
     write_match(rule.cond, output)?;
@@ -39,7 +41,9 @@ fn write_policy<W: Write>(
     side: PolicySide,
     output: &mut Output<W>,
 ) -> Result<(), WriterFailed>
-    ensures { Writes output.old (join_with_byte 32 (codes "rule" ∷ addr_text first ∷ addr_text second ∷ side_word side ∷ [])) result output.new }
+    ensures { Writes output.old
+        (join_with_byte 32 (codes "rule" ∷ addr_text first ∷ addr_text second ∷ side_word side ∷ [])) result
+        output.new }
 {
     let words = [
         Part::Bytes(b"rule"),
@@ -80,7 +84,9 @@ fn write_permit<W: Write>(
     prepend: Option<Repeat>,
     output: &mut Output<W>,
 ) -> Result<(), WriterFailed>
-    ensures { Writes output.old (spaced (codes "permit" ∷ setting_words (codes "pref=") pref ++ setting_words (codes "med=") med ++ setting_words (codes "prepend=") prepend)) result output.new }
+    ensures { Writes output.old
+        (spaced (codes "permit" ∷ setting_words (codes "pref=") pref ++ setting_words (codes "med=") med
+        ++ setting_words (codes "prepend=") prepend)) result output.new }
 {
     output.write(b" permit")?;
     write_settings(pref, med, prepend, output)
@@ -93,7 +99,9 @@ fn write_settings<W: Write>(
     prepend: Option<Repeat>,
     output: &mut Output<W>,
 ) -> Result<(), WriterFailed>
-    ensures { Writes output.old (spaced (setting_words (codes "pref=") pref ++ setting_words (codes "med=") med ++ setting_words (codes "prepend=") prepend)) result output.new }
+    ensures { Writes output.old
+        (spaced (setting_words (codes "pref=") pref ++ setting_words (codes "med=") med ++ setting_words
+        (codes "prepend=") prepend)) result output.new }
 {
     write_setting(b"pref=", pref, output)?;
     write_setting(b"med=", med, output)?;
@@ -135,7 +143,7 @@ fn write_prefixed<W: Write>(
     prefix: Prefix,
     output: &mut Output<W>,
 ) -> Result<(), WriterFailed>
-    ensures { Writes output.old (bytes.now ++ block_text prefix) result output.new }
+    ensures { Writes output.old (bytes.now ++ prefix_text prefix) result output.new }
 {
     write_each(&[Part::Bytes(bytes), Part::Prefix(prefix)], output)
 }

@@ -1,4 +1,5 @@
-//! `machine_scripts plain|sorted|trie`: a script on standard input, served as `bgpsim script` serves it, by the machine of that name.
+//! `machine_scripts plain|sorted|trie`: a script on standard input, served as `bgpsim script` serves it, by the machine
+//! of that name.
 #![tactic(auto)]
 
 mod command_line;

@@ -6,7 +6,7 @@ use Rattle.std.specs.Option.{unwrap_or}
 use Rattle.std.proofs.Math.Bool.{and_comm}
 use Rattle.std.proofs.lemmas.Cmp.{nat_eq_equiv}
 use Rattle.net_prefix.specs.declared.addr.Addr.{Addr}
-use Rattle.net_prefix.specs.Block.{Block}
+use Rattle.net_prefix.specs.Prefix.{Prefix}
 use Rattle.igp_cost.specs.Trees.{Reached}
 use Rattle.path_attr.specs.Number.{same_number}
 use Rattle.net_conf.specs.declared.site.SiteConf.{SiteConf}
@@ -27,7 +27,7 @@ use Rattle.net_conf.proofs.OthersStay.{sites_of_others, sessions_stay}
 use Rattle.std.proofs.lemmas.Option.{none-some}
 
 -- the site of the parts
-site_with : Addr → Option Node → Addr → Bool → List Block → List SiteSession → Reached → Option SiteConf
+site_with : Addr → Option Node → Addr → Bool → List Prefix → List SiteSession → Reached → Option SiteConf
 site_with r n cluster reflector originated sessions costs =
     if unwrap_or (option_map (λ x. is_kind_virtual x.kind) n) false then None
     else option_map (λ x. record { me = r; asn = x.asn; cluster = cluster; reflector = reflector; origins = originated; sessions = sessions; costs = costs }) n
@@ -40,7 +40,7 @@ unfolding site_of site_with
 is_site_in c r = refl
 
 -- other costs
-with_costs : (r : Addr) (n : Option Node) (cluster : Addr) (reflector : Bool) (originated : List Block) (sessions : List SiteSession) (old new : Reached) → site_with r n cluster reflector originated sessions new ≡ option_map (λ (s : SiteConf). record s { costs = new }) (site_with r n cluster reflector originated sessions old)
+with_costs : (r : Addr) (n : Option Node) (cluster : Addr) (reflector : Bool) (originated : List Prefix) (sessions : List SiteSession) (old new : Reached) → site_with r n cluster reflector originated sessions new ≡ option_map (λ (s : SiteConf). record s { costs = new }) (site_with r n cluster reflector originated sessions old)
 unfolding site_with
 with_costs r None cluster reflector originated sessions old new = refl
 with_costs r (Some n) cluster reflector originated sessions old new = by (is_kind_virtual n.kind)

@@ -10,8 +10,8 @@ use Rattle.std.proofs.lemmas.Map.Lookups.{CmpEqualImpliesEq, exact_pairs}
 use Rattle.std.proofs.lemmas.Option.{none-some, same_Some}
 use Rattle.net_prefix.specs.declared.addr.Addr.{Addr}
 use Rattle.net_prefix.specs.Address.{same_addr, addr_cmp}
-use Rattle.net_prefix.specs.Block.{Block, same_block, block_cmp}
-use Rattle.net_prefix.specs.Orders.{addr_exact, block_exact}
+use Rattle.net_prefix.specs.Prefix.{Prefix, same_prefix, prefix_cmp}
+use Rattle.net_prefix.specs.Orders.{addr_exact, prefix_exact}
 use Rattle.route_policy.specs.declared.rule.Rule.{Rule}
 use Rattle.net_conf.specs.declared.tables.End.{End}
 use Rattle.net_conf.specs.declared.tables.Origination.{Origination}
@@ -38,13 +38,13 @@ end_exact x y same =
     let made : Addr × Addr → End = λ parts. end_of parts.0 parts.1 in
     ap made (exact_pairs addr_cmp addr_cmp addr_exact addr_exact (x.router, x.peer) (y.router, y.peer) same)
 
-abbrev pub origination : Addr → Block → Origination
+abbrev pub origination : Addr → Prefix → Origination
 origination r p = record { router = r; prefix = p }
 
 pub origination_exact : CmpEqualImpliesEq origination_cmp
 origination_exact x y same =
-    let made : Addr × Block → Origination = λ parts. origination parts.0 parts.1 in
-    ap made (exact_pairs addr_cmp block_cmp addr_exact block_exact (x.router, x.prefix) (y.router, y.prefix) same)
+    let made : Addr × Prefix → Origination = λ parts. origination parts.0 parts.1 in
+    ap made (exact_pairs addr_cmp prefix_cmp addr_exact prefix_exact (x.router, x.prefix) (y.router, y.prefix) same)
 
 -- ONE SITE
 
@@ -97,7 +97,7 @@ module _ (c : Configuration) (clients own_next : List End) (imports exports : Li
     same_sessions : sessions_of with_settings r ≡ sessions_of c r
     same_sessions = each_same (session_of with_settings r) (session_of c r) same_session (peers_of c r)
 
-    abbrev site_with : Addr → Bool → List Block → List SiteSession → Option SiteConf
+    abbrev site_with : Addr → Bool → List Prefix → List SiteSession → Option SiteConf
     site_with cluster reflector originated sessions = if is_virtual c r then None else option_map (λ n. record { me = r; asn = n.asn; cluster = cluster; reflector = reflector; origins = originated; sessions = sessions; costs = costs_of c r }) (node_at c r)
 
     same_site : router_site with_settings r ≡ router_site c r
@@ -291,7 +291,7 @@ module _ (c : Configuration) (a : Addr) (origins : List Origination) where
   other_origins_alone = mapped _ (λ (site : SiteConf). record site { origins = origins_of with_origins a }) _ (λ n. refl) (is_virtual c a) (node_at c a)
 
 -- the prefix that an edit concerns, if it is but one
-abbrev prefix_in : Scope → Option Block
+abbrev prefix_in : Scope → Option Prefix
 prefix_in (Route a p) = Some p
 prefix_in _ = None
 
@@ -300,17 +300,17 @@ origins_alone c (Origin a p) one q is = other_origins_alone c one _
 origins_alone c (NoOrigin a p) one q is = other_origins_alone c one _
 origins_alone c _ one q is = absurd (none-some q (ap prefix_in is))
 
-origination_apart : (one a : Addr) (q p : Block) → same_block q p ≡ false → is_at (origination_cmp (origination one q)) (origination a p) ≡ false
+origination_apart : (one a : Addr) (q p : Prefix) → same_prefix q p ≡ false → is_at (origination_cmp (origination one q)) (origination a p) ≡ false
 origination_apart one a q p other =
     sym (both_tied _ _ _ _ (unsigned_ties one.0 a.0) (both_tied _ _ _ _ (unsigned_ties q.addr.0 p.addr.0) (unsigned_ties q.len p.len)))
-    ∙ and_right (one.0 == a.0) (same_block q p) other
+    ∙ and_right (one.0 == a.0) (same_prefix q p) other
 
 -- the prefixes listed are alike in this one, where the originations are
-listed_alike : (c : Configuration) (one : Addr) (q : Block) (origins : List Origination) → list_any (is_at (origination_cmp (origination one q))) origins ≡ originates c one q → list_any (same_block q) (origins_of (record c { origins = origins }) one) ≡ list_any (same_block q) (origins_of c one)
+listed_alike : (c : Configuration) (one : Addr) (q : Prefix) (origins : List Origination) → list_any (is_at (origination_cmp (origination one q))) origins ≡ originates c one q → list_any (same_prefix q) (origins_of (record c { origins = origins }) one) ≡ list_any (same_prefix q) (origins_of c one)
 listed_alike c one q origins same = origin_listed (record c { origins = origins }) one q ∙ (same ∙ sym (origin_listed c one q))
 
-apart_by_prefix : (one a : Addr) (q p changed : Block) → Some p ≡ Some changed → same_block q changed ≡ false → is_at (origination_cmp (origination one q)) (origination a p) ≡ false
-apart_by_prefix one a q p changed is other = origination_apart one a q p (ap (same_block q) (same_Some p changed is) ∙ other)
+apart_by_prefix : (one a : Addr) (q p changed : Prefix) → Some p ≡ Some changed → same_prefix q changed ≡ false → is_at (origination_cmp (origination one q)) (origination a p) ≡ false
+apart_by_prefix one a q p changed is other = origination_apart one a q p (ap (same_prefix q) (same_Some p changed is) ∙ other)
 
 pub other_origins : OtherOriginsStay
 other_origins c (Origin a p) one changed q is other =

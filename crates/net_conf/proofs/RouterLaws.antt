@@ -9,7 +9,7 @@ use Rattle.std.proofs.lemmas.Cmp.{nat_eq_equiv}
 use Rattle.std.proofs.lemmas.Option.{none-some, same_Some}
 use Rattle.net_prefix.specs.declared.addr.Addr.{Addr}
 use Rattle.net_prefix.specs.Address.{same_addr, addr_cmp}
-use Rattle.net_prefix.specs.Block.{Block, same_block}
+use Rattle.net_prefix.specs.Prefix.{Prefix, same_prefix}
 use Rattle.net_prefix.specs.Orders.{addr_exact}
 use Rattle.net_conf.specs.declared.tables.Node.{Node}
 use Rattle.net_conf.specs.declared.tables.Origination.{Origination}
@@ -27,13 +27,13 @@ use Rattle.net_conf.proofs.Peers.{peers_in_order, peer_of_session}
 
 -- ORIGINS
 
-origin_found : (r : Addr) (p : Block) (o : Origination) → (o.router.0 == r.0 && same_block p o.prefix) ≡ is_at (origination_cmp (record { router = r; prefix = p })) o
+origin_found : (r : Addr) (p : Prefix) (o : Origination) → (o.router.0 == r.0 && same_prefix p o.prefix) ≡ is_at (origination_cmp (record { router = r; prefix = p })) o
 origin_found r p o =
-    ap (λ b. b && same_block p o.prefix) (nat_eq_equiv.symm o.router.0 r.0)
+    ap (λ b. b && same_prefix p o.prefix) (nat_eq_equiv.symm o.router.0 r.0)
     ∙ both_tied _ _ _ _ (unsigned_ties r.0 o.router.0) (both_tied _ _ _ _ (unsigned_ties p.addr.0 o.prefix.addr.0) (unsigned_ties p.len o.prefix.len))
 
-pub origin_listed : (c : Configuration) (r : Addr) (p : Block) → list_any (same_block p) (origins_of c r) ≡ originates c r p
-origin_listed c r p = any_made (λ o. o.router.0 == r.0) (λ o. o.prefix) (same_block p) (is_at (origination_cmp (record { router = r; prefix = p }))) (origin_found r p) c.origins
+pub origin_listed : (c : Configuration) (r : Addr) (p : Prefix) → list_any (same_prefix p) (origins_of c r) ≡ originates c r p
+origin_listed c r p = any_made (λ o. o.router.0 == r.0) (λ o. o.prefix) (same_prefix p) (is_at (origination_cmp (record { router = r; prefix = p }))) (origin_found r p) c.origins
 
 -- ONE SITE
 

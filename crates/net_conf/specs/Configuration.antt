@@ -8,7 +8,7 @@ use Rattle.std.specs.declared.cmp.Ordering.{Ordering}
 use Rattle.std.specs.Ordering.{ordering_then}
 use Rattle.net_prefix.specs.declared.addr.Addr.{Addr}
 use Rattle.net_prefix.specs.Address.{addr_cmp}
-use Rattle.net_prefix.specs.Block.{Block, block_cmp}
+use Rattle.net_prefix.specs.Prefix.{Prefix, prefix_cmp}
 use Rattle.path_attr.specs.Number.{same_number}
 use Rattle.route_policy.specs.declared.rule.Rule.{Rule}
 use Rattle.net_conf.specs.declared.tables.Node.{Node}
@@ -55,7 +55,7 @@ end_cmp x y = ordering_then (addr_cmp x.router y.router) (addr_cmp x.peer y.peer
 
 -- by router, then by prefix
 abbrev pub origination_cmp : Origination → Origination → Ordering
-origination_cmp x y = ordering_then (addr_cmp x.router y.router) (block_cmp x.prefix y.prefix)
+origination_cmp x y = ordering_then (addr_cmp x.router y.router) (prefix_cmp x.prefix y.prefix)
 
 -- NODES
 
@@ -147,9 +147,9 @@ export_rules c r u = rules_at c.exports (end_of r u)
 -- ORIGINS
 
 -- whether the router originates the prefix
-abbrev pub originates : Configuration → Addr → Block → Bool
+abbrev pub originates : Configuration → Addr → Prefix → Bool
 originates c r p = list_any (is_at (origination_cmp (record { router = r; prefix = p }))) c.origins
 
 -- the prefixes that the router originates, in order
-abbrev pub origins_of : Configuration → Addr → List Block
+abbrev pub origins_of : Configuration → Addr → List Prefix
 origins_of c r = map (λ o. o.prefix) (filter (λ o. o.router.0 == r.0) c.origins)

@@ -7,7 +7,7 @@ use Rattle.std.specs.Cmp.{unsigned_Decides, booleans_Decides, first_so, second_s
 use Rattle.std.specs.Cmp.Lexicographic.{pointwise}
 use Rattle.net_prefix.specs.declared.addr.Addr.{Addr}
 use Rattle.net_prefix.specs.Address.{same_addr}
-use Rattle.net_prefix.specs.Block.{Block}
+use Rattle.net_prefix.specs.Prefix.{Prefix}
 use Rattle.path_attr.specs.Number.{same_number}
 use Rattle.path_attr.specs.Sameness.{IsExact, lists_exact}
 use Rattle.route_policy.specs.Sameness.{same_policy}
@@ -111,6 +111,6 @@ module _ (s t : SiteConf) (h : same_facts s t ≡ true) where
       λ i. record { me = me i; asn = asn i; cluster = cluster i; reflector = reflector i; origins = t.origins; sessions = same i; costs = t.costs }
 
 -- and a site has the same facts as itself with other originated prefixes and costs
-pub facts_itself : (s : SiteConf) (origins : List Block) (costs : Reached) → same_facts s (with_facts_of s origins costs) ≡ true
+pub facts_itself : (s : SiteConf) (origins : List Prefix) (costs : Reached) → same_facts s (with_facts_of s origins costs) ≡ true
 facts_itself s origins costs =
     both_true _ _ (number_itself s.me.0) (both_true _ _ (number_itself s.asn) (both_true _ _ (number_itself s.cluster.0) (both_true _ _ (bool_itself s.reflector) ((lists_exact sessions_exact s.sessions s.sessions).1 refl))))

@@ -5,7 +5,7 @@ use Rattle.std.specs.Cmp.Lexicographic.{pointwise}
 use Rattle.net_prefix.specs.Address.{same_addr}
 use Rattle.path_attr.specs.Number.{same_number}
 use Rattle.route_policy.specs.Sameness.{same_policy}
-use Rattle.net_prefix.specs.Block.{Block}
+use Rattle.net_prefix.specs.Prefix.{Prefix}
 use Rattle.igp_cost.specs.Trees.{Reached}
 use Rattle.net_conf.specs.declared.site.SiteConf.{SiteConf}
 use Rattle.net_conf.specs.declared.site.SiteSession.{SiteSession}
@@ -22,5 +22,5 @@ same_facts s t =
     same_addr s.me t.me && (s.asn == t.asn && (same_addr s.cluster t.cluster && (beq s.reflector t.reflector && pointwise same_session s.sessions t.sessions)))
 
 -- the site, with these originated prefixes and costs
-abbrev pub with_facts_of : SiteConf → List Block → Reached → SiteConf
+abbrev pub with_facts_of : SiteConf → List Prefix → Reached → SiteConf
 with_facts_of s origins costs = record s { origins = origins; costs = costs }

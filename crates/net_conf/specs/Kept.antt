@@ -6,7 +6,7 @@ use Rattle.std.specs.BTreeMap.{is_at}
 use Rattle.std.specs.BTreeSet.{insert_key}
 use Rattle.net_prefix.specs.declared.addr.Addr.{Addr}
 use Rattle.net_prefix.specs.Address.{addr_cmp}
-use Rattle.net_prefix.specs.Block.{Block, block_cmp}
+use Rattle.net_prefix.specs.Prefix.{Prefix, prefix_cmp}
 use Rattle.igp_cost.specs.Metric.{IsMetric}
 use Rattle.igp_cost.specs.Walks.{Nodes, Edges}
 use Rattle.igp_cost.specs.Topology.{is_node}
@@ -113,9 +113,9 @@ abbrev pub relinked : Configuration → Addr → SiteConf → SiteConf
 relinked d r s = record s { sessions = map (asked d r) s.sessions; costs = costs_of d r }
 
 -- what a router originates, after an edit of that
-abbrev pub origins_after : Edit → List Block → List Block
-origins_after (Origin a p) ps = insert_key block_cmp ps p
-origins_after (NoOrigin a p) ps = remove_key (is_at (block_cmp p)) ps
+abbrev pub origins_after : Edit → List Prefix → List Prefix
+origins_after (Origin a p) ps = insert_key prefix_cmp ps p
+origins_after (NoOrigin a p) ps = remove_key (is_at (prefix_cmp p)) ps
 origins_after _ ps = ps
 
 -- the site of the router whose originations the edit changes

@@ -5,7 +5,7 @@ use Rattle.std.specs.List.{list_any}
 use Rattle.std.specs.List.Sorted.{IsStrictlySortedBy}
 use Rattle.net_prefix.specs.declared.addr.Addr.{Addr}
 use Rattle.net_prefix.specs.Address.{same_addr, addr_cmp}
-use Rattle.net_prefix.specs.Block.{Block, same_block}
+use Rattle.net_prefix.specs.Prefix.{Prefix, same_prefix}
 use Rattle.net_conf.specs.declared.site.SiteConf.{SiteConf}
 use Rattle.net_conf.specs.declared.site.SiteSession.{SiteSession}
 use Rattle.net_conf.specs.Configuration.{Configuration, has_session, originates, origins_of}
@@ -47,4 +47,4 @@ SitesKnowSessionsUp = (c : Configuration) (r t : Addr) (site : SiteConf) → IsC
 
 -- the prefixes listed for a router are those that it originates
 abbrev pub OriginsAreListed : Type 0
-OriginsAreListed = (c : Configuration) (r : Addr) (p : Block) → list_any (same_block p) (origins_of c r) ≡ originates c r p
+OriginsAreListed = (c : Configuration) (r : Addr) (p : Prefix) → list_any (same_prefix p) (origins_of c r) ≡ originates c r p

@@ -3,7 +3,7 @@ use Rattle.std.specs.Prelude.{◌≡◌, true, false, Option, Some, None, option
 use Rattle.std.specs.List.{list_any}
 use Rattle.net_prefix.specs.declared.addr.Addr.{Addr}
 use Rattle.net_prefix.specs.Address.{same_addr}
-use Rattle.net_prefix.specs.Block.{Block, same_block}
+use Rattle.net_prefix.specs.Prefix.{Prefix, same_prefix}
 use Rattle.net_conf.specs.declared.edit.Edit.{Edit}
 use Rattle.net_conf.specs.declared.edit.Edit.TheVariants.{Client, OwnNext, Cluster, Rule, Clear, Origin, NoOrigin}
 use Rattle.net_conf.specs.declared.edit.Scope.{Scope}
@@ -51,8 +51,8 @@ AreRoutersAfter = (c : Configuration) (e : Edit) (a : Addr) → router_in (scope
 
 -- of the router whose origination changes all but its originated prefixes stays
 abbrev pub OriginsAloneChange : Type 0
-OriginsAloneChange = (c : Configuration) (e : Edit) (a : Addr) (p : Block) → scope e ≡ Route a p → router_site (edited c e) a ≡ option_map (λ (site : SiteConf). record site { origins = origins_of (edited c e) a }) (router_site c a)
+OriginsAloneChange = (c : Configuration) (e : Edit) (a : Addr) (p : Prefix) → scope e ≡ Route a p → router_site (edited c e) a ≡ option_map (λ (site : SiteConf). record site { origins = origins_of (edited c e) a }) (router_site c a)
 
 -- and it originates the same other prefixes
 abbrev pub OtherOriginsStay : Type 0
-OtherOriginsStay = (c : Configuration) (e : Edit) (a : Addr) (p q : Block) → scope e ≡ Route a p → same_block q p ≡ false → list_any (same_block q) (origins_of (edited c e) a) ≡ list_any (same_block q) (origins_of c a)
+OtherOriginsStay = (c : Configuration) (e : Edit) (a : Addr) (p q : Prefix) → scope e ≡ Route a p → same_prefix q p ≡ false → list_any (same_prefix q) (origins_of (edited c e) a) ≡ list_any (same_prefix q) (origins_of c a)

@@ -22,7 +22,8 @@ use std::marker::Model;
 use std::mem::replace;
 use std::thread::Threads;
 
-/// What is configured, with the interior costs and the sites of those who have a session, and the sessions that are down.
+/// What is configured, with the interior costs and the sites of those who have a session, and the sessions that are
+/// down.
 #[derive(Drop)]
 pub struct Conf {
     pub(crate) sessions: ConfSessions,
@@ -69,7 +70,8 @@ impl Conf {
 
     /// Whether the edit may be made: the first test that holds refuses it. It takes no memory.
     pub fn check(&self, edit: &Edit) -> Result<(), Refusal>
-        ensures { MatchResult result (λ _. refusal_of self.now edit.now ≡ None) (λ r. refusal_of self.now edit.now ≡ Some r) }
+        ensures { MatchResult result (λ _. refusal_of self.now edit.now ≡ None) (λ r.
+            refusal_of self.now edit.now ≡ Some r) }
     {
         self.sessions.tables().check(edit)
     }
@@ -169,15 +171,16 @@ impl Conf {
         self.sessions.costs(alloc, router)
     }
 
-    /// The configuration after the edit, made beside this one, and whom the edit concerns: of all others nothing is changed. It is refused
-    /// as the edit is, and for want of memory.
+    /// The configuration after the edit, made beside this one, and whom the edit concerns: of all others nothing is
+    /// changed. It is refused as the edit is, and for want of memory.
     pub fn edited<R: Threads + Sync>(
         &self,
         rt: &R,
         alloc: Global,
         edit: &Edit,
     ) -> Result<EditedConf, Refusal>
-        ensures edited { MatchResult result (λ made. IsEdited self.now edit.now (Ok made.conf)) (λ refusal. IsEdited self.now edit.now (Err refusal)) }
+        ensures edited { MatchResult result (λ made. IsEdited self.now edit.now (Ok made.conf)) (λ refusal.
+            IsEdited self.now edit.now (Err refusal)) }
         ensures concerned { IfOk result (λ made. ConcernsAlone self.now made.conf made.concerned.keys) }
     {
         self.check(edit)?;

@@ -9,7 +9,8 @@ pub fn peers_are_those_of_sessions()
     ensures sessions { PeersHaveSessions }
 {}
 
-/// A site is its router's, and has its sessions, in order of the peers' addresses, each up where it is by the configuration.
+/// A site is its router's, and has its sessions, in order of the peers' addresses, each up where it is by the
+/// configuration.
 pub fn sites_are_of_routers()
     ensures address { SitesAreOfTheirRouters }
     ensures in_order { SiteSessionsAreInOrder }
@@ -22,8 +23,8 @@ pub fn origins_are_listed()
     ensures law { OriginsAreListed }
 {}
 
-/// An edit of one router's settings, or of what it originates, leaves all other sites, and all sessions up or down. Where it is not
-/// refused, the one is a router.
+/// An edit of one router's settings, or of what it originates, leaves all other sites, and all sessions up or down.
+/// Where it is not refused, the one is a router.
 pub fn edits_keep_their_scope()
     ensures others { SitesOfOthersStay }
     ensures sessions { SessionsStay }

@@ -1,7 +1,8 @@
 //! What is configured: routers, links, sessions and their settings, originated prefixes; the edits that change it; and
 //! what follows from it: interior costs, which sessions are up, and each router's site.
 //!
-//! Two rooms: `tables`, the configuration itself and its edits, and `kept`, what is kept over edits beside it. `Conf` joins both.
+//! Two rooms: `tables`, the configuration itself and its edits, and `kept`, what is kept over edits beside it. `Conf`
+//! joins both.
 #![tactic(auto)]
 
 mod conf;

@@ -20,8 +20,8 @@ impl SiteConf {
         }
     }
 
-    /// Whether all but the originated prefixes and the costs is the same in both: the address, the AS, the CLUSTER_ID, whether there
-    /// is a client, and the sessions with what is set for each.
+    /// Whether all but the originated prefixes and the costs is the same in both: the address, the AS, the CLUSTER_ID,
+    /// whether there is a client, and the sessions with what is set for each.
     pub fn has_same_facts(&self, other: &SiteConf) -> bool
         ensures { result ≡ same_facts self.now other.now }
     {

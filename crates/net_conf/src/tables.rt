@@ -1,5 +1,5 @@
-//! The configuration itself, as plain tables of the rows that stand here: look-ups (`conf_tables`), the tests that an edit has to pass
-//! (`checks`), what it does to the tables (`apply`), and the graph of the links that are up (`graph`).
+//! The configuration itself, as plain tables of the rows that stand here: look-ups (`conf_tables`), the tests that an
+//! edit has to pass (`checks`), what it does to the tables (`apply`), and the graph of the links that are up (`graph`).
 
 mod apply;
 mod checks;

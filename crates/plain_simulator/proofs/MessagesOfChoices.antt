@@ -2,7 +2,7 @@
 use Rattle.std.proofs.Common.{◌≡◌, Bool, true, List, [], ◌∷◌, ◌++◌, map, Option, Some, None, IfSome, if◌then◌else◌, refl, sym, ap, subst, ◌∙◌}
 use Rattle.std.specs.List.{filter_map, cons_option}
 use Rattle.net_prefix.specs.declared.addr.Addr.{Addr}
-use Rattle.net_prefix.specs.Block.{Block}
+use Rattle.net_prefix.specs.Prefix.{Prefix}
 use Rattle.net_conf.specs.Costs.{is_up}
 use Rattle.reference_machine.specs.Network.{Network}
 use Rattle.reference_machine.specs.Advertising.{prefixes_at, in_order, changes, advertised, change_of, sends, sent}

@@ -2,7 +2,7 @@
 use Rattle.std.proofs.Common.{◌≡◌, Option, Some, None, option_map, option_and_then, refl, sym, ap, ◌∙◌}
 use Rattle.std.proofs.lemmas.Option.{none-some, same_Some}
 use Rattle.net_prefix.specs.declared.addr.Addr.{Addr}
-use Rattle.net_prefix.specs.Block.{Block}
+use Rattle.net_prefix.specs.Prefix.{Prefix}
 use Rattle.net_conf.specs.declared.site.SiteConf.{SiteConf}
 use Rattle.net_conf.specs.declared.tables.Node.{Node}
 use Rattle.igp_cost.specs.Trees.{Reached}
@@ -14,12 +14,12 @@ use Rattle.reference_machine.specs.Network.{Network}
 use Rattle.reference_machine.specs.Decision.{best, standings}
 
 -- where there is no site, nothing is chosen
-pub none_chosen : (s : Network) (r : Addr) (p : Block) → site_of s.conf r ≡ None → best s r p ≡ None
+pub none_chosen : (s : Network) (r : Addr) (p : Prefix) → site_of s.conf r ≡ None → best s r p ≡ None
 unfolding best
 none_chosen s r p is = ap (option_and_then (λ site. best_of (standings site p s.received))) is
 
 -- where there is one, what is chosen there
-pub chosen_at : (s : Network) (r : Addr) (p : Block) (site : SiteConf) → site_of s.conf r ≡ Some site → best s r p ≡ best_of (standings site p s.received)
+pub chosen_at : (s : Network) (r : Addr) (p : Prefix) (site : SiteConf) → site_of s.conf r ≡ Some site → best s r p ≡ best_of (standings site p s.received)
 unfolding best
 chosen_at s r p site is = ap (option_and_then (λ here. best_of (standings here p s.received))) is
 

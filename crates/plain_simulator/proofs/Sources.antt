@@ -10,7 +10,7 @@ use Rattle.std.proofs.lemmas.List.Sums.{fold-append}
 use Rattle.std.specs.BTreeSet.{insert_key}
 use Rattle.std.specs.FinMap as finite
 use Rattle.std.specs.FinMap.Entries.{put, by_order, find, below_all, is_sorted}
-use Rattle.net_prefix.specs.Block.{Block}
+use Rattle.net_prefix.specs.Prefix.{Prefix}
 use Rattle.path_attr.specs.declared.attr.Attr.{Attr}
 use Rattle.net_conf.specs.declared.site.SiteConf.{SiteConf}
 use Rattle.net_conf.specs.declared.site.SiteSession.{SiteSession}
@@ -51,7 +51,7 @@ abbrev with_sources : List Source → List (Source × Standing) → List Source
 with_sources ks es = fold (λ js e. insert_key source_cmp js e.0) ks es
 
 -- the router itself and its peers, each put in its place, are the sources of its standings
-pub sources_of : (site : SiteConf) (p : Block) (es : List (RouteKey × Attr)) (sessions : List SiteSession) (none own all : List Source) → sessions ≡ site.sessions → none ≡ [] → own ≡ with_sources none (own_standings site p) → all ≡ with_sources own (filter_map (standing_from site p es) sessions) → all ≡ finite.keys (standings site p es)
+pub sources_of : (site : SiteConf) (p : Prefix) (es : List (RouteKey × Attr)) (sessions : List SiteSession) (none own all : List Source) → sessions ≡ site.sessions → none ≡ [] → own ≡ with_sources none (own_standings site p) → all ≡ with_sources own (filter_map (standing_from site p es) sessions) → all ≡ finite.keys (standings site p es)
 sources_of site p es sessions none own all are empty first_are all_are =
     let peers : List (Source × Standing) = filter_map (standing_from site p es) site.sessions in
     all_are

@@ -2,7 +2,7 @@
 use Rattle.std.specs.Prelude.{◌≡◌, Bool, List, ◌++◌, map, Option, IfSome}
 use Rattle.std.specs.List.{filter_map}
 use Rattle.net_prefix.specs.declared.addr.Addr.{Addr}
-use Rattle.net_prefix.specs.Block.{Block}
+use Rattle.net_prefix.specs.Prefix.{Prefix}
 use Rattle.net_conf.specs.Sites.{site_of}
 use Rattle.session_queue.specs.declared.message.Message.{Message}
 use Rattle.plain_simulator.specs.declared.choices.PrefixChoices.{PrefixChoices}
@@ -12,7 +12,7 @@ use Rattle.reference_machine.specs.Decision.{best}
 use Rattle.reference_machine.specs.Advertising.{prefixes_at, in_order, advert_of, change_of}
 
 -- what the router chooses for the prefix in s, and in s'
-abbrev pub prefix_choices : Network → Network → Addr → Block → PrefixChoices
+abbrev pub prefix_choices : Network → Network → Addr → Prefix → PrefixChoices
 prefix_choices s s' r p = record { prefix = p; old = best s r p; new = best s' r p }
 
 -- the router's site and choices in s, and in s'

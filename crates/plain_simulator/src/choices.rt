@@ -1,4 +1,5 @@
-//! What a router chose for each prefix before an event, and what it chooses after it: worked out once for all its peers.
+//! What a router chose for each prefix before an event, and what it chooses after it: worked out once for all its
+//! peers.
 
 ghost use Rattle.std.specs.Prelude.{◌≡◌, map, IfOk};
 ghost use Rattle.std.specs.List.{filter_map};

@@ -39,7 +39,9 @@ fn add_peer<S: Selector>(
     received: &BTreeMap<RouteKey, Attr>,
     from: &SiteSession,
 ) -> Result<(), AllocError>
-    ensures { OnOk result (S.standings chosen.new ≡ added (S.standings chosen.old) (option_to_list (standing_from site.now prefix received.now.entries from.now))) }
+    ensures { OnOk result
+        (S.standings chosen.new ≡ added (S.standings chosen.old)
+        (option_to_list (standing_from site.now prefix received.now.entries from.now))) }
 {
     match route_from(received, site.me, prefix, from.peer) {
         None => Ok(()),
@@ -55,7 +57,9 @@ fn add_peers<S: Selector>(
     prefix: Prefix,
     received: &BTreeMap<RouteKey, Attr>,
 ) -> Result<(), AllocError>
-    ensures { OnOk result (S.standings chosen.new ≡ added (S.standings chosen.old) (filter_map (standing_from site.now prefix received.now.entries) sessions.now)) }
+    ensures { OnOk result
+        (S.standings chosen.new ≡ added (S.standings chosen.old)
+        (filter_map (standing_from site.now prefix received.now.entries) sessions.now)) }
 {
     for from in sessions {
         add_peer(chosen, site, prefix, received, from)?;

@@ -27,7 +27,8 @@ fn add_before(
     queues: &[Queue],
     direction: Direction,
 ) -> Result<(), AllocError>
-    ensures { OnOk result (kept.new.items ≡ kept.old.items ++ filter (λ q. is_gt (direction_cmp direction q.of)) queues.now) }
+    ensures { OnOk result
+        (kept.new.items ≡ kept.old.items ++ filter (λ q. is_gt (direction_cmp direction q.of)) queues.now) }
 {
     for queue in queues {
         if direction.cmp(&queue.of).is_gt() {
@@ -44,7 +45,8 @@ fn add_after(
     queues: &[Queue],
     direction: Direction,
 ) -> Result<(), AllocError>
-    ensures { OnOk result (kept.new.items ≡ kept.old.items ++ filter (λ q. is_lt (direction_cmp direction q.of)) queues.now) }
+    ensures { OnOk result
+        (kept.new.items ≡ kept.old.items ++ filter (λ q. is_lt (direction_cmp direction q.of)) queues.now) }
 {
     for queue in queues {
         if direction.cmp(&queue.of).is_lt() {

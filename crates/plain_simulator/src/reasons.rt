@@ -53,7 +53,9 @@ fn reasons_for<S: Chosen>(
     chosen: &S,
     sources: &BTreeSet<Source>,
 ) -> Result<Vec<(Source, Reason)>, AllocError>
-    ensures { IfOk result (λ reasons. reasons.items ≡ filter_map (λ source. option_map (λ reason. (source, reason)) (reason_in (S.standings chosen.now) source)) sources.now.keys) }
+    ensures { IfOk result (λ reasons.
+        reasons.items ≡ filter_map (λ source.
+        option_map (λ reason. (source, reason)) (reason_in (S.standings chosen.now) source)) sources.now.keys) }
 {
     sources
         .iter()
@@ -98,7 +100,9 @@ fn add_own(
     site: &SiteConf,
     prefix: Prefix,
 ) -> Result<(), AllocError>
-    ensures { OnOk result (sources.new.keys ≡ fold (λ ks e. insert_key source_cmp ks e.0) sources.old.keys (own_standings site.now prefix)) }
+    ensures { OnOk result
+        (sources.new.keys ≡ fold (λ ks e. insert_key source_cmp ks e.0) sources.old.keys
+        (own_standings site.now prefix)) }
 {
     if is_originated(site, prefix) {
         sources.insert(Source::Own)?;
@@ -114,7 +118,9 @@ fn add_peers(
     prefix: Prefix,
     received: &BTreeMap<RouteKey, Attr>,
 ) -> Result<(), AllocError>
-    ensures { OnOk result (sources.new.keys ≡ fold (λ ks e. insert_key source_cmp ks e.0) sources.old.keys (filter_map (standing_from site.now prefix received.now.entries) sessions.now)) }
+    ensures { OnOk result
+        (sources.new.keys ≡ fold (λ ks e. insert_key source_cmp ks e.0) sources.old.keys
+        (filter_map (standing_from site.now prefix received.now.entries) sessions.now)) }
 {
     for from in sessions {
         add_peer(sources, site, prefix, received, from)?;
@@ -130,7 +136,9 @@ fn add_peer(
     received: &BTreeMap<RouteKey, Attr>,
     from: &SiteSession,
 ) -> Result<(), AllocError>
-    ensures { OnOk result (sources.new.keys ≡ fold (λ ks e. insert_key source_cmp ks e.0) sources.old.keys (option_to_list (standing_from site.now prefix received.now.entries from.now))) }
+    ensures { OnOk result
+        (sources.new.keys ≡ fold (λ ks e. insert_key source_cmp ks e.0) sources.old.keys
+        (option_to_list (standing_from site.now prefix received.now.entries from.now))) }
 {
     if route_from(received, site.me, prefix, from.peer).is_some() && from.up {
         sources.insert(Source::Peer(from.peer))?;

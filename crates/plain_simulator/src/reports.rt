@@ -81,7 +81,8 @@ impl State {
         prefixes: &[Prefix],
     ) -> Result<Vec<Held>, AllocError>
         requires { site.now ≡ site_of self.now.conf router }
-        ensures { IfOk result (λ routes. routes.items ≡ filter_map (λ p. held_of p (best self.now router p)) prefixes.now) }
+        ensures { IfOk result (λ routes.
+            routes.items ≡ filter_map (λ p. held_of p (best self.now router p)) prefixes.now) }
     {
         let mut routes = Vec::new(alloc);
         for prefix in prefixes {
@@ -142,7 +143,8 @@ impl State {
         router: Addr,
         peer: Addr,
     ) -> Result<Vec<(Prefix, Attr)>, AllocError>
-        ensures { IfOk result (λ routes. routes.items ≡ map (λ e. (e.0.prefix, e.1)) (routes_from router peer self.now.received)) }
+        ensures { IfOk result (λ routes.
+            routes.items ≡ map (λ e. (e.0.prefix, e.1)) (routes_from router peer self.now.received)) }
     {
         let mut routes = Vec::new(alloc);
         for (key, attr) in self.received.iter() {

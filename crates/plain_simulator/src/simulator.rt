@@ -41,8 +41,8 @@ impl<S: Selector + Drop> Simulator<S> {
         }
     }
 
-    /// Takes the event, which is the machine's own step, or is refused for want of memory and does nothing. Its configuration alone may
-    /// start threads.
+    /// Takes the event, which is the machine's own step, or is refused for want of memory and does nothing. Its
+    /// configuration alone may start threads.
     pub fn step<R: Threads + Sync>(&mut self, rt: &R, event: &Event) -> Reply
         ensures { IsStep self.old event.now result self.new }
     {

@@ -2,7 +2,7 @@
 
 ghost use Rattle.std.specs.Prelude.{◌≡◌, ◌++◌, IfOk, OnOk, map, fold};
 ghost use Rattle.std.specs.BTreeSet.{insert_key};
-ghost use Rattle.net_prefix.specs.Block.{block_cmp};
+ghost use Rattle.net_prefix.specs.Prefix.{prefix_cmp};
 ghost use Rattle.net_conf.specs.Sites.{site_of};
 ghost use Rattle.reference_machine.specs.Network.{received_by, with_more};
 ghost use Rattle.reference_machine.specs.Decision.{best};
@@ -84,7 +84,8 @@ impl State {
 
     /// The prefixes that the router has received, as they come.
     fn received_prefixes(&self, alloc: Global, router: Addr) -> Result<Vec<Prefix>, AllocError>
-        ensures { IfOk result (λ prefixes. prefixes.items ≡ map (λ e. e.0.prefix) (received_by router self.now.received)) }
+        ensures { IfOk result (λ prefixes.
+            prefixes.items ≡ map (λ e. e.0.prefix) (received_by router self.now.received)) }
     {
         self.received
             .iter()
@@ -100,7 +101,8 @@ impl State {
         router: Addr,
         found: &mut BTreeSet<Prefix>,
     ) -> Result<(), AllocError>
-        ensures { OnOk result (found.new.keys ≡ fold (λ qs p. insert_key block_cmp qs p) found.old.keys (prefixes_at self.now router)) }
+        ensures { OnOk result
+            (found.new.keys ≡ fold (λ qs p. insert_key prefix_cmp qs p) found.old.keys (prefixes_at self.now router)) }
     {
         let originated = self.conf.origins_of(alloc, router)?;
         let received = self.received_prefixes(alloc, router)?;
@@ -120,7 +122,7 @@ impl State {
 
 /// Adds the prefixes, each in its place.
 fn insert_all(found: &mut BTreeSet<Prefix>, prefixes: &[Prefix]) -> Result<(), AllocError>
-    ensures { OnOk result (found.new.keys ≡ fold (λ qs p. insert_key block_cmp qs p) found.old.keys prefixes.now) }
+    ensures { OnOk result (found.new.keys ≡ fold (λ qs p. insert_key prefix_cmp qs p) found.old.keys prefixes.now) }
 {
     for prefix in prefixes {
         found.insert(*prefix)?;
@@ -135,7 +137,8 @@ pub fn prefixes_of(
     later: &State,
     router: Addr,
 ) -> Result<Vec<Prefix>, AllocError>
-    ensures { IfOk result (λ found. found.items ≡ in_order (prefixes_at earlier.now router ++ prefixes_at later.now router)) }
+    ensures { IfOk result (λ found.
+        found.items ≡ in_order (prefixes_at earlier.now router ++ prefixes_at later.now router)) }
 {
     let mut found = BTreeSet::new(alloc);
     earlier.add_prefixes(alloc, router, &mut found)?;
@@ -171,7 +174,8 @@ fn queues_after<S: Selector + Drop>(
     earlier: &State,
     later: &State,
 ) -> Result<Vec<Queue>, AllocError>
-    ensures { IfOk result (λ queues. queues.items ≡ map (λ q. with_more q (sent earlier.now later.now q.of.from q.of.to)) later.now.queues) }
+    ensures { IfOk result (λ queues.
+        queues.items ≡ map (λ q. with_more q (sent earlier.now later.now q.of.from q.of.to)) later.now.queues) }
 {
     let mut queues = Vec::new(alloc);
     let mut kept = None;

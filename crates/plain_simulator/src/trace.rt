@@ -129,7 +129,8 @@ impl State {
         prefix: Prefix,
     ) -> Result<Look, AllocError>
         requires { site.now ≡ site_of self.now.conf at }
-        ensures { IfOk result (λ found. found ≡ by_route (costs_of self.now.conf at) at prefix (best self.now at prefix)) }
+        ensures { IfOk result (λ found.
+            found ≡ by_route (costs_of self.now.conf at) at prefix (best self.now at prefix)) }
     {
         match site {
             None => Ok(Look::Ends(TraceEnd::NoRoute(at))),

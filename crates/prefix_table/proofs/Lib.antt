@@ -1,4 +1,4 @@
-pub mod Blocks
+pub mod Prefixes
 pub mod Contents
 pub mod Entries
 pub mod Growing

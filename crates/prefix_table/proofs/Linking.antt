@@ -2,7 +2,7 @@
 use Rattle.std.proofs.Common.{◌≡◌, ℕ, zero, suc, ◌+◌, ◌<◌, Bool, true, false, List, [], ◌∷◌, ◌++◌, length, map, get_or, set, Option, Some, None, refl, sym, ap, subst, ◌∙◌, arith}
 use Rattle.std.proofs.lemmas.List.{map-append, length-map, get_or_append_left, get_or_push, length_push}
 use Rattle.std.specs.Option.{IfSome, IfNone}
-use Rattle.net_prefix.specs.Block.{Block}
+use Rattle.net_prefix.specs.Prefix.{Prefix}
 use Rattle.prefix_table.specs.declared.node.Node.{Node}
 use Rattle.prefix_table.specs.declared.node.NodeId.{NodeId}
 use Rattle.prefix_table.specs.Trie.{bit_at, child_of, prefix_at, child_at, IsTrie, IsGap, linked, with_child, prefixes, node_entries, entry_or_not, whole}
@@ -23,7 +23,7 @@ module _ {V : Type 0} where
   same_key true c n = refl
   same_key false c n = refl
 
-  same_entry : (u : Bool) (c : NodeId) (n : Node V) (es : List (Block × V)) → entry_or_not (with_child u c n).prefix (with_child u c n).value es ≡ entry_or_not n.prefix n.value es
+  same_entry : (u : Bool) (c : NodeId) (n : Node V) (es : List (Prefix × V)) → entry_or_not (with_child u c n).prefix (with_child u c n).value es ≡ entry_or_not n.prefix n.value es
   same_entry true c n es = refl
   same_entry false c n es = refl
 
@@ -107,7 +107,7 @@ module _ {V : Type 0} where
     pub linked_prefixes : prefixes (linked (ns ++ x ∷ []) i b (record { 0 = length ns })) ≡ prefixes ns ++ x.prefix ∷ []
     linked_prefixes = prefixes-linked (ns ++ x ∷ []) i b (record { 0 = length ns }) ∙ map-append (λ n. n.prefix) ns (x ∷ [])
 
-  pub below_in_range : (ns xs ys : List (Node V)) (i len : ℕ) (b : Bool) (c : Block) (o : Option NodeId) → IsTrie ns → i < length ns → IsGap ns (prefix_at ns i) b c → xs ≡ ns → ys ≡ ns → len ≡ c.len → o ≡ child_at ys b i
+  pub below_in_range : (ns xs ys : List (Node V)) (i len : ℕ) (b : Bool) (c : Prefix) (o : Option NodeId) → IsTrie ns → i < length ns → IsGap ns (prefix_at ns i) b c → xs ≡ ns → ys ≡ ns → len ≡ c.len → o ≡ child_at ys b i
       → IfSome o (λ k. (k.0 < length xs) × (len < 32))
   below_in_range ns xs ys i len b c None t here gap e f l is = tt
   below_in_range ns xs ys i len b c (Some k) t here gap e f l is =
@@ -121,7 +121,7 @@ module _ {V : Type 0} where
       subst (λ zs. IsOnSide zs p n u child) e (subst (λ q. IsOnSide xs q n u child) f (subst (λ m. IsOnSide xs o m u child) l (some, none)))
 
   -- the node that was put at the end has its prefix
-  pub last_prefix : (ns new : List (Node V)) (c : Block) → prefixes new ≡ prefixes ns ++ c ∷ [] → (length ns < length new) × (prefix_at new (length ns) ≡ c)
+  pub last_prefix : (ns new : List (Node V)) (c : Prefix) → prefixes new ≡ prefixes ns ++ c ∷ [] → (length ns < length new) × (prefix_at new (length ns) ≡ c)
   last_prefix ns new c is =
       let size : length new ≡ length ns + 1 = sym (length-map new (λ n. n.prefix)) ∙ ap length is ∙ length_push (prefixes ns) c ∙ ap (λ n. n + 1) (length-map ns (λ n. n.prefix)) in
       (omega arith, ap (λ l. get_or l (length ns) whole) is ∙ get_or_push (prefixes ns) c whole (length ns) (length-map ns (λ n. n.prefix)))

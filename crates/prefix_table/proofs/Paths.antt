@@ -5,11 +5,11 @@ use Rattle.std.specs.Option.{IfNone}
 use Rattle.std.specs.Ordering.{is_lt}
 use Rattle.prefix_table.specs.Tables.{is_after}
 use Rattle.std.proofs.lemmas.List.{get_or-map}
-use Rattle.net_prefix.specs.Block.{Block, Covers, block_cmp}
+use Rattle.net_prefix.specs.Prefix.{Prefix, Covers, prefix_cmp}
 use Rattle.prefix_table.specs.declared.node.Node.{Node}
 use Rattle.prefix_table.specs.declared.node.NodeId.{NodeId}
 use Rattle.prefix_table.specs.Trie.{bit_at, IsUnder, prefix_at, value_at, child_at, IsTrie, IsNearer, IsLast, IsCover, IsDeepest, IsLater, IsFirstLater}
-use Rattle.prefix_table.proofs.Blocks.{covers_itself, covers_trans, comparable, same_bit, under_further, same_prefix, covered_not_before, upper_not_before}
+use Rattle.prefix_table.proofs.Prefixes.{covers_itself, covers_trans, comparable, same_bit, under_further, one_prefix, covered_not_before, upper_not_before}
 
 -- a field of the node that is read at an index
 pub read_field : {X Y : Type 0} (f : X → Y) (xs : List X) (i : ℕ) (x : X) (d : Y) → i < length xs → x ≡ get_or xs i x → f x ≡ get_or (map f xs) i d
@@ -19,7 +19,7 @@ pub IfNone_then : {X : Type 0} (o : Option X) {P Q : Type 0} → IfNone o P → 
 IfNone_then None p f = f p
 IfNone_then (Some x) p f = tt
 
-module _ {V : Type 0} (ns : List (Node V)) (t : IsTrie ns) (at : ℕ) (here : at < length ns) (q : Block) (covers : Covers (prefix_at ns at) q) where
+module _ {V : Type 0} (ns : List (Node V)) (t : IsTrie ns) (at : ℕ) (here : at < length ns) (q : Prefix) (covers : Covers (prefix_at ns at) q) where
   -- a longer prefix that covers q lies in q's half
   longer_under : (j : ℕ) → Covers (prefix_at ns j) q → (prefix_at ns at).len < (prefix_at ns j).len → IsUnder (prefix_at ns at) (bit_at q.addr (prefix_at ns at).len) (prefix_at ns j)
   longer_under j h lt = record {
@@ -80,10 +80,10 @@ module _ {V : Type 0} (ns : List (Node V)) (t : IsTrie ns) (at : ℕ) (here : at
   pub none_here : is_some (value_at ns at) ≡ false → NoneIsDeeper → (j : ℕ) → IsCover ns (prefix_at ns at).len q j → ⊥
   none_here empty none j h =
       let over : Covers (prefix_at ns at) (prefix_at ns j) = comparable (prefix_at ns at) (prefix_at ns j) q covers h.covers h.long in
-      let same : at ≡ j = t.unique at j here h.in_range (same_prefix (prefix_at ns at) (prefix_at ns j) (t.blocks at here) (t.blocks j h.in_range) over (none j h)) in
+      let same : at ≡ j = t.unique at j here h.in_range (one_prefix (prefix_at ns at) (prefix_at ns j) (t.blocks at here) (t.blocks j h.in_range) over (none j h)) in
       false≢true (sym empty ∙ ap (λ i. is_some (value_at ns i)) same ∙ h.valued)
 
-module _ {V : Type 0} (ns : List (Node V)) (t : IsTrie ns) (at : ℕ) (here : at < length ns) (after : Option Block) where
+module _ {V : Type 0} (ns : List (Node V)) (t : IsTrie ns) (at : ℕ) (here : at < length ns) (after : Option Prefix) where
   abbrev pub NoneIn : Bool → Type 0
   NoneIn upper = (j : ℕ) → IsLater ns (prefix_at ns at) after j → IsUnder (prefix_at ns at) upper (prefix_at ns j) → ⊥
 
@@ -109,7 +109,7 @@ module _ {V : Type 0} (ns : List (Node V)) (t : IsTrie ns) (at : ℕ) (here : at
           | false ↦ λ e. inl (record { longer = lt; covers = h.covers; half = e })
         ] refl
         | inr le ↦
-            let same : j ≡ at = sym (t.unique at j here h.in_range (same_prefix (prefix_at ns at) (prefix_at ns j) (t.blocks at here) (t.blocks j h.in_range) h.covers le)) in
+            let same : j ≡ at = sym (t.unique at j here h.in_range (one_prefix (prefix_at ns at) (prefix_at ns j) (t.blocks at here) (t.blocks j h.in_range) h.covers le)) in
             absurd (own (subst (λ i. IsLater ns (prefix_at ns at) after i) same h))
       ]
 
@@ -122,7 +122,7 @@ module _ {V : Type 0} (ns : List (Node V)) (t : IsTrie ns) (at : ℕ) (here : at
   }
 
   in_child : (upper : Bool) (k : NodeId) (found j : ℕ) → child_at ns upper at ≡ Some k → IsFirstLater ns (prefix_at ns k.0) after found → IsLater ns (prefix_at ns at) after j → IsUnder (prefix_at ns at) upper (prefix_at ns j)
-      → is_lt (block_cmp (prefix_at ns j) (prefix_at ns found)) ≡ false
+      → is_lt (prefix_cmp (prefix_at ns j) (prefix_at ns found)) ≡ false
   in_child upper k found j is f h u = f.first j (record { in_range = h.in_range; valued = h.valued; covers = (t.below at upper k here is).covers j h.in_range u; later = h.later })
 
   pub first_in_low : (k : NodeId) (found : ℕ) → (IsLater ns (prefix_at ns at) after at → ⊥) → child_at ns false at ≡ Some k → IsFirstLater ns (prefix_at ns k.0) after found → IsFirstLater ns (prefix_at ns at) after found
@@ -132,7 +132,7 @@ module _ {V : Type 0} (ns : List (Node V)) (t : IsTrie ns) (at : ℕ) (here : at
       let short : (prefix_at ns at).len < 32 = omega (arith, below.under.longer, (t.blocks k.0 below.in_range).0) in
       record {
         is = up false k found is f;
-        first = λ j h. elim (parts j own h) as (λ _. is_lt (block_cmp (prefix_at ns j) (prefix_at ns found)) ≡ false) [
+        first = λ j h. elim (parts j own h) as (λ _. is_lt (prefix_cmp (prefix_at ns j) (prefix_at ns found)) ≡ false) [
           | inl u ↦ in_child false k found j is f h u
           | inr u ↦ upper_not_before (prefix_at ns at) (prefix_at ns found) (prefix_at ns j) short low u
         ];
@@ -141,7 +141,7 @@ module _ {V : Type 0} (ns : List (Node V)) (t : IsTrie ns) (at : ℕ) (here : at
   pub first_in_high : (k : NodeId) (found : ℕ) → (IsLater ns (prefix_at ns at) after at → ⊥) → NoneIn false → child_at ns true at ≡ Some k → IsFirstLater ns (prefix_at ns k.0) after found → IsFirstLater ns (prefix_at ns at) after found
   first_in_high k found own none is f = record {
     is = up true k found is f;
-    first = λ j h. elim (parts j own h) as (λ _. is_lt (block_cmp (prefix_at ns j) (prefix_at ns found)) ≡ false) [
+    first = λ j h. elim (parts j own h) as (λ _. is_lt (prefix_cmp (prefix_at ns j) (prefix_at ns found)) ≡ false) [
       | inl u ↦ absurd (none j h u)
       | inr u ↦ in_child true k found j is f h u
     ];

@@ -1,13 +1,13 @@
 -- A trie with one more node, put between a node and what lies in one of its halves.
 use Rattle.std.proofs.Common.{◌≡◌, ℕ, ◌+◌, ◌<◌, Bool, true, false, List, length, Option, Some, None, refl, sym, ap, subst, ◌∙◌, inl, inr, ◌⊎◌, arith}
 use Rattle.std.proofs.lemmas.Bool.{cases_lt, cases_eq, false≢true}
-use Rattle.net_prefix.specs.Block.{Block, IsBlock, Covers}
+use Rattle.net_prefix.specs.Prefix.{Prefix, MakePrefix, Covers}
 use Rattle.prefix_table.specs.declared.node.Node.{Node}
 use Rattle.prefix_table.specs.declared.node.NodeId.{NodeId}
 use Rattle.prefix_table.specs.Trie.{whole, bit_at, IsUnder, prefix_at, child_at, IsBelow, IsTrie, IsGap}
-use Rattle.prefix_table.proofs.Blocks.{covers_itself, covers_trans, comparable, under_further, under_back, same_prefix}
+use Rattle.prefix_table.proofs.Prefixes.{covers_itself, covers_trans, comparable, under_further, under_back, one_prefix}
 
-pub record IsSpliced {V : Type 0} (ns new : List (Node V)) (i : ℕ) (b : Bool) (c : Block) : Type 0 where
+pub record IsSpliced {V : Type 0} (ns new : List (Node V)) (i : ℕ) (b : Bool) (c : Prefix) : Type 0 where
   pub long : length new ≡ length ns + 1
   pub old : (j : ℕ) → j < length ns → prefix_at new j ≡ prefix_at ns j
   pub added : prefix_at new (length ns) ≡ c
@@ -25,7 +25,7 @@ bool_cases true false = inr (λ e. false≢true (sym e))
 bool_cases false true = inr (λ e. false≢true e)
 bool_cases false false = inl refl
 
-module _ {V : Type 0} (ns new : List (Node V)) (i : ℕ) (b : Bool) (c : Block) (t : IsTrie ns) (here : i < length ns) (gap : IsGap ns (prefix_at ns i) b c) (s : IsSpliced ns new i b c) where
+module _ {V : Type 0} (ns new : List (Node V)) (i : ℕ) (b : Bool) (c : Prefix) (t : IsTrie ns) (here : i < length ns) (gap : IsGap ns (prefix_at ns i) b c) (s : IsSpliced ns new i b c) where
   -- another half that has c has the node of i
   outer : (k : ℕ) (u : Bool) → k < length ns → (k ≡ i → u ≡ b → ⊥) → IsUnder (prefix_at ns k) u c → IsUnder (prefix_at ns k) u (prefix_at ns i)
   outer k u in_range other h =
@@ -38,7 +38,7 @@ module _ {V : Type 0} (ns new : List (Node V)) (i : ℕ) (b : Bool) (c : Block) 
               absurd (omega (arith, shorter, h.longer))
           | inr ge ↦
               let over : Covers (prefix_at ns k) (prefix_at ns i) = comparable (prefix_at ns k) (prefix_at ns i) c h.covers gap.under.covers (omega arith) in
-              let equal : prefix_at ns k ≡ prefix_at ns i = same_prefix (prefix_at ns k) (prefix_at ns i) (t.blocks k in_range) (t.blocks i here) over (omega arith) in
+              let equal : prefix_at ns k ≡ prefix_at ns i = one_prefix (prefix_at ns k) (prefix_at ns i) (t.blocks k in_range) (t.blocks i here) over (omega arith) in
               let same : k ≡ i = t.unique k i in_range here equal in
               absurd (other same (sym h.half ∙ ap (λ p. bit_at c.addr p.len) equal ∙ gap.under.half))
         ]
@@ -67,10 +67,10 @@ module _ {V : Type 0} (ns new : List (Node V)) (i : ℕ) (b : Bool) (c : Block) 
     | inr other ↦ inr (λ e _. other e)
   ]
 
-  new_blocks : (j : ℕ) → j < length new → IsBlock (prefix_at new j).addr (prefix_at new j).len
-  new_blocks j lt = elim (cases_at j lt) as (λ _. IsBlock (prefix_at new j).addr (prefix_at new j).len) [
-    | inl at ↦ subst (λ p. IsBlock p.addr p.len) (sym at.1) (t.blocks j at.0)
-    | inr at ↦ subst (λ p. IsBlock p.addr p.len) (sym at.1) gap.block
+  new_prefixes : (j : ℕ) → j < length new → MakePrefix (prefix_at new j).addr (prefix_at new j).len
+  new_prefixes j lt = elim (cases_at j lt) as (λ _. MakePrefix (prefix_at new j).addr (prefix_at new j).len) [
+    | inl at ↦ subst (λ p. MakePrefix p.addr p.len) (sym at.1) (t.blocks j at.0)
+    | inr at ↦ subst (λ p. MakePrefix p.addr p.len) (sym at.1) gap.block
   ]
 
   not_there : (j : ℕ) → j < length ns → prefix_at ns j ≡ c → ⊥
@@ -177,7 +177,7 @@ module _ {V : Type 0} (ns new : List (Node V)) (i : ℕ) (b : Bool) (c : Block) 
 
   pub spliced_trie : IsTrie new
   spliced_trie = record {
-    blocks = new_blocks;
+    blocks = new_prefixes;
     unique = new_unique;
     root = s.old 0 (omega arith) ∙ t.root;
     covered = new_covered;

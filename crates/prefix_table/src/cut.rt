@@ -2,7 +2,7 @@
 
 ghost use Rattle.std.specs.Prelude.{◌≡◌, ◌≤◌};
 ghost use Rattle.net_prefix.specs.declared.prefix.TheConstants.{MAX_LEN};
-ghost use Rattle.prefix_table.specs.Places.{block_at};
+ghost use Rattle.prefix_table.specs.Places.{prefix_around};
 ghost use Rattle.prefix_table.specs.Tables.{is_after};
 
 use net_prefix::{Addr, MAX_LEN, Prefix};
@@ -10,7 +10,7 @@ use net_prefix::{Addr, MAX_LEN, Prefix};
 /// The prefix of this length that contains the address.
 pub(crate) fn cut(addr: Addr, len: u8) -> Prefix
     requires { len ≤ MAX_LEN }
-    ensures { result ≡ block_at addr len }
+    ensures { result ≡ prefix_around addr len }
 {
     let size = 1u64 << (MAX_LEN - len);
     let low = u64::from(addr.0) / size * size;

@@ -2,7 +2,7 @@
 
 ghost use Rattle.std.specs.Prelude.{◌≡◌, ◌↔◌, ◌<◌, ◌≤◌, ℕ, length, false, IsTrue};
 ghost use Rattle.std.specs.Option.{IfSome, IfNone};
-ghost use Rattle.net_prefix.specs.Block.{Block, Covers};
+ghost use Rattle.net_prefix.specs.Prefix.{Prefix, Covers};
 ghost use Rattle.prefix_table.specs.Tables.{is_after};
 ghost use Rattle.prefix_table.specs.Trie.{IsTrie, HasPrefix, IsNearer, IsLast, IsClosest, IsCover, IsDeepest, IsLater, IsFirstLater, prefix_at, value_at};
 
@@ -82,7 +82,7 @@ pub(crate) fn deepest<V>(nodes: &[Node<V>], at: NodeId, prefix: Prefix) -> Optio
 
 /// Whether each prefix that this one covers comes before the other one or is it.
 fn is_past(prefix: Prefix, after: Option<Prefix>) -> bool
-    ensures { IsTrue result → (q : Block) → Covers prefix q → is_after after q ≡ false }
+    ensures { IsTrue result → (q : Prefix) → Covers prefix q → is_after after q ≡ false }
 {
     match after {
         None => false,
@@ -116,7 +116,7 @@ pub(crate) fn first_later<V>(nodes: &[Node<V>], at: NodeId, after: Option<Prefix
 
 fn skips<V>(nodes: &[Node<V>], at: NodeId, after: Option<Prefix>) -> bool
     requires { at.0 < length nodes.now }
-    ensures { IsTrue result → (q : Block) → Covers (prefix_at nodes.now at.0) q → is_after after q ≡ false }
+    ensures { IsTrue result → (q : Prefix) → Covers (prefix_at nodes.now at.0) q → is_after after q ≡ false }
 {
     is_past(prefix_of(nodes, at), after)
 }

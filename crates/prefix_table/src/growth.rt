@@ -2,10 +2,10 @@
 
 ghost use Rattle.std.specs.Prelude.{◌≡◌, ◌<◌, ◌≤◌, ◌≢◌, ◌++◌, ◌∷◌, [], ℕ, length, Some, IfOk, OnOk, OnErr};
 ghost use Rattle.std.specs.Option.{IfSome, IfNone};
-ghost use Rattle.net_prefix.specs.Block.{IsBlock, Covers};
+ghost use Rattle.net_prefix.specs.Prefix.{MakePrefix, Covers};
 ghost use Rattle.net_prefix.specs.declared.prefix.TheConstants.{MAX_LEN};
 ghost use Rattle.prefix_table.specs.declared.node.NodeId.{NodeId};
-ghost use Rattle.prefix_table.specs.Places.{block_at};
+ghost use Rattle.prefix_table.specs.Places.{prefix_around};
 ghost use Rattle.prefix_table.specs.Trie.{bit_at, IsTrie, IsGap, IsLeafOf, HasPrefix, prefix_at, prefixes, node_entries, linked};
 
 use crate::cut::cut;
@@ -16,10 +16,10 @@ use std::alloc::AllocError;
 
 /// How many first bits two prefixes share, when they share this many.
 fn shared(first: Prefix, second: Prefix, from: u8) -> u8
-    requires covers { Covers (block_at first.addr from) second }
+    requires covers { Covers (prefix_around first.addr from) second }
     requires short { from ≤ first.len }
     ensures short { result ≤ first.len }
-    ensures both { Covers (block_at first.addr result) second }
+    ensures both { Covers (prefix_around first.addr result) second }
     ensures long { from ≤ result }
     ensures differ { result < first.len → result < second.len → bit_at first.addr result ≢ bit_at second.addr result }
 {
@@ -37,7 +37,8 @@ fn shared(first: Prefix, second: Prefix, from: u8) -> u8
 fn on_side<V>(nodes: &[Node<V>], child: Option<NodeId>, len: u8, upper: bool) -> Option<NodeId>
     requires { IfSome child (λ k. (k.0 < length nodes.now) × (len < MAX_LEN)) }
     ensures some { IfSome result (λ k. (child ≡ Some k) × (bit_at (prefix_at nodes.now k.0).addr len ≡ upper)) }
-    ensures none { IfNone result ((k : NodeId) → child ≡ Some k → bit_at (prefix_at nodes.now k.0).addr len ≡ upper → ⊥) }
+    ensures none { IfNone result ((k : NodeId) → child ≡ Some k → bit_at (prefix_at nodes.now k.0).addr len ≡ upper →
+        ⊥) }
 {
     match child {
         None => None,

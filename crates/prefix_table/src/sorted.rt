@@ -5,7 +5,7 @@ ghost use Rattle.std.specs.Option.{option_copied};
 ghost use Rattle.std.specs.FinMap as map;
 ghost use Rattle.std.specs.FinMap.Entries.{find, put};
 ghost use Rattle.std.specs.List as list;
-ghost use Rattle.net_prefix.specs.Block.{block_cmp};
+ghost use Rattle.net_prefix.specs.Prefix.{prefix_cmp};
 ghost use Rattle.prefix_table.specs.Tables.{seen, all_seen, is_after};
 ghost use Rattle.prefix_table.specs.Places.{AreInOrder, IsAt, IsFor, changed};
 
@@ -26,11 +26,11 @@ pub struct SortedTable<V> {
 impl<V> Model for SortedTable<V> {
     ghost use Rattle.std.specs.FinMap as map;
     ghost use Rattle.prefix_table.specs.Places.{AreInOrder};
-    ghost use Rattle.prefix_table.specs.Tables.{Table, coded_block};
+    ghost use Rattle.prefix_table.specs.Tables.{Table, coded_prefix};
 
     ghost Value = { Table V };
 
-    ghost coded = { map.code coded_block V.code };
+    ghost coded = { map.code coded_prefix V.code };
 
     ghost view = { λ s. map.from_sorted s.entries.items };
 
@@ -53,7 +53,7 @@ fn entry_position<V>(entries: &[(Prefix, V)], prefix: Prefix) -> Result<usize, u
 /// The prefix's value.
 fn find_in<V>(entries: &[(Prefix, V)], prefix: Prefix) -> Option<&V>
     requires { AreInOrder entries.now }
-    ensures { option_copied result ≡ find block_cmp prefix entries.now }
+    ensures { option_copied result ≡ find prefix_cmp prefix entries.now }
 {
     match entry_position(entries, prefix) {
         Ok(at) => Some(&entries[at].1),
@@ -87,9 +87,9 @@ fn refer_to<V>(alloc: Global, entries: &[(Prefix, V)]) -> Result<Vec<(Prefix, &V
 /// Gives the prefix this value.
 fn put_in<V: Drop>(entries: &mut Vec<(Prefix, V)>, prefix: Prefix, value: V) -> Result<Option<V>, V>
     requires { AreInOrder entries.old.items }
-    ensures before { IfOk result (λ before. before ≡ find block_cmp prefix entries.old.items) }
-    ensures inserted { OnOk result (entries.new.items ≡ put block_cmp prefix value entries.old.items) }
-    ensures absent { OnErr result (find block_cmp prefix entries.old.items ≡ None) }
+    ensures before { IfOk result (λ before. before ≡ find prefix_cmp prefix entries.old.items) }
+    ensures inserted { OnOk result (entries.new.items ≡ put prefix_cmp prefix value entries.old.items) }
+    ensures absent { OnErr result (find prefix_cmp prefix entries.old.items ≡ None) }
     ensures back { IfErr result (λ back. back ≡ value) }
     ensures same { OnErr result (entries.new.items ≡ entries.old.items) }
 {
@@ -108,10 +108,10 @@ fn put_in<V: Drop>(entries: &mut Vec<(Prefix, V)>, prefix: Prefix, value: V) -> 
 /// Gives a prefix that has a value this one.
 fn replace_in<V>(entries: &mut Vec<(Prefix, V)>, prefix: Prefix, value: V) -> Result<V, V>
     requires { AreInOrder entries.old.items }
-    ensures before { IfOk result (λ before. find block_cmp prefix entries.old.items ≡ Some before) }
-    ensures replaced { OnOk result (entries.new.items ≡ put block_cmp prefix value entries.old.items) }
+    ensures before { IfOk result (λ before. find prefix_cmp prefix entries.old.items ≡ Some before) }
+    ensures replaced { OnOk result (entries.new.items ≡ put prefix_cmp prefix value entries.old.items) }
     ensures back { IfErr result (λ back. back ≡ value) }
-    ensures absent { OnErr result (find block_cmp prefix entries.old.items ≡ None) }
+    ensures absent { OnErr result (find prefix_cmp prefix entries.old.items ≡ None) }
     ensures same { OnErr result (entries.new.items ≡ entries.old.items) }
 {
     match entry_position(entries, prefix) {
@@ -126,8 +126,9 @@ fn replace_in<V>(entries: &mut Vec<(Prefix, V)>, prefix: Prefix, value: V) -> Re
 /// Changes the prefix's value where it stands, and says whether it has one.
 fn adjust_in<V, A: Adjust<V>>(entries: &mut Vec<(Prefix, V)>, prefix: Prefix, change: &A) -> bool
     requires { AreInOrder entries.old.items }
-    ensures there { result ≡ is_some (find block_cmp prefix entries.old.items) }
-    ensures changed { entries.new.items ≡ changed (A.after change.now) prefix entries.old.items (find block_cmp prefix entries.old.items) }
+    ensures there { result ≡ is_some (find prefix_cmp prefix entries.old.items) }
+    ensures changed { entries.new.items ≡ changed (A.after change.now) prefix entries.old.items
+        (find prefix_cmp prefix entries.old.items) }
 {
     match entry_position(entries, prefix) {
         Ok(at) => {

@@ -22,8 +22,8 @@ pub trait PrefixTable<V> {
     fn get(&self, prefix: Prefix) -> Option<&V>
         ensures { option_copied result ≡ map.get (table self.now) prefix };
 
-    /// Gives the prefix this value, and hands back the one that it had. It takes memory only where the prefix has none. For want of
-    /// memory the error hands back this value, and nothing changes.
+    /// Gives the prefix this value, and hands back the one that it had. It takes memory only where the prefix has none.
+    /// For want of memory the error hands back this value, and nothing changes.
     fn insert(&mut self, prefix: Prefix, value: V) -> Result<Option<V>, V>
         ensures before { IfOk result (λ before. before ≡ map.get (table self.old) prefix) }
         ensures inserted { IfOk result (λ _. table self.new ≡ map.insert (table self.old) prefix value) }
@@ -31,8 +31,8 @@ pub trait PrefixTable<V> {
         ensures back { IfErr result (λ back. back ≡ value) }
         ensures same { IfErr result (λ _. table self.new ≡ table self.old) };
 
-    /// Gives a prefix that has a value this one, and hands back the one that it had. It takes no memory. Where the prefix has
-    /// none, the error hands back this value, and nothing changes.
+    /// Gives a prefix that has a value this one, and hands back the one that it had. It takes no memory. Where the
+    /// prefix has none, the error hands back this value, and nothing changes.
     fn replace(&mut self, prefix: Prefix, value: V) -> Result<V, V>
         ensures before { IfOk result (λ before. map.get (table self.old) prefix ≡ Some before) }
         ensures replaced { IfOk result (λ _. table self.new ≡ map.insert (table self.old) prefix value) }

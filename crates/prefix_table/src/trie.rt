@@ -4,7 +4,7 @@ ghost use Rattle.std.specs.Prelude.{◌≡◌, ◌<◌, length, is_some, Some, N
 ghost use Rattle.std.specs.Option.{IfSome, IfNone, option_copied, option_map};
 ghost use Rattle.std.specs.FinMap as map;
 ghost use Rattle.std.specs.FinMap.Entries.{find};
-ghost use Rattle.net_prefix.specs.Block.{block_cmp};
+ghost use Rattle.net_prefix.specs.Prefix.{prefix_cmp};
 ghost use Rattle.prefix_table.specs.Tables.{seen, IsLongestMatch, HasNoMatch, first_after, adjusted};
 ghost use Rattle.prefix_table.specs.Trie.{IsTrie, IsStored, HasPrefix, valued, revalued, prefix_at, value_at, node_entries};
 
@@ -27,12 +27,12 @@ pub struct TrieTable<V> {
 
 impl<V> Model for TrieTable<V> {
     ghost use Rattle.std.specs.FinMap as map;
-    ghost use Rattle.prefix_table.specs.Tables.{Table, coded_block};
+    ghost use Rattle.prefix_table.specs.Tables.{Table, coded_prefix};
     ghost use Rattle.prefix_table.specs.Trie.{IsTrie, node_entries};
 
     ghost Value = { Table V };
 
-    ghost coded = { map.code coded_block V.code };
+    ghost coded = { map.code coded_prefix V.code };
 
     ghost view = { λ s. map.from_entries (node_entries s.nodes.items) };
 
@@ -61,7 +61,7 @@ fn set_value<V: Drop>(nodes: &mut Vec<Node<V>>, at: NodeId, value: V) -> Option<
 /// The prefix's value.
 fn find_in<V>(nodes: &[Node<V>], prefix: Prefix) -> Option<&V>
     requires { IsTrie nodes.now }
-    ensures { option_copied result ≡ find block_cmp prefix (node_entries nodes.now) }
+    ensures { option_copied result ≡ find prefix_cmp prefix (node_entries nodes.now) }
 {
     match find_node(nodes, prefix) {
         Some(at) => value_in(nodes, at),
@@ -73,9 +73,9 @@ fn find_in<V>(nodes: &[Node<V>], prefix: Prefix) -> Option<&V>
 fn put_in<V: Drop>(nodes: &mut Vec<Node<V>>, prefix: Prefix, value: V) -> Result<Option<V>, V>
     requires { IsTrie nodes.old.items }
     ensures trie { IsTrie nodes.new.items }
-    ensures before { IfOk result (λ before. before ≡ find block_cmp prefix (node_entries nodes.old.items)) }
+    ensures before { IfOk result (λ before. before ≡ find prefix_cmp prefix (node_entries nodes.old.items)) }
     ensures inserted { OnOk result (IsStored nodes.old.items nodes.new.items prefix value) }
-    ensures absent { OnErr result (find block_cmp prefix (node_entries nodes.old.items) ≡ None) }
+    ensures absent { OnErr result (find prefix_cmp prefix (node_entries nodes.old.items) ≡ None) }
     ensures back { IfErr result (λ back. back ≡ value) }
     ensures same { OnErr result (node_entries nodes.new.items ≡ node_entries nodes.old.items) }
 {
@@ -89,10 +89,10 @@ fn put_in<V: Drop>(nodes: &mut Vec<Node<V>>, prefix: Prefix, value: V) -> Result
 fn replace_in<V: Drop>(nodes: &mut Vec<Node<V>>, prefix: Prefix, value: V) -> Result<V, V>
     requires { IsTrie nodes.old.items }
     ensures trie { IsTrie nodes.new.items }
-    ensures before { IfOk result (λ before. find block_cmp prefix (node_entries nodes.old.items) ≡ Some before) }
+    ensures before { IfOk result (λ before. find prefix_cmp prefix (node_entries nodes.old.items) ≡ Some before) }
     ensures replaced { OnOk result (IsStored nodes.old.items nodes.new.items prefix value) }
     ensures back { IfErr result (λ back. back ≡ value) }
-    ensures absent { OnErr result (find block_cmp prefix (node_entries nodes.old.items) ≡ None) }
+    ensures absent { OnErr result (find prefix_cmp prefix (node_entries nodes.old.items) ≡ None) }
     ensures same { OnErr result (node_entries nodes.new.items ≡ node_entries nodes.old.items) }
 {
     let Some(at) = find_node(nodes, prefix) else {
@@ -111,7 +111,8 @@ fn replace_in<V: Drop>(nodes: &mut Vec<Node<V>>, prefix: Prefix, value: V) -> Re
 fn adjust_at<V, A: Adjust<V>>(nodes: &mut Vec<Node<V>>, at: NodeId, change: &A) -> bool
     requires { at.0 < length nodes.old.items }
     ensures there { result ≡ is_some (value_at nodes.old.items at.0) }
-    ensures revalued { nodes.new.items ≡ revalued (A.after change.now) nodes.old.items at.0 (value_at nodes.old.items at.0) }
+    ensures revalued { nodes.new.items ≡ revalued (A.after change.now) nodes.old.items at.0
+        (value_at nodes.old.items at.0) }
 {
     let node = &mut nodes[at.0];
     match &mut node.value {
@@ -127,8 +128,9 @@ fn adjust_at<V, A: Adjust<V>>(nodes: &mut Vec<Node<V>>, at: NodeId, change: &A) 
 fn adjust_in<V, A: Adjust<V>>(nodes: &mut Vec<Node<V>>, prefix: Prefix, change: &A) -> bool
     requires { IsTrie nodes.old.items }
     ensures trie { IsTrie nodes.new.items }
-    ensures there { result ≡ is_some (find block_cmp prefix (node_entries nodes.old.items)) }
-    ensures adjusted { map.from_entries (node_entries nodes.new.items) ≡ adjusted (A.after change.now) prefix (map.from_entries (node_entries nodes.old.items)) }
+    ensures there { result ≡ is_some (find prefix_cmp prefix (node_entries nodes.old.items)) }
+    ensures adjusted { map.from_entries (node_entries nodes.new.items) ≡ adjusted (A.after change.now) prefix
+        (map.from_entries (node_entries nodes.old.items)) }
 {
     match find_node(nodes, prefix) {
         Some(at) => adjust_at(nodes, at, change),
@@ -139,7 +141,8 @@ fn adjust_in<V, A: Adjust<V>>(nodes: &mut Vec<Node<V>>, prefix: Prefix, change: 
 /// The longest key of at most this length that contains the address.
 fn longest_in<V>(nodes: &[Node<V>], addr: Addr, most: u8) -> Option<(Prefix, &V)>
     requires { IsTrie nodes.now }
-    ensures found { IfSome result (λ e. IsLongestMatch (map.from_entries (node_entries nodes.now)) addr most e.0 e.1.now) }
+    ensures found { IfSome result (λ e.
+        IsLongestMatch (map.from_entries (node_entries nodes.now)) addr most e.0 e.1.now) }
     ensures none { IfNone result (HasNoMatch (map.from_entries (node_entries nodes.now)) addr most) }
 {
     if nodes.is_empty() {

@@ -1,4 +1,5 @@
-//! One walk of the whole trie: a node's own entry comes first, then those of its lower half, then those of its upper half.
+//! One walk of the whole trie: a node's own entry comes first, then those of its lower half, then those of its upper
+//! half.
 
 ghost use Rattle.std.specs.Prelude.{◌≡◌, ◌<◌, ◌++◌, [], length, IfOk, OnOk};
 ghost use Rattle.std.specs.Option.{IfSome, option_map};
@@ -29,7 +30,9 @@ fn add_own<'a, V>(
     at: NodeId,
 ) -> Result<(), AllocError>
     requires { at.0 < length nodes.now }
-    ensures { OnOk result (all_seen entries.new.items ≡ all_seen entries.old.items ++ entry_or_not (prefix_at nodes.now at.0) (value_at nodes.now at.0) []) }
+    ensures { OnOk result
+        (all_seen entries.new.items ≡ all_seen entries.old.items ++ entry_or_not (prefix_at nodes.now at.0)
+        (value_at nodes.now at.0) []) }
 {
     match entry_in(nodes, at) {
         Some(entry) => add(entries, entry),

@@ -11,7 +11,7 @@ use Rattle.std.proofs.lemmas.Map.Keys.{IsDistinct-push}
 use Rattle.std.proofs.lemmas.Map.Steps.{length-le_from_keys}
 use Rattle.net_prefix.specs.declared.addr.Addr.{Addr}
 use Rattle.net_prefix.specs.Address.{addr_cmp}
-use Rattle.net_prefix.specs.Block.{Block}
+use Rattle.net_prefix.specs.Prefix.{Prefix}
 use Rattle.net_prefix.specs.Orders.{addr_total}
 use Rattle.igp_cost.specs.Trees.{Reached as Costs}
 use Rattle.net_conf.specs.Configuration.{node_at, has_node, is_virtual, cluster_id, is_reflector, origins_of}
@@ -40,11 +40,11 @@ same_laws = eq_by_cmp_equiv addr_total
 same_true : (a b : Addr) → same a b ≡ true → a ≡ b
 same_true a b h = ap (λ n. record { 0 = n }) ((unsigned_Decides a.0 b.0).0 (unsigned_ties a.0 b.0 ∙ h))
 
-abbrev routers : List (Addr × Block) → List Addr
+abbrev routers : List (Addr × Prefix) → List Addr
 routers hops = map (λ h. h.0) hops
 
 -- the routers that have forwarded: none of them twice, and each is there
-pub record HaveForwarded (s : Network) (hops : List (Addr × Block)) : Type 0 where
+pub record HaveForwarded (s : Network) (hops : List (Addr × Prefix)) : Type 0 where
   pub once : IsDistinct same (routers hops)
   pub there : (q : Addr) → list_any (same q) (routers hops) ≡ true → has_node s.conf q ≡ true
 
@@ -53,25 +53,25 @@ unfolding IsDistinct
 none_have s = record { once = tt; there = λ q h. absurd (true≢false (sym h)) }
 
 -- so they are at most as many as there are
-pub few_have : (s : Network) (hops : List (Addr × Block)) → HaveForwarded s hops → length hops ≤ length s.conf.nodes
+pub few_have : (s : Network) (hops : List (Addr × Prefix)) → HaveForwarded s hops → length hops ≤ length s.conf.nodes
 few_have s hops have =
     subst (λ n. n ≤ length s.conf.nodes) (length-map hops (λ h. h.0)) (length-le_from_keys same_laws (routers hops) s.conf.nodes have.once have.there)
 
-passed_are_routers : (r : Addr) (hops : List (Addr × Block)) → has_passed r hops ≡ list_any (same r) (routers hops)
+passed_are_routers : (r : Addr) (hops : List (Addr × Prefix)) → has_passed r hops ≡ list_any (same r) (routers hops)
 passed_are_routers r [] = refl
 passed_are_routers r (h ∷ hops) = ap (λ b. b || has_passed r hops) (unsigned_ties h.0.0 r.0 ∙ same_laws.symm h.0 r) ∙ ap (λ b. same r h.0 || b) (passed_are_routers r hops)
 
 -- WHAT A FORWARDING ROUTER IS
 
-ends_not : (e : TraceEnd) (p : Block) (h : Addr) → Ends e ≡ Forwards p h → ⊥
+ends_not : (e : TraceEnd) (p : Prefix) (h : Addr) → Ends e ≡ Forwards p h → ⊥
 ends_not e p h is = cc
 
-looked_by : (passed reached : Bool) (r : Addr) (x : Look) (p : Block) (h : Addr) → (if passed then Ends (Loop r) else if reached then Ends (Reached r) else x) ≡ Forwards p h → (passed ≡ false) × (x ≡ Forwards p h)
+looked_by : (passed reached : Bool) (r : Addr) (x : Look) (p : Prefix) (h : Addr) → (if passed then Ends (Loop r) else if reached then Ends (Reached r) else x) ≡ Forwards p h → (passed ≡ false) × (x ≡ Forwards p h)
 looked_by true reached r x p h is = absurd (ends_not _ p h is)
 looked_by false true r x p h is = absurd (ends_not _ p h is)
 looked_by false false r x p h is = (refl, is)
 
-some_route : (costs : Costs) (r : Addr) (q : Block) (route : Option Candidate) (p : Block) (h : Addr) → by_route costs r q route ≡ Forwards p h → is_some route ≡ true
+some_route : (costs : Costs) (r : Addr) (q : Prefix) (route : Option Candidate) (p : Prefix) (h : Addr) → by_route costs r q route ≡ Forwards p h → is_some route ≡ true
 some_route costs r q None p h is = absurd (ends_not _ p h is)
 some_route costs r q (Some b) p h is = refl
 
@@ -80,17 +80,17 @@ some_through f g None h = h
 some_through f g (Some a) h = refl
 
 -- where a route is chosen, somebody is there
-chooser_there : (s : Network) (r : Addr) (p : Block) → is_some (best s r p) ≡ true → has_node s.conf r ≡ true
+chooser_there : (s : Network) (r : Addr) (p : Prefix) → is_some (best s r p) ≡ true → has_node s.conf r ≡ true
 unfolding best site_of
 chooser_there s r p h =
     some_through (λ site. best_of (standings site p s.received)) (λ n. record { me = r; asn = n.asn; cluster = cluster_id s.conf r; reflector = is_reflector s.conf r; origins = origins_of s.conf r; sessions = sessions_of s.conf r; costs = costs_of s.conf r }) (node_at s.conf r) h
 
-matched_there : (s : Network) (r : Addr) (found : Option Block) (p : Block) (h : Addr) → by_prefix s r found ≡ Forwards p h → has_node s.conf r ≡ true
+matched_there : (s : Network) (r : Addr) (found : Option Prefix) (p : Prefix) (h : Addr) → by_prefix s r found ≡ Forwards p h → has_node s.conf r ≡ true
 matched_there s r None p h is = absurd (ends_not _ p h is)
 matched_there s r (Some q) p h is = chooser_there s r q (some_route (costs_of s.conf r) r q (best s r q) p h is)
 
 -- who forwards has not forwarded before, and is there
-forwarder : (s : Network) (d : Addr) (hops : List (Addr × Block)) (r : Addr) (p : Block) (h : Addr) → look s d hops r ≡ Forwards p h → (has_passed r hops ≡ false) × (has_node s.conf r ≡ true)
+forwarder : (s : Network) (d : Addr) (hops : List (Addr × Prefix)) (r : Addr) (p : Prefix) (h : Addr) → look s d hops r ≡ Forwards p h → (has_passed r hops ≡ false) × (has_node s.conf r ≡ true)
 unfolding look
 forwarder s d hops r p h is =
     let parts = looked_by (has_passed r hops) (is_virtual s.conf r) r (by_prefix s r (longest_match s r d)) p h is in
@@ -103,7 +103,7 @@ there_by s q r false before here h = last (same q r) refl h where
   last true is h = ap (has_node s.conf) (same_true q r is) ∙ here
   last false is h = absurd (true≢false (sym h))
 
-pub one_more_has : (s : Network) (d : Addr) (hops : List (Addr × Block)) (r : Addr) (p : Block) (h : Addr) → HaveForwarded s hops → look s d hops r ≡ Forwards p h → HaveForwarded s (hops ++ (r, p) ∷ [])
+pub one_more_has : (s : Network) (d : Addr) (hops : List (Addr × Prefix)) (r : Addr) (p : Prefix) (h : Addr) → HaveForwarded s hops → look s d hops r ≡ Forwards p h → HaveForwarded s (hops ++ (r, p) ∷ [])
 one_more_has s d hops r p h have is =
     let who = forwarder s d hops r p h is in
     let pushed : routers (hops ++ (r, p) ∷ []) ≡ routers hops ++ r ∷ [] = map-append (λ x. x.0) hops ((r, p) ∷ []) in
@@ -115,7 +115,7 @@ one_more_has s d hops r p h have is =
 
 -- ONE LOOK FURTHER
 
-one_more : (n : ℕ) (s : Network) (d : Addr) (hops : List (Addr × Block)) (r : Addr) → trace_from (suc n) s d hops r ≡ after_look (trace_from n s d) hops r (look s d hops r)
+one_more : (n : ℕ) (s : Network) (d : Addr) (hops : List (Addr × Prefix)) (r : Addr) → trace_from (suc n) s d hops r ≡ after_look (trace_from n s d) hops r (look s d hops r)
 unfolding trace_from
 one_more n s d hops r = refl
 
@@ -125,14 +125,14 @@ one_left n i le = omega (arith, le)
 length_pushed : {A : Type 0} (xs : List A) (x : A) → length (xs ++ x ∷ []) ≡ length xs + 1
 length_pushed xs x = length-append xs (x ∷ [])
 
-module _ (s : Network) (d : Addr) (hops : List (Addr × Block)) (r : Addr) (have : HaveForwarded s hops) where
+module _ (s : Network) (d : Addr) (hops : List (Addr × Prefix)) (r : Addr) (have : HaveForwarded s hops) where
   looked : trace_from (suc (length s.conf.nodes) - length hops) s d hops r ≡ after_look (trace_from (suc (length s.conf.nodes) - (length hops + 1)) s d) hops r (look s d hops r)
   looked = ap (λ m. trace_from m s d hops r) (one_left (length s.conf.nodes) (length hops) (few_have s hops have)) ∙ one_more (suc (length s.conf.nodes) - (length hops + 1)) s d hops r
 
   pub ends_here : (ending : TraceEnd) → look s d hops r ≡ Ends ending → trace_from (suc (length s.conf.nodes) - length hops) s d hops r ≡ ended hops ending
   ends_here ending is = looked ∙ ap (after_look (trace_from (suc (length s.conf.nodes) - (length hops + 1)) s d) hops r) is
 
-  pub goes_on : (p : Block) (h : Addr) → look s d hops r ≡ Forwards p h → trace_from (suc (length s.conf.nodes) - length hops) s d hops r ≡ trace_from (suc (length s.conf.nodes) - length (hops ++ (r, p) ∷ [])) s d (hops ++ (r, p) ∷ []) h
+  pub goes_on : (p : Prefix) (h : Addr) → look s d hops r ≡ Forwards p h → trace_from (suc (length s.conf.nodes) - length hops) s d hops r ≡ trace_from (suc (length s.conf.nodes) - length (hops ++ (r, p) ∷ [])) s d (hops ++ (r, p) ∷ []) h
   goes_on p h is =
       looked
       ∙ ap (after_look (trace_from (suc (length s.conf.nodes) - (length hops + 1)) s d) hops r) is
@@ -142,23 +142,23 @@ none_past : (n : ℕ) → n - 0 ≡ n
 none_past n = omega arith
 
 -- no hop yet: all looks are left
-pub all_left : (s : Network) (d : Addr) (hops : List (Addr × Block)) (r : Addr) → hops ≡ [] → trace_from (suc (length s.conf.nodes) - length hops) s d hops r ≡ trace_from (suc (length s.conf.nodes)) s d [] r
+pub all_left : (s : Network) (d : Addr) (hops : List (Addr × Prefix)) (r : Addr) → hops ≡ [] → trace_from (suc (length s.conf.nodes) - length hops) s d hops r ≡ trace_from (suc (length s.conf.nodes)) s d [] r
 all_left s d hops r none = ap (λ xs. trace_from (suc (length s.conf.nodes) - length xs) s d xs r) none ∙ ap (λ n. trace_from n s d [] r) (none_past (suc (length s.conf.nodes)))
 
 -- fewer looks are left after each hop
-pub fewer_left : (s : Network) (hops more : List (Addr × Block)) (r : Addr) (p : Block) → HaveForwarded s hops → more ≡ hops ++ (r, p) ∷ [] → suc (length s.conf.nodes) - length more < suc (length s.conf.nodes) - length hops
+pub fewer_left : (s : Network) (hops more : List (Addr × Prefix)) (r : Addr) (p : Prefix) → HaveForwarded s hops → more ≡ hops ++ (r, p) ∷ [] → suc (length s.conf.nodes) - length more < suc (length s.conf.nodes) - length hops
 fewer_left s hops more r p have is = omega (arith, few_have s hops have, ap length is ∙ length_pushed hops (r, p))
 
 -- A TRACE FOLLOWS ITS LOOKS
 
 -- what n looks from r on give is followed
-record IsFollowed (n : ℕ) (s : Network) (d : Addr) (passed : List (Addr × Block)) (r : Addr) : Type 0 where
-  hops : List (Addr × Block)
+record IsFollowed (n : ℕ) (s : Network) (d : Addr) (passed : List (Addr × Prefix)) (r : Addr) : Type 0 where
+  hops : List (Addr × Prefix)
   ending : TraceEnd
   gives : trace_from n s d passed r ≡ ended (passed ++ hops) ending
   follows : IsTrace s d passed r hops ending
 
-followed_by : (n : ℕ) (s : Network) (d : Addr) (passed : List (Addr × Block)) (r : Addr) (x : Look) → look s d passed r ≡ x → ((p : Block) (h : Addr) → look s d passed r ≡ Forwards p h → IsFollowed n s d (passed ++ (r, p) ∷ []) h) → IsFollowed (suc n) s d passed r
+followed_by : (n : ℕ) (s : Network) (d : Addr) (passed : List (Addr × Prefix)) (r : Addr) (x : Look) → look s d passed r ≡ x → ((p : Prefix) (h : Addr) → look s d passed r ≡ Forwards p h → IsFollowed n s d (passed ++ (r, p) ∷ []) h) → IsFollowed (suc n) s d passed r
 followed_by n s d passed r (Ends ending) is later = record {
   hops = [];
   ending = ending;
@@ -174,7 +174,7 @@ followed_by n s d passed r (Forwards p h) is later =
       follows = (refl, h, is, rest.follows);
     }
 
-followed : (n : ℕ) (s : Network) (d : Addr) (passed : List (Addr × Block)) (r : Addr) → HaveForwarded s passed → length s.conf.nodes < n + length passed → IsFollowed n s d passed r
+followed : (n : ℕ) (s : Network) (d : Addr) (passed : List (Addr × Prefix)) (r : Addr) → HaveForwarded s passed → length s.conf.nodes < n + length passed → IsFollowed n s d passed r
 followed zero s d passed r have enough = absurd (omega (arith, enough, few_have s passed have))
 followed (suc n) s d passed r have enough =
     followed_by n s d passed r (look s d passed r) refl (λ p h is. followed n s d (passed ++ (r, p) ∷ []) h (one_more_has s d passed r p h have is) (omega (arith, enough, length_pushed passed (r, p))))
@@ -186,7 +186,7 @@ trace_law s r d =
     let P : Traced → Type 0 = λ t. IsTrace s d [] r t.hops t.ending in
     subst P (sym f.gives) f.follows
 
-one_trace : (s : Network) (d : Addr) (passed : List (Addr × Block)) (r : Addr) (hops more : List (Addr × Block)) (e f : TraceEnd) → IsTrace s d passed r hops e → IsTrace s d passed r more f → ended hops e ≡ ended more f
+one_trace : (s : Network) (d : Addr) (passed : List (Addr × Prefix)) (r : Addr) (hops more : List (Addr × Prefix)) (e f : TraceEnd) → IsTrace s d passed r hops e → IsTrace s d passed r more f → ended hops e ≡ ended more f
 one_trace s d passed r [] [] e f a b =
     let both : Ends e ≡ Ends f = sym a ∙ b in
     let one : e ≡ f = cc in
@@ -198,7 +198,7 @@ one_trace s d passed r ((q, p) ∷ hops) ((q', p') ∷ more) e f a b =
     let router : q ≡ q' = a.0 ∙ sym b.0 in
     let prefix : p ≡ p' = cc in
     let next : a.1 ≡ b.1 = cc in
-    let Rest : Addr → Block → Addr → Type 0 = λ x y z. IsTrace s d (passed ++ (x, y) ∷ []) z hops e in
+    let Rest : Addr → Prefix → Addr → Type 0 = λ x y z. IsTrace s d (passed ++ (x, y) ∷ []) z hops e in
     let rest = one_trace s d (passed ++ (q', p') ∷ []) b.1 hops more e f (coerced Rest router prefix next a.3) b.3 in
     λ i. ended ((router i, prefix i) ∷ (rest i).hops) (rest i).ending
   where

@@ -3,7 +3,7 @@ use Rattle.std.specs.Prelude.{ℕ, Bool, not, ◌&&◌, List, [], ◌++◌, map,
 use Rattle.std.specs.List.{filter_map}
 use Rattle.std.specs.BTreeSet.{insert_key}
 use Rattle.net_prefix.specs.declared.addr.Addr.{Addr}
-use Rattle.net_prefix.specs.Block.{Block, block_cmp}
+use Rattle.net_prefix.specs.Prefix.{Prefix, prefix_cmp}
 use Rattle.path_attr.specs.declared.attr.Attr.{Attr}
 use Rattle.path_attr.specs.Attribute.{same_attr}
 use Rattle.net_conf.specs.Configuration.{Configuration, has_node, is_virtual, origins_of}
@@ -19,27 +19,27 @@ use Rattle.reference_machine.specs.Decision.{best}
 
 -- what the router of the site advertises to the peer of the route that it chose, if it chose one: nothing while their
 -- session is down
-abbrev pub advert_of : Bool → Option SiteConf → Addr → Block → Option Candidate → Option Attr
+abbrev pub advert_of : Bool → Option SiteConf → Addr → Prefix → Option Candidate → Option Attr
 advert_of up site t p chosen = if up then option_and_then (λ b. option_and_then (λ here. advert here p b t) site) chosen else None
 
 -- the router's Adj-RIB-Out for the peer (RFC 4271, 3.2), decided afresh
-unfoldable pub advertised : Network → Addr → Addr → Block → Option Attr
+unfoldable pub advertised : Network → Addr → Addr → Prefix → Option Attr
 advertised s r t p = advert_of (is_up s.conf r t) (site_of s.conf r) t p (best s r p)
 
 -- the message that leads from what was advertised to what is advertised now: none where that is the same
-abbrev pub change_of : Block → Option Attr → Option Attr → Option Message
+abbrev pub change_of : Prefix → Option Attr → Option Attr → Option Message
 change_of p None None = None
 change_of p (Some old) None = Some (Withdraw p)
 change_of p None (Some new) = Some (Update p new)
 change_of p (Some old) (Some new) = if same_attr old new then None else Some (Update p new)
 
 -- the prefixes that the router originates or has received, as they come
-abbrev pub prefixes_at : Network → Addr → List Block
+abbrev pub prefixes_at : Network → Addr → List Prefix
 prefixes_at s r = origins_of s.conf r ++ map (λ e. e.0.prefix) (received_by r s.received)
 
 -- each prefix once, in order of address, then length
-abbrev pub in_order : List Block → List Block
-in_order ps = fold (λ qs p. insert_key block_cmp qs p) [] ps
+abbrev pub in_order : List Prefix → List Prefix
+in_order ps = fold (λ qs p. insert_key prefix_cmp qs p) [] ps
 
 -- a router stands at the address, and its session with the peer is up; a virtual peer sends nothing by itself (own)
 abbrev pub sends : Configuration → Addr → Addr → Bool

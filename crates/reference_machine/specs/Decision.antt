@@ -7,7 +7,7 @@ use Rattle.std.specs.BTreeMap.{is_at}
 use Rattle.std.specs.FinMap as finite
 use Rattle.net_prefix.specs.declared.addr.Addr.{Addr}
 use Rattle.net_prefix.specs.Address.{same_addr}
-use Rattle.net_prefix.specs.Block.{Block, same_block}
+use Rattle.net_prefix.specs.Prefix.{Prefix, same_prefix}
 use Rattle.path_attr.specs.Path.{holds}
 use Rattle.path_attr.specs.declared.attr.Attr.{Attr}
 use Rattle.path_attr.specs.Attribute.{same_maybe_addr}
@@ -44,10 +44,10 @@ own_attr r = record { path = []; origin = Igp; next = r; med = None; pref = Some
 abbrev pub own_candidate : Addr → Candidate
 own_candidate r = record { source = Own; attr = own_attr r; pref = default_preference; external = true; cost = 0; ident = r }
 
-abbrev pub is_originated : SiteConf → Block → Bool
-is_originated site p = list_any (same_block p) site.origins
+abbrev pub is_originated : SiteConf → Prefix → Bool
+is_originated site p = list_any (same_prefix p) site.origins
 
-abbrev pub own_standings : SiteConf → Block → List (Source × Standing)
+abbrev pub own_standings : SiteConf → Prefix → List (Source × Standing)
 own_standings site p = if is_originated site p then (Own, Considered (own_candidate site.me)) ∷ [] else []
 
 -- A PEER'S ROUTE
@@ -97,7 +97,7 @@ preference false action attr = unwrap_or attr.pref default_preference
 abbrev pub imported : Bool → Action → Attr → Attr
 imported external action attr = record attr { med = set_med action attr.med; pref = Some (preference external action attr) }
 
--- a peer's route as a candidate; its identifier is its ORIGINATOR_ID, or the peer's address where it has none (RFC 4456, 9)
+-- a peer's route as a candidate; its identifier is the peer's address (own), and its ORIGINATOR_ID counts as that where it has one
 abbrev pub peer_candidate : SiteConf → SiteSession → Action → Attr → Candidate
 peer_candidate site from action attr = record {
   source = FromPeer from.peer;
@@ -105,7 +105,7 @@ peer_candidate site from action attr = record {
   pref = preference from.external action attr;
   external = from.external;
   cost = unwrap_or (cost_in site.costs attr.next) 0;
-  ident = unwrap_or attr.oid from.peer;
+  ident = from.peer;
 }
 
 abbrev pub standing_by : Option Reason → Candidate → Standing
@@ -116,25 +116,25 @@ abbrev pub judged_standing : SiteConf → SiteSession → Action → Attr → St
 judged_standing site from action attr = standing_by (exclusion site action attr) (peer_candidate site from action attr)
 
 -- how a route from the peer of the session stands at the router
-abbrev pub peer_standing : SiteConf → Block → SiteSession → Attr → Standing
+abbrev pub peer_standing : SiteConf → Prefix → SiteSession → Attr → Standing
 peer_standing site p from attr = judged_standing site from (judged from.policy_in p attr) attr
 
 -- the route that the router has received from the peer for the prefix
-abbrev pub route_from : List (RouteKey × Attr) → Addr → Block → Addr → Option Attr
+abbrev pub route_from : List (RouteKey × Attr) → Addr → Prefix → Addr → Option Attr
 route_from es r p u = lookup (is_at (route_cmp (record { to = r; prefix = p; from = u }))) es
 
 -- a route counts while the session that it came over is up
-abbrev pub standing_over : SiteConf → Block → SiteSession → Option Attr → Option (Source × Standing)
+abbrev pub standing_over : SiteConf → Prefix → SiteSession → Option Attr → Option (Source × Standing)
 standing_over site p from None = None
 standing_over site p from (Some attr) = if from.up then Some (FromPeer from.peer, peer_standing site p from attr) else None
 
-abbrev pub standing_from : SiteConf → Block → List (RouteKey × Attr) → SiteSession → Option (Source × Standing)
+abbrev pub standing_from : SiteConf → Prefix → List (RouteKey × Attr) → SiteSession → Option (Source × Standing)
 standing_from site p es from = standing_over site p from (route_from es site.me p from.peer)
 
 -- DECISIONS
 
 -- the routes to the prefix: the router's own first, then those of its peers, by address
-abbrev pub routes_at : SiteConf → Block → List (RouteKey × Attr) → List (Source × Standing)
+abbrev pub routes_at : SiteConf → Prefix → List (RouteKey × Attr) → List (Source × Standing)
 routes_at site p es = own_standings site p ++ filter_map (standing_from site p es) site.sessions
 
 -- the map to which these entries were added
@@ -142,9 +142,9 @@ abbrev pub added : Standings → List (Source × Standing) → Standings
 added m es = fold (λ n e. finite.insert n e.0 e.1) m es
 
 -- how each source's route to the prefix stands at the router
-abbrev pub standings : SiteConf → Block → List (RouteKey × Attr) → Standings
+abbrev pub standings : SiteConf → Prefix → List (RouteKey × Attr) → Standings
 standings site p es = added finite.empty (routes_at site p es)
 
 -- the route that the router chooses (RFC 4271, 9.1.2.2; RFC 4456, 9)
-unfoldable pub best : Network → Addr → Block → Option Candidate
+unfoldable pub best : Network → Addr → Prefix → Option Candidate
 best s r p = option_and_then (λ site. best_of (standings site p s.received)) (site_of s.conf r)

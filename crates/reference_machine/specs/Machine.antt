@@ -1,7 +1,7 @@
 -- The machine: what each event does, and runs of events.
 use Rattle.std.specs.Prelude.{◌≡◌, ℕ, Bool, true, false, not, ◌==◌, ◌&&◌, ◌||◌, nat_lt, ◌⊎◌, List, [], ◌∷◌, map, filter, Option, Some, None, Result, Ok, Err, is_none, if◌then◌else◌}
 use Rattle.net_prefix.specs.declared.addr.Addr.{Addr}
-use Rattle.net_prefix.specs.Block.{Block}
+use Rattle.net_prefix.specs.Prefix.{Prefix}
 use Rattle.path_attr.specs.declared.attr.Attr.{Attr}
 use Rattle.path_attr.specs.Path.{neighbour, number_count}
 use Rattle.path_attr.specs.Number.{same_number}

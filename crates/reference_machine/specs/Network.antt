@@ -6,7 +6,7 @@ use Rattle.std.specs.declared.cmp.Ordering.{Ordering}
 use Rattle.std.specs.Ordering.{is_lt, is_gt, ordering_then}
 use Rattle.net_prefix.specs.declared.addr.Addr.{Addr}
 use Rattle.net_prefix.specs.Address.{same_addr, addr_cmp}
-use Rattle.net_prefix.specs.Block.{block_cmp}
+use Rattle.net_prefix.specs.Prefix.{prefix_cmp}
 use Rattle.path_attr.specs.declared.attr.Attr.{Attr}
 use Rattle.session_queue.specs.declared.message.Message.{Message}
 use Rattle.session_queue.specs.Waiting.{direction_cmp}
@@ -26,7 +26,7 @@ pub record Network : Type 0 where
 
 -- by receiver, then by prefix, then by sender
 abbrev pub route_cmp : RouteKey → RouteKey → Ordering
-route_cmp k l = ordering_then (addr_cmp k.to l.to) (ordering_then (block_cmp k.prefix l.prefix) (addr_cmp k.from l.from))
+route_cmp k l = ordering_then (addr_cmp k.to l.to) (ordering_then (prefix_cmp k.prefix l.prefix) (addr_cmp k.from l.from))
 
 -- what was received, with this route in place of any of its key
 abbrev pub with_route : RouteKey → Attr → List (RouteKey × Attr) → List (RouteKey × Attr)

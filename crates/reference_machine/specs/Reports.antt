@@ -3,7 +3,7 @@ use Rattle.std.specs.Prelude.{ℕ, Bool, true, false, List, [], ◌∷◌, map, 
 use Rattle.std.specs.Option.{unwrap_or}
 use Rattle.std.specs.List.{filter_map, list_all}
 use Rattle.net_prefix.specs.declared.addr.Addr.{Addr}
-use Rattle.net_prefix.specs.Block.{Block}
+use Rattle.net_prefix.specs.Prefix.{Prefix}
 use Rattle.path_attr.specs.declared.attr.Attr.{Attr}
 use Rattle.net_conf.specs.Configuration.{Configuration}
 use Rattle.net_conf.specs.declared.site.SiteConf.{SiteConf}
@@ -25,7 +25,7 @@ use Rattle.reference_machine.specs.Decision.{best, standings}
 use Rattle.reference_machine.specs.Advertising.{prefixes_at, in_order, advertised}
 
 -- a route that was chosen
-abbrev pub held_of : Block → Option Candidate → Option Held
+abbrev pub held_of : Prefix → Option Candidate → Option Held
 held_of p None = None
 held_of p (Some b) = Some (record { prefix = p; source = b.source; attr = b.attr })
 
@@ -34,7 +34,7 @@ unfoldable pub loc_rib : Network → Addr → List Held
 loc_rib s r = filter_map (λ p. held_of p (best s r p)) (in_order (prefixes_at s r))
 
 -- the router's choice for the prefix
-unfoldable pub choice : Network → Addr → Block → Option Held
+unfoldable pub choice : Network → Addr → Prefix → Option Held
 choice s r p = held_of p (best s r p)
 
 -- the source of the entry, and why its route was chosen or dropped, among the routes that are considered
@@ -45,23 +45,23 @@ why routes e = (e.0, reason_for routes e.1)
 abbrev pub reasons_of : Standings → List (Source × Reason)
 reasons_of standings = map (why (considered standings)) (finite.entries standings)
 
-abbrev pub reasons_at : Block → List (RouteKey × Attr) → Option SiteConf → List (Source × Reason)
+abbrev pub reasons_at : Prefix → List (RouteKey × Attr) → Option SiteConf → List (Source × Reason)
 reasons_at p es None = []
 reasons_at p es (Some site) = reasons_of (standings site p es)
 
 -- why each route of the router to the prefix was chosen or dropped: its own first, then those of its peers, by address
-unfoldable pub reasons : Network → Addr → Block → List (Source × Reason)
+unfoldable pub reasons : Network → Addr → Prefix → List (Source × Reason)
 reasons s r p = reasons_at p s.received (site_of s.conf r)
 
 -- the router's Adj-RIB-In of the peer (RFC 4271, 3.2), as received; empty while the session is down
-unfoldable pub adj_rib_in : Network → Addr → Addr → List (Block × Attr)
+unfoldable pub adj_rib_in : Network → Addr → Addr → List (Prefix × Attr)
 adj_rib_in s r u = if is_up s.conf r u then map (λ e. (e.0.prefix, e.1)) (routes_from r u s.received) else []
 
-abbrev pub advert_at : Network → Addr → Addr → Block → Option (Block × Attr)
+abbrev pub advert_at : Network → Addr → Addr → Prefix → Option (Prefix × Attr)
 advert_at s r t p = option_map (λ attr. (p, attr)) (advertised s r t p)
 
 -- the router's Adj-RIB-Out for the peer (RFC 4271, 3.2)
-unfoldable pub adj_rib_out : Network → Addr → Addr → List (Block × Attr)
+unfoldable pub adj_rib_out : Network → Addr → Addr → List (Prefix × Attr)
 adj_rib_out s r t = filter_map (advert_at s r t) (in_order (prefixes_at s r))
 
 -- the messages on their way, the head first; none while the session is down

@@ -9,8 +9,8 @@ pub fn traces_follow_looks()
     ensures only { OneTraceLaw }
 {}
 
-/// The prefix by which a router forwards is the longest of all those that contain the address and for which it has chosen
-/// a route; there is none just where there is no such prefix.
+/// The prefix by which a router forwards is the longest of all those that contain the address and for which it has
+/// chosen a route; there is none just where there is no such prefix.
 pub fn longest_match_is_longest()
     ensures law { LongestMatchLaw }
 {}

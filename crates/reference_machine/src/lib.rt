@@ -1,5 +1,5 @@
-//! The definitions of the whole: what is decided, advertised, reported and done at each event; the trait that every machine
-//! keeps; and in the module `machine_rules` what every machine does alike. No machine stands here.
+//! The definitions of the whole: what is decided, advertised, reported and done at each event; the trait that every
+//! machine keeps; and in the module `machine_rules` what every machine does alike. No machine stands here.
 #![tactic(auto)]
 
 mod laws;

@@ -13,8 +13,8 @@ pub trait Machine {
     /// The network, however it is kept.
     ghost network: { Self → Network };
 
-    /// Takes an event, in as many threads as the machine likes. The reply and the new state are the definition's; only want of
-    /// memory may refuse beside it, and then nothing changes.
+    /// Takes an event, in as many threads as the machine likes. The reply and the new state are the definition's; only
+    /// want of memory may refuse beside it, and then nothing changes.
     fn step<R: Threads + Sync>(&mut self, rt: &R, event: &Event) -> Reply
         requires { IsSync R.row }
         ensures { IsStep (network self.old) event.now result (network self.new) };

@@ -2,7 +2,7 @@
 use Rattle.std.specs.Prelude.{ℕ, Bool, false, ◌||◌, ◌==◌, [], ◌∷◌, Option, Some, None, option_and_then, if◌then◌else◌}
 use Rattle.std.specs.Option.{unwrap_or, option_map_or}
 use Rattle.net_prefix.specs.declared.addr.Addr.{Addr}
-use Rattle.net_prefix.specs.Block.{Block}
+use Rattle.net_prefix.specs.Prefix.{Prefix}
 use Rattle.path_attr.specs.declared.attr.Attr.{Attr}
 use Rattle.path_attr.specs.Path.{prepended, prepended_times}
 use Rattle.route_policy.specs.declared.rule.Action.{Action}
@@ -70,10 +70,10 @@ abbrev pub permitted : SiteConf → SiteSession → Candidate → Action → Opt
 permitted site to b Deny = None
 permitted site to b (Permit pref med prepend) = if to.external then Some (to_other_as site med prepend b.attr) else inside site to b
 
-abbrev pub advertised_over : SiteConf → Block → Candidate → SiteSession → Option Attr
+abbrev pub advertised_over : SiteConf → Prefix → Candidate → SiteSession → Option Attr
 advertised_over site p b to = permitted site to b (judged to.policy_out p b.attr)
 
 -- what the router advertises to the peer of the route that it chose for the prefix. (own) Nothing where it learned the route
 -- from that peer
-unfoldable pub advert : SiteConf → Block → Candidate → Addr → Option Attr
+unfoldable pub advert : SiteConf → Prefix → Candidate → Addr → Option Attr
 advert site p b t = if is_from t b.source then None else option_and_then (advertised_over site p b) (session_with site t)

@@ -73,7 +73,9 @@ fn permitted(
     med: Option<u32>,
     prepend: Option<Repeat>,
 ) -> Result<Option<Attr>, AllocError>
-    ensures { IfOk result (λ attr. attr ≡ (if to.now.external then Some (to_other_as site.now med prepend best.now.attr) else inside site.now to.now best.now)) }
+    ensures { IfOk result (λ attr.
+        attr ≡ (if to.now.external then Some (to_other_as site.now med prepend best.now.attr) else inside site.now
+        to.now best.now)) }
 {
     if to.external {
         Ok(Some(to_other_as(alloc, site, med, prepend, &best.attr)?))
@@ -123,8 +125,8 @@ fn inside(
     }
 }
 
-/// The attributes inside the AS, of the router's own route or an external one. They share the path and take no memory: the
-/// only fault is that 2^63 owners share it.
+/// The attributes inside the AS, of the router's own route or an external one. They share the path and take no memory:
+/// the only fault is that 2^63 owners share it.
 fn to_own_as(site: &SiteConf, to: &SiteSession, best: &Candidate) -> Result<Attr, AllocError>
     ensures { IfOk result (λ a. a ≡ to_own_as site.now to.now best.now) }
 {

@@ -8,7 +8,7 @@ use Rattle.std.proofs.lemmas.List.Elements.{All-nil, All-cons, All-append}
 use Rattle.decimal.specs.Separators.{Lacks}
 use Rattle.net_prefix.specs.declared.addr.Addr.{Addr}
 use Rattle.net_prefix.specs.Address.{addr_text}
-use Rattle.net_prefix.specs.Block.{Block, block_text}
+use Rattle.net_prefix.specs.Prefix.{Prefix, prefix_text}
 use Rattle.path_attr.specs.declared.attr.Attr.{Attr}
 use Rattle.route_select.specs.declared.candidate.Source.{Source}
 use Rattle.route_select.specs.declared.candidate.Source.TheVariants.{Own, Peer}
@@ -31,7 +31,7 @@ use Rattle.sim_event.specs.declared.reply.Reply.{Reply}
 use Rattle.sim_event.specs.declared.reply.Reply.TheVariants.{Done, Took, Report as AReport, Refused}
 use Rattle.reply_text.specs.Replies.{attr_text, source_text, held_line, end_line, kind_text, refusal_text, reason_text, reason_line, route_line, message_line, hop_line, trace_end_line, best_text, quiet_text, way_text, reply_text, report_text}
 use Rattle.reply_text.specs.Lines.{report_lines, reply_lines, IsLine, RepliesAreLines}
-use Rattle.reply_text.specs.Visible.{AreVisible, visible_lacks, visible_decimal, visible_addr, visible_block, visible_path, visible_origin, visible_maybe_number, visible_maybe_addr, visible_clusters}
+use Rattle.reply_text.specs.Visible.{AreVisible, visible_lacks, visible_decimal, visible_addr, visible_prefix, visible_path, visible_origin, visible_maybe_number, visible_maybe_addr, visible_clusters}
 
 -- NO LINE FEED
 
@@ -138,7 +138,7 @@ unfolding held_line
 held_is_line h = line_of _
     (both _ (attr_text h.attr)
     (both _ (codes " ") (both _ (source_text h.source)
-    (both (block_text h.prefix) (codes " from ") (value (block_text h.prefix) (visible_block h.prefix)) (word (codes " from ") refl))
+    (both (prefix_text h.prefix) (codes " from ") (value (prefix_text h.prefix) (visible_prefix h.prefix)) (word (codes " from ") refl))
     (source_plain h.source)) (word (codes " ") refl))
     (attr_plain h.attr))
 
@@ -147,22 +147,22 @@ unfolding reason_line
 reason_is_line e = line_of _
     (both _ (reason_text e.1) (both (source_text e.0) (codes " ") (source_plain e.0) (word (codes " ") refl)) (reason_plain e.1))
 
-route_is_line : (e : Block × Attr) → IsLine (route_line e)
+route_is_line : (e : Prefix × Attr) → IsLine (route_line e)
 unfolding route_line
 route_is_line e = line_of _
-    (both _ (attr_text e.1) (both (block_text e.0) (codes " ") (value (block_text e.0) (visible_block e.0)) (word (codes " ") refl)) (attr_plain e.1))
+    (both _ (attr_text e.1) (both (prefix_text e.0) (codes " ") (value (prefix_text e.0) (visible_prefix e.0)) (word (codes " ") refl)) (attr_plain e.1))
 
 message_is_line : (m : Message) → IsLine (message_line m)
 unfolding message_line
 message_is_line (AnUpdate p attr) = line_of _
     (both _ (attr_text attr) (both _ (codes " ")
-    (both (codes "update ") (block_text p) (word (codes "update ") refl) (value (block_text p) (visible_block p)))
+    (both (codes "update ") (prefix_text p) (word (codes "update ") refl) (value (prefix_text p) (visible_prefix p)))
     (word (codes " ") refl)) (attr_plain attr))
-message_is_line (AWithdrawal p) = line_of _ (both (codes "withdraw ") (block_text p) (word (codes "withdraw ") refl) (value (block_text p) (visible_block p)))
+message_is_line (AWithdrawal p) = line_of _ (both (codes "withdraw ") (prefix_text p) (word (codes "withdraw ") refl) (value (prefix_text p) (visible_prefix p)))
 
-hop_is_line : (e : Addr × Block) → IsLine (hop_line e)
+hop_is_line : (e : Addr × Prefix) → IsLine (hop_line e)
 unfolding hop_line
-hop_is_line e = line_of _ (named (addr_text e.0) (codes " ") (block_text e.1) refl (value (addr_text e.0) (visible_addr e.0)) (visible_block e.1))
+hop_is_line e = line_of _ (named (addr_text e.0) (codes " ") (prefix_text e.1) refl (value (addr_text e.0) (visible_addr e.0)) (visible_prefix e.1))
 
 trace_end_is_line : (t : TraceEnd) → IsLine (trace_end_line t)
 unfolding trace_end_line
@@ -188,10 +188,10 @@ refusal_is_line r = line_of _
     (both (codes "refused ") (decimal (number_of r)) (word (codes "refused ") refl) (value (decimal (number_of r)) (visible_decimal (number_of r))))
     (word (codes " ") refl)) (name_plain r))
 
-took_is_line : (p : Block) (k : MessageKind) → IsLine (reply_text (Took p k))
+took_is_line : (p : Prefix) (k : MessageKind) → IsLine (reply_text (Took p k))
 took_is_line p k = line_of _
     (both _ (kind_text k) (both _ (codes " ")
-    (both (codes "took ") (block_text p) (word (codes "took ") refl) (value (block_text p) (visible_block p)))
+    (both (codes "took ") (prefix_text p) (word (codes "took ") refl) (value (prefix_text p) (visible_prefix p)))
     (word (codes " ") refl)) (kind_plain k))
 
 -- ALL LINES OF A REPLY

@@ -3,7 +3,7 @@ use Rattle.std.specs.Prelude.{ℕ, List, [], ◌∷◌}
 use Rattle.std.specs.Fmt.{decimal}
 use Rattle.std.specs.List.{join_with_byte}
 use Rattle.net_prefix.specs.Address.{addr_text}
-use Rattle.net_prefix.specs.Block.{block_text}
+use Rattle.net_prefix.specs.Prefix.{prefix_text}
 use Rattle.sim_event.specs.Wording.{none_text, path_text, origin_text, maybe_number_text, maybe_addr_text, clusters_text}
 use Rattle.reply_text.specs.Replies.{source_text, kind_text}
 use Rattle.reply_text.specs.declared.part.Part.{Part}
@@ -21,7 +21,7 @@ part_text (Number n) = decimal n
 part_text (MaybeNumber n) = maybe_number_text n
 part_text (AnAddr a) = addr_text a
 part_text (MaybeAddr a) = maybe_addr_text a
-part_text (Prefix p) = block_text p
+part_text (Prefix p) = prefix_text p
 part_text (ASource s) = source_text s
 part_text (Kind k) = kind_text k
 part_text (AnOrigin o) = origin_text o

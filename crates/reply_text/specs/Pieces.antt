@@ -9,7 +9,7 @@ use Rattle.std.proofs.lemmas.List.{drop_more, drop_all, take_rest}
 use Rattle.std.specs.Fmt.{decimal}
 use Rattle.net_prefix.specs.declared.addr.Addr.{Addr}
 use Rattle.net_prefix.specs.Address.{addr_text}
-use Rattle.net_prefix.specs.Block.{Block, block_text}
+use Rattle.net_prefix.specs.Prefix.{Prefix, prefix_text}
 use Rattle.watched.specs.Streams.{Writing, AppendsFront, Writes, held_after}
 use Rattle.watched.specs.Writing.{writes_then, writes_none, appends_less}
 
@@ -71,6 +71,6 @@ joined_more c f (y ∷ ys) x some is =
     ap (λ z. join_with_byte c (map f (z ∷ ys))) (sym is) ∙ joined_each c f x ys ∙ ap (λ zs. f x ++ flat_map (λ z. c ∷ f z) zs) (sym (take_rest (y ∷ ys) 1))
 
 -- a block by the values that a program reads of it
-pub block_pieces : (p : Block) (a : Addr) (len : ℕ) → a ≡ p.addr → len ≡ p.len → block_text p ≡ addr_text a ++ (47 ∷ decimal len)
-unfolding block_text
-block_pieces p a len ea el = λ i. addr_text (sym ea i) ++ (47 ∷ decimal (sym el i))
+pub prefix_pieces : (p : Prefix) (a : Addr) (len : ℕ) → a ≡ p.addr → len ≡ p.len → prefix_text p ≡ addr_text a ++ (47 ∷ decimal len)
+unfolding prefix_text
+prefix_pieces p a len ea el = λ i. addr_text (sym ea i) ++ (47 ∷ decimal (sym el i))

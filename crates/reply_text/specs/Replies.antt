@@ -4,7 +4,7 @@ use Rattle.std.specs.Fmt.{decimal}
 use Rattle.std.specs.List.{flat_map}
 use Rattle.net_prefix.specs.declared.addr.Addr.{Addr}
 use Rattle.net_prefix.specs.Address.{addr_text}
-use Rattle.net_prefix.specs.Block.{Block, block_text}
+use Rattle.net_prefix.specs.Prefix.{Prefix, prefix_text}
 use Rattle.path_attr.specs.declared.attr.Attr.{Attr}
 use Rattle.route_select.specs.declared.candidate.Source.{Source}
 use Rattle.route_select.specs.declared.candidate.Source.TheVariants.{Own, Peer}
@@ -40,7 +40,7 @@ source_text (Peer a) = addr_text a
 
 -- a chosen route, on a line
 unfoldable pub held_line : Held → List ℕ
-held_line h = block_text h.prefix ++ codes " from " ++ source_text h.source ++ codes " " ++ attr_text h.attr ++ line_end
+held_line h = prefix_text h.prefix ++ codes " from " ++ source_text h.source ++ codes " " ++ attr_text h.attr ++ line_end
 
 -- how many lines there were
 abbrev pub end_line : ℕ → List ℕ
@@ -75,16 +75,16 @@ unfoldable pub reason_line : (Source × Reason) → List ℕ
 reason_line e = source_text e.0 ++ codes " " ++ reason_text e.1 ++ line_end
 
 -- a route of an Adj-RIB-In or an Adj-RIB-Out
-unfoldable pub route_line : (Block × Attr) → List ℕ
-route_line e = block_text e.0 ++ codes " " ++ attr_text e.1 ++ line_end
+unfoldable pub route_line : (Prefix × Attr) → List ℕ
+route_line e = prefix_text e.0 ++ codes " " ++ attr_text e.1 ++ line_end
 
 unfoldable pub message_line : Message → List ℕ
-message_line (AnUpdate p attr) = codes "update " ++ block_text p ++ codes " " ++ attr_text attr ++ line_end
-message_line (AWithdrawal p) = codes "withdraw " ++ block_text p ++ line_end
+message_line (AnUpdate p attr) = codes "update " ++ prefix_text p ++ codes " " ++ attr_text attr ++ line_end
+message_line (AWithdrawal p) = codes "withdraw " ++ prefix_text p ++ line_end
 
 -- a router that forwards, and the prefix by which it does
-unfoldable pub hop_line : (Addr × Block) → List ℕ
-hop_line e = addr_text e.0 ++ codes " " ++ block_text e.1 ++ line_end
+unfoldable pub hop_line : (Addr × Prefix) → List ℕ
+hop_line e = addr_text e.0 ++ codes " " ++ prefix_text e.1 ++ line_end
 
 unfoldable pub trace_end_line : TraceEnd → List ℕ
 trace_end_line (Reached a) = codes "reached " ++ addr_text a ++ line_end
@@ -117,6 +117,6 @@ report_text (Trace hops end) = flat_map hop_line hops ++ trace_end_line end ++ e
 
 abbrev pub reply_text : Reply → List ℕ
 reply_text Done = codes "ok" ++ line_end
-reply_text (Took p k) = codes "took " ++ block_text p ++ codes " " ++ kind_text k ++ line_end
+reply_text (Took p k) = codes "took " ++ prefix_text p ++ codes " " ++ kind_text k ++ line_end
 reply_text (AReport report) = report_text report
 reply_text (Refused r) = refusal_text r

@@ -10,9 +10,9 @@ use Rattle.decimal.specs.Digits.{IsDigit, decimal_digits}
 use Rattle.decimal.specs.Separators.{Lacks}
 use Rattle.net_prefix.specs.declared.addr.Addr.{Addr}
 use Rattle.net_prefix.specs.Address.{addr_text}
-use Rattle.net_prefix.specs.AddressText.{IsAddressByte, IsBlockByte, addr_text_bytes}
-use Rattle.net_prefix.specs.Block.{Block, block_text}
-use Rattle.net_prefix.specs.BlockText.{block_text_bytes}
+use Rattle.net_prefix.specs.AddressText.{IsAddressByte, IsPrefixByte, addr_text_bytes}
+use Rattle.net_prefix.specs.Prefix.{Prefix, prefix_text}
+use Rattle.net_prefix.specs.PrefixText.{prefix_text_bytes}
 use Rattle.path_attr.specs.declared.path.Segment.{Segment}
 use Rattle.path_attr.specs.declared.path.Segment.TheVariants.{Seq as Sequence, Set}
 use Rattle.path_attr.specs.declared.origin.Origin.{Origin}
@@ -52,8 +52,8 @@ visible_decimal n = All-weaker IsDigit IsVisible (λ b digit. omega arith) (deci
 pub visible_addr : (a : Addr) → AreVisible (addr_text a)
 visible_addr a = All-weaker IsAddressByte IsVisible (λ b byte. omega (arith, byte.0.0)) (addr_text a) (addr_text_bytes a)
 
-pub visible_block : (p : Block) → AreVisible (block_text p)
-visible_block p = All-weaker IsBlockByte IsVisible (λ b byte. omega (arith, byte.0)) (block_text p) (block_text_bytes p)
+pub visible_prefix : (p : Prefix) → AreVisible (prefix_text p)
+visible_prefix p = All-weaker IsPrefixByte IsVisible (λ b byte. omega (arith, byte.0)) (prefix_text p) (prefix_text_bytes p)
 
 -- texts joined by a visible byte
 pub visible_joined : {X : Type 0} (c : ℕ) (f : X → List ℕ) → 32 < c → ((x : X) → AreVisible (f x)) → (xs : List X) → AreVisible (join_with_byte c (map f xs))

@@ -1,4 +1,5 @@
-//! Replies as text: a reply is its lines, each ended by a line feed. And how a run of the program ends, with the line of a fault.
+//! Replies as text: a reply is its lines, each ended by a line feed. And how a run of the program ends, with the line
+//! of a fault.
 #![tactic(auto)]
 
 mod ending;

@@ -80,7 +80,8 @@ fn write_marked_lines<T: Text, W: Write>(
     lines: &[T],
     output: &mut Output<W>,
 ) -> Result<(), WriterFailed>
-    ensures { Writes output.old (marked mark.now (map T.text lines.now ++ end_line (length lines.now) ∷ [])) result output.new }
+    ensures { Writes output.old (marked mark.now (map T.text lines.now ++ end_line (length lines.now) ∷ [])) result
+        output.new }
 {
     write_each_marked(mark, lines, output)?;
     write_marked_end(mark, lines.len() as u64, output)
@@ -93,7 +94,9 @@ fn write_marked_trace<W: Write>(
     end: TraceEnd,
     output: &mut Output<W>,
 ) -> Result<(), WriterFailed>
-    ensures { Writes output.old (marked mark.now (map hop_line hops.now ++ trace_end_line end ∷ end_line (length hops.now + 1) ∷ [])) result output.new }
+    ensures { Writes output.old
+        (marked mark.now (map hop_line hops.now ++ trace_end_line end ∷ end_line (length hops.now + 1) ∷ [])) result
+        output.new }
 {
     write_each_marked(mark, hops, output)?;
     write_marked_text(mark, &end, output)?;

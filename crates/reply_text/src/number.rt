@@ -54,12 +54,12 @@ impl Text for Addr {
 }
 
 impl Text for Prefix {
-    ghost use Rattle.net_prefix.specs.Block.{block_text};
+    ghost use Rattle.net_prefix.specs.Prefix.{prefix_text};
 
-    ghost text = { block_text };
+    ghost text = { prefix_text };
 
     /// Writes the address, a slash and the length.
-    #[tactic(auto, unfolding(net_prefix::specs::Block::block_text))]
+    #[tactic(auto, unfolding(net_prefix::specs::Prefix::prefix_text))]
     fn write<W: Write>(&self, output: &mut Output<W>) -> Result<(), WriterFailed> {
         self.addr().write(output)?;
         write_after(b'/', &self.len(), output)

@@ -93,7 +93,8 @@ fn write_trace<W: Write>(
     end: TraceEnd,
     output: &mut Output<W>,
 ) -> Result<(), WriterFailed>
-    ensures { Writes output.old (flat_map hop_line hops.now ++ trace_end_line end ++ end_line (length hops.now + 1)) result output.new }
+    ensures { Writes output.old (flat_map hop_line hops.now ++ trace_end_line end ++ end_line (length hops.now + 1))
+        result output.new }
 {
     write_each(hops, output)?;
     end.write(output)?;

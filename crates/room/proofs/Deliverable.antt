@@ -14,7 +14,7 @@ use Rattle.reference_machine.specs.Histories.{after_calls, state_after}
 use Rattle.session_law.proofs.Configs.{session_either}
 use Rattle.session_law.proofs.Told.{IsTidy, IsTold, told_nothing}
 use Rattle.session_law.proofs.Runs.{kept_step}
-use Rattle.cell_engine.specs.Engine.{Engine, IsSound, network}
+use Rattle.cell_engine.specs.State.{State, IsConsistent, network}
 use Rattle.cell_engine.proofs.Queues.{messages_on_session}
 
 told_after : (s : Network) → IsTold s → (h : List Entry) → IsTold (after_calls s h)
@@ -28,7 +28,7 @@ tidy_after h = (told_after nothing told_nothing h).tidy
 not_empty : (m : Message) (ms : List Message) → m ∷ ms ≡ [] → ⊥
 not_empty m ms e = cc
 
-module _ (e : Engine) (sound : IsSound e) (tidy : IsTidy (network e)) (d : Direction) (m : Message) (ms : List Message) (waits : queue_at e.queues d.from d.to ≡ m ∷ ms) where
+module _ (e : State) (sound : IsConsistent e) (tidy : IsTidy (network e)) (d : Direction) (m : Message) (ms : List Message) (waits : queue_at e.queues d.from d.to ≡ m ∷ ms) where
   session_by : (b : Bool) → has_session e.conf d.from d.to ≡ b → has_session e.conf d.from d.to ≡ true
   session_by true is = is
   session_by false is = absurd (not_empty m ms (sym waits ∙ sound.silent d.from d.to is))

@@ -6,7 +6,7 @@ use Rattle.sim_event.specs.declared.reply.Reply.{Reply}
 use Rattle.reference_machine.specs.Network.{Network}
 use Rattle.reference_machine.specs.Machine.{nothing, step, is_refusal}
 use Rattle.reference_machine.specs.Histories.{after_calls, AreAnswered, IsLegal, state_after}
-use Rattle.cell_engine.specs.Engine.{Engine, network}
+use Rattle.cell_engine.specs.State.{State, network}
 use Rattle.room.specs.Books.{IsKept, is_accepted_edit, version_of}
 
 state_push : (s : Network) (es : List Entry) (e : Entry) → after_calls s (es ++ e ∷ []) ≡ (step (after_calls s es) e.event).next
@@ -42,7 +42,7 @@ refused_none true = refl
 refused_none false = refl
 
 -- a room that was kept is kept after a call
-pub kept_push : (es now : List Entry) (e e' : Engine) (n m : ℕ) (number : ℕ) (event : Event) (reply : Reply) → IsKept (record { history = es; engine = e; seats = n })
+pub kept_push : (es now : List Entry) (e e' : State) (n m : ℕ) (number : ℕ) (event : Event) (reply : Reply) → IsKept (record { history = es; engine = e; seats = n })
     → now ≡ es ++ record { seat = number; event = event; reply = reply } ∷ []
     → reply ≡ (step (network e) event).reply
     → network e' ≡ (step (network e) event).next

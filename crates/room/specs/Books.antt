@@ -11,12 +11,12 @@ use Rattle.sim_event.specs.declared.reply.Reply.TheVariants.{Refused}
 use Rattle.reference_machine.specs.Network.{Network}
 use Rattle.reference_machine.specs.Machine.{step, is_refusal}
 use Rattle.reference_machine.specs.Histories.{IsLegal, state_after}
-use Rattle.cell_engine.specs.Engine.{Engine, network}
+use Rattle.cell_engine.specs.State.{State, network}
 
 -- history: the calls that were made, the first first; engine: the machine, as it stands; seats: how many there are
 pub record RoomBook : Type 0 where
   pub history : List Entry
-  pub engine : Engine
+  pub engine : State
   pub seats : ℕ
 
 -- notes: the calls that were made from the seat, the first first

@@ -8,34 +8,34 @@ use Rattle.reference_machine.specs.Machine.{step}
 use Rattle.session_queue.specs.declared.message.Message.{Message}
 use Rattle.session_queue.specs.Telling.{prefix_of}
 use Rattle.cell_engine.specs.Cells.{route_of}
-use Rattle.cell_engine.specs.Engine.{network}
+use Rattle.cell_engine.specs.State.{network}
 use Rattle.room.specs.declared.room.commit.Newer.{Newer}
 use Rattle.room.specs.declared.room.commit.Newer.TheVariants.{ConfMoved, SiteMoved, HeadMoved, CellMoved}
 use Rattle.room.specs.declared.room.commit.Committed.{Committed}
 use Rattle.room.specs.declared.room.commit.Committed.TheVariants.{Delivered, Stale}
 use Rattle.room.specs.Books.{RoomBook, SeatBook, version_of, with_call}
-use Rattle.room.specs.Jobs.{Seen, HasSite, HasVersion, head_in, site_in}
+use Rattle.room.specs.Jobs.{Job, HasSite, HasVersion, head_in, site_in}
 
 -- the delivery that the job was for
-abbrev pub delivery_of : Seen → Event
+abbrev pub delivery_of : Job → Event
 delivery_of x = Deliver x.direction.from x.direction.to
 
-abbrev pub head_seen : Seen → Option Message
+abbrev pub head_seen : Job → Option Message
 head_seen x = Option.Some x.head
 
 -- the job holds the head of the room's queue
-abbrev pub HasHead : RoomBook → Seen → Type 0
+abbrev pub HasHead : RoomBook → Job → Type 0
 HasHead room x = head_seen x ≡ head_in room x.direction
 
 -- what has moved, the first of these: the configuration, the receiver's site, the head of the queue, what the receiver has received
-abbrev pub IsNewer : RoomBook → Seen → Newer → Type 0
+abbrev pub IsNewer : RoomBook → Job → Newer → Type 0
 IsNewer room x (ConfMoved had now) = (had ≡ x.version) × (now ≡ version_of room.history) × (had ≢ now)
 IsNewer room x (SiteMoved had now) = HasVersion room x × (had ≡ x.site) × (now ≡ site_in room x.direction) × (had ≢ now)
 IsNewer room x (HeadMoved had now) =
     HasVersion room x × HasSite room x × (had ≡ head_seen x) × (now ≡ head_in room x.direction) × (had ≢ now)
 IsNewer room x (CellMoved peer had now) =
     HasVersion room x × HasSite room x × HasHead room x
-    × (had ≡ route_of x.heard.received peer) × (now ≡ route_from (network room.engine).received x.direction.to (prefix_of x.head) peer) × (had ≢ now)
+    × (had ≡ route_of x.cell.received peer) × (now ≡ route_from (network room.engine).received x.direction.to (prefix_of x.head) peer) × (had ≢ now)
 
 -- nothing changes
 pub record IsUnchanged (room : RoomBook) (seat : SeatBook) (room' : RoomBook) (seat' : SeatBook) : Type 0 where
@@ -57,20 +57,20 @@ is_delivered (Delivered reply) = true
 is_delivered (Stale newer) = false
 
 -- the outcome is put in, or something has moved and nothing changes
-abbrev pub IsCommitted : RoomBook → SeatBook → Seen → Committed → RoomBook → SeatBook → Type 0
+abbrev pub IsCommitted : RoomBook → SeatBook → Job → Committed → RoomBook → SeatBook → Type 0
 IsCommitted room seat x (Delivered reply) room' seat' = IsDelivered room seat (delivery_of x) reply room' seat'
 IsCommitted room seat x (Stale newer) room' seat' = IsNewer room x newer × (room' ≡ room) × (seat' ≡ seat)
 
 -- the outcomes are committed one after another
-abbrev pub AreCommitted : RoomBook → SeatBook → List Seen → RoomBook → SeatBook → Type 0
+abbrev pub AreCommitted : RoomBook → SeatBook → List Job → RoomBook → SeatBook → Type 0
 AreCommitted room seat [] room' seat' = (room' ≡ room) × (seat' ≡ seat)
 AreCommitted room seat (x ∷ xs) room' seat' =
     (next : RoomBook) × (after : SeatBook) × (told : Committed) × IsCommitted room seat x told next after × AreCommitted next after xs room' seat'
 
 -- so are the first of them; then there is no memory, and the others are let go
-pub record IsBrokenOff (room : RoomBook) (seat : SeatBook) (xs : List Seen) (room' : RoomBook) (seat' : SeatBook) : Type 0 where
-  pub first : List Seen
-  pub others : List Seen
+pub record IsBrokenOff (room : RoomBook) (seat : SeatBook) (xs : List Job) (room' : RoomBook) (seat' : SeatBook) : Type 0 where
+  pub first : List Job
+  pub others : List Job
   pub parts : xs ≡ first ++ others
   pub next : RoomBook
   pub after : SeatBook

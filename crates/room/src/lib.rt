@@ -1,4 +1,5 @@
-//! One machine with a history of the calls of several seats, which is proved legal. It has no lock; an edit takes the right to start threads, to decide many cells, and hands it on.
+//! One machine with a history of the calls of several seats, which is proved legal. It has no lock; an edit takes the
+//! right to start threads, to decide many cells, and hands it on.
 #![tactic(auto)]
 
 mod call_history;

@@ -1,11 +1,12 @@
-//! The room: the machine with the history of all calls. Only this module sees its fields, those of seats and those of jobs.
+//! The room: the machine with the history of all calls. Only this module sees its fields, those of seats and those of
+//! jobs.
 
 ghost use Rattle.std.specs.Prelude.{◌≡◌, ◌≤◌, ◌↔◌, ◌∷◌, ◌++◌, false, [], cond, length, IsTrue, IfOk, IfErr, OnOk, OnErr};
 ghost use Rattle.reference_machine.specs.Machine.{nothing, step, refused};
 ghost use Rattle.reference_machine.specs.Histories.{IsLegal, state_after, calls_of};
 ghost use Rattle.net_conf.specs.Configured.{IsConfigured};
 ghost use Rattle.session_queue.specs.Waiting.{IsQuiet};
-ghost use Rattle.cell_engine.specs.Engine.{network, IsSound};
+ghost use Rattle.cell_engine.specs.State.{network, IsConsistent};
 ghost use Rattle.sim_core.specs.Plans.{IsPrepared};
 ghost use Rattle.room.specs.Books.{IsKept, blank_seats, is_memory, stepped, recorded, noted, with_call, is_edit, version_of};
 ghost use Rattle.room.specs.Closing.{IsEachOnce, AllAgree, IsFault, counted};
@@ -40,8 +41,8 @@ use std::sync::ledger::{Blank, Book, Ledger, Share};
 use std::thread::Threads;
 pub use together::{Jobs, Outcomes};
 
-/// The machine, with the history of all calls that were made of it, which is legal, and the account of how many each seat made. L names
-/// the room and its seats.
+/// The machine, with the history of all calls that were made of it, which is legal, and the account of how many each
+/// seat made. L names the room and its seats.
 #[derive(Drop)]
 pub struct Room<S: Chosen, T: PrefixTable<Cell<S>>, L: Ledger> {
     alloc: Global,
@@ -80,8 +81,8 @@ pub enum Audit {
 }
 
 impl<S: Chosen, T: PrefixTable<Cell<S>>, L: Ledger> Room<S, T, L> {
-    /// A machine of which nothing is configured, under these keys, with no call in its history, and its seats, by number. The only fault is
-    /// want of memory.
+    /// A machine of which nothing is configured, under these keys, with no call in its history, and its seats, by
+    /// number. The only fault is want of memory.
     pub fn new(
         alloc: Global,
         keys: Option<RandomState>,
@@ -121,7 +122,7 @@ impl<S: Chosen, T: PrefixTable<Cell<S>>, L: Ledger> Room<S, T, L> {
 
     /// A call gives the caller's proof what holds of every machine.
     fn engine_facts(&self)
-        ensures sound { IsSound self.now.engine }
+        ensures sound { IsConsistent self.now.engine }
         ensures configured { IsConfigured self.now.engine.conf }
     {
         self.sim.state().facts();
@@ -154,8 +155,8 @@ impl<S: Chosen, T: PrefixTable<Cell<S>>, L: Ledger> Room<S, T, L> {
 }
 
 impl<S: Chosen + Drop, T: PrefixTable<Cell<S>> + Drop, L: Ledger> Room<S, T, L> {
-    /// Ends the room. The history is complete where all its seats come back, each once, and their notes are their calls in it; else room
-    /// and seats are handed back. The machine is let go.
+    /// Ends the room. The history is complete where all its seats come back, each once, and their notes are their calls
+    /// in it; else room and seats are handed back. The machine is let go.
     pub fn close(self, seats: Vec<Seat<L>>) -> Result<Record, CloseFault<S, T, L>>
         ensures each_once { OnOk result (IsEachOnce self.seats seats.items) }
         ensures agree { OnOk result (AllAgree self.history seats.items) }
@@ -218,8 +219,9 @@ impl<S: Chosen + Drop, T: PrefixTable<Cell<S>> + Drop, L: Ledger> Room<S, T, L> 
 }
 
 impl<S: Selector + Send + Sync + Drop, T: PrefixTable<Cell<S>> + Drop, L: Ledger> Room<S, T, L> {
-    /// Makes a call from the seat. The reply is the machine's own; it is the last of the history, and of the seat's notes. For want of
-    /// memory the reply is the refusal `Memory`, and the network, the history and the seat stay as they are.
+    /// Makes a call from the seat. The reply is the machine's own; it is the last of the history, and of the seat's
+    /// notes. For want of memory the reply is the refusal `Memory`, and the network, the history and the seat stay as
+    /// they are.
     pub fn step<R: Threads + Sync>(&mut self, rt: &R, seat: &mut Seat<L>, event: Event) -> Reply
         ensures reply { is_memory result ≡ false → result ≡ (step (network self.old.engine) event).reply }
         ensures state { network self.new.engine ≡ stepped (network self.old.engine) event result }
@@ -250,7 +252,11 @@ impl<S: Selector + Drop, T: PrefixTable<Cell<S>> + Drop, L: Ledger> Room<S, T, L
         requires { IsPrepared self.old.engine event plan }
         ensures reply { IfOk result (λ reply. reply ≡ plan.reply) }
         ensures state { OnOk result (network self.new.engine ≡ (step (network self.old.engine) event).next) }
-        ensures history { OnOk result (self.new.history ≡ self.old.history ++ record { seat = seat.old.number; event = event; reply = plan.reply } ∷ []) }
+        ensures history { OnOk result (self.new.history ≡ self.old.history ++ record {
+          seat = seat.old.number;
+          event = event;
+          reply = plan.reply;
+        } ∷ []) }
         ensures seat { OnOk result (seat.new ≡ with_call seat.old event plan.reply) }
         ensures seats { self.new.seats ≡ self.old.seats }
         ensures same { OnErr result (self.new ≡ self.old) }
@@ -283,7 +289,11 @@ impl<S: Selector + Drop, T: PrefixTable<Cell<S>> + Drop, L: Ledger> Room<S, T, L
         requires { step (network self.old.engine) event ≡ refused refusal (network self.old.engine) }
         ensures reply { IfOk result (λ reply. reply ≡ Reply.Refused refusal) }
         ensures engine { self.new.engine ≡ self.old.engine }
-        ensures history { OnOk result (self.new.history ≡ self.old.history ++ record { seat = seat.old.number; event = event; reply = Reply.Refused refusal } ∷ []) }
+        ensures history { OnOk result (self.new.history ≡ self.old.history ++ record {
+          seat = seat.old.number;
+          event = event;
+          reply = Reply.Refused refusal;
+        } ∷ []) }
         ensures seat { OnOk result (seat.new ≡ with_call seat.old event (Reply.Refused refusal)) }
         ensures seats { self.new.seats ≡ self.old.seats }
         ensures same { OnErr result (self.new ≡ self.old) }

@@ -1,7 +1,7 @@
 -- Policies: ordered lists of rules, of which the first that matches decides. What a rule can ask, and what it can set, is
 -- this project's choice (own): RFC 4271, 9.1.1 and 9.1.3, leave policies to the router.
 use Rattle.std.specs.Prelude.{◌≡◌, Bool, true, List, find, Some, None, option_map, unwrap_or, IsTrue}
-use Rattle.net_prefix.specs.Block.{Block, Covers, same_block}
+use Rattle.net_prefix.specs.Prefix.{Prefix, Covers, same_prefix}
 use Rattle.net_prefix.specs.Tests.{covers}
 use Rattle.path_attr.specs.declared.attr.Attr.{Attr}
 use Rattle.path_attr.specs.Number.{same_number}
@@ -13,7 +13,7 @@ use Rattle.route_policy.specs.declared.rule.Action.TheVariants.{Permit}
 use Rattle.route_policy.specs.declared.rule.Rule.{Rule}
 
 -- what a rule asks of a route to prefix p with attributes a
-abbrev pub Meets : Match → Block → Attr → Type 0
+abbrev pub Meets : Match → Prefix → Attr → Type 0
 -- nothing
 Meets Any p a = Unit {0}
 -- it goes to this very prefix
@@ -26,9 +26,9 @@ Meets (Path n) p a = IsTrue (holds n a.path)
 Meets (First n) p a = neighbour a.path ≡ Some n
 
 -- whether a route to the prefix with these attributes meets it
-abbrev pub matches : Match → Block → Attr → Bool
+abbrev pub matches : Match → Prefix → Attr → Bool
 matches Any p a = true
-matches (Is q) p a = same_block q p
+matches (Is q) p a = same_prefix q p
 matches (Under q) p a = covers q p
 matches (Path n) p a = holds n a.path
 matches (First n) p a = same_number (neighbour a.path) (Some n)
@@ -38,5 +38,5 @@ abbrev pub plain_permit : Action
 plain_permit = Permit None None None
 
 -- what becomes of the route: the action of the first rule that matches it, and a plain permit where none does (own)
-unfoldable pub judged : List Rule → Block → Attr → Action
+unfoldable pub judged : List Rule → Prefix → Attr → Action
 judged rules p a = unwrap_or (option_map (λ r. r.act) (find (λ r. matches r.cond p a) rules)) plain_permit

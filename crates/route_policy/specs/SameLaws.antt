@@ -3,7 +3,7 @@ use Rattle.std.specs.Prelude.{◌≡◌, ℕ, Bool, true, ◌&&◌, ◌==◌, Op
 use Rattle.std.proofs.Common.{ap, sym, subst}
 use Rattle.std.proofs.lemmas.Bool.{true≢false}
 use Rattle.std.specs.Cmp.{IsPartialEquivalence, unsigned_Decides, partial_equiv_from_equiv, decided, first_so, second_so}
-use Rattle.net_prefix.specs.Block.{Block, same_block}
+use Rattle.net_prefix.specs.Prefix.{Prefix, same_prefix}
 use Rattle.path_attr.specs.Number.{same_number}
 use Rattle.path_attr.specs.Sameness.{IsExact, lists_exact}
 use Rattle.route_policy.specs.declared.rule.Match.{Match}
@@ -19,14 +19,14 @@ both_true p q h g = λ i. h i && g i
 number_itself : (n : ℕ) → (n == n) ≡ true
 number_itself n = (unsigned_Decides n n).1 refl
 
-block_true : (p q : Block) → same_block p q ≡ true → p ≡ q
-block_true p q h =
+prefix_true : (p q : Prefix) → same_prefix p q ≡ true → p ≡ q
+prefix_true p q h =
     let address = (unsigned_Decides p.addr.0 q.addr.0).0 (first_so (p.addr.0 == q.addr.0) (p.len == q.len) h) in
     let length = (unsigned_Decides p.len q.len).0 (second_so (p.addr.0 == q.addr.0) (p.len == q.len) h) in
     λ i. record { addr = record { 0 = address i }; len = length i }
 
-block_itself : (p : Block) → same_block p p ≡ true
-block_itself p = both_true _ _ (number_itself p.addr.0) (number_itself p.len)
+prefix_itself : (p : Prefix) → same_prefix p p ≡ true
+prefix_itself p = both_true _ _ (number_itself p.addr.0) (number_itself p.len)
 
 maybe_number_true : (m n : Option ℕ) → same_number m n ≡ true → m ≡ n
 maybe_number_true None None h = refl
@@ -40,16 +40,16 @@ maybe_number_itself (Some m) = number_itself m
 
 match_true : (m n : Match) → same_match m n ≡ true → m ≡ n
 match_true Any Any h = refl
-match_true (Is p) (Is q) h = ap Is (block_true p q h)
-match_true (Under p) (Under q) h = ap Under (block_true p q h)
+match_true (Is p) (Is q) h = ap Is (prefix_true p q h)
+match_true (Under p) (Under q) h = ap Under (prefix_true p q h)
 match_true (Path m) (Path n) h = ap Path ((unsigned_Decides m n).0 h)
 match_true (First m) (First n) h = ap First ((unsigned_Decides m n).0 h)
 match_true _ _ h = absurd (true≢false (sym h))
 
 match_itself : (m : Match) → same_match m m ≡ true
 match_itself Any = refl
-match_itself (Is p) = block_itself p
-match_itself (Under p) = block_itself p
+match_itself (Is p) = prefix_itself p
+match_itself (Under p) = prefix_itself p
 match_itself (Path n) = number_itself n
 match_itself (First n) = number_itself n
 

@@ -1,7 +1,7 @@
 -- Whether two policies are the same, rule by rule.
 use Rattle.std.specs.Prelude.{Bool, true, false, ◌&&◌, ◌==◌, List}
 use Rattle.std.specs.Cmp.Lexicographic.{pointwise}
-use Rattle.net_prefix.specs.Block.{same_block}
+use Rattle.net_prefix.specs.Prefix.{same_prefix}
 use Rattle.path_attr.specs.Number.{same_number}
 use Rattle.route_policy.specs.declared.rule.Match.{Match}
 use Rattle.route_policy.specs.declared.rule.Match.TheVariants.{Any, Is, Under, Path, First}
@@ -11,8 +11,8 @@ use Rattle.route_policy.specs.declared.rule.Rule.{Rule}
 
 abbrev pub same_match : Match → Match → Bool
 same_match Any Any = true
-same_match (Is p) (Is q) = same_block p q
-same_match (Under p) (Under q) = same_block p q
+same_match (Is p) (Is q) = same_prefix p q
+same_match (Under p) (Under q) = same_prefix p q
 same_match (Path m) (Path n) = m == n
 same_match (First m) (First n) = m == n
 same_match _ _ = false

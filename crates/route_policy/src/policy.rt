@@ -44,8 +44,8 @@ impl fmt::Display for AddFault {
 
 impl Error for AddFault {}
 
-/// An ordered list of rules, at most 256. The first that matches a route decides what becomes of it. A copy shares the rules; a change
-/// makes a list of its own.
+/// An ordered list of rules, at most 256. The first that matches a route decides what becomes of it. A copy shares the
+/// rules; a change makes a list of its own.
 #[derive(Debug, Drop)]
 pub struct Policy {
     rules: SharedSeq<Rule>,

@@ -1,4 +1,5 @@
-//! The selector in groups: the order in which the standings are kept decides, so that the best is looked up and not searched for.
+//! The selector in groups: the order in which the standings are kept decides, so that the best is looked up and not
+//! searched for.
 
 ghost use Rattle.std.specs.Prelude.{◌≡◌, ◌<◌, List, length, None, OnOk, OnErr, vec_len, vec_capacity};
 ghost use Rattle.std.specs.FinMap.{find};
@@ -17,9 +18,9 @@ use std::marker::Model;
 
 /// Standings in groups of one neighbouring AS, and the position of the best one.
 ///
-/// One vector holds all: the groups one behind the other, each in the order of all filters, and behind them what is excluded. So
-/// taking out or putting in is one search and one shift, memory is asked for in one place, before anything is changed, and there are no
-/// groups to begin, to remove when they are empty, or to number anew.
+/// One vector holds all: the groups one behind the other, each in the order of all filters, and behind them what is
+/// excluded. So taking out or putting in is one search and one shift, memory is asked for in one place, before anything
+/// is changed, and there are no groups to begin, to remove when they are empty, or to number anew.
 #[derive(Drop)]
 pub struct GroupCell {
     entries: Vec<(Source, Standing)>,
@@ -42,12 +43,14 @@ impl Model for GroupCell {
     ghost invariant = { λ a. AreGrouped a.entries.items a.best };
 }
 
-/// Why the route at a position is not the best, or that it is. Three routes tell: it, the best, and the leader of its group.
+/// Why the route at a position is not the best, or that it is. Three routes tell: it, the best, and the leader of its
+/// group.
 fn reason_at(entries: &[(Source, Standing)], best: usize, at: usize) -> Reason
     requires in_range { at < length entries.now }
     requires ranked { AreRanked entries.now }
     requires best { IsBest (considered_in entries.now) (candidate_at entries.now best) }
-    ensures { (set : List Candidate) → SameMembers set (considered_in entries.now) → result ≡ reason_for set (standing_at entries.now at) }
+    ensures { (set : List Candidate) → SameMembers set (considered_in entries.now) →
+        result ≡ reason_for set (standing_at entries.now at) }
 {
     match &entries[at].1 {
         Standing::Excluded(reason) => *reason,
@@ -58,7 +61,8 @@ fn reason_at(entries: &[(Source, Standing)], best: usize, at: usize) -> Reason
     }
 }
 
-/// Takes the source's entry out, or where it has none makes room for it. An error comes only where it has none, and changes nothing.
+/// Takes the source's entry out, or where it has none makes room for it. An error comes only where it has none, and
+/// changes nothing.
 fn make_way(entries: &mut Vec<(Source, Standing)>, source: Source) -> Result<(), AllocError>
     requires { AreDistinct entries.old.items }
     ensures ok { OnOk result (entries.new.items ≡ without source entries.old.items) }

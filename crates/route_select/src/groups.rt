@@ -1,5 +1,5 @@
-//! Standings in a vector, in groups: the routes of one neighbouring AS stand together, each group in the order of all filters, so
-//! that its leader comes first. The groups lie one behind the other, and behind them what is excluded.
+//! Standings in a vector, in groups: the routes of one neighbouring AS stand together, each group in the order of all
+//! filters, so that its leader comes first. The groups lie one behind the other, and behind them what is excluded.
 
 ghost use Rattle.std.specs.Prelude.{◌≡◌, ◌≤◌, true, IfSome, IfNone};
 ghost use Rattle.std.specs.Option.{option_copied};
@@ -102,7 +102,8 @@ fn is_better(entries: &[(Source, Standing)], at: usize, best: usize) -> bool
     }
 }
 
-/// The position of the best: of the leaders the first in the order without MED. Where nothing is considered, no route is there.
+/// The position of the best: of the leaders the first in the order without MED. Where nothing is considered, no route
+/// is there.
 pub(crate) fn best_position(entries: &[(Source, Standing)]) -> usize
     requires { AreRanked entries.now }
     ensures { IsBest (considered_in entries.now) (candidate_at entries.now result) }

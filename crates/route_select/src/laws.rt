@@ -1,5 +1,5 @@
-//! What holds of the nine filters, whatever the routes. A function here does nothing: a call gives the caller's proof what it
-//! ensures.
+//! What holds of the nine filters, whatever the routes. A function here does nothing: a call gives the caller's proof
+//! what it ensures.
 
 ghost use Rattle.route_select.specs.Laws.{OneIsLeft, NoneIsLeft, EachIsApplied};
 

@@ -1,6 +1,6 @@
-//! Worked examples of prefixes, paths, policies and tables, as public calls; those of the libraries above them stand in `call_tests`. They stand
-//! apart from the libraries, which would be proved once more with them. What a script shows is a case, in cases/ at the top of the repository.
-//! The module `table_use` has callers of any table.
+//! Worked examples of prefixes, paths, policies and tables, as public calls; those of the libraries above them stand in
+//! `call_tests`. They stand apart from the libraries, which would be proved once more with them. What a script shows is
+//! a case, in cases/ at the top of the repository. The module `table_use` has callers of any table.
 #![tactic(auto)]
 
 #[cfg(test)]

@@ -7,7 +7,8 @@ use std::alloc::{AllocError, Global};
 use std::marker::Model;
 use std::sync::Arc;
 
-/// A list that never changes, which any number of owners share: contracts see its elements alone. A copy takes no memory.
+/// A list that never changes, which any number of owners share: contracts see its elements alone. A copy takes no
+/// memory.
 #[derive(Debug, Drop)]
 pub struct SharedSeq<T> {
     // None where the list is empty: no memory was taken for it.

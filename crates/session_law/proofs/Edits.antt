@@ -3,7 +3,7 @@
 use Rattle.std.proofs.Common.{◌≡◌, ◌⊎◌, inl, inr, Bool, true, false, not, ◌&&◌, cond, List, [], Option, Some, None, option_map, is_some, unwrap_or, refl, sym, ap, ◌∙◌}
 use Rattle.std.proofs.lemmas.Bool.{true≢false, false_from_ne_true}
 use Rattle.net_prefix.specs.declared.addr.Addr.{Addr}
-use Rattle.net_prefix.specs.Block.{Block}
+use Rattle.net_prefix.specs.Prefix.{Prefix}
 use Rattle.session_queue.specs.declared.message.Message.{Message}
 use Rattle.session_queue.specs.declared.direction.Direction.{Direction}
 use Rattle.net_conf.specs.Configuration.{Configuration, has_node, is_virtual, is_kind_virtual, has_session}
@@ -102,7 +102,7 @@ module _ (s : Network) (e : Edit) (told : IsTold s) (ok : Passes s.conf e) where
   unfolding reconfigured
   conf_now = refl
 
-  route_now : (r t : Addr) (p : Block) → route_from (after_edit s e).received t p r ≡ cond (is_up new r t) (route_from s.received t p r) None
+  route_now : (r t : Addr) (p : Prefix) → route_from (after_edit s e).received t p r ≡ cond (is_up new r t) (route_from s.received t p r) None
   unfolding reconfigured
   route_now r t p = route_kept new s.received r t p
 
@@ -113,10 +113,10 @@ module _ (s : Network) (e : Edit) (told : IsTold s) (ok : Passes s.conf e) where
   waiting_up : (a b : Addr) → is_up new a b ≡ true → waiting (after_edit s e) a b ≡ unwrap_or (in_queues (with_queues e s.queues) a b) []
   waiting_up a b up = ap (λ o. unwrap_or o []) (messages_now a b) ∙ all_messages (is_up new a b) (in_queues (with_queues e s.queues) a b) up
 
-  route_up : (r t : Addr) (p : Block) → is_up new r t ≡ true → route_from (after_edit s e).received t p r ≡ route_from s.received t p r
+  route_up : (r t : Addr) (p : Prefix) → is_up new r t ≡ true → route_from (after_edit s e).received t p r ≡ route_from s.received t p r
   route_up r t p up = route_now r t p ∙ ap (λ b. cond b (route_from s.received t p r) None) up
 
-  applied_now : (r t : Addr) (p : Block) → is_up new r t ≡ true → applied (after_edit s e) r t p ≡ after_messages p (route_from s.received t p r) (unwrap_or (in_queues (with_queues e s.queues) r t) [])
+  applied_now : (r t : Addr) (p : Prefix) → is_up new r t ≡ true → applied (after_edit s e) r t p ≡ after_messages p (route_from s.received t p r) (unwrap_or (in_queues (with_queues e s.queues) r t) [])
   unfolding reconfigured
   applied_now r t p up = applied_up (after_edit s e) r t p up ∙ (λ i. after_messages p (route_up r t p up i) (waiting_up r t up i))
 
@@ -127,7 +127,7 @@ module _ (s : Network) (e : Edit) (told : IsTold s) (ok : Passes s.conf e) where
       let same : is_virtual new r ≡ is_virtual s.conf r = ap (λ o. unwrap_or (option_map (λ n. is_kind_virtual n.kind) o) false) (node_kept s.conf e ok r here) in
       sends_from s.conf r t here (ap not (sym same) ∙ (sends_parts new r t is).1) up
 
-  before_by : (b : Bool) (r t : Addr) (p : Block) → is_up s.conf r t ≡ b → sends new r t ≡ true → applied (after_edit s e) r t p ≡ advertised s r t p
+  before_by : (b : Bool) (r t : Addr) (p : Prefix) → is_up s.conf r t ≡ b → sends new r t ≡ true → applied (after_edit s e) r t p ≡ advertised s r t p
   before_by true r t p up is =
       applied_now r t p (sends_parts new r t is).2
       ∙ ap (λ o. after_messages p (route_from s.received t p r) (unwrap_or o [])) (queues_kept s.conf e s.queues ok r t (session_if_up s.conf r t up))

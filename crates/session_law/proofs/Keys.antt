@@ -8,7 +8,7 @@ use Rattle.std.proofs.lemmas.Cmp.{then_total, on_total, nat_cmp_total}
 use Rattle.std.proofs.lemmas.Bool.{and_parts, and_from}
 use Rattle.net_prefix.specs.declared.addr.Addr.{Addr}
 use Rattle.net_prefix.specs.Address.{same_addr}
-use Rattle.net_prefix.specs.Block.{Block, same_block, block_cmp}
+use Rattle.net_prefix.specs.Prefix.{Prefix, same_prefix, prefix_cmp}
 use Rattle.session_queue.specs.declared.direction.Direction.{Direction}
 use Rattle.session_queue.specs.Waiting.{direction_cmp}
 use Rattle.reference_machine.specs.declared.rows.RouteKey.{RouteKey}
@@ -20,22 +20,22 @@ same_addr_true a b h = ap (λ n. record { 0 = n }) ((unsigned_Decides a.0 b.0).0
 pub same_addr_itself : (a : Addr) → same_addr a a ≡ true
 same_addr_itself a = (unsigned_Decides a.0 a.0).1 refl
 
-pub same_block_true : (p q : Block) → same_block p q ≡ true → p ≡ q
-same_block_true p q h =
+pub same_prefix_true : (p q : Prefix) → same_prefix p q ≡ true → p ≡ q
+same_prefix_true p q h =
     let parts = and_parts (p.addr.0 == q.addr.0) (p.len == q.len) h in
     let addr = same_addr_true p.addr q.addr parts.0 in
     let len = (unsigned_Decides p.len q.len).0 parts.1 in
     λ i. record { addr = addr i; len = len i }
 
-pub same_block_itself : (p : Block) → same_block p p ≡ true
-same_block_itself p = and_from (p.addr.0 == p.addr.0) (p.len == p.len) (same_addr_itself p.addr) ((unsigned_Decides p.len p.len).1 refl)
+pub same_prefix_itself : (p : Prefix) → same_prefix p p ≡ true
+same_prefix_itself p = and_from (p.addr.0 == p.addr.0) (p.len == p.len) (same_addr_itself p.addr) ((unsigned_Decides p.len p.len).1 refl)
 
-block_tied : (p q : Block) → same_block p q ≡ is_eq (block_cmp p q)
-block_tied p q = both_tied _ _ _ _ (unsigned_ties p.addr.0 q.addr.0) (unsigned_ties p.len q.len)
+prefix_tied : (p q : Prefix) → same_prefix p q ≡ is_eq (prefix_cmp p q)
+prefix_tied p q = both_tied _ _ _ _ (unsigned_ties p.addr.0 q.addr.0) (unsigned_ties p.len q.len)
 
 -- prefixes that compare alike are one
-pub block_exact : (p q : Block) → block_cmp p q ≡ Equal → p ≡ q
-block_exact p q e = same_block_true p q (block_tied p q ∙ ap is_eq e)
+pub prefix_exact : (p q : Prefix) → prefix_cmp p q ≡ Equal → p ≡ q
+prefix_exact p q e = same_prefix_true p q (prefix_tied p q ∙ ap is_eq e)
 
 -- both ends are the same
 abbrev pub same_ends : Direction → Direction → Bool
@@ -54,8 +54,8 @@ same_ends_itself d = and_from (same_addr d.from d.from) (same_addr d.to d.to) (s
 pub direction_tied : (d e : Direction) → same_ends d e ≡ is_eq (direction_cmp d e)
 direction_tied d e = both_tied _ _ _ _ (unsigned_ties d.from.0 e.from.0) (unsigned_ties d.to.0 e.to.0)
 
-pub route_tied : (k l : RouteKey) → (same_addr k.to l.to && (same_block k.prefix l.prefix && same_addr k.from l.from)) ≡ is_at (route_cmp k) l
-route_tied k l = both_tied _ _ _ _ (unsigned_ties k.to.0 l.to.0) (both_tied _ _ _ _ (block_tied k.prefix l.prefix) (unsigned_ties k.from.0 l.from.0))
+pub route_tied : (k l : RouteKey) → (same_addr k.to l.to && (same_prefix k.prefix l.prefix && same_addr k.from l.from)) ≡ is_at (route_cmp k) l
+route_tied k l = both_tied _ _ _ _ (unsigned_ties k.to.0 l.to.0) (both_tied _ _ _ _ (prefix_tied k.prefix l.prefix) (unsigned_ties k.from.0 l.from.0))
 
 pub route_total : IsTotalOrder route_cmp
 route_total =

@@ -13,7 +13,7 @@ use Rattle.std.proofs.lemmas.Map.Keys.{IsDistinct-from_sorted}
 use Rattle.std.proofs.lemmas.Map.Entries.{lookup-filter-keys}
 use Rattle.net_prefix.specs.declared.addr.Addr.{Addr}
 use Rattle.net_prefix.specs.Address.{same_addr}
-use Rattle.net_prefix.specs.Block.{Block, same_block}
+use Rattle.net_prefix.specs.Prefix.{Prefix, same_prefix}
 use Rattle.path_attr.specs.declared.attr.Attr.{Attr}
 use Rattle.session_queue.specs.declared.message.Message.{Message}
 use Rattle.session_queue.specs.declared.message.Message.TheVariants.{Update, Withdraw}
@@ -32,7 +32,7 @@ use Rattle.session_law.proofs.Keys.{same_ends, route_tied, route_total, same_add
 abbrev pub AreOrdered : List (RouteKey × Attr) → Type 0
 AreOrdered es = IsStrictlySortedBy route_cmp (keys_of es)
 
-abbrev at_route : Addr → Block → Addr → RouteKey
+abbrev at_route : Addr → Prefix → Addr → RouteKey
 at_route r p u = record { to = r; prefix = p; from = u }
 
 route_laws : IsEquivalence (eq_by_cmp route_cmp)
@@ -56,8 +56,8 @@ by_ends false false true x y = refl
 by_ends false false false x y = refl
 
 -- the key of the message, seen from the key that is looked up
-seen : {A : Type 0} (d : Direction) (q p : Block) (r t : Addr) (x y : A) → cond (is_at (route_cmp (at_route t p r)) (at_route d.to q d.from)) x y ≡ cond (same_ends (record { from = r; to = t }) d) (cond (same_block p q) x y) y
-seen d q p r t x y = ap (λ b. cond b x y) (sym (route_tied (at_route t p r) (at_route d.to q d.from))) ∙ by_ends (same_addr t d.to) (same_block p q) (same_addr r d.from) x y
+seen : {A : Type 0} (d : Direction) (q p : Prefix) (r t : Addr) (x y : A) → cond (is_at (route_cmp (at_route t p r)) (at_route d.to q d.from)) x y ≡ cond (same_ends (record { from = r; to = t }) d) (cond (same_prefix p q) x y) y
+seen d q p r t x y = ap (λ b. cond b x y) (sym (route_tied (at_route t p r) (at_route d.to q d.from))) ∙ by_ends (same_addr t d.to) (same_prefix p q) (same_addr r d.from) x y
 
 either_way : (k l : RouteKey) → is_at (route_cmp k) l ≡ is_at (route_cmp l) k
 either_way k l = route_laws.symm k l
@@ -66,7 +66,7 @@ one_key : (k x y : RouteKey) → is_at (route_cmp k) x ≡ true → is_at (route
 one_key k x y h = route_laws.congr k x y h
 
 -- a message changes what it says, over its own session, and nothing else
-pub route_after : (d : Direction) (m : Message) (es : List (RouteKey × Attr)) → AreOrdered es → (r t : Addr) (p : Block) → route_from (received_after d m es) t p r ≡ cond (same_ends (record { from = r; to = t }) d) (after_message p (route_from es t p r) m) (route_from es t p r)
+pub route_after : (d : Direction) (m : Message) (es : List (RouteKey × Attr)) → AreOrdered es → (r t : Addr) (p : Prefix) → route_from (received_after d m es) t p r ≡ cond (same_ends (record { from = r; to = t }) d) (after_message p (route_from es t p r) m) (route_from es t p r)
 route_after d (Update q attr) es h r t p =
     lookup_inserted route_total (at_route t p r) (at_route d.to q d.from) attr es ∙ seen d q p r t (Some attr) (route_from es t p r)
 route_after d (Withdraw q) es h r t p =
@@ -77,15 +77,15 @@ route_after d (Withdraw q) es h r t p =
 
 -- AN EDIT
 
-kept_at : (c : Configuration) (t r : Addr) (p : Block) (k : RouteKey) → is_at (route_cmp (at_route t p r)) k ≡ true → is_up c k.from k.to ≡ is_up c r t
+kept_at : (c : Configuration) (t r : Addr) (p : Prefix) (k : RouteKey) → is_at (route_cmp (at_route t p r)) k ≡ true → is_up c k.from k.to ≡ is_up c r t
 kept_at c t r p k h =
-    let parts = and_parts (same_addr t k.to) (same_block p k.prefix && same_addr r k.from) (route_tied (at_route t p r) k ∙ h) in
+    let parts = and_parts (same_addr t k.to) (same_prefix p k.prefix && same_addr r k.from) (route_tied (at_route t p r) k ∙ h) in
     let to = same_addr_true t k.to parts.0 in
-    let from = same_addr_true r k.from (and_parts (same_block p k.prefix) (same_addr r k.from) parts.1).1 in
+    let from = same_addr_true r k.from (and_parts (same_prefix p k.prefix) (same_addr r k.from) parts.1).1 in
     λ i. is_up c (sym from i) (sym to i)
 
 -- what was received over a session that is down is gone, and the rest stays
-pub route_kept : (c : Configuration) (es : List (RouteKey × Attr)) (r t : Addr) (p : Block) → route_from (filter (is_kept c) es) t p r ≡ cond (is_up c r t) (route_from es t p r) None
+pub route_kept : (c : Configuration) (es : List (RouteKey × Attr)) (r t : Addr) (p : Prefix) → route_from (filter (is_kept c) es) t p r ≡ cond (is_up c r t) (route_from es t p r) None
 route_kept c es r t p = lookup-filter-keys (is_at (route_cmp (at_route t p r))) (λ k. is_up c k.from k.to) (is_up c r t) (kept_at c t r p) es
 
 pub ordered_kept : (c : Configuration) (es : List (RouteKey × Attr)) → AreOrdered es → AreOrdered (filter (is_kept c) es)
@@ -93,19 +93,19 @@ ordered_kept c es h = ordered_filtered route_total (is_kept c) es h
 
 -- A PREFIX THAT IS NOT AMONG THOSE RECEIVED
 
-abbrev prefixes_of : List (RouteKey × Attr) → List Block
+abbrev prefixes_of : List (RouteKey × Attr) → List Prefix
 prefixes_of es = map (λ x. x.0.prefix) es
 
 -- the head is no route of the router to the prefix, and no later one is
-missed : (here : Bool) (u r : Addr) (p : Block) (e : RouteKey × Attr) (es : List (RouteKey × Attr)) → same_addr e.0.to r ≡ here → list_any (same_block p) (prefixes_of (received_by r (e ∷ es))) ≡ false → (is_at (route_cmp (at_route r p u)) e.0 ≡ false) × (list_any (same_block p) (prefixes_of (received_by r es)) ≡ false)
+missed : (here : Bool) (u r : Addr) (p : Prefix) (e : RouteKey × Attr) (es : List (RouteKey × Attr)) → same_addr e.0.to r ≡ here → list_any (same_prefix p) (prefixes_of (received_by r (e ∷ es))) ≡ false → (is_at (route_cmp (at_route r p u)) e.0 ≡ false) × (list_any (same_prefix p) (prefixes_of (received_by r es)) ≡ false)
 missed true u r p e es to none =
-    let parts = or_parts (same_block p e.0.prefix) (list_any (same_block p) (prefixes_of (received_by r es))) (rw to at none) in
-    (sym (route_tied (at_route r p u) e.0) ∙ and_right (same_addr r e.0.to) (same_block p e.0.prefix && same_addr u e.0.from) (and_left (same_block p e.0.prefix) (same_addr u e.0.from) parts.0), parts.1)
+    let parts = or_parts (same_prefix p e.0.prefix) (list_any (same_prefix p) (prefixes_of (received_by r es))) (rw to at none) in
+    (sym (route_tied (at_route r p u) e.0) ∙ and_right (same_addr r e.0.to) (same_prefix p e.0.prefix && same_addr u e.0.from) (and_left (same_prefix p e.0.prefix) (same_addr u e.0.from) parts.0), parts.1)
 missed false u r p e es to none =
-    (sym (route_tied (at_route r p u) e.0) ∙ and_left (same_addr r e.0.to) (same_block p e.0.prefix && same_addr u e.0.from) (nat_eq_equiv.symm r.0 e.0.to.0 ∙ to), rw to at none)
+    (sym (route_tied (at_route r p u) e.0) ∙ and_left (same_addr r e.0.to) (same_prefix p e.0.prefix && same_addr u e.0.from) (nat_eq_equiv.symm r.0 e.0.to.0 ∙ to), rw to at none)
 
 -- a prefix that is none of those received has no route
-pub route_none : (u r : Addr) (p : Block) (es : List (RouteKey × Attr)) → list_any (same_block p) (prefixes_of (received_by r es)) ≡ false → route_from es r p u ≡ None
+pub route_none : (u r : Addr) (p : Prefix) (es : List (RouteKey × Attr)) → list_any (same_prefix p) (prefixes_of (received_by r es)) ≡ false → route_from es r p u ≡ None
 route_none u r p [] none = refl
 route_none u r p (e ∷ es) none =
     let parts = missed (same_addr e.0.to r) u r p e es refl none in

@@ -3,7 +3,7 @@ use Rattle.std.proofs.Common.{◌≡◌, inl, inr, Bool, true, false, not, ◌&&
 use Rattle.std.specs.List.{list_all}
 use Rattle.std.proofs.lemmas.Bool.{and_parts, or_parts, not-false}
 use Rattle.net_prefix.specs.declared.addr.Addr.{Addr}
-use Rattle.net_prefix.specs.Block.{Block}
+use Rattle.net_prefix.specs.Prefix.{Prefix}
 use Rattle.session_queue.specs.declared.message.Message.{Message}
 use Rattle.session_queue.specs.declared.direction.Direction.{Direction}
 use Rattle.net_conf.specs.Configuration.{Configuration, has_node, is_virtual, has_session}
@@ -122,7 +122,7 @@ quiet_at d (q ∷ qs) h =
     let parts = and_parts (is_empty q.messages) (list_all (λ x. is_empty x.messages) qs) h in
     quiet_step (is_of d q) d q qs refl (no_messages q.messages parts.0) (quiet_at d qs parts.1)
 
-quiet_applied : (s : Network) (r t : Addr) (p : Block) → is_quiet s ≡ true → is_up s.conf r t ≡ true → applied s r t p ≡ route_from s.received t p r
+quiet_applied : (s : Network) (r t : Addr) (p : Prefix) → is_quiet s ≡ true → is_up s.conf r t ≡ true → applied s r t p ≡ route_from s.received t p r
 unfolding is_quiet
 quiet_applied s r t p quiet up = applied_up s r t p up ∙ ap (after_messages p (route_from s.received t p r)) (quiet_at (direction r t) s.queues quiet)
 

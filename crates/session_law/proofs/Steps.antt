@@ -2,7 +2,7 @@
 use Rattle.std.proofs.Common.{◌≡◌, Bool, true, false, cond, List, [], ◌∷◌, ◌++◌, Option, Some, None, option_map, is_some, unwrap_or, refl, sym, ap, ◌∙◌}
 use Rattle.std.proofs.lemmas.Bool.{true≢false, false_from_ne_true, not-true}
 use Rattle.net_prefix.specs.declared.addr.Addr.{Addr}
-use Rattle.net_prefix.specs.Block.{Block}
+use Rattle.net_prefix.specs.Prefix.{Prefix}
 use Rattle.session_queue.specs.declared.message.Message.{Message}
 use Rattle.session_queue.specs.declared.direction.Direction.{Direction}
 use Rattle.net_conf.specs.Configuration.{Configuration, is_virtual}
@@ -30,7 +30,7 @@ by_mapped f b (Some ms) is = ap (λ x. cond x (f ms) ms) is
 -- DELIVERIES
 
 module _ (s : Network) (d : Direction) (m : Message) (ms : List Message) (told : IsTold s) (up : is_up s.conf d.from d.to ≡ true) (head : messages_in s.queues d ≡ Some (m ∷ ms)) where
-  route_taken : (r t : Addr) (p : Block) → route_from (taken s d m).received t p r ≡ cond (same_ends (direction r t) d) (after_message p (route_from s.received t p r) m) (route_from s.received t p r)
+  route_taken : (r t : Addr) (p : Prefix) → route_from (taken s d m).received t p r ≡ cond (same_ends (direction r t) d) (after_message p (route_from s.received t p r) m) (route_from s.received t p r)
   unfolding taken
   route_taken r t p = route_after d m s.received told.tidy.ordered r t p
 
@@ -39,14 +39,14 @@ module _ (s : Network) (d : Direction) (m : Message) (ms : List Message) (told :
   waiting_taken r t = ap (λ o. unwrap_or o []) (messages_without_head d (direction r t) s.queues)
 
   -- what the message says has moved from the queue to what was received
-  same_applied : (b : Bool) (r t : Addr) (p : Block) → same_ends (direction r t) d ≡ b → after_messages p (cond b (after_message p (route_from s.received t p r) m) (route_from s.received t p r)) (unwrap_or (option_map (λ xs. cond b (rest_of xs) xs) (messages_in s.queues (direction r t))) []) ≡ after_messages p (route_from s.received t p r) (waiting s r t)
+  same_applied : (b : Bool) (r t : Addr) (p : Prefix) → same_ends (direction r t) d ≡ b → after_messages p (cond b (after_message p (route_from s.received t p r) m) (route_from s.received t p r)) (unwrap_or (option_map (λ xs. cond b (rest_of xs) xs) (messages_in s.queues (direction r t))) []) ≡ after_messages p (route_from s.received t p r) (waiting s r t)
   same_applied true r t p is =
       let here : messages_in s.queues (direction r t) ≡ Some (m ∷ ms) = ap (messages_in s.queues) (same_ends_true (direction r t) d is) ∙ head in
       ap (λ o. after_messages p (after_message p (route_from s.received t p r) m) (unwrap_or (option_map rest_of o) [])) here
       ∙ ap (λ o. after_messages p (route_from s.received t p r) (unwrap_or o [])) (sym here)
   same_applied false r t p is = ap (after_messages p (route_from s.received t p r)) (by_mapped rest_of false (messages_in s.queues (direction r t)) refl)
 
-  applied_taken : (r t : Addr) (p : Block) → is_up s.conf r t ≡ true → applied (taken s d m) r t p ≡ applied s r t p
+  applied_taken : (r t : Addr) (p : Prefix) → is_up s.conf r t ≡ true → applied (taken s d m) r t p ≡ applied s r t p
   unfolding taken
   applied_taken r t p is =
       applied_up (taken s d m) r t p is
@@ -54,7 +54,7 @@ module _ (s : Network) (d : Direction) (m : Message) (ms : List Message) (told :
       ∙ same_applied (same_ends (direction r t) d) r t p refl
       ∙ sym (applied_up s r t p is)
 
-  before_taken : (r t : Addr) (p : Block) → sends (taken s d m).conf r t ≡ true → applied (taken s d m) r t p ≡ advertised s r t p
+  before_taken : (r t : Addr) (p : Prefix) → sends (taken s d m).conf r t ≡ true → applied (taken s d m) r t p ≡ advertised s r t p
   unfolding taken
   before_taken r t p is = applied_taken r t p (sends_parts s.conf r t is).2 ∙ told.law r t p is
 
@@ -87,11 +87,11 @@ module _ (s : Network) (d : Direction) (m : Message) (told : IsTold s) (up : is_
   not_fed r t is =
       false_from_ne_true (same_ends (direction r t) d) (λ h. true≢false (sym virtual ∙ ap (λ e. is_virtual s.conf e.from) (sym (same_ends_true (direction r t) d h)) ∙ not-true (is_virtual s.conf r) (sends_parts s.conf r t is).1))
 
-  advertised_fed : (r t : Addr) (p : Block) → advertised s r t p ≡ advertised (fed s d m) r t p
+  advertised_fed : (r t : Addr) (p : Prefix) → advertised s r t p ≡ advertised (fed s d m) r t p
   unfolding advertised best
   advertised_fed r t p = refl
 
-  law_fed : (r t : Addr) (p : Block) → sends s.conf r t ≡ true → applied (fed s d m) r t p ≡ advertised (fed s d m) r t p
+  law_fed : (r t : Addr) (p : Prefix) → sends s.conf r t ≡ true → applied (fed s d m) r t p ≡ advertised (fed s d m) r t p
   law_fed r t p is =
       let is_up_now = (sends_parts s.conf r t is).2 in
       applied_up (fed s d m) r t p is_up_now

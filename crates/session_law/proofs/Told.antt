@@ -4,7 +4,7 @@ use Rattle.std.specs.List.Sorted.{IsStrictlySortedBy}
 use Rattle.std.proofs.lemmas.Bool.{true≢false}
 use Rattle.std.proofs.lemmas.List.Sums.{fold-append}
 use Rattle.net_prefix.specs.declared.addr.Addr.{Addr}
-use Rattle.net_prefix.specs.Block.{Block}
+use Rattle.net_prefix.specs.Prefix.{Prefix}
 use Rattle.session_queue.specs.declared.message.Message.{Message}
 use Rattle.session_queue.specs.declared.direction.Direction.{Direction}
 use Rattle.net_conf.specs.Configuration.{Configuration, has_node, is_virtual, has_session}
@@ -31,7 +31,7 @@ waiting s a b = unwrap_or (messages_in s.queues (direction a b)) []
 -- what holds whether or not what is due has been sent
 pub record IsTidy (s : Network) : Type 0 where
   -- over a session that is down, nothing is received, and nothing is on its way
-  pub no_route : (a b : Addr) → is_up s.conf a b ≡ false → (p : Block) → route_from s.received b p a ≡ None
+  pub no_route : (a b : Addr) → is_up s.conf a b ≡ false → (p : Prefix) → route_from s.received b p a ≡ None
   pub no_message : (a b : Addr) → is_up s.conf a b ≡ false → waiting s a b ≡ []
   -- each session has a queue each way
   pub there : (a b : Addr) → has_session s.conf a b ≡ true → is_some (messages_in s.queues (direction a b)) ≡ true
@@ -42,12 +42,12 @@ pub record IsTidy (s : Network) : Type 0 where
 
 -- what each peer has received, with what is on its way put over it, is what the router advertises to it now
 pub record IsTold (s : Network) : Type 0 where
-  pub law : (r t : Addr) (p : Block) → sends s.conf r t ≡ true → applied s r t p ≡ advertised s r t p
+  pub law : (r t : Addr) (p : Prefix) → sends s.conf r t ≡ true → applied s r t p ≡ advertised s r t p
   pub tidy : IsTidy s
 
 -- s is about to become s': so far it is in s' what the router advertised in s
 pub record IsTurned (s s' : Network) : Type 0 where
-  pub before : (r t : Addr) (p : Block) → sends s'.conf r t ≡ true → applied s' r t p ≡ advertised s r t p
+  pub before : (r t : Addr) (p : Prefix) → sends s'.conf r t ≡ true → applied s' r t p ≡ advertised s r t p
   pub tidy : IsTidy s'
 
 -- SENDING
@@ -88,7 +88,7 @@ unfolding queue
 queue_up s a b up = ap (λ x. if x then waiting s a b else []) up
 
 -- what is received, with what is on its way put over it, where the session is up
-pub applied_up : (s : Network) (r t : Addr) (p : Block) → is_up s.conf r t ≡ true → applied s r t p ≡ after_messages p (route_from s.received t p r) (waiting s r t)
+pub applied_up : (s : Network) (r t : Addr) (p : Prefix) → is_up s.conf r t ≡ true → applied s r t p ≡ after_messages p (route_from s.received t p r) (waiting s r t)
 unfolding applied
 applied_up s r t p up = ap (after_messages p (route_from s.received t p r)) (queue_up s r t up)
 
@@ -115,16 +115,16 @@ module _ (s s' : Network) (turned : IsTurned s s') where
   unfolding with_sent
   received_sent = refl
 
-  applied_sent : (r t : Addr) (p : Block) → is_up s'.conf r t ≡ true → applied (with_sent s s') r t p ≡ after_messages p (route_from s'.received t p r) (waiting (with_sent s s') r t)
+  applied_sent : (r t : Addr) (p : Prefix) → is_up s'.conf r t ≡ true → applied (with_sent s s') r t p ≡ after_messages p (route_from s'.received t p r) (waiting (with_sent s s') r t)
   unfolding with_sent
   applied_sent r t p up = applied_up (with_sent s s') r t p up
 
-  advertised_sent : (r t : Addr) (p : Block) → advertised (with_sent s s') r t p ≡ advertised s' r t p
+  advertised_sent : (r t : Addr) (p : Prefix) → advertised (with_sent s s') r t p ≡ advertised s' r t p
   unfolding with_sent advertised best
   advertised_sent r t p = refl
 
   -- what is sent brings it about
-  law_sent : (r t : Addr) (p : Block) → sends s'.conf r t ≡ true → applied (with_sent s s') r t p ≡ advertised (with_sent s s') r t p
+  law_sent : (r t : Addr) (p : Prefix) → sends s'.conf r t ≡ true → applied (with_sent s s') r t p ≡ advertised (with_sent s s') r t p
   law_sent r t p is =
       let up = (sends_parts s'.conf r t is).2 in
       let route = route_from s'.received t p r in

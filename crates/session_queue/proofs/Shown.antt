@@ -19,7 +19,7 @@ use Rattle.session_queue.specs.declared.numbered.Numbered.TheVariants.{Update as
 use Rattle.session_queue.specs.declared.message.Message.{Message}
 use Rattle.session_queue.specs.declared.message.Message.TheVariants.{Update}
 use Rattle.session_queue.specs.Lines.{Waiting, Lines, direction_cmp, waiting_at, messages_of, spare_of, messages_at, spare_in, KeepsOtherLines, PassNone}
-use Rattle.session_queue.specs.Waiting.{WaitingByDirection, queue_at, spare_at, KeepsOthers, SkipsNone}
+use Rattle.session_queue.specs.Waiting.{Queues, queue_at, spare_at, KeepsOthers, SkipsNone}
 use Rattle.session_queue.specs.Numbers.{no_attr, message_by, waiting_by, shown, IsGiven, AreGiven}
 use Rattle.session_queue.proofs.Places.{key}
 
@@ -54,7 +54,7 @@ none_shown pool (n ∷ ns) e = absurd (omega (arith, ap length e))
 -- A CHANGE OF THE LINES
 
 -- the lines ls have become ms; q is what was seen of ls
-module _ (pool : List Attr) (ls ms : Lines Numbered) (q : WaitingByDirection) (seen : shown pool ls ≡ q) where
+module _ (pool : List Attr) (ls ms : Lines Numbered) (q : Queues) (seen : shown pool ls ≡ q) where
   pub queue_was : (f t : Addr) → queue_at q f t ≡ map (message_by pool) (messages_at ls f t)
   queue_was f t = ap (λ w. queue_at w f t) (sym seen) ∙ queue_shown pool ls f t
 

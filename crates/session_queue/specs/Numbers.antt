@@ -9,7 +9,7 @@ use Rattle.session_queue.specs.declared.message.Message.TheVariants.{Update, Wit
 use Rattle.session_queue.specs.declared.numbered.Numbered.{Numbered}
 use Rattle.session_queue.specs.declared.numbered.Numbered.TheVariants.{Update as NumberedUpdate, Withdraw as NumberedWithdrawal}
 use Rattle.session_queue.specs.Lines.{Waiting, Lines, messages_at}
-use Rattle.session_queue.specs.Waiting.{WaitingByDirection}
+use Rattle.session_queue.specs.Waiting.{Queues}
 
 -- what stands for a number that no pool has given: it is never seen
 abbrev pub no_attr : Attr
@@ -27,7 +27,7 @@ abbrev pub lines_by : List Attr → Lines Numbered → Lines Message
 lines_by pool ls = map (λ e. (e.0, waiting_by pool e.1)) ls
 
 -- what contracts see of a pool and of numbered lines
-abbrev pub shown : List Attr → Lines Numbered → WaitingByDirection
+abbrev pub shown : List Attr → Lines Numbered → Queues
 shown pool ls = record { lines = lines_by pool ls; admitted = pool }
 
 -- the pool has given the number

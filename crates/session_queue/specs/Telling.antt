@@ -1,5 +1,5 @@
 -- Messages (RFC 4271, 3.1 and 4.3). One message carries one prefix (own).
-use Rattle.net_prefix.specs.Block.{Block}
+use Rattle.net_prefix.specs.Prefix.{Prefix}
 use Rattle.session_queue.specs.declared.message.Message.{Message}
 use Rattle.session_queue.specs.declared.message.Message.TheVariants.{Update, Withdraw}
 use Rattle.session_queue.specs.declared.message.MessageKind.{MessageKind}
@@ -8,7 +8,7 @@ use Rattle.session_queue.specs.declared.view.View.{View}
 use Rattle.session_queue.specs.declared.view.View.TheVariants.{Update as ViewOfUpdate, Withdraw as ViewOfWithdrawal}
 
 -- the prefix that the message speaks of
-abbrev pub prefix_of : Message → Block
+abbrev pub prefix_of : Message → Prefix
 prefix_of (Update p attr) = p
 prefix_of (Withdraw p) = p
 

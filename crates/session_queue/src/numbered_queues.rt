@@ -11,7 +11,8 @@ use std::collections::BTreeMap;
 use std::marker::Model;
 use std::ops::Bound;
 
-/// In each direction of a session the messages on their way, the head first, and how many more it can take without memory.
+/// In each direction of a session the messages on their way, the head first, and how many more it can take without
+/// memory.
 #[derive(Debug, Drop)]
 pub(crate) struct NumberedQueues {
     alloc: Global,
@@ -162,22 +163,25 @@ impl NumberedQueues {
             .map(|direction| (direction.from, direction.to))
     }
 
-    /// The first direction with a message to a receiver of the shard, by sender, then by receiver. The shard of an address is its number
-    /// modulo the shards.
+    /// The first direction with a message to a receiver of the shard, by sender, then by receiver. The shard of an
+    /// address is its number modulo the shards.
     pub(crate) fn next_in(&self, shard: u64, shards: u64) -> Option<Direction>
         requires { shard < shards }
         ensures full { IfSome result (λ found. 0 < length (messages_at self.now found.from found.to)) }
         ensures shard { IfSome result (λ found. shard_of found.to shards ≡ shard) }
-        ensures none { IfNone result ((from to : Addr) → shard_of to shards ≡ shard → messages_at self.now from to ≡ []) }
+        ensures none { IfNone result ((from to : Addr) → shard_of to shards ≡ shard →
+            messages_at self.now from to ≡ []) }
     {
         self.first_in(shard, shards)
     }
 
-    /// The first direction with a message of those of the shard. The order is said for `next_in`, which reads no field itself.
+    /// The first direction with a message of those of the shard. The order is said for `next_in`, which reads no field
+    /// itself.
     fn first_in(&self, shard: u64, shards: u64) -> Option<Direction>
         requires { shard < shards }
         ensures ordered { IsStrictlySortedBy direction_cmp (keys_of self.now) }
-        ensures first { result ≡ option_map (λ e. e.0) (find (λ e. has_message e.1) (filter (λ e. is_in_shard shard shards e.0) self.now)) }
+        ensures first { result ≡ option_map (λ e.
+            e.0) (find (λ e. has_message e.1) (filter (λ e. is_in_shard shard shards e.0) self.now)) }
     {
         for (direction, queue) in self.queues.iter() {
             if u64::from(direction.to.0) % shards == shard && !queue.is_empty() {
@@ -197,10 +201,12 @@ impl NumberedQueues {
         }
     }
 
-    /// The first direction with a message, from the start on. The order is said for `next_full`, which reads no field itself.
+    /// The first direction with a message, from the start on. The order is said for `next_full`, which reads no field
+    /// itself.
     fn first_full(&self, start: Bound<Direction>) -> Option<Direction>
         ensures ordered { IsStrictlySortedBy direction_cmp (keys_of self.now) }
-        ensures first { result ≡ option_map (λ e. e.0) (find (λ e. has_message e.1) (entries_between direction_cmp start Bound.Unbounded self.now)) }
+        ensures first { result ≡ option_map (λ e.
+            e.0) (find (λ e. has_message e.1) (entries_between direction_cmp start Bound.Unbounded self.now)) }
     {
         for (direction, queue) in self.queues.range((start, Bound::Unbounded)) {
             if !queue.is_empty() {

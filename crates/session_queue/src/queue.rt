@@ -38,7 +38,8 @@ impl Queue {
         })
     }
 
-    /// Sees to it that there is memory for n more. It takes memory only where fewer are spare. An error changes nothing.
+    /// Sees to it that there is memory for n more. It takes memory only where fewer are spare. An error changes
+    /// nothing.
     pub(crate) fn reserve(&mut self, n: usize) -> Result<(), AllocError>
         ensures ok { OnOk result (self.new ≡ record self.old { spare = max n self.old.spare }) }
         ensures short { OnErr result (self.old.spare < n) }

@@ -15,8 +15,9 @@ use std::alloc::{AllocError, Global};
 use std::hash::RandomState;
 use std::marker::Model;
 
-/// In each direction of a session the messages on their way, the head first, and how many more it can take without memory; and the attributes
-/// that updates may have. These are kept once each, and for good; a message takes 16 bytes beside them.
+/// In each direction of a session the messages on their way, the head first, and how many more it can take without
+/// memory; and the attributes that updates may have. These are kept once each, and for good; a message takes 16 bytes
+/// beside them.
 #[derive(Debug, Drop)]
 pub struct Queues {
     queues: NumberedQueues,
@@ -25,10 +26,10 @@ pub struct Queues {
 }
 
 impl Model for Queues {
-    ghost use Rattle.session_queue.specs.Waiting.{WaitingByDirection};
+    ghost use Rattle.session_queue.specs.Waiting.{Queues};
     ghost use Rattle.session_queue.specs.Numbers.{shown, AreGiven};
 
-    ghost Value = { WaitingByDirection };
+    ghost Value = { Queues };
 
     ghost view = { λ q. shown q.pool q.queues };
 
@@ -40,8 +41,8 @@ impl Queues {
     ghost use Rattle.session_queue.specs.Telling.{message_of};
     ghost use Rattle.session_queue.specs.Waiting.{queue_at, spare_at, IsAdmitted, KeepsAdmitted, KeepsOthers, IsQuiet, IsPast, SkipsNone};
 
-    /// No message and no spare memory in any direction, and no attributes. It takes no memory. Nobody who does not know the keys can make
-    /// `admit` and `push` slow by a choice of attributes; with none, whoever knows the program can.
+    /// No message and no spare memory in any direction, and no attributes. It takes no memory. Nobody who does not know
+    /// the keys can make `admit` and `push` slow by a choice of attributes; with none, whoever knows the program can.
     pub fn new(alloc: Global, keys: Option<RandomState>) -> Self
         ensures messages { IsQuiet result }
         ensures spare { (from to : Addr) → spare_at result from to ≡ 0 }
@@ -67,8 +68,8 @@ impl Queues {
         self.queues.reserve(from, to, n)
     }
 
-    /// Sees to it that an update may have these attributes: a copy of new ones is kept. The error is want of memory, and changes
-    /// nothing.
+    /// Sees to it that an update may have these attributes: a copy of new ones is kept. The error is want of memory,
+    /// and changes nothing.
     pub fn admit(&mut self, attr: &Attr) -> Result<(), AllocError>
         ensures admitted { OnOk result (self.new.admitted ≡ with_attr self.old.admitted attr.now) }
         ensures ok { OnOk result (has_attr self.new.admitted attr.now ≡ true) }
@@ -107,7 +108,8 @@ impl Queues {
         self.queues.len(from, to)
     }
 
-    /// The message at the position of the direction's queue, the head's being 0. Each is found at once, however far behind.
+    /// The message at the position of the direction's queue, the head's being 0. Each is found at once, however far
+    /// behind.
     pub fn at(&self, from: Addr, to: Addr, n: usize) -> Option<View<'_>>
         ensures { option_map message_of result ≡ slice_get (queue_at self.now from to) n }
     {
@@ -160,8 +162,8 @@ impl Queues {
         self.queues.next_full(past)
     }
 
-    /// The first direction with a message to a receiver of the shard, by sender, then by receiver. The shard of an address is its number
-    /// modulo the shards.
+    /// The first direction with a message to a receiver of the shard, by sender, then by receiver. The shard of an
+    /// address is its number modulo the shards.
     pub fn next_in(&self, shard: u64, shards: u64) -> Option<Direction>
         requires { shard < shards }
         ensures full { IfSome result (λ found. 0 < length (queue_at self.now found.from found.to)) }

@@ -15,8 +15,9 @@ use seq::{Copied, SharedSeq};
 use std::alloc::{AllocError, Global};
 use std::marker::Model;
 
-/// A set in the order of its keys, which any number of owners share: contracts see its keys alone. A copy takes no memory. A change of
-/// one owner's set copies some hundred keys, and a share of each other hundred; no other owner's set changes.
+/// A set in the order of its keys, which any number of owners share: contracts see its keys alone. A copy takes no
+/// memory. A change of one owner's set copies some hundred keys, and a share of each other hundred; no other owner's
+/// set changes.
 #[derive(Drop)]
 pub struct ChunkedSet<K: Ord> {
     len: usize,

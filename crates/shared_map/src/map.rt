@@ -12,8 +12,8 @@ use std::alloc::{AllocError, Global};
 use std::marker::Model;
 use std::sync::Arc;
 
-/// A map in the order of its keys, which any number of owners share: contracts see its entries alone. A copy takes no memory. A change
-/// of one owner's map is made in a copy, and no other owner's map changes.
+/// A map in the order of its keys, which any number of owners share: contracts see its entries alone. A copy takes no
+/// memory. A change of one owner's map is made in a copy, and no other owner's map changes.
 #[derive(Drop)]
 pub struct SharedMap<K: Ord, V> {
     // None where the map is empty: no memory was taken for it.
@@ -119,7 +119,8 @@ impl<K: Copy + Ord, V: Copy> SharedMap<K, V> {
 }
 
 impl<K: Copy + Ord, V: Copied> SharedMap<K, V> {
-    /// Gives the key this value: where the map has no other owner in its place, else in a map of copies. An error changes nothing.
+    /// Gives the key this value: where the map has no other owner in its place, else in a map of copies. An error
+    /// changes nothing.
     pub fn put(&mut self, alloc: Global, key: K, value: V) -> Result<(), AllocError>
         ensures ok { OnOk result (self.new ≡ insert_entry K.cmp self.old key value) }
         ensures err { OnErr result (self.new ≡ self.old) }
@@ -135,8 +136,8 @@ impl<K: Copy + Ord, V: Copied> SharedMap<K, V> {
         Ok(())
     }
 
-    /// Takes out the key's entry, if there is one: in its place where the map has no other owner, else in a map of copies. An error
-    /// changes nothing.
+    /// Takes out the key's entry, if there is one: in its place where the map has no other owner, else in a map of
+    /// copies. An error changes nothing.
     pub fn take_out(&mut self, alloc: Global, key: &K) -> Result<(), AllocError>
         ensures ok { OnOk result (self.new ≡ remove_entry (is_at (K.cmp key.now)) self.old) }
         ensures err { OnErr result (self.new ≡ self.old) }

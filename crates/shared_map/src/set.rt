@@ -14,8 +14,8 @@ use std::alloc::{AllocError, Global};
 use std::marker::Model;
 use std::sync::Arc;
 
-/// A set in the order of its keys, which any number of owners share: contracts see its keys alone. A copy takes no memory. A change of
-/// one owner's set is made in a copy of plain memory, and no other owner's set changes.
+/// A set in the order of its keys, which any number of owners share: contracts see its keys alone. A copy takes no
+/// memory. A change of one owner's set is made in a copy of plain memory, and no other owner's set changes.
 #[derive(Drop)]
 pub struct SharedSet<K: Ord> {
     // None where the set is empty: no memory was taken for it.

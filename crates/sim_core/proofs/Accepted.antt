@@ -2,7 +2,7 @@
 use Rattle.std.proofs.Common.{◌≡◌, Bool, true, false, not, List, [], ◌∷◌, slice_get, Option, Some, None, if◌then◌else◌, refl, sym, ap, ◌∙◌}
 use Rattle.std.proofs.lemmas.Bool.{true≢false}
 use Rattle.std.proofs.lemmas.Option.{none-some, same_Some}
-use Rattle.net_prefix.specs.Block.{Block}
+use Rattle.net_prefix.specs.Prefix.{Prefix}
 use Rattle.session_queue.specs.declared.direction.Direction.{Direction}
 use Rattle.session_queue.specs.declared.message.Message.{Message}
 use Rattle.session_queue.specs.declared.message.MessageKind.{MessageKind}
@@ -20,7 +20,7 @@ use Rattle.sim_event.specs.declared.reply.Reply.{Reply}
 use Rattle.sim_event.specs.declared.reply.Reply.TheVariants.{Done, Took, Report as AReport}
 use Rattle.reference_machine.specs.Network.{Network, messages_in}
 use Rattle.reference_machine.specs.Machine.{Outcome, unless_refused, refused, is_refusal, edit_step, after_edit, with_sent, feed_refusal, feed_step, after_feed, delivery_refusal, delivery_step, head_step, ask_refusal, question_step, report_of}
-use Rattle.cell_engine.specs.Engine.{Engine, IsSound, network}
+use Rattle.cell_engine.specs.State.{State, IsConsistent, network}
 use Rattle.cell_engine.proofs.Queues.{messages_on_session}
 
 passes : (test : Bool) (refusal : Refusal) (later : Option Refusal) → (if test then Some refusal else later) ≡ None → test ≡ false
@@ -100,11 +100,11 @@ unfolding delivery_refusal
 delivery_up c d none =
     not_false (is_up c d.from d.to) (passes (not (is_up c d.from d.to)) SessionDown _ (later_passes _ NoSession _ (later_passes _ NoRouter _ none)))
 
-took_prefix : Block → Reply → Block
+took_prefix : Prefix → Reply → Prefix
 took_prefix p (Took q k) = q
 took_prefix p _ = p
 
-module _ (e : Engine) (sound : IsSound e) (d : Direction) (none : delivery_refusal e.conf d ≡ None) where
+module _ (e : State) (sound : IsConsistent e) (d : Direction) (none : delivery_refusal e.conf d ≡ None) where
   refusal_of_network : delivery_refusal (network e).conf d ≡ None
   unfolding network
   refusal_of_network = none
@@ -120,7 +120,7 @@ module _ (e : Engine) (sound : IsSound e) (d : Direction) (none : delivery_refus
           ∙ ap (λ x. Took (prefix_of x) (kind_of x)) (same_Some w m is)
 
   -- and its prefix is told
-  pub prefix_taken : (m : Message) → slice_get (queue_at e.queues d.from d.to) 0 ≡ Some m → (q : Block) (k : MessageKind) → (delivery_step (network e) d).reply ≡ Took q k → prefix_of m ≡ q
+  pub prefix_taken : (m : Message) → slice_get (queue_at e.queues d.from d.to) 0 ≡ Some m → (q : Prefix) (k : MessageKind) → (delivery_step (network e) d).reply ≡ Took q k → prefix_of m ≡ q
   unfolding took_prefix
   prefix_taken m first q k took = ap (took_prefix (prefix_of m)) (sym (delivery_takes m first) ∙ took)
 

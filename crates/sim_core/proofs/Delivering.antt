@@ -1,6 +1,6 @@
 -- A delivery without a plan: the head is taken, after the state has grown.
 use Rattle.std.proofs.Common.{◌≡◌, true, ℕ, slice_get, length, Some, None, inl, sym, ap, subst, ◌∙◌}
-use Rattle.net_prefix.specs.Block.{Block}
+use Rattle.net_prefix.specs.Prefix.{Prefix}
 use Rattle.net_conf.specs.Costs.{is_up}
 use Rattle.net_conf.specs.declared.refusal.Refusal.TheVariants.{Memory}
 use Rattle.session_queue.specs.declared.direction.Direction.{Direction}
@@ -12,7 +12,7 @@ use Rattle.sim_event.specs.declared.reply.Reply.TheVariants.{Took, Refused}
 use Rattle.reference_machine.specs.Network.{Network, messages_in}
 use Rattle.reference_machine.specs.Machine.{head_step, delivery_refusal, IsStep}
 use Rattle.cell_engine.specs.Cells.{Outcome}
-use Rattle.cell_engine.specs.Engine.{Engine, IsSound, network}
+use Rattle.cell_engine.specs.State.{State, IsConsistent, network}
 use Rattle.cell_engine.specs.Deliveries.{IsOfHead, outcome_at, KeepsSame}
 use Rattle.cell_engine.proofs.Growth.{network_kept, head_of, head_kept}
 use Rattle.sim_core.specs.Counting.{decided_at, raised, Counts}
@@ -20,9 +20,9 @@ use Rattle.sim_core.proofs.Accepted.{delivery_takes, prefix_taken, delivery_is, 
 use Rattle.sim_core.proofs.Answered.{denied_by}
 use Rattle.sim_core.proofs.Refusals.{delivery_wants}
 
-module _ (e : Engine) (sound : IsSound e) (d : Direction) (none : delivery_refusal e.conf d ≡ None) (m : Message) (first : slice_get (queue_at e.queues d.from d.to) 0 ≡ Some m) where
+module _ (e : State) (sound : IsConsistent e) (d : Direction) (none : delivery_refusal e.conf d ≡ None) (m : Message) (first : slice_get (queue_at e.queues d.from d.to) 0 ≡ Some m) where
   -- it is counted as one decision of a router
-  pub counts : (n more : ℕ) → ((p : Block) → more ≡ length (decided_at e.conf d.to p)) → Counts (network e) (Deliver d.from d.to) (Took (prefix_of m) (kind_of m)) n (raised n more)
+  pub counts : (n more : ℕ) → ((p : Prefix) → more ≡ length (decided_at e.conf d.to p)) → Counts (network e) (Deliver d.from d.to) (Took (prefix_of m) (kind_of m)) n (raised n more)
   unfolding network
   counts n more many =
       let p = prefix_of m in
@@ -32,7 +32,7 @@ module _ (e : Engine) (sound : IsSound e) (d : Direction) (none : delivery_refus
         is = ap (raised n) (many p);
       }
 
-  module _ (e' : Engine) (same : KeepsSame e e') where
+  module _ (e' : State) (same : KeepsSame e e') where
     pub up_still : is_up e'.conf d.from d.to ≡ true
     up_still = delivery_up e'.conf d (ap (λ c. delivery_refusal c d) same.conf ∙ none)
 

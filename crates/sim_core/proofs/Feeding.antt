@@ -8,7 +8,7 @@ use Rattle.sim_event.specs.declared.event.Feed.{Feed}
 use Rattle.sim_event.specs.declared.reply.Reply.TheVariants.{Done, Refused}
 use Rattle.reference_machine.specs.Network.{Network, with_message}
 use Rattle.reference_machine.specs.Machine.{feed_refusal, fed_message, IsStep}
-use Rattle.cell_engine.specs.Engine.{Engine, network}
+use Rattle.cell_engine.specs.State.{State, network}
 use Rattle.cell_engine.specs.Deliveries.{KeepsSame}
 use Rattle.cell_engine.proofs.Growth.{network_kept}
 use Rattle.sim_core.specs.Counting.{raised, Counts}
@@ -21,7 +21,7 @@ use Rattle.sim_core.proofs.Refusals.{feed_wants}
 pub counts : (s : Network) (f : Feed) (n : ℕ) → n ≡ raised n 0 → Counts s (AFeed f) Done n n
 counts s f n stays = record { cells = []; refreshes = refl; is = stays }
 
-module _ (e : Engine) (f : Feed) (none : feed_refusal e.conf f ≡ None) (e' : Engine) (same : KeepsSame e e') where
+module _ (e : State) (f : Feed) (none : feed_refusal e.conf f ≡ None) (e' : State) (same : KeepsSame e e') where
   pub session_still : has_session e'.conf f.from f.to ≡ true
   session_still = ap (λ c. has_session c f.from f.to) same.conf ∙ feed_session e.conf f none
 

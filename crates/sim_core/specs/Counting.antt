@@ -1,7 +1,7 @@
 -- How many routes are decided anew, and how they are counted.
 use Rattle.std.specs.Prelude.{◌≡◌, ◌+◌, ℕ, Bool, true, false, nat_le, List, [], ◌∷◌, length, is_some, if◌then◌else◌}
 use Rattle.net_prefix.specs.declared.addr.Addr.{Addr}
-use Rattle.net_prefix.specs.Block.{Block}
+use Rattle.net_prefix.specs.Prefix.{Prefix}
 use Rattle.session_queue.specs.declared.message.MessageKind.{MessageKind}
 use Rattle.net_conf.specs.Configuration.{Configuration}
 use Rattle.net_conf.specs.RouterSites.{router_site}
@@ -11,22 +11,22 @@ use Rattle.sim_event.specs.declared.reply.Reply.{Reply}
 use Rattle.sim_event.specs.declared.reply.Reply.TheVariants.{Took}
 use Rattle.reference_machine.specs.Network.{Network}
 use Rattle.reference_machine.specs.Machine.{step, is_refusal, IsStep}
-use Rattle.cell_engine.specs.Engine.{Engine}
+use Rattle.cell_engine.specs.State.{State}
 use Rattle.cell_engine.specs.Decisions.{IsRefreshed}
 
 -- the engine, and how many routes it has decided anew
 pub record Counted : Type 0 where
-  pub engine : Engine
+  pub engine : State
   pub decided : ℕ
 
 -- the router's route to the prefix: a virtual peer decides none
-abbrev pub decided_at : Configuration → Addr → Block → List (Addr × Block)
+abbrev pub decided_at : Configuration → Addr → Prefix → List (Addr × Prefix)
 decided_at c r p = if is_some (router_site c r) then (r, p) ∷ [] else []
 
 -- the routes that an event which is not refused decides anew: an edit those that it touches, a delivery the receiver's one
-abbrev pub Refreshes : Network → Event → List (Addr × Block) → Type 0
+abbrev pub Refreshes : Network → Event → List (Addr × Prefix) → Type 0
 Refreshes s (AnEdit edit) cells = IsRefreshed s (step s (AnEdit edit)).next cells
-Refreshes s (Deliver a b) cells = (p : Block) (k : MessageKind) → (step s (Deliver a b)).reply ≡ Took p k → cells ≡ decided_at s.conf b p
+Refreshes s (Deliver a b) cells = (p : Prefix) (k : MessageKind) → (step s (Deliver a b)).reply ≡ Took p k → cells ≡ decided_at s.conf b p
 Refreshes s (AFeed f) cells = cells ≡ []
 Refreshes s (AnAsk q) cells = cells ≡ []
 
@@ -39,7 +39,7 @@ raised n k = if nat_le (n + k) u64_max then n + k else u64_max
 
 -- the count rises by the number of routes that the event decides anew
 pub record IsRaised (s : Network) (event : Event) (n m : ℕ) : Type 0 where
-  pub cells : List (Addr × Block)
+  pub cells : List (Addr × Prefix)
   pub refreshes : Refreshes s event cells
   pub is : m ≡ raised n (length cells)
 

@@ -1,13 +1,13 @@
 //! Deliveries.
 
 ghost use Rattle.std.specs.Prelude.{◌≡◌, true, Some, None, length, slice_get, IfOk, IfErr, OnOk};
-ghost use Rattle.net_prefix.specs.Block.{Block};
+ghost use Rattle.net_prefix.specs.Prefix.{Prefix};
 ghost use Rattle.net_conf.specs.Costs.{is_up};
 ghost use Rattle.session_queue.specs.Waiting.{queue_at};
 ghost use Rattle.sim_event.specs.declared.event.Event.TheVariants.{Deliver};
 ghost use Rattle.reference_machine.specs.Network.{messages_in};
 ghost use Rattle.reference_machine.specs.Machine.{delivery_refusal, head_step, IsStep};
-ghost use Rattle.cell_engine.specs.Engine.{network};
+ghost use Rattle.cell_engine.specs.State.{network};
 ghost use Rattle.cell_engine.specs.Deliveries.{IsOfHead, HasRoom};
 ghost use Rattle.sim_core.specs.Counting.{decided_at, Counts};
 ghost use Rattle.sim_core.specs.Plans.{IsPrepared, IsRefused, Prepares};
@@ -26,11 +26,13 @@ use sim_event::Reply;
 use std::alloc::{AllocError, Global};
 
 impl<S: Selector + Drop, T: PrefixTable<Cell<S>> + Drop> Sim<S, T> {
-    /// Takes the message at the head of the direction's queue: the machine's own step, without a plan. The refusal is the machine's own, or
-    /// want of memory.
+    /// Takes the message at the head of the direction's queue: the machine's own step, without a plan. The refusal is
+    /// the machine's own, or want of memory.
     pub(crate) fn take_delivery(&mut self, direction: Direction) -> Reply
-        ensures step { IsStep (network self.old.engine) (Deliver direction.from direction.to) result (network self.new.engine) }
-        ensures decided { Counts (network self.old.engine) (Deliver direction.from direction.to) result self.old.decided self.new.decided }
+        ensures step { IsStep (network self.old.engine) (Deliver direction.from direction.to) result
+            (network self.new.engine) }
+        ensures decided { Counts (network self.old.engine) (Deliver direction.from direction.to) result self.old.decided
+            self.new.decided }
     {
         self.state.facts();
         let message = match message_to_take(&self.state, direction) {
@@ -64,13 +66,15 @@ pub(crate) fn prepare_delivery<S: Selector + Drop, T: PrefixTable<Cell<S>> + Dro
     }
 }
 
-/// The message at the head of the direction's queue, where the machine takes it. The refusal is the machine's own, or want of memory.
+/// The message at the head of the direction's queue, where the machine takes it. The refusal is the machine's own, or
+/// want of memory.
 fn message_to_take<S: Selector + Drop, T: PrefixTable<Cell<S>> + Drop>(
     state: &State<S, T>,
     direction: Direction,
 ) -> Result<Message, Refusal>
     ensures allowed { OnOk result (delivery_refusal state.now.conf direction ≡ None) }
-    ensures head { IfOk result (λ message. slice_get (queue_at state.now.queues direction.from direction.to) 0 ≡ Some message) }
+    ensures head { IfOk result (λ message.
+        slice_get (queue_at state.now.queues direction.from direction.to) 0 ≡ Some message) }
     ensures refused { IfErr result (IsRefused state.now (Deliver direction.from direction.to)) }
 {
     state.facts();
@@ -137,7 +141,7 @@ pub(crate) fn decisions_at<S: Chosen, T: PrefixTable<Cell<S>>>(
     state: &State<S, T>,
     address: Addr,
 ) -> usize
-    ensures { (p : Block) → result ≡ length (decided_at state.now.conf address p) }
+    ensures { (p : Prefix) → result ≡ length (decided_at state.now.conf address p) }
 {
     if state.has_router(address) { 1 } else { 0 }
 }
@@ -150,7 +154,9 @@ pub(crate) fn take<S: Selector + Drop, T: PrefixTable<Cell<S>> + Drop>(
     requires up { is_up state.old.conf taken.value.direction.from taken.value.direction.to ≡ true }
     requires head { IsOfHead state.old taken.value.direction taken.value.prefix taken.value.outcome }
     requires room { HasRoom state.old taken.value.direction.to taken.value.prefix taken.value.outcome.sends }
-    ensures { network state.new ≡ (head_step (network state.old) taken.value.direction (messages_in (network state.old).queues taken.value.direction)).next }
+    ensures { network state.new ≡
+        (head_step (network state.old) taken.value.direction
+        (messages_in (network state.old).queues taken.value.direction)).next }
 {
     let Taken {
         direction,

@@ -3,7 +3,7 @@
 ghost use Rattle.std.specs.Prelude.{◌≡◌, None, IfOk};
 ghost use Rattle.sim_event.specs.declared.event.Event.TheVariants.{Edit as AnEdit};
 ghost use Rattle.net_conf.specs.Edits.{refusal_of};
-ghost use Rattle.cell_engine.specs.Engine.{network};
+ghost use Rattle.cell_engine.specs.State.{network};
 ghost use Rattle.sim_core.specs.Plans.{IsPrepared, Prepares};
 
 use crate::plan::Plan;

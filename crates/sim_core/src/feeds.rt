@@ -4,7 +4,7 @@ ghost use Rattle.std.specs.Prelude.{◌≡◌, ◌<◌, None, IfOk, OnOk};
 ghost use Rattle.session_queue.specs.Waiting.{spare_at, IsAdmitted};
 ghost use Rattle.sim_event.specs.declared.event.Event.TheVariants.{Feed as AFeed};
 ghost use Rattle.reference_machine.specs.Machine.{feed_refusal, fed_message, IsStep};
-ghost use Rattle.cell_engine.specs.Engine.{network};
+ghost use Rattle.cell_engine.specs.State.{network};
 ghost use Rattle.cell_engine.specs.Deliveries.{KeepsSame};
 ghost use Rattle.sim_core.specs.Counting.{Counts};
 ghost use Rattle.sim_core.specs.Plans.{IsPrepared, Prepares};
@@ -22,8 +22,8 @@ use sim_event::{Feed, Reply};
 use std::alloc::{AllocError, Global};
 
 impl<S: Selector + Drop, T: PrefixTable<Cell<S>> + Drop> Sim<S, T> {
-    /// Puts what is fed on its way: the machine's own step, without a plan. It decides nothing. The refusal is the machine's own, or want of
-    /// memory.
+    /// Puts what is fed on its way: the machine's own step, without a plan. It decides nothing. The refusal is the
+    /// machine's own, or want of memory.
     pub(crate) fn take_feed(&mut self, feed: &Feed) -> Reply
         ensures step { IsStep (network self.old.engine) (AFeed feed.now) result (network self.new.engine) }
         ensures decided { Counts (network self.old.engine) (AFeed feed.now) result self.old.decided self.new.decided }

@@ -3,7 +3,7 @@
 ghost use Rattle.std.specs.Prelude.{◌≡◌, None, IfOk, IfErr, OnOk, OnErr};
 ghost use Rattle.sim_event.specs.declared.event.Event.TheVariants.{Deliver};
 ghost use Rattle.reference_machine.specs.Machine.{delivery_refusal, step};
-ghost use Rattle.cell_engine.specs.Engine.{network};
+ghost use Rattle.cell_engine.specs.State.{network};
 ghost use Rattle.sim_core.specs.Counting.{Counts};
 ghost use Rattle.sim_core.specs.Installing.{IsOutcomeOfHead};
 
@@ -17,8 +17,9 @@ use session_queue::Direction;
 use sim_event::Reply;
 
 impl<S: Chosen + Drop, T: PrefixTable<Cell<S>> + Drop> Sim<S, T> {
-    /// Takes the message at the head of the direction's queue, whose outcome was made beside the machine: this is the machine's own step.
-    /// For want of memory the error hands the outcome back, and nothing changes. It decides nothing.
+    /// Takes the message at the head of the direction's queue, whose outcome was made beside the machine: this is the
+    /// machine's own step. For want of memory the error hands the outcome back, and nothing changes. It decides
+    /// nothing.
     pub fn install(
         &mut self,
         direction: Direction,
@@ -26,9 +27,13 @@ impl<S: Chosen + Drop, T: PrefixTable<Cell<S>> + Drop> Sim<S, T> {
     ) -> Result<Reply, Outcome<S>>
         requires allowed { delivery_refusal self.old.engine.conf direction ≡ None }
         requires head { IsOutcomeOfHead self.old.engine direction outcome }
-        ensures reply { IfOk result (λ reply. reply ≡ (step (network self.old.engine) (Deliver direction.from direction.to)).reply) }
-        ensures next { OnOk result (network self.new.engine ≡ (step (network self.old.engine) (Deliver direction.from direction.to)).next) }
-        ensures decided { IfOk result (λ reply. Counts (network self.old.engine) (Deliver direction.from direction.to) reply self.old.decided self.new.decided) }
+        ensures reply { IfOk result (λ reply.
+            reply ≡ (step (network self.old.engine) (Deliver direction.from direction.to)).reply) }
+        ensures next { OnOk result
+            (network self.new.engine ≡ (step (network self.old.engine) (Deliver direction.from direction.to)).next) }
+        ensures decided { IfOk result (λ reply.
+            Counts (network self.old.engine) (Deliver direction.from direction.to) reply self.old.decided
+            self.new.decided) }
         ensures back { IfErr result (λ back. back ≡ outcome) }
         ensures same { OnErr result (network self.new.engine ≡ network self.old.engine) }
         ensures uncounted { OnErr result (self.new.decided ≡ self.old.decided) }

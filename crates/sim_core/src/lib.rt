@@ -1,5 +1,5 @@
-//! The machine, run by the engine: an event is prepared, which takes all the memory that it needs, and then done without any.
-//! The answers to questions stand in the module `sim_report`.
+//! The machine, run by the engine: an event is prepared, which takes all the memory that it needs, and then done
+//! without any. The answers to questions stand in the module `sim_report`.
 #![tactic(auto)]
 
 mod counting;

@@ -30,15 +30,16 @@ impl<S: Selector> Model for Taken<S> {
     ghost view = { λ t. record { direction = t.direction; prefix = t.prefix; outcome = t.outcome } };
 }
 
-/// What an event will do, with all that this takes: a message is put on its way, or one is taken, or the configuration is edited, or
-/// nothing changes.
+/// What an event will do, with all that this takes: a message is put on its way, or one is taken, or the configuration
+/// is edited, or nothing changes.
 #[derive(Drop)]
 pub struct Plan<S: Selector> {
     pub(crate) reply: Reply,
     /// The cells to be decided.
     pub(crate) refreshed: Vec<(Addr, Prefix)>,
     pub(crate) pushed: Option<(Direction, Message)>,
-    // In boxes: the borrow checker follows a plan by value only where its parts that depend on the selector stand behind one.
+    // In boxes: the borrow checker follows a plan by value only where its parts that depend on the selector stand
+    // behind one.
     pub(crate) taken: Option<Box<Taken<S>>>,
     pub(crate) edited: Option<Edited<S>>,
 }
@@ -54,7 +55,13 @@ impl<S: Selector> Model for Plan<S> {
 
     ghost coded = { Prim.hlevel (codes, coded_edit, coded_taken) };
 
-    ghost view = { λ x. record { reply = x.reply; refreshed = x.refreshed.items; pushed = x.pushed; taken = option_map (λ t. t.value) x.taken; edited = x.edited } };
+    ghost view = { λ x. record {
+      reply = x.reply;
+      refreshed = x.refreshed.items;
+      pushed = x.pushed;
+      taken = option_map (λ t. t.value) x.taken;
+      edited = x.edited;
+    } };
 }
 
 impl<S: Selector> Plan<S> {
@@ -65,8 +72,8 @@ impl<S: Selector> Plan<S> {
         &self.reply
     }
 
-    /// The cells to be decided, by router, then prefix: of an edit those that it touches, of a delivery the receiver's one. A virtual peer's
-    /// is none of them.
+    /// The cells to be decided, by router, then prefix: of an edit those that it touches, of a delivery the receiver's
+    /// one. A virtual peer's is none of them.
     pub fn refreshed(&self) -> &[(Addr, Prefix)]
         ensures { result.now ≡ self.now.refreshed }
     {

@@ -3,7 +3,7 @@
 ghost use Rattle.std.specs.Prelude.{◌≡◌};
 ghost use Rattle.sim_event.specs.declared.event.Event.TheVariants.{Ask as AnAsk};
 ghost use Rattle.reference_machine.specs.Machine.{IsStep};
-ghost use Rattle.cell_engine.specs.Engine.{network};
+ghost use Rattle.cell_engine.specs.State.{network};
 ghost use Rattle.sim_core.specs.Counting.{Counts};
 ghost use Rattle.sim_core.specs.Plans.{Prepares};
 
@@ -22,7 +22,8 @@ impl<S: Selector, T: PrefixTable<Cell<S>>> Sim<S, T> {
     /// Answers the question, which changes nothing and decides nothing: no plan is made.
     pub(crate) fn answer(&self, question: &Ask) -> Reply
         ensures step { IsStep (network self.now.engine) (AnAsk question.now) result (network self.now.engine) }
-        ensures decided { Counts (network self.now.engine) (AnAsk question.now) result self.now.decided self.now.decided }
+        ensures decided { Counts (network self.now.engine)
+            (AnAsk question.now) result self.now.decided self.now.decided }
     {
         raised_by_none(self.decided);
         match ask(self.alloc, &self.state, question) {

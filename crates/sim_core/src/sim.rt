@@ -3,7 +3,7 @@
 ghost use Rattle.std.specs.Prelude.{◌≡◌, length, IfOk, IfErr, OnErr};
 ghost use Rattle.net_conf.specs.declared.refusal.Refusal.TheVariants.{Memory};
 ghost use Rattle.reference_machine.specs.Machine.{nothing, step, IsStep, IsRun};
-ghost use Rattle.cell_engine.specs.Engine.{network};
+ghost use Rattle.cell_engine.specs.State.{network};
 ghost use Rattle.sim_core.specs.Counting.{raised, Counts, IsCountedRun};
 ghost use Rattle.sim_core.specs.Plans.{IsPrepared, IsOfEvent, Prepares};
 
@@ -25,8 +25,8 @@ use std::hash::RandomState;
 use std::marker::Model;
 use std::thread::Threads;
 
-/// A network that takes events, by cells: it decides by the selector S, and keeps each router's cells in a table T. It counts how many
-/// routes it decided anew.
+/// A network that takes events, by cells: it decides by the selector S, and keeps each router's cells in a table T. It
+/// counts how many routes it decided anew.
 #[derive(Drop)]
 pub struct Sim<S: Chosen, T: PrefixTable<Cell<S>>> {
     pub(crate) alloc: Global,
@@ -47,8 +47,8 @@ impl<S: Chosen, T: PrefixTable<Cell<S>>> Model for Sim<S, T> {
 }
 
 impl<S: Chosen, T: PrefixTable<Cell<S>>> Sim<S, T> {
-    /// Nothing is configured, received or on its way, and nothing was decided. It takes no memory. Nobody who does not know the keys can
-    /// make it slow by a choice of attributes; with none, whoever knows the program can.
+    /// Nothing is configured, received or on its way, and nothing was decided. It takes no memory. Nobody who does not
+    /// know the keys can make it slow by a choice of attributes; with none, whoever knows the program can.
     pub fn new(alloc: Global, keys: Option<RandomState>) -> Self
         ensures network { network result.engine ≡ nothing }
         ensures decided { result.decided ≡ 0 }
@@ -67,8 +67,8 @@ impl<S: Chosen, T: PrefixTable<Cell<S>>> Sim<S, T> {
         &self.state
     }
 
-    /// How many routes were decided anew: one for each message that a router took, and for each edit those that it refreshed. It stops
-    /// at the greatest number.
+    /// How many routes were decided anew: one for each message that a router took, and for each edit those that it
+    /// refreshed. It stops at the greatest number.
     pub fn decided(&self) -> u64
         ensures { result ≡ self.now.decided }
     {
@@ -77,8 +77,9 @@ impl<S: Chosen, T: PrefixTable<Cell<S>>> Sim<S, T> {
 }
 
 impl<S: Selector + Send + Sync + Drop, T: PrefixTable<Cell<S>> + Drop> Sim<S, T> {
-    /// Makes ready what the event will do, with all the memory that this takes. The network stays as it is. The refusal is the machine's
-    /// own, or want of memory where the machine refuses nothing; the tests come before the first growth.
+    /// Makes ready what the event will do, with all the memory that this takes. The network stays as it is. The refusal
+    /// is the machine's own, or want of memory where the machine refuses nothing; the tests come before the first
+    /// growth.
     pub fn prepare<R: Threads + Sync>(&mut self, rt: &R, event: &Event) -> Result<Plan<S>, Refusal>
         ensures network { network self.new.engine ≡ network self.old.engine }
         ensures decided { self.new.decided ≡ self.old.decided }
@@ -126,15 +127,18 @@ impl<S: Selector + Send + Sync + Drop, T: PrefixTable<Cell<S>> + Drop> Sim<S, T>
         }
     }
 
-    /// Takes the events in order, one reply an event; each counts as it does in a step. Where there is no memory for the replies, nothing
-    /// has changed and the refusal is `Memory`; a step's own want of memory is its reply.
+    /// Takes the events in order, one reply an event; each counts as it does in a step. Where there is no memory for
+    /// the replies, nothing has changed and the refusal is `Memory`; a step's own want of memory is its reply.
     pub fn run<R: Threads + Sync>(
         &mut self,
         rt: &R,
         events: &[Event],
     ) -> Result<Vec<Reply>, Refusal>
-        ensures run { IfOk result (λ replies. IsRun (network self.old.engine) events.now replies.items (network self.new.engine)) }
-        ensures counted { IfOk result (λ replies. IsCountedRun (network self.old.engine) self.old.decided events.now replies.items (network self.new.engine) self.new.decided) }
+        ensures run { IfOk result (λ replies.
+            IsRun (network self.old.engine) events.now replies.items (network self.new.engine)) }
+        ensures counted { IfOk result (λ replies.
+            IsCountedRun (network self.old.engine) self.old.decided events.now replies.items
+            (network self.new.engine) self.new.decided) }
         ensures memory { IfErr result (λ refusal. refusal ≡ Memory) }
         ensures same { OnErr result (network self.new.engine ≡ network self.old.engine) }
         ensures uncounted { OnErr result (self.new.decided ≡ self.old.decided) }
@@ -155,7 +159,8 @@ impl<S: Selector + Drop, T: PrefixTable<Cell<S>> + Drop> Sim<S, T> {
     pub fn apply(&mut self, plan: Plan<S>) -> Reply
         requires { IsOfEvent self.old.engine plan }
         ensures reply { result ≡ plan.reply }
-        ensures next { (event : Event) → IsPrepared self.old.engine event plan → network self.new.engine ≡ (step (network self.old.engine) event).next }
+        ensures next { (event : Event) → IsPrepared self.old.engine event plan →
+            network self.new.engine ≡ (step (network self.old.engine) event).next }
         ensures decided { self.new.decided ≡ raised self.old.decided (length plan.refreshed) }
     {
         self.decided = raised(self.decided, plan.refreshed().len());
@@ -184,7 +189,7 @@ impl<S: Selector + Drop, T: PrefixTable<Cell<S>> + Drop> Sim<S, T> {
 
 // At each pair of types: what a method of a trait sends to threads may not rest on a bound of its impl.
 impl Machine for Sim<GroupCell, TrieTable<Cell<GroupCell>>> {
-    ghost use Rattle.cell_engine.specs.Engine as engine;
+    ghost use Rattle.cell_engine.specs.State as engine;
 
     ghost network = { λ s. engine.network s.engine };
 
@@ -194,7 +199,7 @@ impl Machine for Sim<GroupCell, TrieTable<Cell<GroupCell>>> {
 }
 
 impl Machine for Sim<FilterCell, SortedTable<Cell<FilterCell>>> {
-    ghost use Rattle.cell_engine.specs.Engine as engine;
+    ghost use Rattle.cell_engine.specs.State as engine;
 
     ghost network = { λ s. engine.network s.engine };
 

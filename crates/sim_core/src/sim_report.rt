@@ -2,7 +2,7 @@
 
 ghost use Rattle.std.specs.Prelude.{◌≡◌, false, None, IfOk, OnErr};
 ghost use Rattle.reference_machine.specs.Machine.{asks_quiet, ask_refusal, report_of};
-ghost use Rattle.cell_engine.specs.Engine.{network};
+ghost use Rattle.cell_engine.specs.State.{network};
 ghost use Rattle.sim_core.specs.Answers.{IsAnswer};
 
 mod adj_rib;
@@ -23,8 +23,8 @@ use session_queue::Direction;
 use sim_event::{Ask, Event, Report};
 use std::alloc::{AllocError, Global};
 
-/// The answer to a question, which changes nothing: what the machine itself reports. Where no test refuses the question, want of
-/// memory is the only error, and whether all queues are empty is told without memory.
+/// The answer to a question, which changes nothing: what the machine itself reports. Where no test refuses the
+/// question, want of memory is the only error, and whether all queues are empty is told without memory.
 pub fn ask<S: Selector, T: PrefixTable<Cell<S>>>(
     alloc: Global,
     state: &State<S, T>,

@@ -1,7 +1,7 @@
 -- Which events there are: the ranges of the values that an event holds.
 use Rattle.std.specs.Prelude.{ℕ, ◌<◌, ◌^◌, List, [], ◌∷◌, IfSome, All}
 use Rattle.net_prefix.specs.declared.addr.Addr.{Addr}
-use Rattle.net_prefix.specs.Block.{Block, IsBlock}
+use Rattle.net_prefix.specs.Prefix.{Prefix, MakePrefix}
 use Rattle.path_attr.specs.declared.path.Segment.{Segment}
 use Rattle.path_attr.specs.Path.{IsPath, numbers_of}
 use Rattle.igp_cost.specs.Metric.{IsMetric}
@@ -26,8 +26,8 @@ IsAddress a = a.0 < 2 ^ 32
 abbrev pub IsAsNumber : ℕ → Type 0
 IsAsNumber n = (0 < n) × (n < 2 ^ 32)
 
-abbrev pub IsPrefix : Block → Type 0
-IsPrefix p = IsAddress p.addr × IsBlock p.addr p.len
+abbrev pub IsPrefix : Prefix → Type 0
+IsPrefix p = IsAddress p.addr × MakePrefix p.addr p.len
 
 abbrev pub HasAsNumbers : List Segment → Type 0
 HasAsNumbers [] = Unit {0}

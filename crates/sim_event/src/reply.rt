@@ -30,7 +30,8 @@ pub enum Report {
     Routes(Seq<Held>),
     /// The chosen route to one prefix.
     Best(Option<Held>),
-    /// The sources of routes to one prefix, the router itself first, then peers by address; and why each route was chosen or dropped.
+    /// The sources of routes to one prefix, the router itself first, then peers by address; and why each route was
+    /// chosen or dropped.
     Why(Seq<(Source, Reason)>),
     /// An Adj-RIB-In or Adj-RIB-Out: routes in order of prefix.
     Rib(Seq<(Prefix, Attr)>),

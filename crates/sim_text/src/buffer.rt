@@ -10,8 +10,8 @@ use watched::{Input, LineBuffer, Output};
 /// Holds the longest line with its end: 65,536 bytes, CR and LF.
 pub(crate) const CAPACITY: usize = 65_538;
 
-/// Reads more bytes behind those that are pending, among which no line feed is, and says whether there were any. Whoever
-/// types them has to see all earlier replies first: nothing may be held back.
+/// Reads more bytes behind those that are pending, among which no line feed is, and says whether there were any.
+/// Whoever types them has to see all earlier replies first: nothing may be held back.
 pub(crate) fn read_more<R: Read, W: Write>(
     pending: &mut LineBuffer<CAPACITY>,
     input: &mut Input<R>,

@@ -44,7 +44,8 @@ fn flush<W: Write>(answered: u64, output: &mut Output<W>) -> Result<(), ServeFau
     ensures kept { Keeps output.old.written output.new.written }
     ensures writer { output.new.failed ≡ is_write_fault result }
     ensures sent { OnOk result (output.new.held ≡ false) }
-    ensures err { IfErr result (λ fault. (fault ≡ ServeFault.Write answered) × (0 < answered) × (output.new.failed ≡ true)) }
+    ensures err { IfErr result (λ fault. (fault ≡ ServeFault.Write answered) × (0 < answered) ×
+        (output.new.failed ≡ true)) }
 {
     if !output.holds_back() {
         return Ok(());
@@ -55,7 +56,8 @@ fn flush<W: Write>(answered: u64, output: &mut Output<W>) -> Result<(), ServeFau
     }
 }
 
-/// Answers the line that ends in the buffer. What follows it is not known yet, so all is said for every rest of the input.
+/// Answers the line that ends in the buffer. What follows it is not known yet, so all is said for every rest of the
+/// input.
 fn answer_first<W: Write, M: Machine>(
     rt: &(impl Threads + Sync),
     alloc: Global,
@@ -68,11 +70,13 @@ fn answer_first<W: Write, M: Machine>(
     requires writes { output.old.failed ≡ false }
     ensures writer { output.new.failed ≡ is_write_fault result }
     ensures unwritten { OnErr result (output.new.failed ≡ true) }
-    ensures ok { OnOk result ((rest : List ℕ) → Advances (script.old.pending ++ rest) script.old.answered (M.network machine.old) output.old
+    ensures ok { OnOk result ((rest : List ℕ) →
+        Advances (script.old.pending ++ rest) script.old.answered (M.network machine.old) output.old
         (script.new.pending ++ rest) script.new.answered (M.network machine.new) output.new) }
     ensures count { OnOk result (script.new.answered ≡ script.old.answered + 1) }
     ensures err { IfErr result (λ fault. (rest : List ℕ) (i : Reading) →
-        Ends (script.old.pending ++ rest) script.old.answered (M.network machine.old) output.old fault (M.network machine.new) output.new i) }
+        Ends (script.old.pending ++ rest) script.old.answered (M.network machine.old) output.old fault
+        (M.network machine.new) output.new i) }
 {
     let next = script.answered + 1;
     let line = without_carriage_return(&script.pending.as_slice()[..end]);
@@ -85,8 +89,8 @@ fn answer_first<W: Write, M: Machine>(
     Ok(())
 }
 
-/// Answers a last line with no line feed, if there is one: at the end of the input, where nothing follows, and its length is still to be
-/// tested. So it is no call of `answer_first`.
+/// Answers a last line with no line feed, if there is one: at the end of the input, where nothing follows, and its
+/// length is still to be tested. So it is no call of `answer_first`.
 fn answer_last<W: Write, M: Machine>(
     rt: &(impl Threads + Sync),
     alloc: Global,
@@ -103,7 +107,8 @@ fn answer_last<W: Write, M: Machine>(
     ensures some { OnOk result (output.new.held ≡ true → 0 < script.new.answered) }
     ensures early { OnErr result (output.new.failed ≡ false → output.new.held ≡ false) }
     ensures err { IfErr result (λ fault. (i : Reading) →
-        Ends script.old.pending script.old.answered (M.network machine.old) output.old fault (M.network machine.new) output.new i) }
+        Ends script.old.pending script.old.answered (M.network machine.old) output.old fault
+        (M.network machine.new) output.new i) }
 {
     let line = script.pending.as_slice();
     if line.is_empty() {
@@ -139,7 +144,8 @@ fn finish<W: Write, M: Machine>(
         script.new.answered (M.network machine.new) output.new) }
     ensures sent { output.new.failed ≡ false → output.new.held ≡ false }
     ensures err { IfErr result (λ fault. (i : Reading) →
-        Ends script.old.pending script.old.answered (M.network machine.old) output.old fault (M.network machine.new) output.new i) }
+        Ends script.old.pending script.old.answered (M.network machine.old) output.old fault
+        (M.network machine.new) output.new i) }
 {
     answer_last(rt, alloc, script, output, machine)?;
     flush(script.answered, output)

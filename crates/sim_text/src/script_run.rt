@@ -14,8 +14,8 @@ use std::io::{Read, Write};
 use std::thread::Threads;
 use watched::{Input, Output};
 
-/// Serves the script on the reader to the writer, by a machine that begins with the empty network, and tells a fault on the third
-/// stream, whose own failure is passed over. The exit status: 0 done, 3 read fault, 4 write fault.
+/// Serves the script on the reader to the writer, by a machine that begins with the empty network, and tells a fault on
+/// the third stream, whose own failure is passed over. The exit status: 0 done, 3 read fault, 4 write fault.
 pub fn run_script<M: Machine, R: Read, W: Write, E: Write>(
     rt: &(impl Threads + Sync),
     alloc: Global,
@@ -29,7 +29,8 @@ pub fn run_script<M: Machine, R: Read, W: Write, E: Write>(
     requires shown { output.old.held ≡ false }
     requires empty { M.network machine.old ≡ nothing }
     ensures sent { output.new.failed ≡ false → output.new.held ≡ false }
-    ensures run { IsScriptRun input.old.remaining output.old errors.old result (M.network machine.new) input.new output.new errors.new }
+    ensures run { IsScriptRun input.old.remaining output.old errors.old result
+        (M.network machine.new) input.new output.new errors.new }
 {
     let served = serve(rt, alloc, input, output, machine);
     end(&served, errors)

@@ -13,9 +13,9 @@ use watched::{Input, Output};
 
 /// Answers each line of the input in turn, and says how many there were.
 ///
-/// Lines end with LF or CR LF, and a last line may lack its end. A line has at most 65,536 bytes, its end not counted, and a
-/// script at most 1,000,000 lines. All that was written is sent on before more is read, and at the end: then nothing is held
-/// back, unless the writer failed. Takes no memory beside that of the events and the machine.
+/// Lines end with LF or CR LF, and a last line may lack its end. A line has at most 65,536 bytes, its end not counted,
+/// and a script at most 1,000,000 lines. All that was written is sent on before more is read, and at the end: then
+/// nothing is held back, unless the writer failed. Takes no memory beside that of the events and the machine.
 pub fn serve<R: Read, W: Write, M: Machine>(
     rt: &(impl Threads + Sync),
     alloc: Global,

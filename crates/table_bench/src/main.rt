@@ -1,5 +1,5 @@
-//! `table_bench`: work for measurements. It fills a table with keys drawn by a fixed seed, asks it for longest matches, and prints
-//! what came of it. `bench/tables` runs it and takes the processor time.
+//! `table_bench`: work for measurements. It fills a table with keys drawn by a fixed seed, asks it for longest matches,
+//! and prints what came of it. `bench/tables` runs it and takes the processor time.
 #![tactic(auto)]
 
 mod work;

@@ -64,7 +64,8 @@ impl Draws {
     }
 }
 
-/// Inserts the keys, and asks for the longest matches. How many keys were new, and how many matches were found. None for want of memory.
+/// Inserts the keys, and asks for the longest matches. How many keys were new, and how many matches were found. None
+/// for want of memory.
 pub(crate) fn run<T: PrefixTable<u32>>(table: &mut T, work: &Work) -> Option<(u32, u32)>
     ensures { IfSome result (λ counts. (counts.0 ≤ work.now.keys) × (counts.1 ≤ work.now.matches)) }
 {

@@ -73,8 +73,9 @@ impl<
     E: Write + Send,
     R: Threads + Wait + Sync,
 > Crew<'a, 'e, S, T, L, E, R> {
-    /// Starts a thread for the last engineer, then those for the engineers before, then those of the workers, and waits for all. The
-    /// seats of all come back. An engineer whose thread cannot be started has ended; this is want of memory, as is none for the seats.
+    /// Starts a thread for the last engineer, then those for the engineers before, then those of the workers, and waits
+    /// for all. The seats of all come back. An engineer whose thread cannot be started has ended; this is want of
+    /// memory, as is none for the seats.
     pub(crate) fn run(
         &self,
         mut engineers: Vec<Engineer<L>>,

@@ -38,10 +38,11 @@ pub struct Settings {
     pub is_terminal: bool,
 }
 
-/// Runs a team on the files, each the script of an engineer, from the empty network, its machine under these keys: a thread calls the lines of each script in turn, and
-/// the workers' threads deliver what waits, until the engineers have ended and no message waits, or their turns have. The log of all calls
-/// goes to the output. What makes no call is told on the third stream, and so is a fault; its own failure is passed over. The exit status:
-/// 0 done, 3 a file was not read, 4 write fault, 5 want of memory, or a seat whose notes are not its calls.
+/// Runs a team on the files, each the script of an engineer, from the empty network, its machine under these keys: a
+/// thread calls the lines of each script in turn, and the workers' threads deliver what waits, until the engineers have
+/// ended and no message waits, or their turns have. The log of all calls goes to the output. What makes no call is told
+/// on the third stream, and so is a fault; its own failure is passed over. The exit status: 0 done, 3 a file was not
+/// read, 4 write fault, 5 want of memory, or a seat whose notes are not its calls.
 pub fn run_team<
     S: Selector + Send + Sync + Drop,
     T: PrefixTable<Cell<S>> + Drop + Send,
@@ -230,7 +231,8 @@ fn closed<S: Selector + Drop, T: PrefixTable<Cell<S>> + Drop, L: Ledger, R: Wait
     }
     match desk.end().close_with_machine(seats) {
         Ok((record, machine)) => {
-            // Nothing of it is needed any more, and the process ends: to free its cells one by one would only take time.
+            // Nothing of it is needed any more, and the process ends: to free its cells one by one would only take
+            // time.
             forget(machine);
             Ok(record)
         }

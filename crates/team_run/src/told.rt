@@ -21,8 +21,8 @@ pub(crate) struct ToldLine {
     pub(crate) refusal: Refusal,
 }
 
-/// The lines that made no call, from all engineers, in the order in which they were told; and how far the team is, on a line of the
-/// terminal, if there is one, that is written over.
+/// The lines that made no call, from all engineers, in the order in which they were told; and how far the team is, on a
+/// line of the terminal, if there is one, that is written over.
 #[derive(Drop)]
 pub(crate) struct Told<'a, E: Write> {
     lines: Vec<ToldLine>,

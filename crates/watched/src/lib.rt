@@ -1,4 +1,5 @@
-//! Readers and writers that remember whether they failed; and what was read and not yet taken, with the first line in it.
+//! Readers and writers that remember whether they failed; and what was read and not yet taken, with the first line in
+//! it.
 #![tactic(auto)]
 
 mod input;

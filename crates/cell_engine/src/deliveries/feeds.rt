@@ -4,7 +4,7 @@ ghost use Rattle.std.specs.Prelude.{◌≡◌, ◌<◌, true, OnOk};
 ghost use Rattle.net_conf.specs.Configuration.{has_session};
 ghost use Rattle.session_queue.specs.Waiting.{spare_at, IsAdmitted};
 ghost use Rattle.reference_machine.specs.Network.{with_message};
-ghost use Rattle.cell_engine.specs.Engine.{network};
+ghost use Rattle.cell_engine.specs.State.{network};
 ghost use Rattle.cell_engine.specs.Deliveries.{KeepsSame};
 
 use crate::route_cell::Cell;
@@ -16,8 +16,8 @@ use session_queue::{Direction, Message};
 use std::alloc::AllocError;
 
 impl<S: Selector, T: PrefixTable<Cell<S>>> State<S, T> {
-    /// Sees to it that the message may be sent, and that the direction's queue has a place for it. The network stays as it is, also at an
-    /// error, which is want of memory.
+    /// Sees to it that the message may be sent, and that the direction's queue has a place for it. The network stays as
+    /// it is, also at an error, which is want of memory.
     pub fn reserve_one(&mut self, direction: Direction, message: &Message) -> Result<(), AllocError>
         ensures same { KeepsSame self.old self.new }
         ensures network { network self.new ≡ network self.old }
@@ -33,7 +33,8 @@ impl<S: Selector, T: PrefixTable<Cell<S>>> State<S, T> {
         requires session { has_session self.old.conf direction.from direction.to ≡ true }
         requires room { 0 < spare_at self.old.queues direction.from direction.to }
         requires admitted { IsAdmitted self.old.queues message }
-        ensures { network self.new ≡ record (network self.old) { queues = with_message direction message (network self.old).queues } }
+        ensures { network self.new ≡ record
+            (network self.old) { queues = with_message direction message (network self.old).queues } }
     {
         self.queues.push(direction.from, direction.to, message);
     }

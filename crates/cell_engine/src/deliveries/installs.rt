@@ -5,7 +5,7 @@ ghost use Rattle.net_conf.specs.Costs.{is_up};
 ghost use Rattle.session_queue.specs.Waiting.{spare_at};
 ghost use Rattle.reference_machine.specs.Network.{messages_in};
 ghost use Rattle.reference_machine.specs.Machine.{head_step};
-ghost use Rattle.cell_engine.specs.Engine.{network};
+ghost use Rattle.cell_engine.specs.State.{network};
 ghost use Rattle.cell_engine.specs.Sending.{told};
 ghost use Rattle.cell_engine.specs.Admitting.{AreAdmitted};
 ghost use Rattle.cell_engine.specs.Deliveries.{IsOfHead, KeepsSame};
@@ -20,8 +20,9 @@ use session_queue::{Direction, Message};
 use std::alloc::AllocError;
 
 impl<S: Chosen + Drop, T: PrefixTable<Cell<S>> + Drop> State<S, T> {
-    /// Takes the message at the head of the direction's queue, whose outcome was made beside this state: this is the machine's own next
-    /// state. For want of memory the error hands the outcome back, and the network stays as it is. It decides nothing.
+    /// Takes the message at the head of the direction's queue, whose outcome was made beside this state: this is the
+    /// machine's own next state. For want of memory the error hands the outcome back, and the network stays as it is.
+    /// It decides nothing.
     pub fn install(
         &mut self,
         direction: Direction,
@@ -30,7 +31,9 @@ impl<S: Chosen + Drop, T: PrefixTable<Cell<S>> + Drop> State<S, T> {
     ) -> Result<(), Outcome<S>>
         requires up { is_up self.old.conf direction.from direction.to ≡ true }
         requires head { IsOfHead self.old direction prefix outcome }
-        ensures next { OnOk result (network self.new ≡ (head_step (network self.old) direction (messages_in (network self.old).queues direction)).next) }
+        ensures next { OnOk result
+            (network self.new ≡ (head_step (network self.old) direction
+            (messages_in (network self.old).queues direction)).next) }
         ensures same { OnErr result (network self.new ≡ network self.old) }
         ensures back { IfErr result (λ back. back ≡ outcome) }
     {
@@ -41,7 +44,8 @@ impl<S: Chosen + Drop, T: PrefixTable<Cell<S>> + Drop> State<S, T> {
         self.put(direction, prefix, outcome)
     }
 
-    /// Sees to it that each message may be sent, and has a place. The network stays as it is, also at an error, which is want of memory.
+    /// Sees to it that each message may be sent, and has a place. The network stays as it is, also at an error, which
+    /// is want of memory.
     fn make_places(&mut self, router: Addr, sends: &[(Addr, Message)]) -> Result<(), AllocError>
         requires { (t : Addr) → length (told t sends.now) ≤ 1 }
         ensures same { KeepsSame self.old self.new }
@@ -62,7 +66,9 @@ impl<S: Chosen + Drop, T: PrefixTable<Cell<S>> + Drop> State<S, T> {
         requires head { IsOfHead self.old direction prefix outcome }
         requires places { (t : Addr) → length (told t outcome.sends) ≤ spare_at self.old.queues direction.to t }
         requires admitted { AreAdmitted self.old.queues.admitted outcome.sends }
-        ensures next { OnOk result (network self.new ≡ (head_step (network self.old) direction (messages_in (network self.old).queues direction)).next) }
+        ensures next { OnOk result
+            (network self.new ≡ (head_step (network self.old) direction
+            (messages_in (network self.old).queues direction)).next) }
         ensures same { OnErr result (self.new ≡ self.old) }
         ensures back { IfErr result (λ back. back ≡ outcome) }
     {

@@ -2,7 +2,7 @@
 
 ghost use Rattle.std.specs.Prelude.{◌≡◌, None, false, IfOk};
 ghost use Rattle.std.specs.Bool.{OnTrue};
-ghost use Rattle.net_prefix.specs.Block as block;
+ghost use Rattle.net_prefix.specs.Prefix as block;
 ghost use Rattle.cell_engine.specs.Cells as cells;
 ghost use Rattle.cell_engine.specs.Hops.{Have};
 ghost use Rattle.cell_engine.specs.Becomings.{sites_of, can_change, change_of, moves_one_of, edit_by};
@@ -16,8 +16,9 @@ use route_select::Selector;
 use std::alloc::{AllocError, Global};
 use std::marker::Model;
 
-/// Who stands at an address when the configuration becomes another: a router, which decides by its part of the configuration, before
-/// and after; else a virtual peer, which keeps what it receives, or nobody. Both parts are looked for, and compared, once for all cells.
+/// Who stands at an address when the configuration becomes another: a router, which decides by its part of the
+/// configuration, before and after; else a virtual peer, which keeps what it receives, or nobody. Both parts are looked
+/// for, and compared, once for all cells.
 #[derive(Drop)]
 pub(crate) struct Becoming<'a> {
     before: &'a Conf,
@@ -38,7 +39,8 @@ impl<'a> Model for Becoming<'a> {
 
     ghost view = { λ x. record { before = x.before.now; after = x.after.now; address = x.address } };
 
-    ghost invariant = { λ x. (x.old ≡ router_site x.before.now x.address) × (x.new ≡ router_site x.after.now x.address) × (x.stays ≡ stays_of x.old x.new) };
+    ghost invariant = { λ x. (x.old ≡ router_site x.before.now x.address) ×
+        (x.new ≡ router_site x.after.now x.address) × (x.stays ≡ stays_of x.old x.new) };
 }
 
 /// Whether the cost to one of these NEXT_HOPs can become another, or come, or go.
@@ -60,7 +62,8 @@ impl<'a> Becoming<'a> {
         after: &'a Conf,
         address: Addr,
     ) -> Result<Self, AllocError>
-        ensures { IfOk result (λ becoming. becoming ≡ record { before = before.now; after = after.now; address = address }) }
+        ensures { IfOk result (λ becoming.
+            becoming ≡ record { before = before.now; after = after.now; address = address }) }
     {
         let old = before.shared_site(alloc, address)?;
         let new = after.shared_site(alloc, address)?;
@@ -113,7 +116,8 @@ impl<'a> Becoming<'a> {
 
     /// Whether no cell can change whose routes have these NEXT_HOPs.
     pub fn leaves(&self, hops: Hops) -> bool
-        ensures { OnTrue result ((p : block.Block) (h : cells.Heard) → Have hops h.received → can_change self.now p h ≡ false) }
+        ensures { OnTrue result ((p : block.Prefix) (h : cells.Cell) → Have hops h.received →
+            can_change self.now p h ≡ false) }
     {
         let change = self.site_change();
         match &change {
@@ -122,8 +126,9 @@ impl<'a> Becoming<'a> {
         }
     }
 
-    /// The cell decided anew, and what is sent for that. A router decides by its new part of the configuration, and sends what
-    /// changed against its old one, or where it is new all that it chose; a virtual peer keeps what came over sessions that are up.
+    /// The cell decided anew, and what is sent for that. A router decides by its new part of the configuration, and
+    /// sends what changed against its old one, or where it is new all that it chose; a virtual peer keeps what came
+    /// over sessions that are up.
     fn remade_cell<S: Selector + Drop>(
         &self,
         alloc: Global,

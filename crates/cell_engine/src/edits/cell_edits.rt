@@ -18,8 +18,8 @@ use route_select::Selector;
 use session_queue::{Message, Queues};
 use std::marker::Model;
 
-/// What an edit does to a cell: another takes its place, with what its router sends for that; or where there is no other, its one route
-/// has this cost.
+/// What an edit does to a cell: another takes its place, with what its router sends for that; or where there is no
+/// other, its one route has this cost.
 #[derive(Drop)]
 pub(crate) struct CellEdit<S: Selector> {
     pub(crate) router: Addr,
@@ -63,7 +63,8 @@ impl<S: Selector> Adjust<Cell<S>> for AtCost {
     }
 }
 
-/// Puts the outcome's cell in the place of the one that is there, and sends what its router sends for that. It takes no memory.
+/// Puts the outcome's cell in the place of the one that is there, and sends what its router sends for that. It takes no
+/// memory.
 fn place_outcome<S: Selector + Drop, T: PrefixTable<Cell<S>> + Drop>(
     tables: &mut RouterTables<Cell<S>, T>,
     queues: &mut Queues,
@@ -74,9 +75,11 @@ fn place_outcome<S: Selector + Drop, T: PrefixTable<Cell<S>> + Drop>(
     requires there { is_some (value_at router prefix tables.old) ≡ true }
     requires room { (t : Addr) → length (told t outcome.sends) ≤ spare_at queues.old router t }
     requires admitted { AreAdmitted queues.old.admitted outcome.sends }
-    ensures tables { tables.new ≡ with_value router prefix outcome.heard tables.old }
-    ensures queue { (f t : Addr) → queue_at queues.new f t ≡ queue_at queues.old f t ++ told_from router outcome.sends f t }
-    ensures spare { (f t : Addr) → spare_at queues.new f t + length (told_from router outcome.sends f t) ≡ spare_at queues.old f t }
+    ensures tables { tables.new ≡ with_value router prefix outcome.cell tables.old }
+    ensures queue { (f t : Addr) →
+        queue_at queues.new f t ≡ queue_at queues.old f t ++ told_from router outcome.sends f t }
+    ensures spare { (f t : Addr) →
+        spare_at queues.new f t + length (told_from router outcome.sends f t) ≡ spare_at queues.old f t }
     ensures admitted { queues.new.admitted ≡ queues.old.admitted }
 {
     let Outcome { cell, sends } = outcome;
@@ -97,8 +100,10 @@ fn place_edit<S: Selector + Drop, T: PrefixTable<Cell<S>> + Drop>(
     requires room { (t : Addr) → length (told t (edit_sends edit)) ≤ spare_at queues.old edit.router t }
     requires admitted { AreAdmitted queues.old.admitted (edit_sends edit) }
     ensures tables { tables.new ≡ with_edit edit tables.old }
-    ensures queue { (f t : Addr) → queue_at queues.new f t ≡ queue_at queues.old f t ++ told_from edit.router (edit_sends edit) f t }
-    ensures spare { (f t : Addr) → spare_at queues.new f t + length (told_from edit.router (edit_sends edit) f t) ≡ spare_at queues.old f t }
+    ensures queue { (f t : Addr) →
+        queue_at queues.new f t ≡ queue_at queues.old f t ++ told_from edit.router (edit_sends edit) f t }
+    ensures spare { (f t : Addr) →
+        spare_at queues.new f t + length (told_from edit.router (edit_sends edit) f t) ≡ spare_at queues.old f t }
     ensures admitted { queues.new.admitted ≡ queues.old.admitted }
 {
     let CellEdit {
@@ -125,7 +130,8 @@ pub(crate) fn place_edits<S: Selector + Drop, T: PrefixTable<Cell<S>> + Drop>(
     requires room { (f t : Addr) → length (told_by_all (edits_send edits.items) f t) ≤ spare_at queues.old f t }
     requires admitted { AreAllAdmitted queues.old.admitted edits.items }
     ensures tables { tables.new ≡ with_edits edits.items tables.old }
-    ensures queue { (f t : Addr) → queue_at queues.new f t ≡ queue_at queues.old f t ++ told_by_all (edits_send edits.items) f t }
+    ensures queue { (f t : Addr) →
+        queue_at queues.new f t ≡ queue_at queues.old f t ++ told_by_all (edits_send edits.items) f t }
 {
     for edit in edits {
         place_edit(tables, queues, edit);

@@ -34,7 +34,10 @@ impl<S: Selector, T: PrefixTable<Cell<S>>> State<S, T> {
         router: Addr,
     ) -> Result<(), AllocError>
         requires { ConcernsAlone self.now.conf conf.now concerned.now.keys }
-        ensures more { OnOk result (all_changes becomings.new self.now.tables ≡ all_changes becomings.old self.now.tables ++ router_changes (moves self.now.conf conf.now) self.now.conf conf.now router (finite.entries (table_at router self.now.tables))) }
+        ensures more { OnOk result
+            (all_changes becomings.new self.now.tables ≡ all_changes becomings.old self.now.tables ++ router_changes
+            (moves self.now.conf conf.now) self.now.conf conf.now router
+            (finite.entries (table_at router self.now.tables))) }
         ensures of { OnOk result (AreOf self.now.conf becomings.old → AreOf self.now.conf becomings.new) }
     {
         self.facts();
@@ -51,7 +54,8 @@ impl<S: Selector, T: PrefixTable<Cell<S>>> State<S, T> {
         concerned: &BTreeSet<Addr>,
     ) -> Result<Seq<Becoming<'a>>, AllocError>
         requires { ConcernsAlone self.now.conf conf.now concerned.now.keys }
-        ensures all { IfOk result (λ becomings. all_changes becomings self.now.tables ≡ changes_in Network self.now.conf conf.now self.now.tables) }
+        ensures all { IfOk result (λ becomings.
+            all_changes becomings self.now.tables ≡ changes_in Network self.now.conf conf.now self.now.tables) }
         ensures of { IfOk result (AreOf self.now.conf) }
     {
         self.facts();
@@ -74,7 +78,9 @@ impl<S: Selector, T: PrefixTable<Cell<S>>> State<S, T> {
         moved: &mut Seq<MovedCell<'a, S>>,
         becoming: &'a Becoming<'a>,
     ) -> Result<(), AllocError>
-        ensures { OnOk result (moved.new ≡ moved.old ++ moved_cells becoming.now (finite.entries (table_at becoming.now.address self.now.tables))) }
+        ensures { OnOk result
+            (moved.new ≡ moved.old ++ moved_cells becoming.now
+            (finite.entries (table_at becoming.now.address self.now.tables))) }
     {
         match self.tables.table(becoming.address()) {
             None => Ok(()),
@@ -98,14 +104,17 @@ impl<S: Selector, T: PrefixTable<Cell<S>>> State<S, T> {
 }
 
 impl<S: Selector + Drop, T: PrefixTable<Cell<S>> + Drop> State<S, T> {
-    /// The cell of the router and prefix, where it can change, with what is done to it when the configuration becomes this one.
+    /// The cell of the router and prefix, where it can change, with what is done to it when the configuration becomes
+    /// this one.
     pub(crate) fn route_changes<'a>(
         &'a self,
         conf: &'a Conf,
         router: Addr,
         prefix: Prefix,
     ) -> Result<Seq<CellEdit<S>>, AllocError>
-        ensures { IfOk result (λ edits. whole_changes self.now.tables edits ≡ changes_in (Route router prefix) self.now.conf conf.now self.now.tables) }
+        ensures { IfOk result (λ edits.
+            whole_changes self.now.tables edits ≡ changes_in
+            (Route router prefix) self.now.conf conf.now self.now.tables) }
     {
         self.facts();
         let Some(cell) = self.cell(router, prefix) else {
@@ -133,8 +142,8 @@ impl<S: Selector + Send + Sync + Drop, T: PrefixTable<Cell<S>> + Drop> State<S, 
         decide(rt, self.alloc, moved.as_slice())
     }
 
-    /// The cells that can change, with what is done to each when the configuration becomes this one, by router and prefix. The edit concerns
-    /// these alone.
+    /// The cells that can change, with what is done to each when the configuration becomes this one, by router and
+    /// prefix. The edit concerns these alone.
     pub(crate) fn network_changes<'a, R: Threads + Sync>(
         &'a self,
         rt: &R,
@@ -142,7 +151,8 @@ impl<S: Selector + Send + Sync + Drop, T: PrefixTable<Cell<S>> + Drop> State<S, 
         concerned: &BTreeSet<Addr>,
     ) -> Result<Seq<CellEdit<S>>, AllocError>
         requires { ConcernsAlone self.now.conf conf.now concerned.now.keys }
-        ensures { IfOk result (λ edits. whole_changes self.now.tables edits ≡ changes_in Network self.now.conf conf.now self.now.tables) }
+        ensures { IfOk result (λ edits.
+            whole_changes self.now.tables edits ≡ changes_in Network self.now.conf conf.now self.now.tables) }
     {
         let becomings = self.concerned_routers(conf, concerned)?;
         self.changes_of(rt, becomings.as_slice())
@@ -155,7 +165,8 @@ impl<S: Selector + Send + Sync + Drop, T: PrefixTable<Cell<S>> + Drop> State<S, 
         conf: &'a Conf,
         router: Addr,
     ) -> Result<Seq<CellEdit<S>>, AllocError>
-        ensures { IfOk result (λ edits. whole_changes self.now.tables edits ≡ changes_in (Site router) self.now.conf conf.now self.now.tables) }
+        ensures { IfOk result (λ edits.
+            whole_changes self.now.tables edits ≡ changes_in (Site router) self.now.conf conf.now self.now.tables) }
     {
         let Some(_) = self.table(router) else {
             return Ok(Seq::new(self.alloc));

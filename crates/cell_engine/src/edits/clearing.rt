@@ -15,7 +15,8 @@ use session_queue::Queues;
 /// Removes what is on its way over sessions that are down. It takes no memory.
 pub(crate) fn clear_down(queues: &mut Queues, conf: &Conf)
     ensures up { (f t : Addr) → is_up conf.now f t ≡ true → queue_at queues.new f t ≡ queue_at queues.old f t }
-    ensures down { (f t : Addr) → has_session conf.now f t ≡ true → is_up conf.now f t ≡ false → queue_at queues.new f t ≡ [] }
+    ensures down { (f t : Addr) → has_session conf.now f t ≡ true → is_up conf.now f t ≡ false →
+        queue_at queues.new f t ≡ [] }
     ensures empty { (f t : Addr) → queue_at queues.old f t ≡ [] → queue_at queues.new f t ≡ [] }
     ensures spare { KeepsPlaces queues.old queues.new }
     ensures admitted { queues.new.admitted ≡ queues.old.admitted }
@@ -25,7 +26,8 @@ pub(crate) fn clear_down(queues: &mut Queues, conf: &Conf)
 
 /// Removes what is on its way over these sessions.
 fn clear_all(queues: &mut Queues, sessions: &[Ends])
-    ensures queue { (f t : Addr) → queue_at queues.new f t ≡ (if list_any (is_of f t) sessions.now then [] else queue_at queues.old f t) }
+    ensures queue { (f t : Addr) →
+        queue_at queues.new f t ≡ (if list_any (is_of f t) sessions.now then [] else queue_at queues.old f t) }
     ensures spare { KeepsPlaces queues.old queues.new }
     ensures admitted { queues.new.admitted ≡ queues.old.admitted }
 {
@@ -36,7 +38,8 @@ fn clear_all(queues: &mut Queues, sessions: &[Ends])
 
 /// Removes what is on its way over the session, in both directions.
 fn clear_both(queues: &mut Queues, session: Ends)
-    ensures queue { (f t : Addr) → queue_at queues.new f t ≡ (if is_of f t session then [] else queue_at queues.old f t) }
+    ensures queue { (f t : Addr) →
+        queue_at queues.new f t ≡ (if is_of f t session then [] else queue_at queues.old f t) }
     ensures spare { KeepsPlaces queues.old queues.new }
     ensures admitted { queues.new.admitted ≡ queues.old.admitted }
 {

@@ -18,7 +18,8 @@ fn add_before(
     directions: &[Direction],
     new: Direction,
 ) -> Result<(), AllocError>
-    ensures { OnOk result (some.new.items ≡ some.old.items ++ filter (λ d. is_gt (direction_cmp new d)) directions.now) }
+    ensures { OnOk result
+        (some.new.items ≡ some.old.items ++ filter (λ d. is_gt (direction_cmp new d)) directions.now) }
 {
     for direction in directions {
         if new.cmp(direction).is_gt() {
@@ -34,7 +35,8 @@ fn add_after(
     directions: &[Direction],
     new: Direction,
 ) -> Result<(), AllocError>
-    ensures { OnOk result (some.new.items ≡ some.old.items ++ filter (λ d. is_lt (direction_cmp new d)) directions.now) }
+    ensures { OnOk result
+        (some.new.items ≡ some.old.items ++ filter (λ d. is_lt (direction_cmp new d)) directions.now) }
 {
     for direction in directions {
         if new.cmp(direction).is_lt() {

@@ -36,15 +36,15 @@ pub(crate) struct MovedCell<'a, S: Selector> {
 impl<'a, S: Selector> Model for MovedCell<'a, S> {
     ghost use Rattle.std.specs.Prelude.{◌≡◌};
     ghost use Rattle.std.specs.Coded.{codes};
-    ghost use Rattle.prefix_table.specs.Tables.{coded_block};
-    ghost use Rattle.cell_engine.specs.CellCoding.{coded_heard};
+    ghost use Rattle.prefix_table.specs.Tables.{coded_prefix};
+    ghost use Rattle.cell_engine.specs.CellCoding.{coded_cell};
     ghost use Rattle.cell_engine.specs.Becomings as changes;
 
     ghost Value = { changes.MovedCell };
 
-    ghost coded = { Prim.hlevel (codes, coded_block, coded_heard) };
+    ghost coded = { Prim.hlevel (codes, coded_prefix, coded_cell) };
 
-    ghost view = { λ x. record { becoming = x.becoming.now; prefix = x.prefix; heard = x.cell.now } };
+    ghost view = { λ x. record { becoming = x.becoming.now; prefix = x.prefix; cell = x.cell.now } };
 
     ghost invariant = { λ x. x.recost ≡ changes.recost_in (changes.sites_of x.becoming.now) x.prefix x.cell.now };
 }
@@ -58,7 +58,7 @@ impl<'a, S: Selector> MovedCell<'a, S> {
         recost: Option<u32>,
     ) -> Self
         requires { recost ≡ recost_in (sites_of becoming.now) prefix cell.now }
-        ensures { result ≡ record { becoming = becoming.now; prefix = prefix; heard = cell.now } }
+        ensures { result ≡ record { becoming = becoming.now; prefix = prefix; cell = cell.now } }
     {
         MovedCell {
             becoming,
@@ -127,7 +127,8 @@ where
     moved.push(MovedCell::of(becoming, prefix, cell, recost))
 }
 
-/// Adds the cells of the table that can change, by prefix. It is not walked where the NEXT_HOP that all its routes have tells that none can.
+/// Adds the cells of the table that can change, by prefix. It is not walked where the NEXT_HOP that all its routes have
+/// tells that none can.
 pub(crate) fn add_table<'a, 'b, S: Selector, T: PrefixTable<Cell<S>>>(
     alloc: Global,
     moved: &mut Seq<MovedCell<'b, S>>,
@@ -163,7 +164,8 @@ where
     Ok(())
 }
 
-/// The cells with what is done to each, in order. Many that are decided anew are shared among threads, in any number: the list is the same.
+/// The cells with what is done to each, in order. Many that are decided anew are shared among threads, in any number:
+/// the list is the same.
 pub(crate) fn decide<S: Selector + Send + Sync + Drop, R: Threads + Sync>(
     rt: &R,
     alloc: Global,
@@ -178,7 +180,8 @@ pub(crate) fn decide<S: Selector + Send + Sync + Drop, R: Threads + Sync>(
     }
 }
 
-/// What is done to one cell, where this cost of its one route is all that becomes of it, or else where it is decided anew.
+/// What is done to one cell, where this cost of its one route is all that becomes of it, or else where it is decided
+/// anew.
 fn edit_by<S: Selector + Drop>(
     alloc: Global,
     recost: Option<u32>,
@@ -236,7 +239,8 @@ fn decide_in_turn<S: Selector + Drop>(
     Ok(Seq::of(edits))
 }
 
-/// The cells with what is done to each, worked out by as many threads as there are processors. One that finds no memory leaves nothing.
+/// The cells with what is done to each, worked out by as many threads as there are processors. One that finds no memory
+/// leaves nothing.
 fn decide_in_threads<S: Selector + Send + Sync + Drop, R: Threads + Sync>(
     rt: &R,
     alloc: Global,

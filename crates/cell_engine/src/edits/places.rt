@@ -17,13 +17,15 @@ use session_queue::{Direction, Message, Queues};
 use std::alloc::{AllocError, Global};
 use std::collections::BTreeMap;
 
-/// Counts one message more in the direction. What cannot be counted finds no place either: the error is want of memory, and leaves
-/// any count.
+/// Counts one message more in the direction. What cannot be counted finds no place either: the error is want of memory,
+/// and leaves any count.
 fn count_one(
     counts: &mut BTreeMap<Direction, usize>,
     direction: Direction,
 ) -> Result<(), AllocError>
-    ensures { OnOk result ((f t : Addr) → count_at counts.new.entries f t ≡ count_at counts.old.entries f t + cond (same_direction direction.from direction.to f t) 1 0) }
+    ensures { OnOk result ((f t : Addr) →
+        count_at counts.new.entries f t ≡ count_at counts.old.entries f t + cond
+        (same_direction direction.from direction.to f t) 1 0) }
 {
     let before = counts.get(&direction).copied().unwrap_or(0);
     if before == usize::MAX {
@@ -39,7 +41,8 @@ fn count_sends(
     router: Addr,
     sends: &[(Addr, Message)],
 ) -> Result<(), AllocError>
-    ensures { OnOk result ((f t : Addr) → count_at counts.new.entries f t ≡ count_at counts.old.entries f t + length (told_from router sends.now f t)) }
+    ensures { OnOk result ((f t : Addr) →
+        count_at counts.new.entries f t ≡ count_at counts.old.entries f t + length (told_from router sends.now f t)) }
 {
     for send in sends {
         let direction = Direction {
@@ -56,7 +59,9 @@ fn count_edit<S: Selector>(
     counts: &mut BTreeMap<Direction, usize>,
     edit: &CellEdit<S>,
 ) -> Result<(), AllocError>
-    ensures { OnOk result ((f t : Addr) → count_at counts.new.entries f t ≡ count_at counts.old.entries f t + length (told_from edit.now.router (edit_sends edit.now) f t)) }
+    ensures { OnOk result ((f t : Addr) →
+        count_at counts.new.entries f t ≡ count_at counts.old.entries f t + length
+        (told_from edit.now.router (edit_sends edit.now) f t)) }
 {
     match &edit.remade {
         Some(outcome) => count_sends(counts, edit.router, &outcome.sends),
@@ -69,7 +74,8 @@ fn counts_of<S: Selector>(
     alloc: Global,
     edits: &[CellEdit<S>],
 ) -> Result<BTreeMap<Direction, usize>, AllocError>
-    ensures { IfOk result (λ counts. (f t : Addr) → count_at counts.entries f t ≡ length (told_by_all (edits_send edits.now) f t)) }
+    ensures { IfOk result (λ counts. (f t : Addr) →
+        count_at counts.entries f t ≡ length (told_by_all (edits_send edits.now) f t)) }
 {
     let mut counts = BTreeMap::new(alloc);
     for edit in edits {
@@ -105,14 +111,16 @@ fn admit_each<S: Selector>(queues: &mut Queues, edits: &[CellEdit<S>]) -> Result
     Ok(())
 }
 
-/// Sees to it that each message that is sent for the edited cells may be, and has a place. Each direction is asked for its places once.
+/// Sees to it that each message that is sent for the edited cells may be, and has a place. Each direction is asked for
+/// its places once.
 pub(crate) fn reserve_each<S: Selector>(
     alloc: Global,
     queues: &mut Queues,
     edits: &[CellEdit<S>],
 ) -> Result<(), AllocError>
     ensures queue { KeepsMessages queues.old queues.new }
-    ensures room { OnOk result ((f t : Addr) → length (told_by_all (edits_send edits.now) f t) ≤ spare_at queues.new f t) }
+    ensures room { OnOk result ((f t : Addr) →
+        length (told_by_all (edits_send edits.now) f t) ≤ spare_at queues.new f t) }
     ensures admitted { OnOk result (AreAllAdmitted queues.new.admitted edits.now) }
 {
     admit_each(queues, edits)?;

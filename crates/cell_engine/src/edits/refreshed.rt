@@ -17,7 +17,9 @@ pub(crate) fn refreshed_cells<S: Selector>(
     conf: &Conf,
     edits: &[CellEdit<S>],
 ) -> Result<Vec<(Addr, Prefix)>, AllocError>
-    ensures { IfOk result (λ cells. cells.items ≡ map (λ x. (x.router, x.prefix)) (filter (λ x. is_some (router_site conf.now x.router)) edits.now)) }
+    ensures { IfOk result (λ cells.
+        cells.items ≡ map (λ x.
+        (x.router, x.prefix)) (filter (λ x. is_some (router_site conf.now x.router)) edits.now)) }
 {
     let cells = places_of(alloc, edits)?;
     routers_alone(alloc, conf, &cells)

@@ -3,7 +3,7 @@
 ghost use Rattle.std.specs.Prelude.{◌≡◌, IfOk};
 ghost use Rattle.std.specs.Option.{option_copied};
 ghost use Rattle.route_select.specs.Selection.{best_of};
-ghost use Rattle.cell_engine.specs.Cells.{nothing_heard, route_of};
+ghost use Rattle.cell_engine.specs.Cells.{new_cell, route_of};
 ghost use Rattle.cell_engine.specs.Recosting.{recosted};
 ghost use Rattle.cell_engine.specs.Senders.{AreInOrder, first_past, seen};
 
@@ -23,12 +23,12 @@ pub struct Cell<S: Chosen> {
 }
 
 impl<S: Chosen> Model for Cell<S> {
-    ghost use Rattle.cell_engine.specs.Cells.{Heard};
-    ghost use Rattle.cell_engine.specs.CellCoding.{coded_heard};
+    ghost use Rattle.cell_engine.specs.Cells.{Cell};
+    ghost use Rattle.cell_engine.specs.CellCoding.{coded_cell};
 
-    ghost Value = { Heard };
+    ghost Value = { Cell };
 
-    ghost coded = { coded_heard };
+    ghost coded = { coded_cell };
 
     ghost view = { λ c. record { received = c.received; standings = S.standings c.chosen } };
 }
@@ -36,7 +36,7 @@ impl<S: Chosen> Model for Cell<S> {
 impl<S: Selector> Cell<S> {
     /// Nothing was received. It takes no memory.
     pub fn new(alloc: Global) -> Self
-        ensures { result ≡ nothing_heard }
+        ensures { result ≡ new_cell }
     {
         Cell {
             received: ReceivedRoutes::new(alloc),
@@ -82,7 +82,8 @@ impl<S: Chosen> Cell<S> {
         self.received.routes()
     }
 
-    /// The first sender past this one, or with none the first of all, and its route. The senders come in order of address.
+    /// The first sender past this one, or with none the first of all, and its route. The senders come in order of
+    /// address.
     pub fn next_received(&self, past: Option<Addr>) -> Option<(Addr, &Attr)>
         ensures next { seen result ≡ first_past self.now.received past }
         ensures order { AreInOrder self.now.received }

@@ -48,8 +48,8 @@ pub fn deliver<S: Selector + Drop>(
     })
 }
 
-/// What a router does when its site becomes another (RFC 4271, 6 and 8): what it received over sessions that are down is
-/// removed, the choice is made anew, and what changed is sent.
+/// What a router does when its site becomes another (RFC 4271, 6 and 8): what it received over sessions that are down
+/// is removed, the choice is made anew, and what changed is sent.
 #[tactic(auto, unfolding(crate::specs::Cells::refreshed))]
 pub fn refresh<S: Selector + Drop>(
     alloc: Global,
@@ -69,8 +69,8 @@ pub fn refresh<S: Selector + Drop>(
     })
 }
 
-/// What a router does when its site becomes another, and both were compared. Where settings and sessions stay, and the best routes differ in
-/// their costs alone, no advert is made: a cost is advertised to nobody.
+/// What a router does when its site becomes another, and both were compared. Where settings and sessions stay, and the
+/// best routes differ in their costs alone, no advert is made: a cost is advertised to nobody.
 #[tactic(auto, unfolding(crate::specs::Cells::refreshed))]
 pub fn refresh_compared<S: Selector + Drop>(
     alloc: Global,

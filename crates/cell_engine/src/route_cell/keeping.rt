@@ -10,15 +10,19 @@ use net_prefix::Addr;
 use route_select::Selector;
 use std::alloc::{AllocError, Global};
 
-/// What a virtual peer does when the configuration becomes this one (RFC 4271, 6 and 8): what it received over sessions that
-/// are down is removed. It decides nothing and sends nothing. Want of memory is the only error.
+/// What a virtual peer does when the configuration becomes this one (RFC 4271, 6 and 8): what it received over sessions
+/// that are down is removed. It decides nothing and sends nothing. Want of memory is the only error.
 pub fn keep<S: Selector + Drop>(
     alloc: Global,
     conf: &Conf,
     peer: Addr,
     cell: &Cell<S>,
 ) -> Result<Cell<S>, AllocError>
-    ensures { IfOk result (λ kept. kept ≡ record { received = filter (λ e. is_up conf.now e.0 peer) cell.now.received; standings = finite.empty }) }
+    ensures { IfOk result (λ kept.
+        kept ≡ record {
+          received = filter (λ e. is_up conf.now e.0 peer) cell.now.received;
+          standings = finite.empty;
+        }) }
 {
     Ok(Cell {
         received: cell.received.kept_by(alloc, conf, peer)?,

@@ -26,8 +26,8 @@ struct Look {
     new: Option<u32>,
 }
 
-/// What stays of a router's part of the configuration at an edit: its settings with which of its sessions are up, and the prefixes that
-/// it originates.
+/// What stays of a router's part of the configuration at an edit: its settings with which of its sessions are up, and
+/// the prefixes that it originates.
 #[derive(Clone, Copy)]
 pub struct Stays {
     pub(crate) facts: bool,
@@ -59,8 +59,8 @@ impl Stays {
     }
 }
 
-/// A router's part of the configuration before an edit and after it, of which it is known what stays. It remembers the NEXT_HOP that was
-/// looked up last: most routes of a router have the same one.
+/// A router's part of the configuration before an edit and after it, of which it is known what stays. It remembers the
+/// NEXT_HOP that was looked up last: most routes of a router have the same one.
 #[derive(Drop)]
 pub struct SiteChange<'a> {
     pub(crate) old: &'a SiteConf,
@@ -80,8 +80,10 @@ impl<'a> Model for SiteChange<'a> {
 
     ghost view = { λ x. record { old = x.old.now; new = x.new.now } };
 
-    ghost invariant = { λ x. (x.stays.facts ≡ same_facts x.old.now x.new.now) × (x.stays.origins ≡ same_origins x.old.now x.new.now)
-        × IfSome x.last (λ look. (look.old ≡ cost_in x.old.now.costs look.to) × (look.new ≡ cost_in x.new.now.costs look.to)) };
+    ghost invariant = { λ x. (x.stays.facts ≡ same_facts x.old.now x.new.now) ×
+        (x.stays.origins ≡ same_origins x.old.now x.new.now)
+        × IfSome x.last (λ look. (look.old ≡ cost_in x.old.now.costs look.to) ×
+        (look.new ≡ cost_in x.new.now.costs look.to)) };
 }
 
 impl<'a> SiteChange<'a> {
@@ -161,7 +163,8 @@ impl<'a> SiteChange<'a> {
         look.old != look.new
     }
 
-    /// The cost to the NEXT_HOP of a lone route after the edit. None where there is no cost before, or none after, or not one route.
+    /// The cost to the NEXT_HOP of a lone route after the edit. None where there is no cost before, or none after, or
+    /// not one route.
     fn lone_cost(&mut self, routes: &[(Addr, Attr)]) -> Option<u32>
         ensures cost { result ≡ lone_cost self.entry.now routes.now }
         ensures stays { self.exit.now ≡ self.entry.now }
@@ -216,7 +219,8 @@ fn counts_cost(site: &SiteConf, prefix: Prefix, attr: &Attr, from: &SiteSession)
 }
 
 impl<S: Selector> Cell<S> {
-    /// Whether the router's cell of the prefix can change. Where it says no, `refresh` gives the cell again, and sends nothing.
+    /// Whether the router's cell of the prefix can change. Where it says no, `refresh` gives the cell again, and sends
+    /// nothing.
     pub fn is_moved(&self, change: &mut SiteChange<'_>, prefix: Prefix) -> bool
         ensures moved { result ≡ is_moved change.entry.now prefix self.now.received }
         ensures stays { change.exit.now ≡ change.entry.now }
@@ -229,8 +233,8 @@ impl<S: Selector> Cell<S> {
         }
     }
 
-    /// The cost that the cell's one route has after the edit, where the edit changes the cell in that alone. None elsewhere: such a cell
-    /// has to be decided anew.
+    /// The cost that the cell's one route has after the edit, where the edit changes the cell in that alone. None
+    /// elsewhere: such a cell has to be decided anew.
     pub fn recost(&self, change: &mut SiteChange<'_>, prefix: Prefix) -> Option<u32>
         ensures cost { result ≡ recost change.entry.now prefix self.now.received }
         ensures stays { change.exit.now ≡ change.entry.now }

@@ -23,5 +23,5 @@ impl<S: Chosen> Model for Outcome<S> {
 
     ghost coded = { coded_outcome };
 
-    ghost view = { λ o. record { heard = o.cell; sends = o.sends.items } };
+    ghost view = { λ o. record { cell = o.cell; sends = o.sends.items } };
 }

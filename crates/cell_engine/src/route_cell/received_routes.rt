@@ -1,5 +1,5 @@
-//! The routes that were received for one prefix, in a vector in the order of their senders. A cell has one to four of them,
-//! for which a B-tree map is too large.
+//! The routes that were received for one prefix, in a vector in the order of their senders. A cell has one to four of
+//! them, for which a B-tree map is too large.
 
 ghost use Rattle.std.specs.Prelude.{◌≡◌, ◌∷◌, ◌++◌, [], filter, IfOk, OnOk};
 ghost use Rattle.std.specs.Option.{option_copied};

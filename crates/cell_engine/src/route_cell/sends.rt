@@ -54,8 +54,8 @@ impl<'a> Model for Basis<'a> {
     ghost view = { λ x. record { site = x.site.now; best = option_copied x.best } };
 }
 
-/// What is sent over the session, which is up, where another route is advertised to its peer than before. An advert looks
-/// the session up again, by the address of its peer.
+/// What is sent over the session, which is up, where another route is advertised to its peer than before. An advert
+/// looks the session up again, by the address of its peer.
 fn send_over(
     alloc: Global,
     prefix: Prefix,
@@ -63,7 +63,8 @@ fn send_over(
     after: &Basis<'_>,
     to: &SiteSession,
 ) -> Result<Option<(Addr, Message)>, AllocError>
-    ensures { IfOk result (λ send. send ≡ send_over before.now.site after.now.site prefix before.now.best after.now.best to.now) }
+    ensures { IfOk result (λ send.
+        send ≡ send_over before.now.site after.now.site prefix before.now.best after.now.best to.now) }
 {
     let (old, new, peer) = (before.site, after.site, to.peer);
     let had = advert_of(
@@ -86,7 +87,8 @@ fn send_if_up(
     after: &Basis<'_>,
     to: &SiteSession,
 ) -> Result<Option<(Addr, Message)>, AllocError>
-    ensures { IfOk result (λ send. send ≡ send_if_up before.now.site after.now.site prefix before.now.best after.now.best to.now) }
+    ensures { IfOk result (λ send.
+        send ≡ send_if_up before.now.site after.now.site prefix before.now.best after.now.best to.now) }
 {
     if to.up {
         send_over(alloc, prefix, before, after, to)
@@ -103,7 +105,9 @@ fn sends_over(
     after: &Basis<'_>,
     sessions: &[SiteSession],
 ) -> Result<Vec<(Addr, Message)>, AllocError>
-    ensures { IfOk result (λ sends. sends.items ≡ filter_map (send_if_up before.now.site after.now.site prefix before.now.best after.now.best) sessions.now) }
+    ensures { IfOk result (λ sends.
+        sends.items ≡ filter_map (send_if_up before.now.site after.now.site prefix before.now.best after.now.best)
+        sessions.now) }
 {
     let mut sends = Vec::new(alloc);
     for to in sessions {
@@ -122,7 +126,8 @@ pub(crate) fn sends_of(
     had: Option<&Candidate>,
     has: Option<&Candidate>,
 ) -> Result<Vec<(Addr, Message)>, AllocError>
-    ensures { IfOk result (λ sends. sends.items ≡ sends_of old.now new.now prefix (option_copied had.entry) (option_copied has.entry)) }
+    ensures { IfOk result (λ sends.
+        sends.items ≡ sends_of old.now new.now prefix (option_copied had.entry) (option_copied has.entry)) }
 {
     let before = Basis {
         site: old,
@@ -144,7 +149,8 @@ pub(crate) fn sends_at(
     has: Option<&Candidate>,
 ) -> Result<Vec<(Addr, Message)>, AllocError>
     requires { IsStrictlySortedBy addr_cmp (map (λ x. x.peer) site.now.sessions) }
-    ensures { IfOk result (λ sends. sends.items ≡ sends_of site.now site.now prefix (option_copied had.entry) (option_copied has.entry)) }
+    ensures { IfOk result (λ sends.
+        sends.items ≡ sends_of site.now site.now prefix (option_copied had.entry) (option_copied has.entry)) }
 {
     if is_same_choice(had, has) {
         Ok(Vec::new(alloc))
@@ -153,8 +159,8 @@ pub(crate) fn sends_at(
     }
 }
 
-/// What is sent where both sites were compared: no advert is made where settings and sessions stay, and the best routes differ in their costs
-/// alone.
+/// What is sent where both sites were compared: no advert is made where settings and sessions stay, and the best routes
+/// differ in their costs alone.
 pub(crate) fn sends_compared(
     alloc: Global,
     change: &SiteChange<'_>,
@@ -163,7 +169,9 @@ pub(crate) fn sends_compared(
     has: Option<&Candidate>,
 ) -> Result<Vec<(Addr, Message)>, AllocError>
     requires { IsStrictlySortedBy addr_cmp (map (λ x. x.peer) change.now.new.sessions) }
-    ensures { IfOk result (λ sends. sends.items ≡ sends_of change.now.old change.now.new prefix (option_copied had.entry) (option_copied has.entry)) }
+    ensures { IfOk result (λ sends.
+        sends.items ≡ sends_of change.now.old change.now.new prefix (option_copied had.entry)
+        (option_copied has.entry)) }
 {
     if change.stays.facts && is_same_choice_but_for_cost(had, has) {
         Ok(Vec::new(alloc))

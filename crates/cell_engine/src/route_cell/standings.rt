@@ -23,7 +23,9 @@ fn put_peer<S: Selector>(
     received: &ReceivedRoutes,
     from: &SiteSession,
 ) -> Result<(), AllocError>
-    ensures { OnOk result (S.standings chosen.new ≡ added (S.standings chosen.old) (option_to_list (standing_of site.now prefix received.now from.now))) }
+    ensures { OnOk result
+        (S.standings chosen.new ≡ added (S.standings chosen.old)
+        (option_to_list (standing_of site.now prefix received.now from.now))) }
 {
     match received.route_of(from.peer) {
         None => Ok(()),
@@ -39,7 +41,9 @@ fn put_peers<S: Selector>(
     prefix: Prefix,
     received: &ReceivedRoutes,
 ) -> Result<(), AllocError>
-    ensures { OnOk result (S.standings chosen.new ≡ added (S.standings chosen.old) (filter_map (standing_of site.now prefix received.now) sessions.now)) }
+    ensures { OnOk result
+        (S.standings chosen.new ≡ added (S.standings chosen.old)
+        (filter_map (standing_of site.now prefix received.now) sessions.now)) }
 {
     for from in sessions {
         put_peer(chosen, site, prefix, received, from)?;
@@ -75,7 +79,8 @@ pub(crate) fn take<S: Selector>(
     sender: Addr,
     message: &Message,
 ) -> Result<(), AllocError>
-    ensures { OnOk result (S.standings chosen.new ≡ standings_after site.now sender message.now (S.standings chosen.old)) }
+    ensures { OnOk result
+        (S.standings chosen.new ≡ standings_after site.now sender message.now (S.standings chosen.old)) }
 {
     match message {
         Message::Update(prefix, attr) => match site.session(sender) {

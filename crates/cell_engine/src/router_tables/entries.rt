@@ -17,7 +17,8 @@ pub(crate) fn insert_in<V: Drop, T: PrefixTable<V> + Drop>(
     value: V,
 ) -> Result<(), V>
     requires { AreByRouter entries.old.items }
-    ensures ok { OnOk result (tables_of T.table entries.new.items ≡ with_value router prefix value (tables_of T.table entries.old.items)) }
+    ensures ok { OnOk result
+        (tables_of T.table entries.new.items ≡ with_value router prefix value (tables_of T.table entries.old.items)) }
     ensures absent { OnErr result (value_at router prefix (tables_of T.table entries.old.items) ≡ None) }
     ensures back { IfErr result (λ back. back ≡ value) }
     ensures err { OnErr result (tables_of T.table entries.new.items ≡ tables_of T.table entries.old.items) }
@@ -51,8 +52,10 @@ pub(crate) fn replace_in<V, T: PrefixTable<V>>(
     value: V,
 ) -> Result<V, V>
     requires { AreByRouter entries.old.items }
-    ensures before { IfOk result (λ before. value_at router prefix (tables_of T.table entries.old.items) ≡ Some before) }
-    ensures replaced { OnOk result (tables_of T.table entries.new.items ≡ with_value router prefix value (tables_of T.table entries.old.items)) }
+    ensures before { IfOk result (λ before.
+        value_at router prefix (tables_of T.table entries.old.items) ≡ Some before) }
+    ensures replaced { OnOk result
+        (tables_of T.table entries.new.items ≡ with_value router prefix value (tables_of T.table entries.old.items)) }
     ensures absent { OnErr result (value_at router prefix (tables_of T.table entries.old.items) ≡ None) }
     ensures back { IfErr result (λ back. back ≡ value) }
     ensures same { OnErr result (tables_of T.table entries.new.items ≡ tables_of T.table entries.old.items) }
@@ -72,7 +75,8 @@ pub(crate) fn adjust_in<V, T: PrefixTable<V>, A: Adjust<V>>(
 ) -> bool
     requires { AreByRouter entries.old.items }
     ensures there { result ≡ is_some (value_at router prefix (tables_of T.table entries.old.items)) }
-    ensures adjusted { tables_of T.table entries.new.items ≡ adjusted_at (A.after change.now) router prefix (tables_of T.table entries.old.items) }
+    ensures adjusted { tables_of T.table entries.new.items ≡ adjusted_at (A.after change.now) router prefix
+        (tables_of T.table entries.old.items) }
 {
     match place(entries, router) {
         Ok(at) => entries[at].1.adjust(prefix, change),

@@ -13,8 +13,8 @@ use prefix_table::{Adjust, PrefixTable};
 use std::alloc::Global;
 use std::marker::{Model, PhantomData};
 
-/// Tables by the address of their router. Look-ups of a router halve a sorted vector; the table of a new router moves those that
-/// come after it.
+/// Tables by the address of their router. Look-ups of a router halve a sorted vector; the table of a new router moves
+/// those that come after it.
 #[derive(Drop)]
 pub struct RouterTables<V, T: PrefixTable<V>> {
     entries: Vec<(Addr, T)>,
@@ -27,12 +27,12 @@ impl<V, T: PrefixTable<V>> Model for RouterTables<V, T> {
     ghost use Rattle.std.specs.FinMap as finite;
     ghost use Rattle.net_prefix.specs.declared.addr.Addr as addr;
     ghost use Rattle.net_prefix.specs.contracts.addr.Addr as address;
-    ghost use Rattle.prefix_table.specs.Tables.{Table, coded_block};
+    ghost use Rattle.prefix_table.specs.Tables.{Table, coded_prefix};
     ghost use Rattle.cell_engine.specs.RouterTables.{AreByRouter, tables_of};
 
     ghost Value = { List (addr.Addr × Table V) };
 
-    ghost coded = { coded_list (coded× address.the_row.coded (finite.code coded_block V.code)) };
+    ghost coded = { coded_list (coded× address.the_row.coded (finite.code coded_prefix V.code)) };
 
     ghost view = { λ s. tables_of T.table s.entries.items };
 
@@ -72,8 +72,8 @@ impl<V, T: PrefixTable<V>> RouterTables<V, T> {
         table_in(&self.entries, router)?.get(prefix)
     }
 
-    /// Gives a router and prefix that have a value this one, and hands back the one that they had. It takes no memory. Where they
-    /// have none, the error hands back this value, and nothing changes.
+    /// Gives a router and prefix that have a value this one, and hands back the one that they had. It takes no memory.
+    /// Where they have none, the error hands back this value, and nothing changes.
     pub fn replace(&mut self, router: Addr, prefix: Prefix, value: V) -> Result<V, V>
         ensures before { IfOk result (λ before. value_at router prefix self.old ≡ Some before) }
         ensures replaced { OnOk result (self.new ≡ with_value router prefix value self.old) }
@@ -94,8 +94,8 @@ impl<V, T: PrefixTable<V>> RouterTables<V, T> {
 }
 
 impl<V: Drop, T: PrefixTable<V> + Drop> RouterTables<V, T> {
-    /// Gives the router and prefix this value. It takes memory only where they have none. For want of memory the error hands back
-    /// this value, and nothing changes.
+    /// Gives the router and prefix this value. It takes memory only where they have none. For want of memory the error
+    /// hands back this value, and nothing changes.
     pub fn insert(&mut self, alloc: Global, router: Addr, prefix: Prefix, value: V) -> Result<(), V>
         ensures ok { OnOk result (self.new ≡ with_value router prefix value self.old) }
         ensures absent { OnErr result (value_at router prefix self.old ≡ None) }

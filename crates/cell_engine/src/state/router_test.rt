@@ -25,8 +25,8 @@ fn has_router_kind(node: Option<(Asn, Kind)>) -> bool
     }
 }
 
-/// Whether a router stands at the address, with the last answer for another one at hand: cells are in the order of their routers, so one
-/// look-up serves all cells of a router.
+/// Whether a router stands at the address, with the last answer for another one at hand: cells are in the order of
+/// their routers, so one look-up serves all cells of a router.
 pub fn is_router_again(conf: &Conf, last: &mut Option<(Addr, bool)>, address: Addr) -> bool
     requires right { IfSome last.old (λ l. l.1 ≡ is_some (router_site conf.now l.0)) }
     ensures is { result ≡ is_some (router_site conf.now address) }

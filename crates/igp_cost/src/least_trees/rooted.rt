@@ -10,8 +10,8 @@ use crate::least_trees::link::Link;
 use net_prefix::Addr;
 use path_attr::Asn;
 
-/// A graph in which a tree starts: the nodes, the links between their places in the order of the nodes that they leave, where the
-/// links of each node start and where they all end, and the place of the tree's source.
+/// A graph in which a tree starts: the nodes, the links between their places in the order of the nodes that they leave,
+/// where the links of each node start and where they all end, and the place of the tree's source.
 #[derive(Clone, Copy)]
 pub struct RootedGraph<'a> {
     pub nodes: &'a [(Addr, Asn)],
@@ -39,7 +39,8 @@ impl<'a> RootedGraph<'a> {
     // Whether the node at a place is in the AS of the source.
     pub fn is_inside(&self, at: usize) -> bool
         requires { IsPlace self.now.nodes.now at }
-        ensures { result ≡ share_as self.now.nodes.now (addr_at self.now.nodes.now self.now.source) (addr_at self.now.nodes.now at) }
+        ensures { result ≡ share_as self.now.nodes.now (addr_at self.now.nodes.now self.now.source)
+            (addr_at self.now.nodes.now at) }
     {
         self.nodes[self.source].1 == self.nodes[at].1
     }

@@ -1,5 +1,6 @@
-//! The search of least labels: nearest first, then passes over all links until none makes a label better. The first keeps each label backed
-//! by a link, and is not proved to find the least ones; after the passes there is none better. Mostly one pass is made, which finds nothing.
+//! The search of least labels: nearest first, then passes over all links until none makes a label better. The first
+//! keeps each label backed by a link, and is not proved to find the least ones; after the passes there is none better.
+//! Mostly one pass is made, which finds nothing.
 
 ghost use Rattle.std.specs.Prelude.{◌≡◌, ◌≢◌, ◌↔◌, ◌≤◌, ◌<◌, ◌+◌, ℕ, IsTrue, IfSome, IfOk, None};
 ghost use Rattle.std.specs.BinaryHeap.{heap_items, heap_len};
@@ -42,7 +43,8 @@ impl<'a> RootedGraph<'a> {
         requires at { IsLinkPlace self.now.links.now at }
         requires bounded { IsBounded self.now.nodes.now labels.old }
         ensures bounded { IsBounded self.now.nodes.now labels.new }
-        ensures backed { AreBackedLabels self.now.nodes.now self.now.source self.now.links.now labels.old → AreBackedLabels self.now.nodes.now self.now.source self.now.links.now labels.new }
+        ensures backed { AreBackedLabels self.now.nodes.now self.now.source self.now.links.now labels.old →
+            AreBackedLabels self.now.nodes.now self.now.source self.now.links.now labels.new }
         ensures falls { OnTrue result (weight_of labels.new < weight_of labels.old) }
         ensures same { OnFalse result (labels.new ≡ labels.old) }
         ensures closed { OnFalse result (ClosesAt self.now.nodes.now self.now.source self.now.links.now labels.new at) }
@@ -95,7 +97,8 @@ impl<'a> RootedGraph<'a> {
         requires bounded { IsBounded self.now.nodes.now labels.old }
         requires queued { AreQueued self.now.nodes.now (heap_items queue.old) }
         ensures bounded { IsBounded self.now.nodes.now labels.new }
-        ensures backed { AreBackedLabels self.now.nodes.now self.now.source self.now.links.now labels.old → AreBackedLabels self.now.nodes.now self.now.source self.now.links.now labels.new }
+        ensures backed { AreBackedLabels self.now.nodes.now self.now.source self.now.links.now labels.old →
+            AreBackedLabels self.now.nodes.now self.now.source self.now.links.now labels.new }
         ensures queued { AreQueued self.now.nodes.now (heap_items queue.new) }
         ensures falls { weight_of labels.new + heap_len queue.new ≤ weight_of labels.old + heap_len queue.old }
     {
@@ -110,12 +113,14 @@ impl<'a> RootedGraph<'a> {
         Ok(())
     }
 
-    // Improves the labels, nearest first, from the nodes that are queued. An entry whose label got better since is passed over.
+    // Improves the labels, nearest first, from the nodes that are queued. An entry whose label got better since is
+    // passed over.
     pub fn explore(&self, labels: &mut [Option<Label>], queue: &mut Queue) -> Result<(), AllocError>
         requires bounded { IsBounded self.now.nodes.now labels.old }
         requires queued { AreQueued self.now.nodes.now (heap_items queue.old) }
         ensures bounded { IsBounded self.now.nodes.now labels.new }
-        ensures backed { AreBackedLabels self.now.nodes.now self.now.source self.now.links.now labels.old → AreBackedLabels self.now.nodes.now self.now.source self.now.links.now labels.new }
+        ensures backed { AreBackedLabels self.now.nodes.now self.now.source self.now.links.now labels.old →
+            AreBackedLabels self.now.nodes.now self.now.source self.now.links.now labels.new }
     {
         while let Some(Reverse((cost, hop, at))) = queue.pop() {
             if labels[at] == Some(Label { cost, hop }) {
@@ -141,7 +146,8 @@ impl<'a> RootedGraph<'a> {
 
     // The least labels from the source.
     pub fn labels(&self, alloc: Global) -> Result<Vec<Option<Label>>, AllocError>
-        ensures backed { IfOk result (λ v. AreBackedLabels self.now.nodes.now self.now.source self.now.links.now v.items) }
+        ensures backed { IfOk result (λ v.
+            AreBackedLabels self.now.nodes.now self.now.source self.now.links.now v.items) }
         ensures closed { IfOk result (λ v. IsClosed self.now.nodes.now self.now.source self.now.links.now v.items) }
     {
         let mut labels = self.first_labels(alloc)?;

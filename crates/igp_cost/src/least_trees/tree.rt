@@ -21,7 +21,8 @@ use std::marker::Model;
 /// By how many rows the room of a tree grows that gets one row more.
 const CHUNK: usize = 64;
 
-/// The least cost and the first hop from a router, its source, to each address that a walk from it reaches. A copy takes no memory.
+/// The least cost and the first hop from a router, its source, to each address that a walk from it reaches. A copy
+/// takes no memory.
 #[derive(Debug, Drop)]
 pub struct Tree {
     source: Addr,
@@ -109,7 +110,8 @@ impl Tree {
         Some(self.label(to)?.cost)
     }
 
-    /// The first hop from the source to an address: the least second address of a walk of least cost. None where there is no walk.
+    /// The first hop from the source to an address: the least second address of a walk of least cost. None where there
+    /// is no walk.
     pub fn first_hop(&self, to: Addr) -> Option<Addr>
         ensures { result ≡ first_hop_in self.now to }
     {
@@ -127,7 +129,8 @@ impl Tree {
         }
     }
 
-    /// The label of an address, with a guess of the row where it may stand. An address above all rows is not searched for.
+    /// The label of an address, with a guess of the row where it may stand. An address above all rows is not searched
+    /// for.
     pub(crate) fn label_near(&self, row: usize, to: Addr) -> Option<Label>
         ensures { result ≡ label_in self.now to }
     {
@@ -190,7 +193,8 @@ fn are_known(rows: &[(Addr, Label)]) -> bool
     rows.iter().all(|row| row.1.cost != NO_WALK)
 }
 
-// Room for so many rows, and for up to so many more as a chunk has: as a network grows, its trees take the memory that trees before them have left.
+// Room for so many rows, and for up to so many more as a chunk has: as a network grows, its trees take the memory that
+// trees before them have left.
 fn room_for(rows: usize) -> usize {
     rows.saturating_add(CHUNK) / CHUNK * CHUNK
 }

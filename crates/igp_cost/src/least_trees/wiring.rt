@@ -56,7 +56,9 @@ fn both_ways(
 
 // Adds the two links of an edge.
 fn add_both(links: &mut Vec<Link>, from: u16, to: u16, metric: u16) -> Result<(), AllocError>
-    ensures { OnOk result (links.new.items ≡ (links.old.items ++ record { from = from; to = to; metric = metric } ∷ []) ++ record { from = to; to = from; metric = metric } ∷ []) }
+    ensures { OnOk result
+        (links.new.items ≡ (links.old.items ++ record { from = from; to = to; metric = metric } ∷ [])
+        ++ record { from = to; to = from; metric = metric } ∷ []) }
 {
     links.push(Link { from, to, metric })?;
     links.push(Link {
@@ -99,7 +101,8 @@ fn next_start(links: &[Link], start: usize, at: usize) -> usize
     requires sorted { IsNonDecreasingBy (λ l. l.from) links.now }
     requires before { AllWithin (λ (l : Link). ltb l.from at ≡ true) links.now 0 start }
     ensures within { result ≤ length links.now }
-    ensures point { IsPartitionPoint (λ (l : Link). ltb l.from at ≡ true) (λ (l : Link). ltb l.from at ≡ false) links.now result }
+    ensures point { IsPartitionPoint (λ (l : Link). ltb l.from at ≡ true) (λ (l : Link).
+        ltb l.from at ≡ false) links.now result }
 {
     let mut next = start;
     while next < links.len() && (links[next].from as usize) < at {

@@ -94,13 +94,15 @@ impl<'a> RootedGraph<'a> {
         requires marks { HasOneEach self.now.nodes.now marks.old }
         requires met { AreMet self.now.nodes.now self.now.source self.now.links.now codes.now passed.now marks.old }
         ensures met { AreMet self.now.nodes.now self.now.source self.now.links.now codes.now passed.now marks.new }
-        ensures shut { OnTrue result (IsShutAt self.now.nodes.now self.now.source self.now.links.now codes.now passed.now at) }
+        ensures shut { OnTrue result
+            (IsShutAt self.now.nodes.now self.now.source self.now.links.now codes.now passed.now at) }
     {
         let link = self.links[at];
         let to = link.to as usize;
         let offer = self.offered(passed, link);
         let code = codes[to];
-        // There is no branch on what is read, which would be foretold badly: this is what a repair spends most of its time on.
+        // There is no branch on what is read, which would be foretold badly: this is what a repair spends most of its
+        // time on.
         marks[to] = marks[to] | (offer == code);
         code <= offer
     }
@@ -112,7 +114,8 @@ impl<'a> RootedGraph<'a> {
         requires marks { HasOneEach self.now.nodes.now marks.old }
         requires met { AreMet self.now.nodes.now self.now.source self.now.links.now codes.now passed.now marks.old }
         ensures met { AreMet self.now.nodes.now self.now.source self.now.links.now codes.now passed.now marks.new }
-        ensures shut { OnTrue result ((k : ℕ) → k < length self.now.links.now → IsShutAt self.now.nodes.now self.now.source self.now.links.now codes.now passed.now k) }
+        ensures shut { OnTrue result ((k : ℕ) → k < length self.now.links.now →
+            IsShutAt self.now.nodes.now self.now.source self.now.links.now codes.now passed.now k) }
     {
         let mut shut = true;
         for at in 0..self.links.len() {
@@ -132,7 +135,8 @@ impl<'a> RootedGraph<'a> {
     ) -> Result<bool, AllocError>
         requires codes { HasOneEach self.now.nodes.now codes.now }
         requires passed { AreNodeCodes self.now.nodes.now passed.now }
-        ensures { IfOk result (λ b. OnTrue b (IsStill self.now.nodes.now self.now.source self.now.links.now codes.now passed.now)) }
+        ensures { IfOk result (λ b.
+            OnTrue b (IsStill self.now.nodes.now self.now.source self.now.links.now codes.now passed.now)) }
     {
         let mut marks = vec![in alloc; false; self.nodes.len()]?;
         let shut = self.look_at_all(codes, passed, &mut marks);
@@ -142,8 +146,10 @@ impl<'a> RootedGraph<'a> {
     // Whether labels are seen to be the least ones. Where it says no, they may still be.
     pub fn are_least(&self, alloc: Global, labels: &[Option<Label>]) -> Result<bool, AllocError>
         requires { IsBounded self.now.nodes.now labels.now }
-        ensures backed { IfOk result (λ b. OnTrue b (AreBackedLabels self.now.nodes.now self.now.source self.now.links.now labels.now)) }
-        ensures closed { IfOk result (λ b. OnTrue b (IsClosed self.now.nodes.now self.now.source self.now.links.now labels.now)) }
+        ensures backed { IfOk result (λ b.
+            OnTrue b (AreBackedLabels self.now.nodes.now self.now.source self.now.links.now labels.now)) }
+        ensures closed { IfOk result (λ b.
+            OnTrue b (IsClosed self.now.nodes.now self.now.source self.now.links.now labels.now)) }
     {
         if !self.starts_in(labels) {
             return Ok(false);

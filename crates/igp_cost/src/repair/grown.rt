@@ -53,7 +53,8 @@ impl<'a> RootedGraph<'a> {
         }
     }
 
-    // The tree with a label of one node more. None where that is no node, has a label, or is not the only one that the edge moves.
+    // The tree with a label of one node more. None where that is no node, has a label, or is not the only one that the
+    // edge moves.
     fn grown_to(
         &self,
         alloc: Global,
@@ -77,7 +78,8 @@ impl<'a> RootedGraph<'a> {
         }
     }
 
-    // The tree after a new edge, where one of its ends had a label, the other had none, and that end alone is moved. None elsewhere.
+    // The tree after a new edge, where one of its ends had a label, the other had none, and that end alone is moved.
+    // None elsewhere.
     pub fn grown_tree(
         &self,
         alloc: Global,

@@ -1,5 +1,5 @@
-//! The labels of an old tree in the graph as it is now: brought to the places of their nodes, mended and certified, all of them or those
-//! that differ.
+//! The labels of an old tree in the graph as it is now: brought to the places of their nodes, mended and certified, all
+//! of them or those that differ.
 
 ghost use Rattle.std.specs.Prelude.{◌≤◌, IfOk, IfSome};
 ghost use Rattle.igp_cost.specs.Labels.{AreBackedLabels, HasOneEach, IsClosed, IsPlace, AreLimited, Starts};
@@ -24,8 +24,10 @@ impl<'a> RootedGraph<'a> {
         old: &[(Addr, Label)],
         change: Change,
     ) -> Result<Option<Vec<Option<Label>>>, AllocError>
-        ensures backed { IfOk result (λ o. IfSome o (λ v. AreBackedLabels self.now.nodes.now self.now.source self.now.links.now v.items)) }
-        ensures closed { IfOk result (λ o. IfSome o (λ v. IsClosed self.now.nodes.now self.now.source self.now.links.now v.items)) }
+        ensures backed { IfOk result (λ o.
+            IfSome o (λ v. AreBackedLabels self.now.nodes.now self.now.source self.now.links.now v.items)) }
+        ensures closed { IfOk result (λ o.
+            IfSome o (λ v. IsClosed self.now.nodes.now self.now.source self.now.links.now v.items)) }
     {
         let (one, other) = change.ends();
         let ends = Ends {
@@ -58,7 +60,8 @@ impl<'a> RootedGraph<'a> {
         }
     }
 
-    // A tree mended from an old one between two places, and certified where they differ. None where mending it did not do.
+    // A tree mended from an old one between two places, and certified where they differ. None where mending it did not
+    // do.
     fn mended_between(
         &self,
         alloc: Global,
@@ -67,7 +70,8 @@ impl<'a> RootedGraph<'a> {
     ) -> Result<Option<Tree>, AllocError>
         requires source { IsFound self.now.nodes.now (source_of old.now) self.now.source }
         requires ends { HasEnds self.now.nodes.now ends }
-        ensures { IfOk result (λ o. IfSome o (IsMended self.now.nodes.now self.now.links.now old.now ends.one ends.other)) }
+        ensures { IfOk result (λ o.
+            IfSome o (IsMended self.now.nodes.now self.now.links.now old.now ends.one ends.other)) }
     {
         if self.has_rows_in_order(old) {
             return self.mended_rows(alloc, old, old.rows(), ends);
@@ -78,8 +82,8 @@ impl<'a> RootedGraph<'a> {
         }
     }
 
-    // The tree of the rows before, mended: those below the end of an edge are shifted together, and where that did not do, a search mends
-    // them. None where neither did.
+    // The tree of the rows before, mended: those below the end of an edge are shifted together, and where that did not
+    // do, a search mends them. None where neither did.
     fn mended_rows(
         &self,
         alloc: Global,
@@ -90,7 +94,8 @@ impl<'a> RootedGraph<'a> {
         requires source { IsFound self.now.nodes.now (source_of old.now) self.now.source }
         requires ends { HasEnds self.now.nodes.now ends }
         requires before { AreRowsOf self.now.nodes.now old.now before.now }
-        ensures { IfOk result (λ o. IfSome o (IsMended self.now.nodes.now self.now.links.now old.now ends.one ends.other)) }
+        ensures { IfOk result (λ o.
+            IfSome o (IsMended self.now.nodes.now self.now.links.now old.now ends.one ends.other)) }
     {
         let mut rows = Vec::from_slice(alloc, before)?;
         if self.shift(alloc, before, &mut rows, ends)? {
@@ -113,7 +118,8 @@ impl<'a> RootedGraph<'a> {
         requires source { IsFound self.now.nodes.now (source_of old.now) self.now.source }
         requires ends { HasEnds self.now.nodes.now ends }
         requires before { AreRowsOf self.now.nodes.now old.now before.now }
-        ensures { IfOk result (λ o. IfSome o (IsMended self.now.nodes.now self.now.links.now old.now ends.one ends.other)) }
+        ensures { IfOk result (λ o.
+            IfSome o (IsMended self.now.nodes.now self.now.links.now old.now ends.one ends.other)) }
     {
         let mut labels = known_labels(alloc, before)?;
         self.mend(alloc, &mut labels, ends)?;
@@ -134,7 +140,8 @@ impl<'a> RootedGraph<'a> {
         requires ends { HasEnds self.now.nodes.now ends }
         requires before { AreRowsOf self.now.nodes.now old.now before.now }
         requires placed { ArePlaced self.now.nodes.now rows.items }
-        ensures { IfOk result (λ o. IfSome o (IsMended self.now.nodes.now self.now.links.now old.now ends.one ends.other)) }
+        ensures { IfOk result (λ o.
+            IfSome o (IsMended self.now.nodes.now self.now.links.now old.now ends.one ends.other)) }
     {
         if !self.is_local(before, &rows, ends) {
             return Ok(None);

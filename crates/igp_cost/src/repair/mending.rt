@@ -192,8 +192,8 @@ impl<'a> RootedGraph<'a> {
         Ok(queue)
     }
 
-    // Mends old labels, given the ends of the edge that has changed: from these, and from around what is forgotten, labels
-    // are improved, nearest first. Nothing is promised of what they say: a certificate tells.
+    // Mends old labels, given the ends of the edge that has changed: from these, and from around what is forgotten,
+    // labels are improved, nearest first. Nothing is promised of what they say: a certificate tells.
     pub fn mend(
         &self,
         alloc: Global,

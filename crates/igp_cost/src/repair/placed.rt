@@ -50,7 +50,8 @@ impl<'a> RootedGraph<'a> {
     /// Whether rows are those of the nodes, one for each, with costs within the limit.
     fn are_in_order(&self, rows: &[(Addr, Label)]) -> bool
         ensures placed { OnTrue result (ArePlaced self.now.nodes.now rows.now) }
-        ensures within { OnTrue result ((v : ℕ) → v < length rows.now → (slice_index_or rows.now v no_row).1.cost ≤ 268435456) }
+        ensures within { OnTrue result ((v : ℕ) → v < length rows.now →
+            (slice_index_or rows.now v no_row).1.cost ≤ 268435456) }
     {
         if rows.len() != self.nodes.len() {
             return false;

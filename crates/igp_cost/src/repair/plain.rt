@@ -1,5 +1,5 @@
-//! The certificate of a plain node: one in the AS of the source, other than the source, with a label within the limit. What its links offer
-//! is compared by single numbers.
+//! The certificate of a plain node: one in the AS of the source, other than the source, with a label within the limit.
+//! What its links offer is compared by single numbers.
 
 ghost use Rattle.std.specs.Prelude.{◌≢◌, ◌<◌, ◌≤◌, ◌+◌, Contains, IsTrue};
 ghost use Rattle.std.specs.Bool.{OnTrue};
@@ -17,8 +17,11 @@ impl<'a> RootedGraph<'a> {
     // Whether the node at a place is in the AS of the source, and not the source.
     pub fn passes_on(&self, at: usize) -> bool
         requires { IsPlace self.now.nodes.now at }
-        ensures inside { OnTrue result (IsTrue (share_as self.now.nodes.now (addr_at self.now.nodes.now self.now.source) (addr_at self.now.nodes.now at))) }
-        ensures elsewhere { OnTrue result ((addr_at self.now.nodes.now at).0 ≢ (addr_at self.now.nodes.now self.now.source).0) }
+        ensures inside { OnTrue result
+            (IsTrue (share_as self.now.nodes.now (addr_at self.now.nodes.now self.now.source)
+            (addr_at self.now.nodes.now at))) }
+        ensures elsewhere { OnTrue result
+            ((addr_at self.now.nodes.now at).0 ≢ (addr_at self.now.nodes.now self.now.source).0) }
     {
         self.is_inside(at) && self.addr(at).0 != self.addr(self.source).0
     }
@@ -37,12 +40,15 @@ impl<'a> RootedGraph<'a> {
         requires metric { IsMetric metric }
         requires same_length { HasOneEach self.now.nodes.now rows.now }
         requires plain { IsPlain self.now.nodes.now self.now.source rows.now at label }
-        ensures { OnTrue result (OffersNoBetter self.now.nodes.now (tree_in self.now.nodes.now self.now.source rows.now) (addr_at self.now.nodes.now at) (addr_at self.now.nodes.now to) metric) }
+        ensures { OnTrue result
+            (OffersNoBetter self.now.nodes.now (tree_in self.now.nodes.now self.now.source rows.now)
+            (addr_at self.now.nodes.now at) (addr_at self.now.nodes.now to) metric) }
     {
         is_not_after_plainly(rows[to].1, label, metric)
     }
 
-    // Whether a link offers the node at a place, whose label is this, that label or better, from a node that passes on its own.
+    // Whether a link offers the node at a place, whose label is this, that label or better, from a node that passes on
+    // its own.
     #[inline(always)]
     fn is_plain_source(
         &self,
@@ -55,7 +61,9 @@ impl<'a> RootedGraph<'a> {
         requires from { IsPlace self.now.nodes.now from }
         requires metric { IsMetric metric }
         requires same_length { HasOneEach self.now.nodes.now rows.now }
-        ensures { OnTrue result (Offers self.now.nodes.now (tree_in self.now.nodes.now self.now.source rows.now) (addr_at self.now.nodes.now from) (addr_at self.now.nodes.now at) metric label) }
+        ensures { OnTrue result
+            (Offers self.now.nodes.now (tree_in self.now.nodes.now self.now.source rows.now)
+            (addr_at self.now.nodes.now from) (addr_at self.now.nodes.now at) metric label) }
     {
         is_plainly_not_after(rows[from].1, metric, label) && self.passes_on(from)
     }
@@ -92,7 +100,9 @@ impl<'a> RootedGraph<'a> {
         requires edge { JoinsPlaces self.now.nodes.now at link.to link.metric }
         requires compared { AreCompared self.now.nodes.now before.now rows.now }
         requires plain { IsPlain self.now.nodes.now self.now.source rows.now at label }
-        ensures { OnTrue result (IsSettledOver self.now.nodes.now self.now.links.now (tree_in self.now.nodes.now self.now.source before.now) (tree_in self.now.nodes.now self.now.source rows.now) (addr_at self.now.nodes.now at) link) }
+        ensures { OnTrue result
+            (IsSettledOver self.now.nodes.now self.now.links.now (tree_in self.now.nodes.now self.now.source before.now)
+            (tree_in self.now.nodes.now self.now.source rows.now) (addr_at self.now.nodes.now at) link) }
     {
         let to = link.to as usize;
         if !self.is_no_plain_gain(rows, at, label, to, link.metric as u32) {
@@ -116,7 +126,10 @@ impl<'a> RootedGraph<'a> {
         requires at { IsPlace self.now.nodes.now at }
         requires compared { AreCompared self.now.nodes.now before.now rows.now }
         requires plain { IsPlain self.now.nodes.now self.now.source rows.now at label }
-        ensures { OnTrue result (IsSettledAround self.now.nodes.now self.now.links.now (tree_in self.now.nodes.now self.now.source before.now) (tree_in self.now.nodes.now self.now.source rows.now) at) }
+        ensures { OnTrue result
+            (IsSettledAround self.now.nodes.now self.now.links.now
+            (tree_in self.now.nodes.now self.now.source before.now)
+            (tree_in self.now.nodes.now self.now.source rows.now) at) }
     {
         let mut held = false;
         for i in self.starts[at]..self.starts[at + 1] {

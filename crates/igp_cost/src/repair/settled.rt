@@ -1,5 +1,5 @@
-//! A certificate of the rows of a tree after a change, by the labels that differ from those of the rows before it: a look at the links
-//! around these. Of most nodes `plain` tells sooner.
+//! A certificate of the rows of a tree after a change, by the labels that differ from those of the rows before it: a
+//! look at the links around these. Of most nodes `plain` tells sooner.
 
 ghost use Rattle.std.specs.Prelude.{◌≡◌, ◌↔◌, ◌<◌, ℕ, length, Contains, IsTrue};
 ghost use Rattle.std.specs.Bool.{OnTrue};
@@ -19,7 +19,8 @@ impl<'a> RootedGraph<'a> {
     fn label_by(&self, rows: &[(Addr, Label)], at: usize) -> Option<Label>
         requires at { IsPlace self.now.nodes.now at }
         requires same_length { HasOneEach self.now.nodes.now rows.now }
-        ensures { result ≡ label_in (tree_in self.now.nodes.now self.now.source rows.now) (addr_at self.now.nodes.now at) }
+        ensures { result ≡ label_in (tree_in self.now.nodes.now self.now.source rows.now)
+            (addr_at self.now.nodes.now at) }
     {
         known(rows[at].1)
     }
@@ -28,7 +29,9 @@ impl<'a> RootedGraph<'a> {
     fn is_no_gain(&self, rows: &[(Addr, Label)], from: usize, to: usize, metric: u32) -> bool
         requires edge { JoinsPlaces self.now.nodes.now from to metric }
         requires same_length { HasOneEach self.now.nodes.now rows.now }
-        ensures { OnTrue result (OffersNoBetter self.now.nodes.now (tree_in self.now.nodes.now self.now.source rows.now) (addr_at self.now.nodes.now from) (addr_at self.now.nodes.now to) metric) }
+        ensures { OnTrue result
+            (OffersNoBetter self.now.nodes.now (tree_in self.now.nodes.now self.now.source rows.now)
+            (addr_at self.now.nodes.now from) (addr_at self.now.nodes.now to) metric) }
     {
         let Some(start) = self.label_by(rows, from) else {
             return true;
@@ -58,7 +61,9 @@ impl<'a> RootedGraph<'a> {
     ) -> bool
         requires edge { JoinsPlaces self.now.nodes.now from to metric }
         requires same_length { HasOneEach self.now.nodes.now rows.now }
-        ensures { OnTrue result (Offers self.now.nodes.now (tree_in self.now.nodes.now self.now.source rows.now) (addr_at self.now.nodes.now from) (addr_at self.now.nodes.now to) metric label) }
+        ensures { OnTrue result
+            (Offers self.now.nodes.now (tree_in self.now.nodes.now self.now.source rows.now)
+            (addr_at self.now.nodes.now from) (addr_at self.now.nodes.now to) metric label) }
     {
         let Some(start) = self.label_by(rows, from) else {
             return false;
@@ -118,13 +123,15 @@ impl<'a> RootedGraph<'a> {
     pub fn is_unmoved_at(&self, before: &[(Addr, Label)], rows: &[(Addr, Label)], at: usize) -> bool
         requires at { IsPlace self.now.nodes.now at }
         requires compared { AreCompared self.now.nodes.now before.now rows.now }
-        ensures { IsTrue result ↔ SaySameOf (tree_in self.now.nodes.now self.now.source before.now) (tree_in self.now.nodes.now self.now.source rows.now) (addr_at self.now.nodes.now at) }
+        ensures { IsTrue result ↔
+            SaySameOf (tree_in self.now.nodes.now self.now.source before.now)
+            (tree_in self.now.nodes.now self.now.source rows.now) (addr_at self.now.nodes.now at) }
     {
         is_same(rows[at].1, before[at].1)
     }
 
-    // Whether a link from a place offers its other end nothing better; and if that has its label of before, the other way neither, and it
-    // is held. Of an end that has not the link is asked from there.
+    // Whether a link from a place offers its other end nothing better; and if that has its label of before, the other
+    // way neither, and it is held. Of an end that has not the link is asked from there.
     fn is_settled_over(
         &self,
         before: &[(Addr, Label)],
@@ -134,7 +141,9 @@ impl<'a> RootedGraph<'a> {
     ) -> bool
         requires edge { JoinsPlaces self.now.nodes.now at link.to link.metric }
         requires compared { AreCompared self.now.nodes.now before.now rows.now }
-        ensures { OnTrue result (IsSettledOver self.now.nodes.now self.now.links.now (tree_in self.now.nodes.now self.now.source before.now) (tree_in self.now.nodes.now self.now.source rows.now) (addr_at self.now.nodes.now at) link) }
+        ensures { OnTrue result
+            (IsSettledOver self.now.nodes.now self.now.links.now (tree_in self.now.nodes.now self.now.source before.now)
+            (tree_in self.now.nodes.now self.now.source rows.now) (addr_at self.now.nodes.now at) link) }
     {
         let to = link.to as usize;
         let metric = link.metric as u32;
@@ -147,12 +156,15 @@ impl<'a> RootedGraph<'a> {
         self.is_settled_back(rows, at, to, metric)
     }
 
-    // Whether an edge with this metric offers a place nothing better from its other end, and that is held. Few are asked this.
+    // Whether an edge with this metric offers a place nothing better from its other end, and that is held. Few are
+    // asked this.
     #[inline(never)]
     pub fn is_settled_back(&self, rows: &[(Addr, Label)], at: usize, to: usize, metric: u32) -> bool
         requires edge { JoinsPlaces self.now.nodes.now at to metric }
         requires same_length { HasOneEach self.now.nodes.now rows.now }
-        ensures back { OnTrue result (OffersNoBetter self.now.nodes.now (tree_in self.now.nodes.now self.now.source rows.now) (addr_at self.now.nodes.now to) (addr_at self.now.nodes.now at) metric) }
+        ensures back { OnTrue result
+            (OffersNoBetter self.now.nodes.now (tree_in self.now.nodes.now self.now.source rows.now)
+            (addr_at self.now.nodes.now to) (addr_at self.now.nodes.now at) metric) }
         ensures near { OnTrue result (IsHeldAt self.now.nodes.now self.now.links.now self.now.source rows.now to) }
     {
         self.is_no_gain(rows, to, at, metric) && self.is_backed_by(rows, to)
@@ -163,7 +175,10 @@ impl<'a> RootedGraph<'a> {
     fn is_settled_around(&self, before: &[(Addr, Label)], rows: &[(Addr, Label)], at: usize) -> bool
         requires at { IsPlace self.now.nodes.now at }
         requires compared { AreCompared self.now.nodes.now before.now rows.now }
-        ensures { OnTrue result (IsSettledAround self.now.nodes.now self.now.links.now (tree_in self.now.nodes.now self.now.source before.now) (tree_in self.now.nodes.now self.now.source rows.now) at) }
+        ensures { OnTrue result
+            (IsSettledAround self.now.nodes.now self.now.links.now
+            (tree_in self.now.nodes.now self.now.source before.now)
+            (tree_in self.now.nodes.now self.now.source rows.now) at) }
     {
         let mut held = self.needs_no_link(rows, at);
         for i in self.starts[at]..self.starts[at + 1] {
@@ -186,7 +201,10 @@ impl<'a> RootedGraph<'a> {
     ) -> bool
         requires at { IsPlace self.now.nodes.now at }
         requires compared { AreCompared self.now.nodes.now before.now rows.now }
-        ensures { OnTrue result (IsSameOrSettled self.now.nodes.now self.now.links.now (tree_in self.now.nodes.now self.now.source before.now) (tree_in self.now.nodes.now self.now.source rows.now) at) }
+        ensures { OnTrue result
+            (IsSameOrSettled self.now.nodes.now self.now.links.now
+            (tree_in self.now.nodes.now self.now.source before.now)
+            (tree_in self.now.nodes.now self.now.source rows.now) at) }
     {
         if self.is_unmoved_at(before, rows, at) {
             return true;
@@ -203,7 +221,10 @@ impl<'a> RootedGraph<'a> {
     #[inline(never)]
     fn are_same_or_settled(&self, before: &[(Addr, Label)], rows: &[(Addr, Label)]) -> bool
         requires compared { AreCompared self.now.nodes.now before.now rows.now }
-        ensures { OnTrue result ((v : ℕ) → v < length self.now.nodes.now → IsSameOrSettled self.now.nodes.now self.now.links.now (tree_in self.now.nodes.now self.now.source before.now) (tree_in self.now.nodes.now self.now.source rows.now) v) }
+        ensures { OnTrue result ((v : ℕ) → v < length self.now.nodes.now →
+            IsSameOrSettled self.now.nodes.now self.now.links.now
+            (tree_in self.now.nodes.now self.now.source before.now)
+            (tree_in self.now.nodes.now self.now.source rows.now) v) }
     {
         for at in 0..self.nodes.len() {
             if !self.is_same_or_settled(before, rows, at) {
@@ -217,7 +238,9 @@ impl<'a> RootedGraph<'a> {
     pub fn is_local(&self, before: &[(Addr, Label)], rows: &[(Addr, Label)], ends: Ends) -> bool
         requires ends { HasEnds self.now.nodes.now ends }
         requires compared { AreCompared self.now.nodes.now before.now rows.now }
-        ensures { OnTrue result (IsLocal self.now.nodes.now self.now.links.now (tree_in self.now.nodes.now self.now.source before.now) (tree_in self.now.nodes.now self.now.source rows.now) ends.one ends.other) }
+        ensures { OnTrue result
+            (IsLocal self.now.nodes.now self.now.links.now (tree_in self.now.nodes.now self.now.source before.now)
+            (tree_in self.now.nodes.now self.now.source rows.now) ends.one ends.other) }
     {
         if !self.has_start(rows) {
             return false;

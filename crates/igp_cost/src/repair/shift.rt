@@ -1,4 +1,5 @@
-//! The mending of old rows by a shift: an edge with another metric moves all labels that lead over it by the same difference.
+//! The mending of old rows by a shift: an edge with another metric moves all labels that lead over it by the same
+//! difference.
 
 ghost use Rattle.std.specs.Prelude.{◌≡◌, IfSome, IfOk};
 ghost use Rattle.std.specs.BinaryHeap.{heap_items};
@@ -47,8 +48,8 @@ impl<'a> RootedGraph<'a> {
         }
     }
 
-    // Goes on over a link of a moved node, whose label was this: moves the other end too, if its label came over the link; else adds the
-    // link to the border.
+    // Goes on over a link of a moved node, whose label was this: moves the other end too, if its label came over the
+    // link; else adds the link to the border.
     #[inline(always)]
     fn shift_over(
         &self,
@@ -206,7 +207,8 @@ impl<'a> RootedGraph<'a> {
         requires queued { AreQueued self.now.nodes.now (heap_items queue) }
         ensures { ArePlaced self.now.nodes.now rows.new }
     {
-        // Mostly a node is queued once; where there are more, the certificate tells. The bound shows that the loop ends.
+        // Mostly a node is queued once; where there are more, the certificate tells. The bound shows that the loop
+        // ends.
         for _ in 0..self.links.len() {
             let Some(Reverse((cost, hop, at))) = queue.pop() else {
                 break;
@@ -244,9 +246,9 @@ impl<'a> RootedGraph<'a> {
         }
     }
 
-    // Mends the rows before, given the ends of an edge that has another metric: moves the label at the end that is further from the
-    // source, and those that came over it, to what they are offered now, and improves the labels from the border of these on. Whether
-    // there is such an end. Nothing is promised of what they say: a certificate tells.
+    // Mends the rows before, given the ends of an edge that has another metric: moves the label at the end that is
+    // further from the source, and those that came over it, to what they are offered now, and improves the labels from
+    // the border of these on. Whether there is such an end. Nothing is promised of what they say: a certificate tells.
     pub fn shift(
         &self,
         alloc: Global,

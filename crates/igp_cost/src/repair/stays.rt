@@ -1,4 +1,5 @@
-//! Whether a tree stays as it was over a change: a look at the two ends of the edge, and at their links where an edge is gone.
+//! Whether a tree stays as it was over a change: a look at the two ends of the edge, and at their links where an edge
+//! is gone.
 
 ghost use Rattle.std.specs.Prelude.{◌≡◌};
 ghost use Rattle.std.specs.Bool.{OnTrue};
@@ -27,7 +28,9 @@ impl<'a> RootedGraph<'a> {
     pub fn offers_no_better(&self, tree: &Tree, from: usize, to: usize, metric: u32) -> bool
         requires source { IsFound self.now.nodes.now (source_of tree.now) self.now.source }
         requires edge { JoinsPlaces self.now.nodes.now from to metric }
-        ensures { OnTrue result (OffersNoBetter self.now.nodes.now tree.now (addr_at self.now.nodes.now from) (addr_at self.now.nodes.now to) metric) }
+        ensures { OnTrue result
+            (OffersNoBetter self.now.nodes.now tree.now (addr_at self.now.nodes.now from)
+            (addr_at self.now.nodes.now to) metric) }
     {
         let Some(start) = self.label_at(tree, from) else {
             return true;
@@ -48,7 +51,9 @@ impl<'a> RootedGraph<'a> {
     fn offers_as_good(&self, tree: &Tree, from: usize, to: usize, metric: u32, label: Label) -> bool
         requires source { IsFound self.now.nodes.now (source_of tree.now) self.now.source }
         requires edge { JoinsPlaces self.now.nodes.now from to metric }
-        ensures { OnTrue result (Offers self.now.nodes.now tree.now (addr_at self.now.nodes.now from) (addr_at self.now.nodes.now to) metric label) }
+        ensures { OnTrue result
+            (Offers self.now.nodes.now tree.now (addr_at self.now.nodes.now from)
+            (addr_at self.now.nodes.now to) metric label) }
     {
         let Some(start) = self.label_at(tree, from) else {
             return false;
@@ -62,7 +67,8 @@ impl<'a> RootedGraph<'a> {
     pub fn is_held(&self, tree: &Tree, at: usize) -> bool
         requires source { IsFound self.now.nodes.now (source_of tree.now) self.now.source }
         requires at { IsPlace self.now.nodes.now at }
-        ensures { OnTrue result (IsHeld self.now.nodes.now self.now.links.now tree.now (addr_at self.now.nodes.now at)) }
+        ensures { OnTrue result
+            (IsHeld self.now.nodes.now self.now.links.now tree.now (addr_at self.now.nodes.now at)) }
     {
         let Some(label) = self.label_at(tree, at) else {
             return true;

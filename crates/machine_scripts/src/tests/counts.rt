@@ -90,8 +90,8 @@ deliver 5.0.0.2 5.0.0.3
 deliver 5.0.0.3 5.0.0.1
 ";
 
-/// Fails unless an edit counts the routes that it touches. The lines decide four: one where the prefix begins, and one a delivery.
-/// The cluster's edit then touches one route, and a new router none.
+/// Fails unless an edit counts the routes that it touches. The lines decide four: one where the prefix begins, and one
+/// a delivery. The cluster's edit then touches one route, and a new router none.
 fn counts_of_edits<M: Counting + Drop>(
     rt: &(impl Abort + Threads + Sync),
     alloc: Global,

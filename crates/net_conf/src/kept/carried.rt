@@ -25,8 +25,8 @@ pub(crate) struct Carried {
     pub(crate) moved: BTreeSet<Addr>,
 }
 
-/// The trees of the graph, of so many nodes, at the same addresses, of those from before the change: the map is shared, and what moves is
-/// put in.
+/// The trees of the graph, of so many nodes, at the same addresses, of those from before the change: the map is shared,
+/// and what moves is put in.
 pub(crate) fn carry_trees<R: Threads + Sync>(
     rt: &R,
     alloc: Global,
@@ -36,8 +36,11 @@ pub(crate) fn carry_trees<R: Threads + Sync>(
     old: &SharedMap<Addr, Tree>,
 ) -> Result<Carried, AllocError>
     requires were { WereTrees change.now graph.now.nodes graph.now.edges old.now }
-    ensures trees { IfOk result (λ made. (r : Addr) → lookup (is_at (addr_cmp r)) made.trees ≡ option_map (λ t. tree_of graph.now.nodes graph.now.edges r) (lookup (is_at (addr_cmp r)) old.now)) }
-    ensures moved { IfOk result (λ made. (r : Addr) → is_among r made.moved.keys ≡ false → lookup (is_at (addr_cmp r)) made.trees ≡ lookup (is_at (addr_cmp r)) old.now) }
+    ensures trees { IfOk result (λ made. (r : Addr) →
+        lookup (is_at (addr_cmp r)) made.trees ≡ option_map (λ t. tree_of graph.now.nodes graph.now.edges r)
+        (lookup (is_at (addr_cmp r)) old.now)) }
+    ensures moved { IfOk result (λ made. (r : Addr) → is_among r made.moved.keys ≡ false →
+        lookup (is_at (addr_cmp r)) made.trees ≡ lookup (is_at (addr_cmp r)) old.now) }
 {
     let moved = moved_trees(alloc, graph, nodes, change, old.as_slice())?;
     let made = trees_after(rt, alloc, &moved, nodes)?;

@@ -161,7 +161,8 @@ fn ends_that_differ(
     some: &SharedSet<Ends>,
     others: &SharedSet<Ends>,
 ) -> Result<BTreeSet<Addr>, AllocError>
-    ensures { IfOk result (λ ends. (r : Addr) (e : Ends) → is_among r ends.keys ≡ false → is_end r e ≡ true → list_any (is_at (ends_cmp e)) others.now ≡ list_any (is_at (ends_cmp e)) some.now) }
+    ensures { IfOk result (λ ends. (r : Addr) (e : Ends) → is_among r ends.keys ≡ false → is_end r e ≡ true →
+        list_any (is_at (ends_cmp e)) others.now ≡ list_any (is_at (ends_cmp e)) some.now) }
 {
     let first = with_ends_unless(BTreeSet::new(alloc), some.as_slice(), others)?;
     let both = with_ends_unless(first, others.as_slice(), some)?;
@@ -175,7 +176,8 @@ fn with_ends_unless(
     known: &SharedSet<Ends>,
 ) -> Result<BTreeSet<Addr>, AllocError>
     ensures known { IfOk result (λ more. (r : Addr) → is_among r more.keys ≡ false → is_among r addrs.keys ≡ false) }
-    ensures added { IfOk result (λ more. (r : Addr) (e : Ends) → is_among r more.keys ≡ false → is_end r e ≡ true → list_any (is_at (ends_cmp e)) sessions.now ≡ true → list_any (is_at (ends_cmp e)) known.now ≡ true) }
+    ensures added { IfOk result (λ more. (r : Addr) (e : Ends) → is_among r more.keys ≡ false → is_end r e ≡ true →
+        list_any (is_at (ends_cmp e)) sessions.now ≡ true → list_any (is_at (ends_cmp e)) known.now ≡ true) }
 {
     let mut more = addrs;
     for ends in sessions {
@@ -191,7 +193,8 @@ fn add_ends_unless(
     ends: Ends,
 ) -> Result<(), AllocError>
     ensures known { OnOk result ((r : Addr) → is_among r addrs.new.keys ≡ false → is_among r addrs.old.keys ≡ false) }
-    ensures added { OnOk result ((r : Addr) → is_among r addrs.new.keys ≡ false → is_end r ends ≡ true → list_any (is_at (ends_cmp ends)) known.now ≡ true) }
+    ensures added { OnOk result ((r : Addr) → is_among r addrs.new.keys ≡ false → is_end r ends ≡ true →
+        list_any (is_at (ends_cmp ends)) known.now ≡ true) }
 {
     if known.contains(&ends) {
         return Ok(());
@@ -234,11 +237,15 @@ pub(crate) fn listed(alloc: Global, addrs: &BTreeSet<Addr>) -> Result<Vec<Addr>,
     addrs.iter().map(|addr| *addr).collect(alloc)
 }
 
-/// Those whom an edit of no link names: the router whose settings it changes, the address that it adds, or the ends of its session.
+/// Those whom an edit of no link names: the router whose settings it changes, the address that it adds, or the ends of
+/// its session.
 fn named(alloc: Global, edit: &Edit) -> Result<BTreeSet<Addr>, AllocError>
-    ensures router { IfOk result (λ named. (r a : Addr) → is_among r named.keys ≡ false → router_in (scope edit.now) ≡ Some a → is_at (addr_cmp r) a ≡ false) }
-    ensures node { IfOk result (λ named. (r a : Addr) → is_among r named.keys ≡ false → node_in edit.now ≡ Some a → is_at (addr_cmp r) a ≡ false) }
-    ensures session { IfOk result (λ named. (r a b : Addr) → is_among r named.keys ≡ false → session_in edit.now ≡ Some (a, b) → (is_at (addr_cmp r) a ≡ false) × (is_at (addr_cmp r) b ≡ false)) }
+    ensures router { IfOk result (λ named. (r a : Addr) → is_among r named.keys ≡ false →
+        router_in (scope edit.now) ≡ Some a → is_at (addr_cmp r) a ≡ false) }
+    ensures node { IfOk result (λ named. (r a : Addr) → is_among r named.keys ≡ false → node_in edit.now ≡ Some a →
+        is_at (addr_cmp r) a ≡ false) }
+    ensures session { IfOk result (λ named. (r a b : Addr) → is_among r named.keys ≡ false →
+        session_in edit.now ≡ Some (a, b) → (is_at (addr_cmp r) a ≡ false) × (is_at (addr_cmp r) b ≡ false)) }
 {
     let router = with_addr(BTreeSet::new(alloc), edit.scope().router())?;
     let node = with_addr(router, edit.node())?;
@@ -262,7 +269,8 @@ fn split_ends(ends: Option<(Addr, Addr)>) -> (Option<Addr>, Option<Addr>)
 /// The addresses, with this one if there is one.
 fn with_addr(addrs: BTreeSet<Addr>, addr: Option<Addr>) -> Result<BTreeSet<Addr>, AllocError>
     ensures known { IfOk result (λ more. (r : Addr) → is_among r more.keys ≡ false → is_among r addrs.keys ≡ false) }
-    ensures added { IfOk result (λ more. (r a : Addr) → is_among r more.keys ≡ false → addr ≡ Some a → is_at (addr_cmp r) a ≡ false) }
+    ensures added { IfOk result (λ more. (r a : Addr) → is_among r more.keys ≡ false → addr ≡ Some a →
+        is_at (addr_cmp r) a ≡ false) }
 {
     match addr {
         None => Ok(addrs),

@@ -63,7 +63,8 @@ impl ConfTrees {
         self.trees.contains_key(&addr)
     }
 
-    /// Whether the session of the two is up (RFC 4271, 8), where they have one: asked of its link, or of the trees of both.
+    /// Whether the session of the two is up (RFC 4271, 8), where they have one: asked of its link, or of the trees of
+    /// both.
     #[tactic(auto, unfolding(crate::specs::Costs::session_up))]
     fn session_up(&self, one: Addr, other: Addr) -> Option<bool>
         ensures { result ≡ session_up self.now one other }

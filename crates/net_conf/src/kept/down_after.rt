@@ -1,4 +1,5 @@
-//! The sessions that are down after an edit, found beside those before it: only a session that can come up or go down is asked.
+//! The sessions that are down after an edit, found beside those before it: only a session that can come up or go down
+//! is asked.
 
 ghost use Rattle.std.specs.Prelude.{◌≡◌, ◌||◌, true, false, not, None, IfOk, filter};
 ghost use Rattle.std.specs.List.{list_any};
@@ -24,8 +25,8 @@ use std::alloc::{AllocError, Global};
 use std::collections::BTreeSet;
 
 impl ConfSessions {
-    /// The sessions that are down after an edit of the link of the two. Where the link is up then, no session goes down with it, so
-    /// those are asked that are down; where it is not, none comes up, so those that are up.
+    /// The sessions that are down after an edit of the link of the two. Where the link is up then, no session goes down
+    /// with it, so those are asked that are down; where it is not, none comes up, so those that are up.
     pub(crate) fn down_after_link(
         &self,
         alloc: Global,
@@ -101,12 +102,14 @@ impl ConfSessions {
 }
 
 impl ConfTrees {
-    /// A call gives the caller's proof what the link of the two tells of all sessions, where the configurations differ in it alone: unless
-    /// it goes down, no session goes down; and unless it comes up, none comes up.
+    /// A call gives the caller's proof what the link of the two tells of all sessions, where the configurations differ
+    /// in it alone: unless it goes down, no session goes down; and unless it comes up, none comes up.
     pub(crate) fn turn_with_link(&self, after: &ConfTrees, one: Addr, other: Addr)
         requires { IsLinked self.now after.now one other }
-        ensures down { (has_link_up self.now one other ≡ true → has_link_up after.now one other ≡ true) → NoneGoesDown self.now after.now }
-        ensures up { (has_link_up after.now one other ≡ true → has_link_up self.now one other ≡ true) → NoneGoesDown after.now self.now }
+        ensures down { (has_link_up self.now one other ≡ true → has_link_up after.now one other ≡ true) →
+            NoneGoesDown self.now after.now }
+        ensures up { (has_link_up after.now one other ≡ true → has_link_up self.now one other ≡ true) →
+            NoneGoesDown after.now self.now }
     {
         more_edges_reach_more();
         costs_are_least();
@@ -116,7 +119,8 @@ impl ConfTrees {
         after.tables.orders();
     }
 
-    /// A call gives the caller's proof that an edit of neither a link nor a session takes no session down, and brings none up.
+    /// A call gives the caller's proof that an edit of neither a link nor a session takes no session down, and brings
+    /// none up.
     fn no_session_turns(&self, edit: &Edit, after: &ConfTrees)
         requires passes { refusal_of self.now edit.now ≡ None }
         requires made { after.now ≡ edited self.now edit.now }
@@ -258,7 +262,8 @@ impl ConfTables {
 
 /// Whether the session may come up or go down with the link: it is that link's, or the tree of an end of it has moved.
 fn may_turn(moved: &BTreeSet<Addr>, link: Ends, session: Ends) -> bool
-    ensures { result ≡ ((is_among session.low moved.now.keys || is_among session.high moved.now.keys) || is_at (ends_cmp (ends_of session.low session.high)) link) }
+    ensures { result ≡ ((is_among session.low moved.now.keys || is_among session.high moved.now.keys) || is_at
+        (ends_cmp (ends_of session.low session.high)) link) }
 {
     let end_moved = moved.contains(&session.low) || moved.contains(&session.high);
     end_moved || Ends::of(session.low, session.high) == link

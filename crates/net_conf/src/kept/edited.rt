@@ -185,8 +185,11 @@ fn add_missing(
     addr: Addr,
 ) -> Result<(), AllocError>
     requires node { is_node graph.now.nodes addr ≡ true }
-    requires right { (t : Reached) → lookup (is_at (addr_cmp addr)) trees.old ≡ Some t → t ≡ tree_of graph.now.nodes graph.now.edges addr }
-    ensures { OnOk result ((r : Addr) → lookup (is_at (addr_cmp r)) trees.new ≡ cond (is_at (addr_cmp r) addr) (Some (tree_of graph.now.nodes graph.now.edges r)) (lookup (is_at (addr_cmp r)) trees.old)) }
+    requires right { (t : Reached) → lookup (is_at (addr_cmp addr)) trees.old ≡ Some t →
+        t ≡ tree_of graph.now.nodes graph.now.edges addr }
+    ensures { OnOk result ((r : Addr) →
+        lookup (is_at (addr_cmp r)) trees.new ≡ cond (is_at (addr_cmp r) addr)
+        (Some (tree_of graph.now.nodes graph.now.edges r)) (lookup (is_at (addr_cmp r)) trees.old)) }
 {
     if !trees.contains_key(&addr) {
         let tree = graph.tree(alloc, addr)?;

@@ -1,4 +1,5 @@
-//! The sites of the routers that have a session, kept beside the configuration and shared by those that edits make of it.
+//! The sites of the routers that have a session, kept beside the configuration and shared by those that edits make of
+//! it.
 
 ghost use Rattle.std.specs.Prelude.{◌≡◌, cond, IfOk, OnOk, option_copied};
 ghost use Rattle.std.specs.Map.{lookup};
@@ -43,8 +44,8 @@ impl Conf {
         }
     }
 
-    /// The router's site, as one owner more of the one that is kept; where none is, it is made. None where a virtual peer stands, or
-    /// nobody.
+    /// The router's site, as one owner more of the one that is kept; where none is, it is made. None where a virtual
+    /// peer stands, or nobody.
     pub fn shared_site(&self, alloc: Global, router: Addr) -> Result<Option<SharedSite>, AllocError>
         ensures { IfOk result (λ site. site ≡ router_site self.now router) }
     {
@@ -68,7 +69,8 @@ impl Conf {
         }
     }
 
-    /// The sites to keep after an edit that makes the other configuration of this one: of all that it does not concern they are shared.
+    /// The sites to keep after an edit that makes the other configuration of this one: of all that it does not concern
+    /// they are shared.
     pub(crate) fn sites_after(
         &self,
         alloc: Global,
@@ -99,7 +101,9 @@ impl Conf {
         turned: &BTreeSet<Addr>,
     ) -> Result<SharedMap<Addr, SharedSite>, AllocError>
         requires { IsMadeBy self.now after.now edit.now turned.now.keys }
-        ensures { IfOk result (λ new. (r : Addr) → lookup (is_at (addr_cmp r)) new ≡ cond (is_among r routers.now) (site_kept after.now r) (lookup (is_at (addr_cmp r)) sites)) }
+        ensures { IfOk result (λ new. (r : Addr) →
+            lookup (is_at (addr_cmp r)) new ≡ cond (is_among r routers.now) (site_kept after.now r)
+            (lookup (is_at (addr_cmp r)) sites)) }
     {
         let mut renewed = sites;
         for router in routers {
@@ -119,7 +123,9 @@ impl Conf {
         turned: &BTreeSet<Addr>,
     ) -> Result<(), AllocError>
         requires { IsMadeBy self.now after.now edit.now turned.now.keys }
-        ensures { OnOk result ((r : Addr) → lookup (is_at (addr_cmp r)) sites.new ≡ cond (is_at (addr_cmp router) r) (site_kept after.now router) (lookup (is_at (addr_cmp r)) sites.old)) }
+        ensures { OnOk result ((r : Addr) →
+            lookup (is_at (addr_cmp r)) sites.new ≡ cond (is_at (addr_cmp router) r) (site_kept after.now router)
+            (lookup (is_at (addr_cmp r)) sites.old)) }
     {
         match self.site_after(alloc, edit, after, router, turned)? {
             Some(site) => {

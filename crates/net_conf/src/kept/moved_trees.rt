@@ -15,8 +15,8 @@ use std::alloc::{AllocError, Global};
 use std::marker::Model;
 use std::thread::{Threads, join};
 
-/// From how many labels on threads make the trees. Where each tree changes at one label alone, these take some three milliseconds; with fewer,
-/// threads cost more than they bring.
+/// From how many labels on threads make the trees. Where each tree changes at one label alone, these take some three
+/// milliseconds; with fewer, threads cost more than they bring.
 const WORTH_THREADS: usize = 700_000;
 
 /// The fewest labels that one thread makes.
@@ -37,7 +37,8 @@ impl<'a> Model for MovedTree<'a> {
 
     ghost view = { λ x. record { graph = x.graph.now; change = x.change.now; tree = x.tree.now } };
 
-    ghost invariant = { λ x. trees.IsFromBefore (record { graph = x.graph.now; change = x.change.now; tree = x.tree.now }) };
+    ghost invariant = { λ x.
+        trees.IsFromBefore (record { graph = x.graph.now; change = x.change.now; tree = x.tree.now }) };
 }
 
 impl<'a> MovedTree<'a> {
@@ -57,8 +58,8 @@ fn is_worth_threads(trees: usize, nodes: usize) -> bool {
     trees.saturating_mul(nodes) >= WORTH_THREADS
 }
 
-/// Puts trees whose sources have neighbouring addresses far apart. A change moves those of neighbours alike, and each thread makes trees that
-/// follow one another: so no thread gets all of the work.
+/// Puts trees whose sources have neighbouring addresses far apart. A change moves those of neighbours alike, and each
+/// thread makes trees that follow one another: so no thread gets all of the work.
 fn spread(moved: &mut Vec<MovedTree<'_>>)
     ensures { IsPermutation moved.old.items moved.new.items }
 {
@@ -143,9 +144,9 @@ fn make_in_turn(alloc: Global, moved: &[MovedTree<'_>]) -> Result<Vec<Tree>, All
     Ok(trees)
 }
 
-/// The trees after the change, in so many pieces. This thread makes the last, and starts a thread for each other one: a system puts threads
-/// that one thread starts on processors of their own, and those that these start in turn beside them. A piece that finds no memory leaves
-/// nothing.
+/// The trees after the change, in so many pieces. This thread makes the last, and starts a thread for each other one: a
+/// system puts threads that one thread starts on processors of their own, and those that these start in turn beside
+/// them. A piece that finds no memory leaves nothing.
 #[cycle(pieces)]
 fn make_in_pieces<R: Threads + Sync>(
     rt: &R,

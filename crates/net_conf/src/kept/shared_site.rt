@@ -8,8 +8,8 @@ use std::alloc::{AllocError, Global};
 use std::marker::Model;
 use std::sync::Arc;
 
-/// A site that never changes, which any number of owners share, configurations among them. A copy takes no memory: the only fault is
-/// that 2^63 owners share it.
+/// A site that never changes, which any number of owners share, configurations among them. A copy takes no memory: the
+/// only fault is that 2^63 owners share it.
 #[derive(Drop)]
 pub struct SharedSite {
     site: Arc<SiteConf>,

@@ -25,7 +25,8 @@ impl ConfSessions {
         turned: &BTreeSet<Addr>,
     ) -> Result<Option<SiteConf>, AllocError>
         requires ends { ends_session self.now router ≡ true }
-        requires stay { is_among router turned.now.keys ≡ false → map (asked self.now router) old.now.sessions ≡ old.now.sessions }
+        requires stay { is_among router turned.now.keys ≡ false →
+            map (asked self.now router) old.now.sessions ≡ old.now.sessions }
         ensures { IfOk result (λ site. site ≡ site_from self.now edit.now router (effect_on edit.now router) old.now) }
     {
         match edit.effect_on(router) {
@@ -47,7 +48,8 @@ impl ConfSessions {
         turned: &BTreeSet<Addr>,
     ) -> Result<SiteConf, AllocError>
         requires ends { ends_session self.now router ≡ true }
-        requires stay { is_among router turned.now.keys ≡ false → map (asked self.now router) old.now.sessions ≡ old.now.sessions }
+        requires stay { is_among router turned.now.keys ≡ false →
+            map (asked self.now router) old.now.sessions ≡ old.now.sessions }
         ensures { IfOk result (λ site. site ≡ relinked self.now router old.now) }
     {
         self.facts();
@@ -57,7 +59,8 @@ impl ConfSessions {
         Ok(old.with_parts(origins, sessions, costs))
     }
 
-    /// The sessions of the router, each up or down as it is by this configuration: the same list, where none of them may have turned.
+    /// The sessions of the router, each up or down as it is by this configuration: the same list, where none of them
+    /// may have turned.
     fn sessions_again(
         &self,
         alloc: Global,

@@ -69,7 +69,11 @@ impl ConfTables {
         asn: Asn,
         kind: Kind,
     ) -> Result<(), AllocError>
-        ensures ok { OnOk result (self.new ≡ record self.old { nodes = insert_entry addr_cmp self.old.nodes addr (record { asn = asn; kind = kind }) }) }
+        ensures ok { OnOk result
+            (self.new ≡ record self.old {
+              nodes = insert_entry addr_cmp self.old.nodes addr
+                  (record { asn = asn; kind = kind });
+            }) }
         ensures err { OnErr result (self.new ≡ self.old) }
     {
         self.nodes.insert(alloc, addr, Node { asn, kind })
@@ -95,7 +99,8 @@ impl ConfTables {
         other: Addr,
         metric: Metric,
     ) -> Result<(), AllocError>
-        ensures ok { OnOk result (self.new ≡ with_link_changed self.old one other (with_metric metric) (link_between self.old one other)) }
+        ensures ok { OnOk result
+            (self.new ≡ with_link_changed self.old one other (with_metric metric) (link_between self.old one other)) }
         ensures err { OnErr result (self.new ≡ self.old) }
     {
         match self.link(one, other) {
@@ -111,7 +116,8 @@ impl ConfTables {
         other: Addr,
         up: bool,
     ) -> Result<(), AllocError>
-        ensures ok { OnOk result (self.new ≡ with_link_changed self.old one other (with_state up) (link_between self.old one other)) }
+        ensures ok { OnOk result
+            (self.new ≡ with_link_changed self.old one other (with_state up) (link_between self.old one other)) }
         ensures err { OnErr result (self.new ≡ self.old) }
     {
         match self.link(one, other) {
@@ -134,7 +140,8 @@ impl ConfTables {
     }
 
     fn set_cluster(&mut self, alloc: Global, router: Addr, id: Addr) -> Result<(), AllocError>
-        ensures ok { OnOk result (self.new ≡ record self.old { clusters = insert_entry addr_cmp self.old.clusters router id }) }
+        ensures ok { OnOk result
+            (self.new ≡ record self.old { clusters = insert_entry addr_cmp self.old.clusters router id }) }
         ensures err { OnErr result (self.new ≡ self.old) }
     {
         self.clusters.insert(alloc, router, id)

@@ -18,7 +18,8 @@ impl ConfTables {
     /// Whether the edit may be made: the first test that holds refuses it. It takes no memory.
     #[tactic(auto, unfolding(crate::specs::Edits::refusal_of))]
     pub fn check(&self, edit: &Edit) -> Result<(), Refusal>
-        ensures { MatchResult result (λ _. refusal_of self.now edit.now ≡ None) (λ r. refusal_of self.now edit.now ≡ Some r) }
+        ensures { MatchResult result (λ _. refusal_of self.now edit.now ≡ None) (λ r.
+            refusal_of self.now edit.now ≡ Some r) }
     {
         if self.lacks_node(edit) {
             Err(Refusal::NoRouter)

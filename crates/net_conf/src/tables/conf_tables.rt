@@ -16,8 +16,8 @@ use shared_map::{ChunkedSet, SharedMap, SharedSet};
 use std::alloc::{AllocError, Global};
 use std::marker::Model;
 
-/// Routers and virtual peers, links, sessions with the settings of their ends, CLUSTER_IDs, and who originates what. A copy shares each
-/// table, and an edit copies the one that it changes.
+/// Routers and virtual peers, links, sessions with the settings of their ends, CLUSTER_IDs, and who originates what. A
+/// copy shares each table, and an edit copies the one that it changes.
 #[derive(Drop)]
 pub struct ConfTables {
     pub(crate) nodes: SharedMap<Addr, Node>,

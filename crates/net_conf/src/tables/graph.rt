@@ -60,7 +60,8 @@ impl ConfTables {
 
     /// What makes the edges of the other tables of those of these, where they differ in the link of the two at most.
     pub(crate) fn change_to(&self, after: &ConfTables, one: Addr, other: Addr) -> Option<Change>
-        ensures { result ≡ edge_change (ends_of one other) (metric_up self.now one other) (metric_up after.now one other) }
+        ensures { result ≡ edge_change (ends_of one other) (metric_up self.now one other)
+            (metric_up after.now one other) }
     {
         let old = self.metric_up(one, other);
         let new = after.metric_up(one, other);

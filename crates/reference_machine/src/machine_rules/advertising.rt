@@ -22,7 +22,8 @@ pub fn advert_of(
     prefix: Prefix,
     chosen: Option<&Candidate>,
 ) -> Result<Option<Attr>, AllocError>
-    ensures { IfOk result (λ attr. attr ≡ advert_of up (option_copied site.entry) peer prefix (option_copied chosen.entry)) }
+    ensures { IfOk result (λ attr.
+        attr ≡ advert_of up (option_copied site.entry) peer prefix (option_copied chosen.entry)) }
 {
     match (chosen, site) {
         (Some(best), Some(site)) if up => advert(alloc, site, prefix, best, peer),

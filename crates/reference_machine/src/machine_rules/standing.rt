@@ -122,7 +122,8 @@ fn preference(external: bool, action: Action, attr: &Attr) -> u32
     }
 }
 
-/// The attributes after import, which share the path and the CLUSTER_LIST: the only fault is that 2^63 owners share one.
+/// The attributes after import, which share the path and the CLUSTER_LIST: the only fault is that 2^63 owners share
+/// one.
 fn imported(external: bool, action: Action, attr: &Attr) -> Result<Attr, AllocError>
     ensures { IfOk result (λ a. a ≡ imported external action attr.now) }
 {
@@ -137,7 +138,7 @@ fn imported(external: bool, action: Action, attr: &Attr) -> Result<Attr, AllocEr
     })
 }
 
-/// A peer's route as a candidate; its identifier is its ORIGINATOR_ID, or the peer's address (RFC 4456, 9). It shares the
+/// A peer's route as a candidate; its identifier is the peer's address. It shares the
 /// route's lists: the only fault is that 2^63 owners share one.
 pub fn peer_candidate(
     site: &SiteConf,
@@ -153,11 +154,12 @@ pub fn peer_candidate(
         pref: preference(from.external, action, attr),
         external: from.external,
         cost: site.costs.cost(attr.next).unwrap_or(0),
-        ident: attr.oid.unwrap_or(from.peer),
+        ident: from.peer,
     })
 }
 
-/// How a route that the import policy judged stands at the router. The only fault is that 2^63 owners share one of its lists.
+/// How a route that the import policy judged stands at the router. The only fault is that 2^63 owners share one of its
+/// lists.
 fn judged_standing(
     site: &SiteConf,
     from: &SiteSession,
@@ -172,8 +174,8 @@ fn judged_standing(
     }
 }
 
-/// How a route from the peer of the session stands at the router. A candidate shares the route's lists: the only fault is
-/// that 2^63 owners share one.
+/// How a route from the peer of the session stands at the router. A candidate shares the route's lists: the only fault
+/// is that 2^63 owners share one.
 pub fn peer_standing(
     site: &SiteConf,
     prefix: Prefix,
@@ -208,7 +210,9 @@ pub fn put_received<S: Selector>(
     attr: &Attr,
     from: &SiteSession,
 ) -> Result<(), AllocError>
-    ensures ok { OnOk result (S.standings chosen.new ≡ added (S.standings chosen.old) (option_to_list (standing_over site.now prefix from.now (Some attr.now)))) }
+    ensures ok { OnOk result
+        (S.standings chosen.new ≡ added (S.standings chosen.old)
+        (option_to_list (standing_over site.now prefix from.now (Some attr.now)))) }
     ensures err { OnErr result (S.standings chosen.new ≡ S.standings chosen.old) }
 {
     if from.up {

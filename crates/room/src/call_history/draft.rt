@@ -18,7 +18,8 @@ pub struct Draft {
 impl Draft {
     /// The event and the reply, each twice. The only fault is want of memory.
     pub fn of(alloc: Global, number: u8, event: Event, reply: &Reply) -> Result<Draft, AllocError>
-        ensures entry { IfOk result (λ draft. draft.entry ≡ record { seat = number; event = event; reply = reply.now }) }
+        ensures entry { IfOk result (λ draft.
+            draft.entry ≡ record { seat = number; event = event; reply = reply.now }) }
         ensures call { IfOk result (λ draft. draft.call ≡ record { event = event; reply = reply.now }) }
     {
         let Ok(call) = call_of(alloc, &event, reply) else {
@@ -44,8 +45,14 @@ impl Draft {
         direction: Direction,
         head: &Message,
     ) -> Result<Draft, AllocError>
-        ensures entry { IfOk result (λ draft. draft.entry ≡ record { seat = number; event = Event.Deliver direction.from direction.to; reply = took_of head.now }) }
-        ensures call { IfOk result (λ draft. draft.call ≡ record { event = Event.Deliver direction.from direction.to; reply = took_of head.now }) }
+        ensures entry { IfOk result (λ draft.
+            draft.entry ≡ record {
+              seat = number;
+              event = Event.Deliver direction.from direction.to;
+              reply = took_of head.now;
+            }) }
+        ensures call { IfOk result (λ draft.
+            draft.call ≡ record { event = Event.Deliver direction.from direction.to; reply = took_of head.now }) }
     {
         let event = Event::Deliver(direction.from, direction.to);
         let took = Reply::Took(head.prefix(), head.kind());

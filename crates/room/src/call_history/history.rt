@@ -10,8 +10,9 @@ use sim_event::{Call, Entry};
 use std::alloc::Global;
 use std::marker::Model;
 
-/// The calls that were made, the first first. The numbers of their seats stand in a list of their own beside them, so that the calls of one
-/// seat are found without a look at those of all others. Contracts see the entries, and for how many calls more there is space.
+/// The calls that were made, the first first. The numbers of their seats stand in a list of their own beside them, so
+/// that the calls of one seat are found without a look at those of all others. Contracts see the entries, and for how
+/// many calls more there is space.
 #[derive(Drop)]
 pub struct History {
     entries: Vec<Entry>,
@@ -25,7 +26,10 @@ impl Model for History {
 
     ghost Value = { HistoryBook };
 
-    ghost view = { λ h. record { entries = h.entries.items; space = min (vec_capacity h.entries - vec_len h.entries) (vec_capacity h.callers - vec_len h.callers) } };
+    ghost view = { λ h. record {
+      entries = h.entries.items;
+      space = min (vec_capacity h.entries - vec_len h.entries) (vec_capacity h.callers - vec_len h.callers);
+    } };
 
     ghost invariant = { λ h. h.callers.items ≡ map caller_of h.entries.items };
 }
@@ -57,8 +61,8 @@ impl History {
         entries
     }
 
-    /// Makes space for one call more, here and in the notes. False for want of memory, and only where there was none here or in the notes. Where
-    /// there is space, all calls and that one can be counted in 64 bits.
+    /// Makes space for one call more, here and in the notes. False for want of memory, and only where there was none
+    /// here or in the notes. Where there is space, all calls and that one can be counted in 64 bits.
     pub fn makes_space(&mut self, notes: &mut Vec<Call>) -> bool
         ensures entries { self.new.entries ≡ self.old.entries }
         ensures notes { notes.new.items ≡ notes.old.items }

@@ -2,7 +2,7 @@
 
 ghost use Rattle.std.specs.Prelude.{◌≡◌, ◌↔◌, true, Some, None, IsTrue, IfOk, IfErr, IfSome, OnOk, OnErr};
 ghost use Rattle.cell_engine.specs.Cells.{route_of};
-ghost use Rattle.cell_engine.specs.Engine.{heard_at};
+ghost use Rattle.cell_engine.specs.State.{cell_at};
 ghost use Rattle.room.specs.Jobs.{HasSite, HasVersion, IsSeenIn, head_in, outcome_of};
 ghost use Rattle.room.specs.Commits.{HasHead, IsNewer, IsCommitted, AreCommitted, IsBrokenOff, IsDelivered, IsUnchanged, is_delivered, delivery_of};
 ghost use Rattle.room.specs.Books.{GoesOn};
@@ -27,9 +27,10 @@ use std::alloc::{AllocError, Global};
 use std::sync::ledger::Ledger;
 
 impl<S: Chosen + Drop, T: PrefixTable<Cell<S>> + Drop, L: Ledger> Room<S, T, L> {
-    /// Puts in the outcome where all that the job held is still as it was: this is the machine's own step of the delivery, the last of the
-    /// history, and of the seat's notes. Else it is told what has moved, the first of version, site, head and received routes, and nothing
-    /// changes. For want of memory nothing changes either, and the outcome is handed back. Nothing is decided here.
+    /// Puts in the outcome where all that the job held is still as it was: this is the machine's own step of the
+    /// delivery, the last of the history, and of the seat's notes. Else it is told what has moved, the first of
+    /// version, site, head and received routes, and nothing changes. For want of memory nothing changes either, and the
+    /// outcome is handed back. Nothing is decided here.
     pub fn commit(&mut self, seat: &mut Seat<L>, done: Done<S>) -> Result<Committed, CommitFault<S>>
         ensures committed { IfOk result (λ committed. IsCommitted self.old seat.old done committed self.new seat.new) }
         ensures back { IfErr result (λ fault. fault.done ≡ done) }
@@ -38,7 +39,8 @@ impl<S: Chosen + Drop, T: PrefixTable<Cell<S>> + Drop, L: Ledger> Room<S, T, L> 
         self.commit_one(seat, done, false)
     }
 
-    /// The same. The receiver's site is not compared where it is known to be as the job had it; where the outcome is put in, it is, and stays so.
+    /// The same. The receiver's site is not compared where it is known to be as the job had it; where the outcome is
+    /// put in, it is, and stays so.
     fn commit_one(
         &mut self,
         seat: &mut Seat<L>,
@@ -81,8 +83,9 @@ impl<S: Chosen + Drop, T: PrefixTable<Cell<S>> + Drop, L: Ledger> Room<S, T, L> 
         }
     }
 
-    /// Puts in each outcome in turn, as `commit` does: one that came too late is let go. For want of memory it stops, and the outcomes that are
-    /// left are let go. The site of a receiver is compared once for all that come one after another.
+    /// Puts in each outcome in turn, as `commit` does: one that came too late is let go. For want of memory it stops,
+    /// and the outcomes that are left are let go. The site of a receiver is compared once for all that come one after
+    /// another.
     pub fn commit_all(
         &mut self,
         seat: &mut Seat<L>,
@@ -132,7 +135,8 @@ impl<S: Chosen + Drop, T: PrefixTable<Cell<S>> + Drop, L: Ledger> Room<S, T, L> 
         self.newer_delivery(job)
     }
 
-    /// Whether the message or what the receiver has received is another, where version and site are as the job had them.
+    /// Whether the message or what the receiver has received is another, where version and site are as the job had
+    /// them.
     fn newer_delivery(&self, job: &Job<S>) -> Result<Option<Newer>, AllocError>
         requires version { HasVersion self.now job.now }
         requires site { HasSite self.now job.now }
@@ -209,7 +213,7 @@ impl<S: Chosen + Drop, T: PrefixTable<Cell<S>> + Drop, L: Ledger> Room<S, T, L> 
 
     /// What the router has received of the prefix.
     fn received_at(&self, router: Addr, prefix: Prefix) -> &[(Addr, Attr)]
-        ensures { result.now ≡ (heard_at router prefix self.now.engine.tables).received }
+        ensures { result.now ≡ (cell_at router prefix self.now.engine.tables).received }
     {
         match self.sim.state().cell(router, prefix) {
             Some(cell) => cell.received(),
@@ -237,7 +241,8 @@ impl<S: Chosen + Drop, T: PrefixTable<Cell<S>> + Drop, L: Ledger> Room<S, T, L> 
     ) -> Result<Reply, Outcome<S>>
         requires seen { IsSeenIn self.old job.now }
         requires outcome { outcome ≡ outcome_of job.now }
-        ensures delivered { IfOk result (λ reply. IsDelivered self.old seat.old (delivery_of job.now) reply self.new seat.new) }
+        ensures delivered { IfOk result (λ reply.
+            IsDelivered self.old seat.old (delivery_of job.now) reply self.new seat.new) }
         ensures conf { self.new.engine.conf ≡ self.old.engine.conf }
         ensures back { IfErr result (λ back. back ≡ outcome) }
         ensures left { OnErr result (IsUnchanged self.old seat.old self.new seat.new) }

@@ -15,8 +15,9 @@ use std::alloc::{AllocError, Global};
 use std::marker::Model;
 use std::sync::Arc;
 
-/// What a delivery depends on, taken away from the room: the version, the message at the head of the queue, a share of the configuration,
-/// and a copy of the receiver's cell of the message's prefix. Contracts see the receiver's site in that configuration.
+/// What a delivery depends on, taken away from the room: the version, the message at the head of the queue, a share of
+/// the configuration, and a copy of the receiver's cell of the message's prefix. Contracts see the receiver's site in
+/// that configuration.
 #[derive(Drop)]
 pub struct Job<S: Chosen> {
     pub(super) alloc: Global,
@@ -31,17 +32,30 @@ pub struct Job<S: Chosen> {
 impl<S: Chosen> Model for Job<S> {
     ghost use Rattle.std.specs.Coded.{codes};
     ghost use Rattle.net_conf.specs.RouterSites.{router_site};
-    ghost use Rattle.cell_engine.specs.CellCoding.{coded_heard};
+    ghost use Rattle.cell_engine.specs.CellCoding.{coded_cell};
     ghost use Rattle.cell_engine.specs.Sharing.{conf_shown};
-    ghost use Rattle.room.specs.Jobs.{Seen, CanDecide};
+    ghost use Rattle.room.specs.Jobs.{Job, CanDecide};
 
-    ghost Value = { Seen };
+    ghost Value = { Job };
 
-    ghost coded = { Prim.hlevel (codes, coded_heard) };
+    ghost coded = { Prim.hlevel (codes, coded_cell) };
 
-    ghost view = { λ j. record { direction = j.direction; version = j.version; head = j.head; site = router_site (conf_shown j.conf) j.direction.to; heard = j.cell } };
+    ghost view = { λ j. record {
+      direction = j.direction;
+      version = j.version;
+      head = j.head;
+      site = router_site (conf_shown j.conf) j.direction.to;
+      cell = j.cell;
+    } };
 
-    ghost invariant = { λ j. CanDecide (record { direction = j.direction; version = j.version; head = j.head; site = router_site (conf_shown j.conf) j.direction.to; heard = j.cell }) };
+    ghost invariant = { λ j.
+        CanDecide (record {
+          direction = j.direction;
+          version = j.version;
+          head = j.head;
+          site = router_site (conf_shown j.conf) j.direction.to;
+          cell = j.cell;
+        }) };
 }
 
 /// A job that is done: what it was made from, the receiver's site, and the outcome.
@@ -55,12 +69,12 @@ pub struct Done<S: Chosen> {
 impl<S: Chosen> Model for Done<S> {
     ghost use Rattle.std.specs.Prelude.{◌≡◌};
     ghost use Rattle.std.specs.Coded.{codes};
-    ghost use Rattle.cell_engine.specs.CellCoding.{coded_heard};
-    ghost use Rattle.room.specs.Jobs.{Seen, outcome_of};
+    ghost use Rattle.cell_engine.specs.CellCoding.{coded_cell};
+    ghost use Rattle.room.specs.Jobs.{Job, outcome_of};
 
-    ghost Value = { Seen };
+    ghost Value = { Job };
 
-    ghost coded = { Prim.hlevel (codes, coded_heard) };
+    ghost coded = { Prim.hlevel (codes, coded_cell) };
 
     ghost view = { λ d. d.job };
 
@@ -85,8 +99,8 @@ impl<S: Chosen> Job<S> {
 
     /// What the receiver had received of the prefix.
     pub(super) fn received(&self) -> &[(Addr, Attr)]
-        ensures received { result.now ≡ self.now.heard.received }
-        ensures order { AreInOrder self.now.heard.received }
+        ensures received { result.now ≡ self.now.cell.received }
+        ensures order { AreInOrder self.now.cell.received }
         ensures decided { CanDecide self.now }
     {
         self.cell.received()
@@ -100,7 +114,8 @@ impl<S: Chosen> Job<S> {
 }
 
 impl<S: Selector + Drop> Job<S> {
-    /// Decides what the receiver makes of the message. It needs neither the room nor its lock. For want of memory the job is handed back.
+    /// Decides what the receiver makes of the message. It needs neither the room nor its lock. For want of memory the
+    /// job is handed back.
     pub fn work(self) -> Result<Done<S>, Job<S>>
         ensures done { IfOk result (λ done. done ≡ self) }
         ensures back { IfErr result (λ job. job ≡ self) }
@@ -131,7 +146,8 @@ impl<S: Selector + Drop> Job<S> {
         }
     }
 
-    /// What the receiver makes of the message (RFC 4271, 9): a router decides by its site, a virtual peer keeps what it receives.
+    /// What the receiver makes of the message (RFC 4271, 9): a router decides by its site, a virtual peer keeps what it
+    /// receives.
     fn decide(&self, site: &Option<SharedSite>) -> Result<Outcome<S>, AllocError>
         requires { site.now ≡ self.now.site }
         ensures { IfOk result (λ outcome. outcome ≡ outcome_of self.now) }

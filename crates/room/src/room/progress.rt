@@ -31,7 +31,8 @@ impl<S: Chosen, T: PrefixTable<Cell<S>>, L: Ledger> Room<S, T, L> {
         }
     }
 
-    /// The next direction with a message, by sender, then by receiver: the first of all, or the first past the one that is given.
+    /// The next direction with a message, by sender, then by receiver: the first of all, or the first past the one that
+    /// is given.
     pub fn next_full(&self, past: Option<(Addr, Addr)>) -> Option<(Addr, Addr)>
         ensures full { IfSome result (λ found. 0 < length (queue_at self.now.engine.queues found.0 found.1)) }
         ensures past { IfSome result (IsPast past) }

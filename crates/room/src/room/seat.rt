@@ -9,8 +9,8 @@ use std::alloc::{AllocError, Global};
 use std::marker::Model;
 use std::sync::ledger::{Ledger, Share};
 
-/// A seat in the room of the same name: who has it makes calls, and has notes of them. Contracts see its number, how many calls it made,
-/// and the notes.
+/// A seat in the room of the same name: who has it makes calls, and has notes of them. Contracts see its number, how
+/// many calls it made, and the notes.
 #[derive(Drop)]
 pub struct Seat<L: Ledger> {
     pub(super) number: u8,

@@ -4,8 +4,8 @@ ghost use Rattle.std.specs.Prelude.{◌≡◌, ◌≢◌, ◌<◌, ◌≤◌, �
 ghost use Rattle.std.specs.Bool.{OnFalse};
 ghost use Rattle.session_queue.specs.Shards.{shard_of};
 ghost use Rattle.session_queue.specs.Waiting.{queue_at};
-ghost use Rattle.cell_engine.specs.Engine.{heard_at};
-ghost use Rattle.room.specs.Jobs.{Seen, NoneWaits, IsOfShard, IsSeenIn, AreApart, cell_of};
+ghost use Rattle.cell_engine.specs.State.{cell_at};
+ghost use Rattle.room.specs.Jobs.{Job, NoneWaits, IsOfShard, IsSeenIn, AreApart, cell_of};
 
 use crate::room::Room;
 use crate::room::job::Job;
@@ -30,8 +30,8 @@ impl<S: Chosen, T: PrefixTable<Cell<S>>, L: Ledger> Room<S, T, L> {
 }
 
 impl<S: Selector + Drop, T: PrefixTable<Cell<S>>, L: Ledger> Room<S, T, L> {
-    /// A job of the shard: what the delivery of a message that waits depends on, as it is now. None where no message waits for a receiver
-    /// of the shard. Want of memory is the only error.
+    /// A job of the shard: what the delivery of a message that waits depends on, as it is now. None where no message
+    /// waits for a receiver of the shard. Want of memory is the only error.
     pub fn job(&self, shard: u64, shards: u64) -> Result<Option<Job<S>>, AllocError>
         requires { shard < shards }
         ensures seen { IfOk result (λ found. IfSome found (IsSeenIn self.now)) }
@@ -50,8 +50,9 @@ impl<S: Selector + Drop, T: PrefixTable<Cell<S>>, L: Ledger> Room<S, T, L> {
         }
     }
 
-    /// Jobs of the shard, no more than so many, and no two of one receiver and prefix, of which the first would make the second come too late.
-    /// One at least where a message waits for a receiver of the shard. Want of memory for the first is the only error.
+    /// Jobs of the shard, no more than so many, and no two of one receiver and prefix, of which the first would make
+    /// the second come too late. One at least where a message waits for a receiver of the shard. Want of memory for the
+    /// first is the only error.
     pub fn jobs(&self, shard: u64, shards: u64, most: usize) -> Result<Jobs<S>, AllocError>
         requires { shard < shards }
         ensures seen { IfOk result (All (IsSeenIn self.now)) }
@@ -118,14 +119,15 @@ impl<S: Selector + Drop, T: PrefixTable<Cell<S>>, L: Ledger> Room<S, T, L> {
         }
     }
 
-    /// Adds the job of the direction, unless there is one of its receiver and prefix: what the receiver has of the prefix would be
-    /// another then. False where there is no memory.
+    /// Adds the job of the direction, unless there is one of its receiver and prefix: what the receiver has of the
+    /// prefix would be another then. False where there is no memory.
     fn is_added(&self, jobs: &mut Vec<Job<S>>, direction: Direction) -> bool
         requires message { 0 < length (queue_at self.now.engine.queues direction.from direction.to) }
         requires seen { All (IsSeenIn self.now) jobs.old.items }
         requires apart { AreApart jobs.old.items }
         ensures seen { All (IsSeenIn self.now) jobs.new.items }
-        ensures added { (more : List Seen) × (jobs.new.items ≡ jobs.old.items ++ more) × (length more ≤ 1) × All (λ job. job.direction ≡ direction) more }
+        ensures added { (more : List Job) × (jobs.new.items ≡ jobs.old.items ++ more) × (length more ≤ 1) ×
+            All (λ job. job.direction ≡ direction) more }
         ensures apart { AreApart jobs.new.items }
     {
         let queues = self.sim.state().queues();
@@ -191,7 +193,7 @@ impl<S: Selector + Drop, T: PrefixTable<Cell<S>>, L: Ledger> Room<S, T, L> {
 
     /// A copy of the cell, an empty one where there is none.
     fn cell_of(&self, router: Addr, prefix: Prefix) -> Result<Cell<S>, AllocError>
-        ensures { IfOk result (λ cell. cell ≡ heard_at router prefix self.now.engine.tables) }
+        ensures { IfOk result (λ cell. cell ≡ cell_at router prefix self.now.engine.tables) }
     {
         match self.sim.state().cell(router, prefix) {
             Some(cell) => cell.copy(self.alloc),
@@ -200,7 +202,8 @@ impl<S: Selector + Drop, T: PrefixTable<Cell<S>>, L: Ledger> Room<S, T, L> {
     }
 }
 
-/// The last address before the next one of the shard: from this address on to there none is of the shard, but this may be.
+/// The last address before the next one of the shard: from this address on to there none is of the shard, but this may
+/// be.
 fn last_before(address: Addr, shard: u64, shards: u64) -> Addr
     requires { shard < shards }
 {

@@ -16,12 +16,12 @@ pub struct Jobs<S: Chosen> {
 impl<S: Chosen> Model for Jobs<S> {
     ghost use Rattle.std.specs.Prelude.{List};
     ghost use Rattle.std.specs.Coded.{codes};
-    ghost use Rattle.cell_engine.specs.CellCoding.{coded_heard};
-    ghost use Rattle.room.specs.Jobs.{Seen, AreTakenTogether};
+    ghost use Rattle.cell_engine.specs.CellCoding.{coded_cell};
+    ghost use Rattle.room.specs.Jobs.{Job, AreTakenTogether};
 
-    ghost Value = { List Seen };
+    ghost Value = { List Job };
 
-    ghost coded = { Prim.hlevel (codes, coded_heard) };
+    ghost coded = { Prim.hlevel (codes, coded_cell) };
 
     ghost view = { λ j. j.jobs.items };
 
@@ -68,12 +68,12 @@ pub struct Outcomes<S: Chosen> {
 impl<S: Chosen> Model for Outcomes<S> {
     ghost use Rattle.std.specs.Prelude.{List};
     ghost use Rattle.std.specs.Coded.{codes};
-    ghost use Rattle.cell_engine.specs.CellCoding.{coded_heard};
-    ghost use Rattle.room.specs.Jobs.{Seen, AreTakenTogether};
+    ghost use Rattle.cell_engine.specs.CellCoding.{coded_cell};
+    ghost use Rattle.room.specs.Jobs.{Job, AreTakenTogether};
 
-    ghost Value = { List Seen };
+    ghost Value = { List Job };
 
-    ghost coded = { Prim.hlevel (codes, coded_heard) };
+    ghost coded = { Prim.hlevel (codes, coded_cell) };
 
     ghost view = { λ o. o.outcomes.items };
 

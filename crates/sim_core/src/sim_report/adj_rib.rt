@@ -4,7 +4,7 @@ ghost use Rattle.std.specs.Prelude.{◌≡◌, false, [], if◌then◌else◌, I
 ghost use Rattle.std.specs.List.{filter_map};
 ghost use Rattle.net_conf.specs.Configuration.{is_virtual};
 ghost use Rattle.reference_machine.specs.Reports.{adj_rib_in, adj_rib_out};
-ghost use Rattle.cell_engine.specs.Engine.{network};
+ghost use Rattle.cell_engine.specs.State.{network};
 ghost use Rattle.cell_engine.specs.Reporting.{cells_of, route_in};
 
 use crate::sim_report::cells::{Line, lines};
@@ -54,7 +54,9 @@ impl<'a, S: Selector> Line<S, (Prefix, Attr)> for AdvertTo<'a> {
     ghost use Rattle.route_select.specs.Selection.{best_of};
     ghost use Rattle.reference_machine.specs.Advertising.{advert_of};
 
-    ghost said = { λ line e. option_map (λ attr. (e.0, attr)) (advert_of line.up (option_copied line.site) line.peer e.0 (best_of e.1.standings)) };
+    ghost said = { λ line e.
+        option_map (λ attr. (e.0, attr))
+        (advert_of line.up (option_copied line.site) line.peer e.0 (best_of e.1.standings)) };
 
     fn of_cell(
         &self,
@@ -91,7 +93,8 @@ fn received_if_up<S: Selector, T: PrefixTable<Cell<S>>>(
     peer: Addr,
     up: bool,
 ) -> Result<Vec<(Prefix, Attr)>, AllocError>
-    ensures { IfOk result (λ routes. routes.items ≡ (if up then filter_map (route_in peer) (cells_of router state.now.tables) else [])) }
+    ensures { IfOk result (λ routes.
+        routes.items ≡ (if up then filter_map (route_in peer) (cells_of router state.now.tables) else [])) }
 {
     if up {
         lines(alloc, state, router, &RouteFrom { peer })

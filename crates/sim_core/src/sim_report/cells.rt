@@ -14,11 +14,11 @@ use std::alloc::{AllocError, Global};
 /// What a report says of each cell.
 pub(crate) trait Line<S: Selector, X> {
     ghost use Rattle.std.specs.Prelude.{◌≡◌, Option, IfOk};
-    ghost use Rattle.net_prefix.specs.Block.{Block};
-    ghost use Rattle.cell_engine.specs.Cells.{Heard};
+    ghost use Rattle.net_prefix.specs.Prefix.{Prefix};
+    ghost use Rattle.cell_engine.specs.Cells.{Cell};
 
     /// What it says of a cell, if anything.
-    ghost said: { Self → Block × Heard → Option X };
+    ghost said: { Self → Prefix × Cell → Option X };
 
     /// What it says of this cell.
     fn of_cell(

@@ -5,7 +5,7 @@ ghost use Rattle.igp_cost.specs.Trees.{cost_in, first_hop_in};
 ghost use Rattle.std.specs.Option.{option_map, option_and_then};
 ghost use Rattle.net_conf.specs.Configuration.{has_node, is_virtual};
 ghost use Rattle.reference_machine.specs.Reports.{cost_and_hop};
-ghost use Rattle.cell_engine.specs.Engine.{network};
+ghost use Rattle.cell_engine.specs.State.{network};
 
 use cell_engine::{Cell, State};
 use igp_cost::Tree;
@@ -14,8 +14,8 @@ use prefix_table::PrefixTable;
 use route_select::Selector;
 use std::alloc::AllocError;
 
-/// The router's cost to the address, and the address to which it forwards what is for it, where there is a way. They stand in
-/// the tree of the router's site. Want of memory comes only where no site is kept.
+/// The router's cost to the address, and the address to which it forwards what is for it, where there is a way. They
+/// stand in the tree of the router's site. Want of memory comes only where no site is kept.
 pub(crate) fn cost_and_hop<S: Selector, T: PrefixTable<Cell<S>>>(
     state: &State<S, T>,
     router: Addr,
@@ -34,7 +34,8 @@ pub(crate) fn cost_and_hop<S: Selector, T: PrefixTable<Cell<S>>>(
 
 /// The cost and the first hop that the tree has.
 fn cost_and_hop_in(tree: &Tree, target: Addr) -> Option<(u32, Addr)>
-    ensures { result ≡ option_and_then (λ n. option_map (λ hop. (n, hop)) (first_hop_in tree.now target)) (cost_in tree.now target) }
+    ensures { result ≡ option_and_then (λ n. option_map (λ hop. (n, hop)) (first_hop_in tree.now target))
+        (cost_in tree.now target) }
 {
     match (tree.cost(target), tree.first_hop(target)) {
         (Some(cost), Some(hop)) => Some((cost, hop)),

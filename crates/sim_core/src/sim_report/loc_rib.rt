@@ -4,7 +4,7 @@ ghost use Rattle.std.specs.Prelude.{◌≡◌, false, IfOk};
 ghost use Rattle.net_conf.specs.Configuration.{is_virtual};
 ghost use Rattle.route_select.specs.Selection.{best_of};
 ghost use Rattle.reference_machine.specs.Reports.{held_of, loc_rib, choice};
-ghost use Rattle.cell_engine.specs.Engine.{network};
+ghost use Rattle.cell_engine.specs.State.{network};
 
 use crate::sim_report::cells::{Line, lines};
 use cell_engine::{Cell, State};

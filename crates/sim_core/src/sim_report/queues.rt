@@ -3,7 +3,7 @@
 ghost use Rattle.std.specs.Prelude.{◌≡◌, IfOk};
 ghost use Rattle.session_queue.specs.Waiting.{queue_at};
 ghost use Rattle.reference_machine.specs.Reports.{queue, is_quiet};
-ghost use Rattle.cell_engine.specs.Engine.{network};
+ghost use Rattle.cell_engine.specs.State.{network};
 
 use cell_engine::{Cell, State};
 use prefix_table::PrefixTable;

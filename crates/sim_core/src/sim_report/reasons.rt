@@ -3,7 +3,7 @@
 ghost use Rattle.std.specs.Prelude.{◌≡◌, false, IfOk};
 ghost use Rattle.net_conf.specs.Configuration.{is_virtual};
 ghost use Rattle.reference_machine.specs.Reports.{reasons};
-ghost use Rattle.cell_engine.specs.Engine.{network};
+ghost use Rattle.cell_engine.specs.State.{network};
 ghost use Rattle.cell_engine.specs.Reporting.{reason_at, reasons_in};
 
 use cell_engine::{Cell, State};
@@ -13,7 +13,8 @@ use route_select::{Chosen, Reason, Selector, Source};
 use seq::push_some;
 use std::alloc::{AllocError, Global};
 
-/// Why each route of the router to the prefix was chosen or dropped: its own first, then those of its peers, by address.
+/// Why each route of the router to the prefix was chosen or dropped: its own first, then those of its peers, by
+/// address.
 pub(crate) fn reasons<S: Selector, T: PrefixTable<Cell<S>>>(
     alloc: Global,
     state: &State<S, T>,

@@ -5,7 +5,7 @@ ghost use Rattle.std.specs.Option.{IfSome, IfNone};
 ghost use Rattle.net_conf.specs.Configuration.{is_virtual};
 ghost use Rattle.reference_machine.specs.Decision.{best};
 ghost use Rattle.reference_machine.specs.Tracing.{longest_match, has_passed, onward, by_route, by_prefix, look, trace};
-ghost use Rattle.cell_engine.specs.Engine.{network};
+ghost use Rattle.cell_engine.specs.State.{network};
 
 use cell_engine::{Cell, State};
 use igp_cost::Tree;
@@ -41,7 +41,7 @@ pub(crate) fn trace<S: Selector, T: PrefixTable<Cell<S>>>(
 }
 
 /// What becomes of it at the address, where it came over the hops. It takes no memory where the router's site is kept.
-#[tactic(auto, unfolding(reference_machine::specs::Tracing::look, cell_engine::specs::Engine::network))]
+#[tactic(auto, unfolding(reference_machine::specs::Tracing::look, cell_engine::specs::State::network))]
 fn look<S: Selector, T: PrefixTable<Cell<S>>>(
     state: &State<S, T>,
     hops: &[(Addr, Prefix)],
@@ -66,7 +66,8 @@ fn by_prefix<S: Selector, T: PrefixTable<Cell<S>>>(
     target: Addr,
 ) -> Result<Look, AllocError>
     requires { is_virtual state.now.conf at ≡ false }
-    ensures { IfOk result (λ seen. seen ≡ by_prefix (network state.now) at (longest_match (network state.now) at target)) }
+    ensures { IfOk result (λ seen.
+        seen ≡ by_prefix (network state.now) at (longest_match (network state.now) at target)) }
 {
     let Some(found) = longest_chosen(state, at, target) else {
         return Ok(Look::Ends(TraceEnd::NoRoute(at)));
@@ -78,8 +79,8 @@ fn by_prefix<S: Selector, T: PrefixTable<Cell<S>>>(
     }
 }
 
-/// The longest prefix that contains the address and has a chosen route at the router, and that route. The router's table is
-/// asked for its longest match, and where nothing is chosen for it for a shorter one.
+/// The longest prefix that contains the address and has a chosen route at the router, and that route. The router's
+/// table is asked for its longest match, and where nothing is chosen for it for a shorter one.
 fn longest_chosen<'a, S: Selector, T: PrefixTable<Cell<S>>>(
     state: &'a State<S, T>,
     router: Addr,

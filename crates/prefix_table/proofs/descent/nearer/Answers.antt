@@ -1,7 +1,7 @@
 -- The child in the prefix's half is the next on the way, or nothing is.
 use Rattle.std.proofs.Common.{◌≡◌, None, Some, ap, sym, ◌∙◌, subst}
 use Rattle.std.proofs.lemmas.Bool.{false≢true}
-use Rattle.net_prefix.specs.Block.{Covers}
+use Rattle.net_prefix.specs.Prefix.{Covers}
 use Rattle.prefix_table.specs.Trie.{bit_at, prefix_at, child_at}
 use Rattle.prefix_table.proofs.Paths.{last_at_empty, last_at_other, nearer_child}
 use Rattle.prefix_table.proofs.descent.nearer.Goals as goal

@@ -1,7 +1,7 @@
 -- One more bit is shared.
 use Rattle.std.proofs.Common.{◌≡◌, sym, ap, ◌∙◌, arith, rules}
 use Rattle.prefix_table.specs.Trie.{bit_at}
-use Rattle.prefix_table.proofs.Blocks.{one_more_bit}
+use Rattle.prefix_table.proofs.Prefixes.{one_more_bit}
 use Rattle.prefix_table.proofs.growth.shared.Goals as goal
 
 pub loop-len-preserved : goal.loop-len-preserved

@@ -1,6 +1,6 @@
 use Rattle.std.proofs.Common.{◌≤◌, ◌-◌}
-use Rattle.net_prefix.specs.Block.{Covers}
-use Rattle.prefix_table.specs.Places.{block_at}
+use Rattle.net_prefix.specs.Prefix.{Covers}
+use Rattle.prefix_table.specs.Places.{prefix_around}
 use Rattle.prefix_table.proofs.growth.shared.Given as goal
 
 -- the first bits that the prefixes share so far
@@ -8,7 +8,7 @@ abbrev pub invariant-loop-len : goal.invariant-loop-len
 invariant-loop-len l = record {
   long : l.from ≤ l.len;
   short : l.len ≤ l.first.len;
-  both : Covers (block_at l.first.addr l.len) l.second;
+  both : Covers (prefix_around l.first.addr l.len) l.second;
 }
 
 abbrev pub decreases-loop-len : goal.decreases-loop-len

@@ -1,6 +1,6 @@
 use Rattle.std.proofs.Common.{◌≡◌, ℕ, ◌<◌, length, is_some, sym, ap, subst, ◌∙◌}
 use Rattle.std.specs.FinMap.Entries.{find}
-use Rattle.net_prefix.specs.Block.{block_cmp}
+use Rattle.net_prefix.specs.Prefix.{prefix_cmp}
 use Rattle.prefix_table.specs.Trie.{IsTrie, HasPrefix, node_entries, prefix_at, value_at}
 use Rattle.prefix_table.proofs.Contents.{find_missing, find_at_node, stored, valued_trie, none_from}
 use Rattle.prefix_table.proofs.trie.replace_in.Goals as goal
@@ -26,5 +26,5 @@ returns-clause-before g c =
 pub returns-clause-replaced : goal.returns-clause-replaced
 returns-clause-replaced g c p =
     let there = subst (λ ns. HasPrefix ns c.in-Some.at.0 c.args.prefix) c.deref.ensures.value c.in-Some.ensures.found in
-    ap (λ ns. find block_cmp p (node_entries ns)) c.set_value.ensures.written
+    ap (λ ns. find prefix_cmp p (node_entries ns)) c.set_value.ensures.written
     ∙ stored c.args.nodes.now.items c.requires c.in-Some.at.0 c.args.value c.args.prefix there p

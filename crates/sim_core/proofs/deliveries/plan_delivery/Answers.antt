@@ -1,5 +1,5 @@
 use Rattle.std.proofs.Common.{◌≡◌, Some, None, sym, ap, subst, ◌∙◌}
-use Rattle.net_prefix.specs.Block.{Block}
+use Rattle.net_prefix.specs.Prefix.{Prefix}
 use Rattle.session_queue.specs.declared.message.MessageKind.{MessageKind}
 use Rattle.session_queue.specs.Telling.{prefix_of}
 use Rattle.sim_event.specs.declared.event.Event.TheVariants.{Deliver}
@@ -17,7 +17,7 @@ returns-clause-plan g c =
     let e = c.outcome.new.self in
     let cells = c.in_ok-refreshed.refreshed.items in
     let are : cells ≡ decided_at e.conf d.to (prefix_of m) = c.in_ok-refreshed.ensures ∙ ap (decided_at e.conf d.to) c.prefix-prefix.ensures in
-    let plan : Block → MessageKind → Plan = λ p k. record { reply = Took p k; refreshed = cells; pushed = None; taken = Some (record { direction = d; prefix = p; outcome = o }); edited = None } in
+    let plan : Prefix → MessageKind → Plan = λ p k. record { reply = Took p k; refreshed = cells; pushed = None; taken = Some (record { direction = d; prefix = p; outcome = o }); edited = None } in
     let is = prepared_delivery c.args.state.now e c.outcome.ensures.same c.facts.ensures.sound d m o c.requires.allowed c.requires.head c.in_ok-outcome.ensures.outcome c.in_ok-outcome.ensures.room cells are in
     let boxed : Taken → Plan = λ t. record { reply = Took c.prefix-prefix.result c.kind.result; refreshed = cells; pushed = None; taken = Some t; edited = None } in
     subst (λ t. IsPrepared e (Deliver d.from d.to) (boxed t)) (sym c.in_ok-new.ensures.ok)

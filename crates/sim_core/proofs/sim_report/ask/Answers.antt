@@ -1,7 +1,7 @@
 use Rattle.std.proofs.Common.{◌≡◌, ◌∙◌, Some, sym, ap}
 use Rattle.net_conf.specs.Edits.{refusal_or_memory}
 use Rattle.reference_machine.specs.Machine.{ask_refusal}
-use Rattle.cell_engine.specs.Engine.{network}
+use Rattle.cell_engine.specs.State.{network}
 use Rattle.sim_core.proofs.AcceptedQuestions.{quiet_is_answered}
 use Rattle.sim_core.proofs.sim_report.ask.Goals as goal
 

@@ -23,4 +23,4 @@ returns g c =
     let had = c.best.ensures ∙ ap (λ h. best_of h.standings) c.cell.view_is in
     let has = c.best-2.ensures ∙ ap best_of stands in
     let sends = c.in_ok-sends.ensures ∙ (λ i. sends_of site site (c.prefix.ensures i) (had i) (has i)) in
-    λ i. record { heard = record { received = routes i; standings = stands i }; sends = sends i }
+    λ i. record { cell = record { received = routes i; standings = stands i }; sends = sends i }

@@ -3,7 +3,7 @@ use Rattle.net_prefix.specs.declared.addr.Addr.{Addr}
 use Rattle.session_queue.specs.declared.message.Message.{Message}
 use Rattle.reference_machine.specs.Network.{messages_in}
 use Rattle.reference_machine.specs.Machine.{head_step}
-use Rattle.cell_engine.specs.Engine.{network}
+use Rattle.cell_engine.specs.State.{network}
 use Rattle.cell_engine.specs.Sending.{told}
 use Rattle.cell_engine.proofs.Delivered.{outcome_tells_one}
 use Rattle.cell_engine.proofs.Growth.{network_kept, at_error}

@@ -1,7 +1,7 @@
 use Rattle.std.proofs.Common.{◌≤◌, List, length, ap, sym, subst, ◌∙◌}
 use Rattle.net_prefix.specs.declared.addr.Addr.{Addr}
 use Rattle.session_queue.specs.declared.message.Message.{Message}
-use Rattle.cell_engine.specs.Engine.{Engine, network}
+use Rattle.cell_engine.specs.State.{State, network}
 use Rattle.cell_engine.specs.Sending.{told}
 use Rattle.cell_engine.proofs.Queues.{network_same}
 use Rattle.cell_engine.proofs.Growth.{network_kept}
@@ -16,7 +16,7 @@ make_ready-requires g c =
 
 pub returns-clause-network : goal.returns-clause-network
 returns-clause-network g c =
-    let e : Engine = record { conf = c.self.inside.conf; tables = c.self.inside.tables; directions = c.self.inside.directions; queues = c.self.inside.queues } in
+    let e : State = record { conf = c.self.inside.conf; tables = c.self.inside.tables; directions = c.self.inside.directions; queues = c.self.inside.queues } in
     network_same e c.make_ready.new.queues c.make_ready.ensures.queue
     ∙ ap network c.self.view_is
     ∙ network_kept c.args.self.now c.grow_unless.new.self c.grow_unless.ensures.same

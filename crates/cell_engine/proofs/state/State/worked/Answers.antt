@@ -4,8 +4,8 @@ use Rattle.net_conf.specs.RouterSites.{router_site}
 use Rattle.net_conf.proofs.RouterLaws.{site_of_router, site_sessions_in_order}
 use Rattle.cell_engine.specs.RouterTables.{value_at}
 use Rattle.cell_engine.specs.Cells.{decided}
-use Rattle.cell_engine.specs.Engine.{heard_at}
-use Rattle.cell_engine.proofs.Decided.{heard_decided}
+use Rattle.cell_engine.specs.State.{cell_at}
+use Rattle.cell_engine.proofs.Decided.{cell_decided}
 use Rattle.cell_engine.proofs.Growth.{shown_or}
 use Rattle.cell_engine.proofs.state.State.worked.Goals as goal
 
@@ -15,11 +15,11 @@ deliver-outcome-requires-clause-decided g c =
     let r = c.args.direction.to in
     let p = prefix_of c.args.message.now in
     let at : router_site e.conf r ≡ Some c.in-Some.site.now = sym c.in-Some.ensures in
-    let there : c.unwrap_or-cell.result.now ≡ heard_at r p e.tables =
+    let there : c.unwrap_or-cell.result.now ≡ cell_at r p e.tables =
     ap (λ b. b.now) c.unwrap_or-cell.ensures
     ∙ shown_or c.cell-found.result _
     ∙ (λ i. unwrap_or ((c.cell-found.ensures ∙ ap (λ q. value_at r q e.tables) c.prefix.ensures) i) (c.new-nothing.ensures i)) in
-    there ∙ heard_decided e c.facts.ensures.sound r p ∙ (λ i. decided (at i) p (sym there i).received)
+    there ∙ cell_decided e c.facts.ensures.sound r p ∙ (λ i. decided (at i) p (sym there i).received)
 
 pub deliver-outcome-requires-clause-peers : goal.deliver-outcome-requires-clause-peers
 deliver-outcome-requires-clause-peers g c =

@@ -1,6 +1,6 @@
 use Rattle.std.proofs.Common.{◌≡◌, ◌∙◌, suc, ◌-◌, List, length, sym, ap, subst}
 use Rattle.net_prefix.specs.declared.addr.Addr.{Addr}
-use Rattle.net_prefix.specs.Block.{Block}
+use Rattle.net_prefix.specs.Prefix.{Prefix}
 use Rattle.reference_machine.specs.declared.tracing.Look.TheVariants.{Forwards}
 use Rattle.reference_machine.specs.Tracing.{trace, trace_from, look}
 use Rattle.reference_machine.proofs.Traces.{HaveForwarded, none_have, one_more_has, all_left, ends_here, goes_on, fewer_left}
@@ -8,7 +8,7 @@ use Rattle.plain_simulator.proofs.state.State.trace.Goals as goal
 
 pub hop-init : goal.hop-init
 hop-init g c =
-    let Have : List (Addr × Block) → Type 0 = λ hops. HaveForwarded c.args.self.now hops in
+    let Have : List (Addr × Prefix) → Type 0 = λ hops. HaveForwarded c.args.self.now hops in
     record {
       have = subst Have (sym c.new-hops.ensures) (none_have c.args.self.now);
       same = all_left c.args.self.now c.args.target c.new-hops.result c.args.router c.new-hops.ensures;
@@ -28,7 +28,7 @@ pub hop-preserved : goal.hop-preserved
 hop-preserved g c =
     let s = c.args.self.now in
     let is : look s c.args.target c.hop.hops c.hop.at ≡ Forwards c.in-Forwards.prefix c.in-Forwards.next = sym (c.in_ok-ending.ensures ∙ ap (λ hops. look s c.args.target hops c.hop.at) c.as_slice.ensures) ∙ c.in-Forwards.is in
-    let Have : List (Addr × Block) → Type 0 = λ hops. HaveForwarded s hops in
+    let Have : List (Addr × Prefix) → Type 0 = λ hops. HaveForwarded s hops in
     record {
       have = subst Have (sym c.in_ok-push-in-Forwards.ensures.ok) (one_more_has s c.args.target c.hop.hops c.hop.at c.in-Forwards.prefix c.in-Forwards.next c.hop.invariant.have is);
       same =

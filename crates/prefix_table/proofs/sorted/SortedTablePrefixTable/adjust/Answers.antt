@@ -1,7 +1,7 @@
 use Rattle.std.proofs.Common.{ap, sym, ◌∙◌, is_some}
 use Rattle.std.specs.FinMap as map
 use Rattle.std.specs.FinMap.Entries.{find, is_sorted}
-use Rattle.net_prefix.specs.Block.{block_cmp}
+use Rattle.net_prefix.specs.Prefix.{prefix_cmp}
 use Rattle.prefix_table.specs.Tables.{adjusted}
 use Rattle.prefix_table.proofs.Entries.{get_of}
 use Rattle.prefix_table.proofs.Keeping.{changed_kept, seen_changed}
@@ -10,8 +10,8 @@ use Rattle.prefix_table.proofs.sorted.SortedTablePrefixTable.adjust.Goals as goa
 pub invariant_of-self : goal.invariant_of-self
 invariant_of-self g c =
     let entries = c.self.inside.entries.items in
-    ap (is_sorted block_cmp) c.adjust_in.ensures.changed
-    ∙ changed_kept (g.A.Adjust.after c.args.change.now) c.args.prefix entries c.self.invariant (find block_cmp c.args.prefix entries)
+    ap (is_sorted prefix_cmp) c.adjust_in.ensures.changed
+    ∙ changed_kept (g.A.Adjust.after c.args.change.now) c.args.prefix entries c.self.invariant (find prefix_cmp c.args.prefix entries)
 
 pub returns-clause-there : goal.returns-clause-there
 returns-clause-there g c =

@@ -1,5 +1,5 @@
 use Rattle.std.proofs.Common.{◌+◌, ◌<◌, ◌≤◌}
-use Rattle.net_prefix.specs.Block.{Block}
+use Rattle.net_prefix.specs.Prefix.{Prefix}
 use Rattle.prefix_table.specs.Tables.{IsMatch}
 use Rattle.prefix_table.proofs.sorted.SortedTablePrefixTable.longest.Given as goal
 
@@ -8,7 +8,7 @@ abbrev pub invariant-loop-lengths : goal.invariant-loop-lengths
 invariant-loop-lengths g l = record {
   some_prefix : l.lengths ≤ 33;
   short : l.lengths ≤ l.most + 1;
-  longest : (q : Block) → IsMatch l.self l.addr l.most q → q.len < l.lengths;
+  longest : (q : Prefix) → IsMatch l.self l.addr l.most q → q.len < l.lengths;
 }
 
 abbrev pub decreases-loop-lengths : goal.decreases-loop-lengths

@@ -1,7 +1,7 @@
 use Rattle.std.proofs.Common.{rules, ◌≡◌, ◌+◌, ◌∷◌, [], ◌++◌, length, cond, sym, ap, subst, ◌∙◌, length-append}
 use Rattle.sim_event.specs.declared.entry.Entry.{Entry}
 use Rattle.reference_machine.specs.Machine.{step}
-use Rattle.cell_engine.specs.Engine.{network}
+use Rattle.cell_engine.specs.State.{network}
 use Rattle.sim_core.specs.Plans.{IsPrepared}
 use Rattle.room.specs.Books.{is_edit, is_accepted_edit, version_of}
 use Rattle.room.proofs.Grown.{version_push, accepted_one, kept_push}

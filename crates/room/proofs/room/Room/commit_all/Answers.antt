@@ -3,7 +3,7 @@ use Rattle.std.proofs.lemmas.List.Elements.{All-head, All-tail}
 use Rattle.std.proofs.lemmas.List.{nil_from_length}
 use Rattle.net_prefix.specs.declared.addr.Addr.{Addr}
 use Rattle.room.specs.Books.{SeatBook}
-use Rattle.room.specs.Jobs.{Seen, IsSeenIn, AreTakenTogether}
+use Rattle.room.specs.Jobs.{Job, IsSeenIn, AreTakenTogether}
 use Rattle.room.specs.Commits.{AreCommitted}
 use Rattle.room.proofs.InTurn.{committed_push, goes_on_all}
 use Rattle.room.proofs.Known.{IsKnown, none_known, known_site, site_known}
@@ -31,7 +31,7 @@ returns-in-Err-clause-broken_off g c =
     record {
       first = first;
       others = c.in-Some.done ∷ c.next.new.self.rest.items;
-      parts = c.loop-done.invariant.2.1 ∙ ap (λ (w : List Seen). first ++ w) c.in-Some.ensures.steps.0;
+      parts = c.loop-done.invariant.2.1 ∙ ap (λ (w : List Job). first ++ w) c.in-Some.ensures.steps.0;
       next = c.loop-done.self;
       after = c.loop-done.seat;
       committed = c.loop-done.invariant.2.2;
@@ -58,7 +58,7 @@ loop-done-preserved-then-is_same g c =
       tt,
       (
         first ++ x ∷ [],
-        c.loop-done.invariant.2.1 ∙ ap (λ (w : List Seen). first ++ w) c.in-Some.ensures.steps.0 ∙ sym (append_assoc first (x ∷ []) rest),
+        c.loop-done.invariant.2.1 ∙ ap (λ (w : List Job). first ++ w) c.in-Some.ensures.steps.0 ∙ sym (append_assoc first (x ∷ []) rest),
         committed_push c.args.self.now c.args.seat.now first x c.loop-done.self c.loop-done.seat c.in-Ok.committed now c.commit_one.new.seat c.loop-done.invariant.2.2 c.in-Ok.ensures.committed,
       ),
       (room, All-tail (IsSeenIn room) x rest all, subst (λ (e : Addr × Addr). IsKnown room now (Some e.1)) (sym c.ends.ensures) known),
@@ -76,7 +76,7 @@ loop-done-preserved g c =
       tt,
       (
         first ++ x ∷ [],
-        c.loop-done.invariant.2.1 ∙ ap (λ (w : List Seen). first ++ w) c.in-Some.ensures.steps.0 ∙ sym (append_assoc first (x ∷ []) rest),
+        c.loop-done.invariant.2.1 ∙ ap (λ (w : List Job). first ++ w) c.in-Some.ensures.steps.0 ∙ sym (append_assoc first (x ∷ []) rest),
         committed_push c.args.self.now c.args.seat.now first x c.loop-done.self c.loop-done.seat c.in-Ok.committed now c.commit_one.new.seat c.loop-done.invariant.2.2 c.in-Ok.ensures.committed,
       ),
       (room, All-tail (IsSeenIn room) x rest all, none_known room now),
@@ -85,10 +85,10 @@ loop-done-preserved g c =
 pub returns-clause-committed : goal.returns-clause-committed
 returns-clause-committed g c =
     let first = c.loop-done.invariant.2.0 in
-    let left : List Seen = c.loop-done.done-iterator.rest.items in
+    let left : List Job = c.loop-done.done-iterator.rest.items in
     let none : length left ≡ 0 = search rules in
-    let all : first ≡ c.args.outcomes = sym (append-nil first) ∙ ap (λ (w : List Seen). first ++ w) (sym (nil_from_length left none)) ∙ sym c.loop-done.invariant.2.1 in
-    subst (λ (w : List Seen). AreCommitted c.args.self.now c.args.seat.now w c.loop-done.self c.loop-done.seat) all c.loop-done.invariant.2.2
+    let all : first ≡ c.args.outcomes = sym (append-nil first) ∙ ap (λ (w : List Job). first ++ w) (sym (nil_from_length left none)) ∙ sym c.loop-done.invariant.2.1 in
+    subst (λ (w : List Job). AreCommitted c.args.self.now c.args.seat.now w c.loop-done.self c.loop-done.seat) all c.loop-done.invariant.2.2
 
 pub returns-clause-seat : goal.returns-clause-seat
 returns-clause-seat g c = goes_on_all c.args.self.now c.args.seat.now c.loop-done.invariant.2.0 c.loop-done.self c.loop-done.seat c.loop-done.invariant.2.2

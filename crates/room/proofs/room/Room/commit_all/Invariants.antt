@@ -1,6 +1,6 @@
 use Rattle.std.proofs.Common.{◌≡◌, List, ◌++◌, All}
 use Rattle.room.specs.Books.{RoomBook}
-use Rattle.room.specs.Jobs.{Seen, IsSeenIn}
+use Rattle.room.specs.Jobs.{Job, IsSeenIn}
 use Rattle.room.specs.Commits.{AreCommitted}
 use Rattle.room.proofs.Known.{IsKnown}
 use Rattle.room.proofs.room.Room.commit_all.Given as goal
@@ -10,5 +10,5 @@ abbrev pub invariant-loop-done : goal.invariant-loop-done
 invariant-loop-done g l =
     (goal.iterator-loop-done g).can_next l.done-iterator ×
     (goal.iterator-loop-done g).is_finite l.done-iterator ×
-    ((first : List Seen) × (l.fn.outcomes ≡ first ++ l.done-iterator.rest.items) × AreCommitted l.initial.self l.initial.seat first l.self l.seat) ×
+    ((first : List Job) × (l.fn.outcomes ≡ first ++ l.done-iterator.rest.items) × AreCommitted l.initial.self l.initial.seat first l.self l.seat) ×
     ((room : RoomBook) × All (IsSeenIn room) l.done-iterator.rest.items × IsKnown room l.self l.known)

@@ -4,7 +4,7 @@ use Rattle.sim_event.specs.declared.entry.Entry.{Entry}
 use Rattle.sim_event.specs.declared.event.Event.TheVariants.{Deliver}
 use Rattle.sim_event.specs.declared.reply.Reply.TheVariants.{Took}
 use Rattle.reference_machine.specs.Machine.{step, delivery_refusal}
-use Rattle.cell_engine.specs.Engine.{Engine, network}
+use Rattle.cell_engine.specs.State.{State, network}
 use Rattle.sim_core.specs.Installing.{IsOutcomeOfHead}
 use Rattle.room.specs.Books.{IsKept, version_of}
 use Rattle.room.specs.Commits.{delivery_of}
@@ -24,7 +24,7 @@ pub install-requires-clause-head : goal.install-requires-clause-head
 install-requires-clause-head g c =
     let room = c.args.self.now in
     let kept : IsKept room = subst IsKept c.self.view_is c.self.invariant.0 in
-    subst (λ (e : Engine). IsOutcomeOfHead e c.direction-direction.result c.args.outcome) (sym (ap (λ r. r.engine) c.self.view_is))
+    subst (λ (e : State). IsOutcomeOfHead e c.direction-direction.result c.args.outcome) (sym (ap (λ r. r.engine) c.self.view_is))
     (subst (λ d. IsOutcomeOfHead room.engine d c.args.outcome) (sym c.direction-direction.ensures) (seen_outcome room kept c.engine_facts.ensures.sound c.args.job.now c.requires.seen c.args.outcome c.requires.outcome))
 
 pub invariant_of-self-2 : goal.invariant_of-self-2

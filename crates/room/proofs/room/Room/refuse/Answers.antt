@@ -2,7 +2,7 @@ use Rattle.std.proofs.Common.{rules, ◌≡◌, ◌+◌, ◌∷◌, [], ◌++◌
 use Rattle.sim_event.specs.declared.entry.Entry.{Entry}
 use Rattle.sim_event.specs.declared.reply.Reply.TheVariants.{Refused}
 use Rattle.reference_machine.specs.Machine.{step}
-use Rattle.cell_engine.specs.Engine.{network}
+use Rattle.cell_engine.specs.State.{network}
 use Rattle.room.specs.Books.{is_edit, version_of}
 use Rattle.room.proofs.Grown.{version_push, refused_none, kept_push}
 use Rattle.room.proofs.room.Room.refuse.Goals as goal

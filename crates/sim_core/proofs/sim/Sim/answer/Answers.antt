@@ -2,7 +2,7 @@ use Rattle.std.proofs.Common.{refl, ap, subst}
 use Rattle.sim_event.specs.declared.event.Event.TheVariants.{Ask as AnAsk}
 use Rattle.sim_event.specs.declared.reply.Reply.TheVariants.{Report as AReport, Refused}
 use Rattle.reference_machine.specs.Machine.{IsStep}
-use Rattle.cell_engine.specs.Engine.{Engine, network}
+use Rattle.cell_engine.specs.State.{State, network}
 use Rattle.sim_core.specs.Counting.{Counted, Counts}
 use Rattle.sim_core.proofs.Answered.{answered, denied, counted}
 use Rattle.sim_core.proofs.sim.Sim.answer.Goals as goal

@@ -4,7 +4,7 @@ use Rattle.net_conf.specs.Costs.{is_up}
 use Rattle.session_queue.specs.Waiting.{spare_at, IsAdmitted}
 use Rattle.reference_machine.specs.Network.{with_message, messages_in}
 use Rattle.reference_machine.specs.Machine.{with_sent, after_edit, head_step}
-use Rattle.cell_engine.specs.Engine.{network}
+use Rattle.cell_engine.specs.State.{network}
 use Rattle.cell_engine.specs.Deliveries.{IsOfHead, HasRoom}
 use Rattle.cell_engine.specs.Edits.{IsPlanned, HasPlaces}
 use Rattle.sim_core.specs.Counting.{Counted}

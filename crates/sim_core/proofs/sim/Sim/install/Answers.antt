@@ -5,7 +5,7 @@ use Rattle.sim_event.specs.declared.event.Event.TheVariants.{Deliver}
 use Rattle.sim_event.specs.declared.reply.Reply.TheVariants.{Took}
 use Rattle.reference_machine.specs.Network.{messages_in}
 use Rattle.reference_machine.specs.Machine.{step, delivery_refusal, head_step}
-use Rattle.cell_engine.specs.Engine.{network}
+use Rattle.cell_engine.specs.State.{network}
 use Rattle.cell_engine.specs.Deliveries.{IsOfHead}
 use Rattle.sim_core.specs.Counting.{Counted, Counts}
 use Rattle.sim_core.specs.Installing.{IsOutcomeOfHead}

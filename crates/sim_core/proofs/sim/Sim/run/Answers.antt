@@ -1,5 +1,5 @@
 use Rattle.std.proofs.Common.{◌≡◌, ◌++◌, [], ◌∷◌, ◌+◌, ◌∙◌, ap, arith}
-use Rattle.cell_engine.specs.Engine.{network}
+use Rattle.cell_engine.specs.State.{network}
 use Rattle.sim_core.proofs.Runs.{step_before, told_more, told_all, run_of}
 use Rattle.sim_core.proofs.sim.Sim.run.Goals as goal
 

@@ -1,7 +1,7 @@
 use Rattle.std.proofs.Common.{◌≡◌, ◌≤◌, ℕ, List, ◌++◌, drop, length, vec_len, vec_capacity}
 use Rattle.sim_event.specs.declared.reply.Reply.{Reply}
 use Rattle.reference_machine.specs.Network.{Network}
-use Rattle.cell_engine.specs.Engine.{network}
+use Rattle.cell_engine.specs.State.{network}
 use Rattle.sim_core.specs.Counting.{IsCountedRun}
 use Rattle.sim_core.proofs.sim.Sim.run.Given as goal
 

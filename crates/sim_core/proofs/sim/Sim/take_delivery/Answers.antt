@@ -3,7 +3,7 @@ use Rattle.net_conf.specs.declared.refusal.Refusal.TheVariants.{Memory}
 use Rattle.sim_event.specs.declared.event.Event.TheVariants.{Deliver}
 use Rattle.sim_event.specs.declared.reply.Reply.TheVariants.{Took, Refused}
 use Rattle.reference_machine.specs.Machine.{IsStep}
-use Rattle.cell_engine.specs.Engine.{Engine, network}
+use Rattle.cell_engine.specs.State.{State, network}
 use Rattle.cell_engine.specs.Deliveries.{IsOfHead}
 use Rattle.sim_core.specs.Counting.{Counted, Counts}
 use Rattle.sim_core.proofs.Answered.{denied_by}

@@ -3,7 +3,7 @@ use Rattle.net_conf.specs.declared.refusal.Refusal.TheVariants.{Memory}
 use Rattle.sim_event.specs.declared.event.Event.TheVariants.{Feed as AFeed}
 use Rattle.sim_event.specs.declared.reply.Reply.TheVariants.{Done, Refused}
 use Rattle.reference_machine.specs.Machine.{feed_refusal, IsStep}
-use Rattle.cell_engine.specs.Engine.{Engine, network}
+use Rattle.cell_engine.specs.State.{State, network}
 use Rattle.sim_core.specs.Counting.{Counted, Counts}
 use Rattle.sim_core.proofs.Answered.{denied_by}
 use Rattle.sim_core.proofs.Refusals.{feed_denied}

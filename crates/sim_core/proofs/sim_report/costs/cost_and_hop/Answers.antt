@@ -2,7 +2,7 @@ use Rattle.std.proofs.Common.{option_map, sym, ap, ◌∙◌}
 use Rattle.std.specs.Option.{option_and_then}
 use Rattle.igp_cost.specs.Trees.{cost_in, first_hop_in}
 use Rattle.reference_machine.specs.Reports.{cost_and_hop}
-use Rattle.cell_engine.specs.Engine.{network}
+use Rattle.cell_engine.specs.State.{network}
 use Rattle.sim_core.proofs.Routers.{has_site, costs_of_site}
 use Rattle.sim_core.proofs.sim_report.costs.cost_and_hop.Goals as goal
 

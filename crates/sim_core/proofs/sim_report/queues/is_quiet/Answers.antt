@@ -1,7 +1,7 @@
 use Rattle.std.proofs.Common.{◌↔◌, IsTrue, subst}
 use Rattle.session_queue.specs.Waiting.{IsQuiet}
 use Rattle.reference_machine.specs.Reports.{is_quiet}
-use Rattle.cell_engine.specs.Engine.{network}
+use Rattle.cell_engine.specs.State.{network}
 use Rattle.cell_engine.proofs.Reports.{quiet_by_queues}
 use Rattle.sim_core.proofs.AcceptedQuestions.{same_test}
 use Rattle.sim_core.proofs.sim_report.queues.is_quiet.Goals as goal

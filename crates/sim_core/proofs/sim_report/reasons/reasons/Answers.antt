@@ -4,7 +4,7 @@ use Rattle.std.specs.List.{cons_option}
 use Rattle.std.proofs.lemmas.Result.{IfOk-weaker}
 use Rattle.route_select.specs.declared.candidate.Source.TheVariants.{Own}
 use Rattle.route_select.specs.Selection.{source_cmp, considered, reason_for}
-use Rattle.cell_engine.specs.Cells.{nothing_heard}
+use Rattle.cell_engine.specs.Cells.{new_cell}
 use Rattle.cell_engine.specs.Reporting.{reasons_in}
 use Rattle.cell_engine.proofs.Reasons.{reasons_by_cell}
 use Rattle.sim_core.proofs.sim_report.reasons.reasons.Goals as goal
@@ -15,7 +15,7 @@ returns-in-None g c =
     c.new.ensures.items
     ∙ sym (
     reasons_by_cell e c.facts.ensures.sound c.args.router c.args.prefix c.requires
-    ∙ ap (λ x. reasons_in (unwrap_or x nothing_heard)) (sym c.in-None.ensures)
+    ∙ ap (λ x. reasons_in (unwrap_or x new_cell)) (sym c.in-None.ensures)
     ∙ ap (λ o. cons_option (option_map (λ reason. (Own, reason)) (option_map (reason_for (considered finite.empty)) o)) []) (finite.get-empty source_cmp Own))
 
 pub returns-in-Some : goal.returns-in-Some
@@ -24,4 +24,4 @@ returns-in-Some g c =
     IfOk-weaker c.reasons_in.result _ _ (λ found is.
     is
     ∙ sym (reasons_by_cell e c.facts.ensures.sound c.args.router c.args.prefix c.requires
-    ∙ ap (λ x. reasons_in (unwrap_or x nothing_heard)) (sym c.in-Some.ensures))) c.reasons_in.ensures
+    ∙ ap (λ x. reasons_in (unwrap_or x new_cell)) (sym c.in-Some.ensures))) c.reasons_in.ensures

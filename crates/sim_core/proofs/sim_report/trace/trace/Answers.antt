@@ -1,16 +1,16 @@
 use Rattle.std.proofs.Common.{◌≡◌, ◌∙◌, suc, ◌-◌, List, length, sym, ap, subst}
 use Rattle.net_prefix.specs.declared.addr.Addr.{Addr}
-use Rattle.net_prefix.specs.Block.{Block}
+use Rattle.net_prefix.specs.Prefix.{Prefix}
 use Rattle.reference_machine.specs.declared.tracing.Look.TheVariants.{Ends, Forwards}
 use Rattle.reference_machine.specs.Tracing.{trace, trace_from, look}
 use Rattle.reference_machine.proofs.Traces.{HaveForwarded, none_have, one_more_has, all_left, ends_here, goes_on, fewer_left}
-use Rattle.cell_engine.specs.Engine.{network}
+use Rattle.cell_engine.specs.State.{network}
 use Rattle.sim_core.proofs.sim_report.trace.trace.Goals as goal
 
 pub hop-init : goal.hop-init
 hop-init g c =
     let s = network c.args.state.now in
-    let Have : List (Addr × Block) → Type 0 = λ hops. HaveForwarded s hops in
+    let Have : List (Addr × Prefix) → Type 0 = λ hops. HaveForwarded s hops in
     record {
       have = subst Have (sym c.new-hops.ensures) (none_have s);
       same = all_left s c.args.target c.new-hops.result c.args.router c.new-hops.ensures;
@@ -30,7 +30,7 @@ pub hop-preserved : goal.hop-preserved
 hop-preserved g c =
     let s = network c.args.state.now in
     let is : look s c.args.target c.hop.hops c.hop.at ≡ Forwards c.in-Forwards.prefix c.in-Forwards.next = sym (c.in_ok-seen.ensures ∙ ap (λ hops. look s c.args.target hops c.hop.at) c.as_slice.ensures) ∙ c.in-Forwards.is in
-    let Have : List (Addr × Block) → Type 0 = λ hops. HaveForwarded s hops in
+    let Have : List (Addr × Prefix) → Type 0 = λ hops. HaveForwarded s hops in
     record {
       have = subst Have (sym c.in_ok-push-in-Forwards.ensures.ok) (one_more_has s c.args.target c.hop.hops c.hop.at c.in-Forwards.prefix c.in-Forwards.next c.hop.invariant.have is);
       same =

@@ -1,7 +1,7 @@
 use Rattle.std.proofs.Common.{◌≡◌, suc, ◌-◌, [], length}
 use Rattle.reference_machine.specs.Tracing.{trace_from}
 use Rattle.reference_machine.proofs.Traces.{HaveForwarded}
-use Rattle.cell_engine.specs.Engine.{network}
+use Rattle.cell_engine.specs.State.{network}
 use Rattle.sim_core.proofs.sim_report.trace.trace.Given as goal
 
 -- no router has forwarded twice, and the way goes on from here
