@@ -1,5 +1,5 @@
 pub mod Halving
-pub mod Job
+pub mod Seen
 mod Costless
 pub mod Entries
 mod Lists

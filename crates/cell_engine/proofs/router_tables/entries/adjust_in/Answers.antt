@@ -2,7 +2,7 @@
 use Rattle.std.proofs.Common.{Some, is_some, ap, sym, ◌∙◌}
 use Rattle.std.proofs.lemmas.Option.{slice_get-get_or}
 use Rattle.cell_engine.specs.RouterTables.{tables_of, adjusted_value}
-use Rattle.cell_engine.proofs.Job.{set_adjusted, value_found, value_absent}
+use Rattle.cell_engine.proofs.Seen.{set_adjusted, value_found, value_absent}
 use Rattle.cell_engine.proofs.router_tables.entries.adjust_in.Goals as goal
 
 pub returns-in-Ok-clause-there : goal.returns-in-Ok-clause-there

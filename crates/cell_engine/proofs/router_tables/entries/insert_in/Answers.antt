@@ -2,7 +2,7 @@
 use Rattle.std.proofs.Common.{Some, ap, sym, ◌∙◌, insert}
 use Rattle.std.proofs.lemmas.Option.{slice_get-get_or}
 use Rattle.cell_engine.specs.RouterTables.{tables_of}
-use Rattle.cell_engine.proofs.Job.{set_value, set_same, insert_value, value_found, value_absent}
+use Rattle.cell_engine.proofs.Seen.{set_value, set_same, insert_value, value_found, value_absent}
 use Rattle.cell_engine.proofs.router_tables.entries.insert_in.Goals as goal
 
 pub returns-in-Ok-insert-clause-ok : goal.returns-in-Ok-insert-clause-ok

@@ -1,7 +1,7 @@
 -- The value is written into the router's table.
 use Rattle.std.proofs.Common.{Some, ap, sym, ◌∙◌}
 use Rattle.std.proofs.lemmas.Option.{slice_get-get_or}
-use Rattle.cell_engine.proofs.Job.{set_value, set_same, value_found, value_absent, when_ok, when_err}
+use Rattle.cell_engine.proofs.Seen.{set_value, set_same, value_found, value_absent, when_ok, when_err}
 use Rattle.cell_engine.proofs.router_tables.entries.replace_in.Goals as goal
 
 pub returns-in-Ok-clause-before : goal.returns-in-Ok-clause-before

@@ -3,7 +3,7 @@ use Rattle.cell_engine.specs.CellEdits.{whole_changes}
 use Rattle.cell_engine.specs.Becomings.{edit_at}
 use Rattle.cell_engine.proofs.Deciding.{decided_all}
 use Rattle.cell_engine.proofs.Whole.{whole_all}
-use Rattle.cell_engine.proofs.Job.{when_ok}
+use Rattle.cell_engine.proofs.Seen.{when_ok}
 use Rattle.cell_engine.proofs.state.State.changes_of.Goals as goal
 
 pub returns : goal.returns

@@ -8,7 +8,7 @@ use Rattle.cell_engine.specs.CellEdits.{whole_changes}
 use Rattle.cell_engine.specs.Becomings.{Becoming, edit_at, moved_cell}
 use Rattle.cell_engine.proofs.Deciding.{decided_cells}
 use Rattle.cell_engine.proofs.Whole.{whole_cells}
-use Rattle.cell_engine.proofs.Job.{when_ok}
+use Rattle.cell_engine.proofs.Seen.{when_ok}
 use Rattle.cell_engine.proofs.state.State.route_changes.Goals as goal
 
 pub returns : goal.returns

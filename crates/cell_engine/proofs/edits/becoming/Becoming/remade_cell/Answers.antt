@@ -4,7 +4,7 @@ use Rattle.net_conf.specs.RouterSites.{router_site}
 use Rattle.net_conf.specs.declared.site.SiteConf.{SiteConf}
 use Rattle.net_conf.proofs.RouterLaws.{site_of_router, site_sessions_in_order}
 use Rattle.cell_engine.specs.Cells.{refreshed}
-use Rattle.cell_engine.proofs.Job.{when_ok}
+use Rattle.cell_engine.proofs.Seen.{when_ok}
 use Rattle.cell_engine.specs.Becomings.{Becoming, pair_of}
 use Rattle.cell_engine.proofs.Remade.{remade, remade_by_router, pair_some, pair_none}
 use Rattle.cell_engine.proofs.edits.becoming.Becoming.remade_cell.Goals as goal

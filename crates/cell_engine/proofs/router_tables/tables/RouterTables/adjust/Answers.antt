@@ -1,4 +1,4 @@
-use Rattle.cell_engine.proofs.Job.{adjusted_kept}
+use Rattle.cell_engine.proofs.Seen.{adjusted_kept}
 use Rattle.cell_engine.proofs.router_tables.tables.RouterTables.adjust.Goals as goal
 
 pub invariant_of-self : goal.invariant_of-self

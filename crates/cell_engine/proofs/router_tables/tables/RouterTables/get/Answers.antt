@@ -3,7 +3,7 @@ use Rattle.std.proofs.Common.{ap, sym, ◌∙◌, option_copied}
 use Rattle.std.specs.FinMap.Entries.{find, is_sorted}
 use Rattle.net_prefix.specs.Address.{addr_cmp}
 use Rattle.cell_engine.specs.RouterTables.{value_at}
-use Rattle.cell_engine.proofs.Job.{sorted_seen, value_found, value_absent}
+use Rattle.cell_engine.proofs.Seen.{sorted_seen, value_found, value_absent}
 use Rattle.cell_engine.proofs.router_tables.tables.RouterTables.get.Goals as goal
 
 pub returns-in_err-table_in-clause-value : goal.returns-in_err-table_in-clause-value

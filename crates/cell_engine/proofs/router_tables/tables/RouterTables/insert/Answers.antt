@@ -1,4 +1,4 @@
-use Rattle.cell_engine.proofs.Job.{sorted_kept}
+use Rattle.cell_engine.proofs.Seen.{sorted_kept}
 use Rattle.cell_engine.proofs.router_tables.tables.RouterTables.insert.Goals as goal
 
 pub invariant_of-self : goal.invariant_of-self

@@ -1,7 +1,7 @@
 use Rattle.std.proofs.Common.{ap, sym, ◌∙◌, option_map}
 use Rattle.std.specs.List.{find}
 use Rattle.cell_engine.specs.RouterTables.{is_past, next_of}
-use Rattle.cell_engine.proofs.Job.{next_seen}
+use Rattle.cell_engine.proofs.Seen.{next_seen}
 use Rattle.cell_engine.proofs.router_tables.tables.RouterTables.next_table.Goals as goal
 
 pub returns : goal.returns

@@ -1,7 +1,7 @@
 use Rattle.std.proofs.Common.{ap, sym, ◌∙◌, option_map}
 use Rattle.std.specs.FinMap.Entries.{find}
 use Rattle.net_prefix.specs.Address.{addr_cmp}
-use Rattle.cell_engine.proofs.Job.{find_seen}
+use Rattle.cell_engine.proofs.Seen.{find_seen}
 use Rattle.cell_engine.proofs.router_tables.tables.RouterTables.table.Goals as goal
 
 pub returns : goal.returns
