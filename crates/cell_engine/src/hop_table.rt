@@ -4,7 +4,7 @@ ghost use Rattle.std.specs.Prelude.{◌≡◌, Some, List};
 ghost use Rattle.std.specs.FinMap as finite;
 ghost use Rattle.net_prefix.specs.declared.addr.Addr as addr;
 ghost use Rattle.path_attr.specs.declared.attr.Attr as attr;
-ghost use Rattle.cell_engine.specs.Cells.{Cell};
+ghost use Rattle.cell_engine.specs.Cells as route_cells;
 ghost use Rattle.cell_engine.specs.Hops.{Have, AreKnown};
 
 mod hops;
@@ -45,7 +45,7 @@ impl<S: Chosen, T: PrefixTable<Cell<S>>> Model for HopTable<S, T> {
 
 /// What is known once there are the routes of the prefix's cell besides.
 fn with_cell<S: Chosen, T: PrefixTable<Cell<S>>>(hops: Hops, cells: &T, prefix: Prefix) -> Hops
-    ensures covers { (h : Cell) → finite.get (T.table cells.now) prefix ≡ Some h → Have result h.received }
+    ensures covers { (h : route_cells.Cell) → finite.get (T.table cells.now) prefix ≡ Some h → Have result h.received }
     ensures keeps { (known : List (addr.Addr × attr.Attr)) → Have hops known → Have result known }
 {
     if let Hops::Several = hops {
