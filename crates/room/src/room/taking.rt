@@ -5,7 +5,8 @@ ghost use Rattle.std.specs.Bool.{OnFalse};
 ghost use Rattle.session_queue.specs.Shards.{shard_of};
 ghost use Rattle.session_queue.specs.Waiting.{queue_at};
 ghost use Rattle.cell_engine.specs.State.{cell_at};
-ghost use Rattle.room.specs.Jobs.{Job, NoneWaits, IsOfShard, IsSeenIn, AreApart, cell_of};
+ghost use Rattle.room.specs.Jobs as taken;
+ghost use Rattle.room.specs.Jobs.{NoneWaits, IsOfShard, IsSeenIn, AreApart, cell_of};
 
 use crate::room::Room;
 use crate::room::job::Job;
@@ -126,7 +127,7 @@ impl<S: Selector + Drop, T: PrefixTable<Cell<S>>, L: Ledger> Room<S, T, L> {
         requires seen { All (IsSeenIn self.now) jobs.old.items }
         requires apart { AreApart jobs.old.items }
         ensures seen { All (IsSeenIn self.now) jobs.new.items }
-        ensures added { (more : List Job) × (jobs.new.items ≡ jobs.old.items ++ more) × (length more ≤ 1) ×
+        ensures added { (more : List taken.Job) × (jobs.new.items ≡ jobs.old.items ++ more) × (length more ≤ 1) ×
             All (λ job. job.direction ≡ direction) more }
         ensures apart { AreApart jobs.new.items }
     {
