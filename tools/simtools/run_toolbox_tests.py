@@ -9,6 +9,7 @@ browser, where it is not found by its name.
 from __future__ import annotations
 
 import os
+import signal
 import sys
 import time
 import unittest
@@ -62,6 +63,8 @@ def told(result: unittest.TestResult) -> int:
 def run_tests(words: List[str]) -> int:
     """Runs the tests whose name has one of the words. Missing where the program is not there."""
     os.environ["PROGRAM"] = programs.bgpsim()
+    # What a shell runs in the background ignores Ctrl-C, and so would the tools that the tests start.
+    signal.signal(signal.SIGINT, signal.default_int_handler)
     sys.path[:0] = [str(TESTS), str(TESTS.parent)]
     loaded = list(tests_in(unittest.TestLoader().discover(str(TESTS))))
     result = Telling()
