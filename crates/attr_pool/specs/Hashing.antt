@@ -1,4 +1,4 @@
--- No public contract cites this file. What a hash reads of attributes: all seven, each whole.
+-- No public contract cites this file. What a hash reads of attributes: all eight, each whole.
 use Rattle.std.specs.Prelude.{◌≡◌, ℕ, List, ◌++◌, IsTrue, option_map}
 use Rattle.std.proofs.Common.{ap, refl}
 use Rattle.std.specs.Cmp.{IsEquivalence, equiv}
@@ -28,8 +28,12 @@ preferences_input a = fed.option fed.u32 a.med ++ fed.option fed.u32 a.pref ++ f
 abbrev pub clusters_input : List Addr → List (List ℕ)
 clusters_input cs = fed.slice addr_input cs
 
+abbrev pub communities_input : List ℕ → List (List ℕ)
+communities_input cs = fed.slice fed.u32 cs
+
 abbrev pub attr_input : Attr → List (List ℕ)
-attr_input a = path_input a.path ++ fed.u8 (origin_rank a.origin) ++ addr_input a.next ++ preferences_input a ++ clusters_input a.clusters
+attr_input a =
+    path_input a.path ++ fed.u8 (origin_rank a.origin) ++ addr_input a.next ++ preferences_input a ++ clusters_input a.clusters ++ communities_input a.comms
 
 -- LAWS
 

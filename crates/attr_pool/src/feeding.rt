@@ -4,13 +4,13 @@ ghost use Rattle.std.specs.Prelude.{◌≡◌, ◌++◌, fold};
 ghost use Rattle.std.specs.List.{flat_map};
 ghost use Rattle.std.specs.Hash as fed;
 ghost use Rattle.path_attr.specs.Attribute.{origin_rank};
-ghost use Rattle.attr_pool.specs.Hashing.{addr_input, segment_input, path_input, preferences_input, clusters_input, attr_input};
+ghost use Rattle.attr_pool.specs.Hashing.{addr_input, segment_input, path_input, preferences_input, clusters_input, communities_input, attr_input};
 
 use net_prefix::Addr;
 use path_attr::{Asn, Attr, Segment};
 use std::hash::{Hash, Hasher};
 
-/// Feeds all seven attributes.
+/// Feeds all eight attributes.
 pub(crate) fn feed_attr<H: Hasher>(attr: &Attr, state: &mut H)
     ensures { state.new ≡ fold H.write state.old (attr_input attr.now) }
 {
@@ -19,6 +19,7 @@ pub(crate) fn feed_attr<H: Hasher>(attr: &Attr, state: &mut H)
     state.write_u32(attr.next.0);
     feed_preferences(attr, state);
     feed_clusters(attr.clusters.as_slice(), state);
+    feed_communities(attr.comms.numbers(), state);
 }
 
 /// Feeds the three attributes that may be missing.
@@ -65,5 +66,15 @@ fn feed_clusters<H: Hasher>(clusters: &[Addr], state: &mut H)
     state.write_usize(clusters.len());
     for cluster in clusters {
         state.write_u32(cluster.0);
+    }
+}
+
+/// Feeds how many communities there are, and each of them.
+fn feed_communities<H: Hasher>(communities: &[u32], state: &mut H)
+    ensures { state.new ≡ fold H.write state.old (communities_input communities.now) }
+{
+    state.write_usize(communities.len());
+    for community in communities {
+        state.write_u32(*community);
     }
 }

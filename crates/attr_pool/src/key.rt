@@ -7,7 +7,7 @@ use path_attr::Attr;
 use std::hash::{Hash, Hasher};
 use std::marker::Model;
 
-/// Attributes, which are compared by all seven. A hash reads all seven whole.
+/// Attributes, which are compared by all eight. A hash reads all eight whole.
 #[derive(Debug, Drop)]
 pub(crate) struct Key {
     attr: Attr,

@@ -3,11 +3,11 @@
 use crate::common::{asn, ten};
 use net_conf::{Edit, Refusal};
 use net_prefix::Addr;
-use path_attr::{AsPath, Attr, Origin};
+use path_attr::{AsPath, Attr, Communities, Origin};
 use route_select::Source;
-use seq::{Copied, Seq, SharedSeq};
+use seq::{Copied, Seq};
 use session_queue::MessageKind;
-use sim_event::{Ask, Event, Feed, Held, News, Reply, Report, Same};
+use sim_event::{Ask, Event, FedRoute, Feed, Held, News, Reply, Report, Same};
 use std::alloc::Global;
 use std::process::Abort;
 
@@ -48,9 +48,14 @@ fn fed(news: News) -> Event {
 #[test]
 fn copies_feeds(rt: HostRuntime) {
     let alloc = rt.alloc();
-    let path = path(&rt, alloc);
-    let update = News::Update(ten(&rt), path, Origin::Incomplete, Some(5));
-    is_copied(&rt, alloc, fed(update));
+    let route = FedRoute {
+        prefix: ten(&rt),
+        path: path(&rt, alloc),
+        origin: Origin::Incomplete,
+        med: Some(5),
+        comms: Communities::none().with(alloc, 7).expect(&rt, "memory"),
+    };
+    is_copied(&rt, alloc, fed(News::Update(route)));
     is_copied(&rt, alloc, fed(News::Withdraw(ten(&rt))));
 }
 
@@ -67,16 +72,18 @@ fn held(rt: &impl Abort, alloc: Global) -> Held {
     Held {
         prefix: ten(rt),
         source: Source::Peer(SECOND),
-        attr: Attr {
-            path: path(rt, alloc),
-            origin: Origin::Egp,
-            next: FIRST,
-            med: None,
-            pref: Some(100),
-            oid: None,
-            clusters: SharedSeq::empty(),
-        },
+        attr: held_attr(rt, alloc),
     }
+}
+
+/// Its attributes.
+fn held_attr(rt: &impl Abort, alloc: Global) -> Attr {
+    let mut attr = Attr::plain(FIRST);
+    attr.path = path(rt, alloc);
+    attr.origin = Origin::Egp;
+    attr.pref = Some(100);
+    attr.comms = attr.comms.with(alloc, 5).expect(rt, "memory");
+    attr
 }
 
 #[test]

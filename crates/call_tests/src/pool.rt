@@ -2,8 +2,7 @@
 
 use attr_pool::Pool;
 use net_prefix::Addr;
-use path_attr::{AsPath, Attr, Origin};
-use seq::SharedSeq;
+use path_attr::Attr;
 use std::process::Abort;
 
 /// How many different attributes are kept at once.
@@ -11,15 +10,9 @@ const MANY: u32 = 100_000;
 
 /// Attributes that have this MULTI_EXIT_DISC.
 pub fn attr(med: u32) -> Attr {
-    Attr {
-        path: AsPath::empty(),
-        origin: Origin::Igp,
-        next: Addr(0x0700_0001),
-        med: Some(med),
-        pref: None,
-        oid: None,
-        clusters: SharedSeq::empty(),
-    }
+    let mut attr = Attr::plain(Addr(0x0700_0001));
+    attr.med = Some(med);
+    attr
 }
 
 /// The nth of numbers that are all different and in no order: the factor is odd.

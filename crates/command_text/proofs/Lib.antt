@@ -2,6 +2,7 @@ mod Joins
 mod Tokens
 mod Numbers
 mod Segments
+mod CommunityWords
 mod Readings
 mod Settings
 mod FirstWords

@@ -11,9 +11,10 @@ use Rattle.path_attr.specs.Path.{IsAscending, AreSegments, numbers_of, number_co
 use Rattle.sim_event.specs.Events.{IsAsNumber, HasAsNumbers}
 use Rattle.sim_event.specs.Wording.{none_text, numbers_text, segment_text, path_text}
 use Rattle.command_text.specs.declared.limits.TheConstants.{MAX_LINE}
-use Rattle.command_text.specs.Paths.{AreNumbers, HasNumbers, HasAscending, IsPart, HasSegment, AreParts, HasSegments, IsAsPath, HasPath}
+use Rattle.command_text.specs.Ascending.{HasAscending}
+use Rattle.command_text.specs.Paths.{AreNumbers, HasNumbers, IsPart, HasSegment, AreParts, HasSegments, IsAsPath, HasPath}
 use Rattle.command_text.proofs.Joins.{has_first, has_after, has_more, has_last, has_one, GoesOn, goes_more, goes_last}
-use Rattle.command_text.proofs.Numbers.{numbers_lack, numbers_within, ascending_from, ascending_of}
+use Rattle.command_text.proofs.Numbers.{numbers_lack, numbers_within}
 
 abbrev braced : List ℕ → List ℕ
 braced text = 123 ∷ text ++ (125 ∷ [])
@@ -26,19 +27,19 @@ segment_lacks (Set ns) h =
     (numbers_lack 95 (λ digit. omega arith) (λ e. omega (arith, e)) ns) (All-cons Other 125 [] (λ e. omega (arith, e)) (All-nil Other)))
 
 -- a text in braces
-pub set_ascending : (text inner : List ℕ) → text ≡ braced inner → HasSegment text → HasAscending 0 inner
+pub set_ascending : (text inner : List ℕ) → text ≡ braced inner → HasSegment text → HasAscending 1 inner
 set_ascending text inner e (Sequence ns, h, s) =
     absurd (All-head (λ b. b ≢ 123) 123 (inner ++ (125 ∷ [])) (subst (Lacks 123) (sym s ∙ e) (numbers_lack 123 (λ digit. omega arith) (λ e. omega (arith, e)) ns)) refl)
 set_ascending text inner e (Set ns, h, s) =
     let same : braced inner ≡ braced (numbers_text ns) = sym e ∙ s in
     let tails : inner ++ (125 ∷ []) ≡ numbers_text ns ++ (125 ∷ []) = cc in
-    ascending_from ns inner (h.0.0, recursion_from_All IsAsNumber ns h.1, append_cancel_right inner (numbers_text ns) (125 ∷ []) tails) h.0.1
+    (ns, (h.0.0, recursion_from_All IsAsNumber ns h.1, append_cancel_right inner (numbers_text ns) (125 ∷ []) tails), h.0.1)
 
 pub set_of : (text inner ns : List ℕ) → text ≡ braced inner → AreNumbers ns inner → IsAscending ns → IsPart (Set ns) × (text ≡ segment_text (Set ns))
 set_of text inner ns e are up = (((are.0, up), All-from_recursion IsAsNumber ns are.1), e ∙ ap braced are.2)
 
-pub ascending_set : (text inner : List ℕ) → text ≡ braced inner → HasAscending 0 inner → HasSegment text
-ascending_set text inner e has = let made = set_of text inner has.0 e has.1 (ascending_of has.0 0 inner has.1 has) in (Set has.0, made.0, made.1)
+pub ascending_set : (text inner : List ℕ) → text ≡ braced inner → HasAscending 1 inner → HasSegment text
+ascending_set text inner e has = let made = set_of text inner has.0 e has.1 has.2 in (Set has.0, made.0, made.1)
 
 -- a text in no braces
 pub sequence_numbers : (text : List ℕ) → ((inner : List ℕ) → text ≡ braced inner → ⊥) → HasSegment text → HasNumbers text

@@ -9,10 +9,11 @@ use Rattle.net_conf.specs.declared.edit.Edit.TheVariants.{Router, Virtual, Link,
 use Rattle.sim_event.specs.declared.event.Event.{Event}
 use Rattle.sim_event.specs.declared.event.Event.TheVariants.{Edit as AnEdit, Feed as AFeed, Deliver, Ask as AnAsk}
 use Rattle.sim_event.specs.declared.event.Feed.{Feed}
+use Rattle.sim_event.specs.declared.event.FedRoute.{FedRoute}
 use Rattle.sim_event.specs.declared.event.News.{News}
 use Rattle.sim_event.specs.declared.event.News.TheVariants.{Update, Withdraw}
 use Rattle.sim_event.specs.declared.event.Ask.TheVariants.{Routes, Best, Why, In, Out, Queue, Quiet, Cost, Trace}
-use Rattle.sim_event.specs.Events.{IsAddress, IsEvent, IsNews}
+use Rattle.sim_event.specs.Events.{IsAddress, IsEvent, IsFedRoute, IsNews}
 use Rattle.command_text.specs.declared.verb.Verb.{Verb}
 use Rattle.command_text.specs.declared.verb.Verb.TheVariants as verb
 use Rattle.command_text.specs.declared.verb.NodeVerb.TheVariants as node
@@ -20,12 +21,14 @@ use Rattle.command_text.specs.declared.verb.LinkVerb.TheVariants as link
 use Rattle.command_text.specs.declared.verb.PairVerb.TheVariants as pair
 use Rattle.command_text.specs.declared.verb.SwitchVerb.TheVariants as switch
 use Rattle.command_text.specs.declared.verb.PrefixVerb.TheVariants as prefix
-use Rattle.command_text.specs.Words.{words_of, news_words}
+use Rattle.command_text.specs.Words.{words_of, fed_words, news_words}
 use Rattle.command_text.specs.Verbs.{verb_word}
 use Rattle.command_text.specs.Arguments.{AreAddresses, addresses_words, IsNumberedAddress, numbered_words, AreEndsAndMetric, metric_words, IsAddressAndPrefix, prefix_words, AreEnds, switch_words, side_words, IsAddedRule, added_words, address_words}
 use Rattle.command_text.specs.Spelling.{WordsTell, OneMeaning}
 use Rattle.command_text.proofs.FirstWords.{IsFeed, feed_words}
-use Rattle.command_text.proofs.Spelled.{address_exact, prefix_exact, small_exact, switch_exact, side_exact, origin_exact, maybe_exact, path_exact, rule_exact, apart}
+use Rattle.command_text.proofs.Numbers.{small_exact}
+use Rattle.command_text.proofs.CommunityWords.{communities_exact}
+use Rattle.command_text.proofs.Spelled.{address_exact, prefix_exact, switch_exact, side_exact, origin_exact, maybe_exact, path_exact, rule_exact, apart}
 
 -- the verb that a word spells; none for `feed`
 verb_of : List ℕ → Option Verb
@@ -234,16 +237,20 @@ more_exact verb.Clear x y h g e =
 more_exact verb.Routes x y h g e = address_exact x y h g (cc)
 more_exact verb.Quiet x y h g e = refl
 
+fed_exact : (r s : FedRoute) → IsFedRoute r → IsFedRoute s → fed_words r ≡ fed_words s → r ≡ s
+fed_exact r s h g e =
+    let prefixes = prefix_exact r.prefix s.prefix h.0 g.0 (cc) in
+    let paths = path_exact r.path s.path (h.1, h.2) (g.1, g.2) (cc) in
+    let origins = origin_exact r.origin s.origin (cc) in
+    let meds = maybe_exact r.med s.med h.3 g.3 (cc) in
+    let communities = communities_exact r.comms s.comms h.4 g.4 (cc) in
+    λ i. record { prefix = prefixes i; path = paths i; origin = origins i; med = meds i; comms = communities i }
+
 news_exact : (m n : News) → IsNews m → IsNews n → news_words m ≡ news_words n → m ≡ n
-news_exact (Update p path origin med) (Update q path2 origin2 med2) h g e =
-    let prefixes = prefix_exact p q h.0 g.0 (cc) in
-    let paths = path_exact path path2 (h.1, h.2) (g.1, g.2) (cc) in
-    let origins = origin_exact origin origin2 (cc) in
-    let meds = maybe_exact med med2 h.3 g.3 (cc) in
-    λ i. Update (prefixes i) (paths i) (origins i) (meds i)
-news_exact (Update p path origin med) (Withdraw q) h g e = apart (codes "update") (codes "withdraw") _ _ refl e
-news_exact (Withdraw p) (Update q path origin med) h g e = apart (codes "withdraw") (codes "update") _ _ refl e
-news_exact (Withdraw p) (Withdraw q) h g e = let prefixes = prefix_exact p q h g (cc) in ap Withdraw prefixes
+news_exact (Update r) (Update s) h g e = ap Update (fed_exact r s h g (cc))
+news_exact (Update r) (Withdraw q) h g e = apart (codes "update") (codes "withdraw") _ _ refl e
+news_exact (Withdraw p) (Update s) h g e = apart (codes "withdraw") (codes "update") _ _ refl e
+news_exact (Withdraw p) (Withdraw q) h g e = ap Withdraw (prefix_exact p q h g (cc))
 
 feed_exact : (f g : Feed) → IsFeed f → IsFeed g → feed_words f ≡ feed_words g → f ≡ g
 feed_exact f g hf hg e =

@@ -4,6 +4,9 @@ pub mod Lines
 pub mod Spelling
 pub mod Reading
 pub mod Joined
+pub mod Ascending
 pub mod Paths
+pub mod CommunityWords
+pub mod Updates
 pub mod Arguments
 pub mod Rules

@@ -33,9 +33,9 @@ Means line event = (length line ≤ MAX_LINE) × IsEvent event × (tokens line �
 abbrev pub IsFault : List ℕ → Type 0
 IsFault line = (IsSilent line → ⊥) × ((event : Event) → Means line event → ⊥)
 
--- news of a route, whose path takes memory
+-- news of a route, whose path and communities take memory
 abbrev pub is_route : News → Bool
-is_route (Update p path origin med) = true
+is_route (Update r) = true
 is_route (Withdraw p) = false
 
 -- the feed of a route: no other event takes memory to make

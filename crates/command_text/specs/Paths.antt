@@ -1,8 +1,8 @@
 -- No public contract cites this file. Which texts spell AS numbers, segments and paths.
-use Rattle.std.specs.Prelude.{ℕ, List, ◌∷◌, All}
+use Rattle.std.specs.Prelude.{ℕ, List, All}
 use Rattle.std.specs.Fmt.{decimal}
 use Rattle.path_attr.specs.declared.path.Segment.{Segment}
-use Rattle.path_attr.specs.Path.{IsPath, IsSegment, IsAscending, numbers_of}
+use Rattle.path_attr.specs.Path.{IsPath, IsSegment, numbers_of}
 use Rattle.sim_event.specs.Events.{IsAsNumber, HasAsNumbers}
 use Rattle.sim_event.specs.Wording.{segment_text, path_text}
 use Rattle.command_text.specs.Joined.{Joins, HasJoined, HasOne}
@@ -16,10 +16,6 @@ AreNumbers ns text = Joins 44 IsAsNumber decimal ns text
 
 abbrev pub HasNumbers : List ℕ → Type 0
 HasNumbers text = HasJoined 44 IsAsNumber decimal text
-
--- such numbers, each above the one before it, and the first above low
-abbrev pub HasAscending : ℕ → List ℕ → Type 0
-HasAscending low text = (ns : List ℕ) × AreNumbers ns text × IsAscending (low ∷ ns)
 
 -- a segment of a path of AS numbers
 abbrev pub IsPart : Segment → Type 0

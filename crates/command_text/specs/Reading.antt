@@ -1,5 +1,5 @@
 -- No public contract cites this file. What a reader of words may answer.
-use Rattle.std.specs.Prelude.{◌≡◌, Bool, true, Option, Some, None, Result, Ok, Err}
+use Rattle.std.specs.Prelude.{◌≡◌, ℕ, Bool, true, List, ◌∷◌, ◌++◌, Option, Some, None, Result, Ok, Err}
 use Rattle.net_conf.specs.declared.refusal.Refusal.{Refusal}
 use Rattle.net_conf.specs.declared.refusal.Refusal.TheVariants.{Syntax, Memory}
 
@@ -15,3 +15,7 @@ Makes IsIn takes_memory spelling text (Ok x) = IsIn x × (text ≡ spelling x)
 Makes {X} IsIn takes_memory spelling text (Err Syntax) = (x : X) → IsIn x → text ≡ spelling x → ⊥
 Makes {X} IsIn takes_memory spelling text (Err Memory) = (x : X) × IsIn x × (takes_memory x ≡ true) × (text ≡ spelling x)
 Makes IsIn takes_memory spelling text (Err _) = ⊥
+
+-- the first word begins with the name
+abbrev pub BeginsWith : List ℕ → List (List ℕ) → Type 0
+BeginsWith name words = (value : List ℕ) × (more : List (List ℕ)) × (words ≡ (name ++ value) ∷ more)

@@ -1,5 +1,5 @@
 -- No public contract cites this file. Parts of the words of a rule.
-use Rattle.std.specs.Prelude.{◌≡◌, ℕ, ◌<◌, ◌^◌, List, ◌∷◌, ◌++◌, Option, IfSome}
+use Rattle.std.specs.Prelude.{ℕ, ◌<◌, ◌^◌, List, ◌++◌, Option, IfSome}
 use Rattle.route_policy.specs.declared.rule.Rule.{Rule}
 use Rattle.sim_event.specs.Events.{IsMatch, IsAction}
 use Rattle.command_text.specs.Words.{match_words, action_words}
@@ -9,10 +9,6 @@ IsRule rule = IsMatch rule.cond × IsAction rule.act
 
 abbrev pub rule_words : Rule → List (List ℕ)
 rule_words rule = match_words rule.cond ++ action_words rule.act
-
--- the first word begins with the name
-abbrev pub BeginsWith : List ℕ → List (List ℕ) → Type 0
-BeginsWith name words = (value : List ℕ) × (more : List (List ℕ)) × (words ≡ (name ++ value) ∷ more)
 
 -- a number that a setting may have
 abbrev pub IsMaybeNumber : Option ℕ → Type 0

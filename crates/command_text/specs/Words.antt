@@ -4,7 +4,8 @@ use Rattle.std.specs.Fmt.{decimal}
 use Rattle.net_prefix.specs.Address.{addr_text}
 use Rattle.net_prefix.specs.Prefix.{prefix_text}
 use Rattle.route_policy.specs.declared.rule.Match.{Match}
-use Rattle.route_policy.specs.declared.rule.Match.TheVariants.{Any, Is, Under, Path, First}
+use Rattle.route_policy.specs.declared.rule.Match.TheVariants.{Any, Is, Under, Path, First, Comm}
+use Rattle.route_policy.specs.declared.rule.Settings.{Settings}
 use Rattle.route_policy.specs.declared.rule.Action.{Action}
 use Rattle.route_policy.specs.declared.rule.Action.TheVariants.{Deny, Permit}
 use Rattle.net_conf.specs.declared.tables.PolicySide.{PolicySide}
@@ -13,11 +14,12 @@ use Rattle.net_conf.specs.declared.edit.Edit.{Edit}
 use Rattle.net_conf.specs.declared.edit.Edit.TheVariants.{Router, Virtual, Link, Metric, Fail, Mend, Join, Stop, Start, Client, OwnNext, Cluster, Rule as AddRule, Clear, Origin, NoOrigin}
 use Rattle.sim_event.specs.declared.event.Event.{Event}
 use Rattle.sim_event.specs.declared.event.Event.TheVariants.{Edit as AnEdit, Feed as AFeed, Deliver, Ask as AnAsk}
+use Rattle.sim_event.specs.declared.event.FedRoute.{FedRoute}
 use Rattle.sim_event.specs.declared.event.News.{News}
 use Rattle.sim_event.specs.declared.event.News.TheVariants.{Update, Withdraw}
 use Rattle.sim_event.specs.declared.event.Ask.{Ask}
 use Rattle.sim_event.specs.declared.event.Ask.TheVariants.{Routes, Best, Why, In, Out, Queue, Quiet, Cost, Trace}
-use Rattle.sim_event.specs.Wording.{maybe_number_text, origin_text, path_text}
+use Rattle.sim_event.specs.Wording.{numbers_text, maybe_number_text, origin_text, path_text}
 
 abbrev pub switch_word : Bool → List ℕ
 switch_word true = codes "on"
@@ -33,15 +35,21 @@ match_words (Is p) = codes "is" ∷ prefix_text p ∷ []
 match_words (Under p) = codes "under" ∷ prefix_text p ∷ []
 match_words (Path n) = codes "path" ∷ decimal n ∷ []
 match_words (First n) = codes "first" ∷ decimal n ∷ []
+match_words (Comm n) = codes "comm" ∷ decimal n ∷ []
 
 -- a setting by its name, where it is made
 abbrev pub setting_words : List ℕ → Option ℕ → List (List ℕ)
 setting_words name None = []
 setting_words name (Some n) = (name ++ decimal n) ∷ []
 
+-- the settings, in this order
+abbrev pub settings_words : Settings → List (List ℕ)
+settings_words s =
+    setting_words (codes "pref=") s.pref ++ setting_words (codes "med=") s.med ++ setting_words (codes "prepend=") s.prepend ++ setting_words (codes "add=") s.add
+
 abbrev pub action_words : Action → List (List ℕ)
 action_words Deny = codes "deny" ∷ []
-action_words (Permit pref med prepend) = codes "permit" ∷ setting_words (codes "pref=") pref ++ setting_words (codes "med=") med ++ setting_words (codes "prepend=") prepend
+action_words (Permit s) = codes "permit" ∷ settings_words s
 
 abbrev pub edit_words : Edit → List (List ℕ)
 edit_words (Router a n) = codes "router" ∷ addr_text a ∷ decimal n ∷ []
@@ -61,8 +69,16 @@ edit_words (Clear a b side) = codes "clear" ∷ addr_text a ∷ addr_text b ∷ 
 edit_words (Origin a p) = codes "origin" ∷ addr_text a ∷ prefix_text p ∷ []
 edit_words (NoOrigin a p) = codes "noorigin" ∷ addr_text a ∷ prefix_text p ∷ []
 
+-- the communities, where there are some
+abbrev pub communities_words : List ℕ → List (List ℕ)
+communities_words [] = []
+communities_words (c ∷ cs) = (codes "comm=" ++ numbers_text (c ∷ cs)) ∷ []
+
+abbrev pub fed_words : FedRoute → List (List ℕ)
+fed_words r = prefix_text r.prefix ∷ path_text r.path ∷ origin_text r.origin ∷ maybe_number_text r.med ∷ communities_words r.comms
+
 abbrev pub news_words : News → List (List ℕ)
-news_words (Update p path origin med) = codes "update" ∷ prefix_text p ∷ path_text path ∷ origin_text origin ∷ maybe_number_text med ∷ []
+news_words (Update r) = codes "update" ∷ fed_words r
 news_words (Withdraw p) = codes "withdraw" ∷ prefix_text p ∷ []
 
 abbrev pub ask_words : Ask → List (List ℕ)

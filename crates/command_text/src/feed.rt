@@ -1,25 +1,24 @@
 //! Feeds: the news that a virtual peer tells a router.
 
-ghost use Rattle.std.specs.Prelude.{◌≡◌, ◌≤◌, ◌<◌, ◌^◌, [], ◌∷◌, length, codes, IfSome, IfNone};
-ghost use Rattle.net_prefix.specs.Prefix.{prefix_text};
-ghost use Rattle.sim_event.specs.declared.event.News.{News};
-ghost use Rattle.sim_event.specs.Events.{IsEvent, IsNews, IsPrefix};
-ghost use Rattle.sim_event.specs.Wording.{origin_text, maybe_number_text};
+ghost use Rattle.std.specs.Prelude.{◌≡◌, ◌≤◌, ◌∷◌, length, codes, IfSome, IfNone, IfOk};
+ghost use Rattle.sim_event.specs.declared.event.FedRoute.{FedRoute};
+ghost use Rattle.sim_event.specs.Events.{IsEvent, IsFedRoute, IsNews};
 ghost use Rattle.command_text.specs.declared.limits.TheConstants.{MAX_LINE};
-ghost use Rattle.command_text.specs.Words.{words_of, news_words};
+ghost use Rattle.command_text.specs.Words.{words_of, fed_words, news_words};
 ghost use Rattle.command_text.specs.Lines.{tokens, is_route, feeds_route};
-ghost use Rattle.command_text.specs.Paths.{HasPath};
 ghost use Rattle.command_text.specs.Reading.{Makes};
+ghost use Rattle.command_text.specs.Updates.{update_words, AreUpdateWords};
 
 use crate::arguments::next_address;
+use crate::communities::{are_communities, build_communities};
 use crate::path::{build_path, is_path};
 use crate::values::{med_of, origin_of, prefix_of};
-use crate::words::{four_words, next_word, one_word};
+use crate::words::{next_two_words, next_word, one_word};
 use net_conf::Refusal;
 use net_prefix::Prefix;
 use path_attr::Origin;
-use sim_event::{Event, Feed, News};
-use std::alloc::Global;
+use sim_event::{Event, FedRoute, Feed, News};
+use std::alloc::{AllocError, Global};
 
 /// `feed V R`, and the news
 pub(crate) fn read_feed(alloc: Global, words: &[u8]) -> Result<Event, Refusal>
@@ -32,7 +31,7 @@ pub(crate) fn read_feed(alloc: Global, words: &[u8]) -> Result<Event, Refusal>
     Ok(Event::Feed(Feed { from, to, news }))
 }
 
-/// `update P PATH ORIGIN MED` or `withdraw P`
+/// `update` and the words of a route, or `withdraw P`
 fn read_news(alloc: Global, words: &[u8]) -> Result<News, Refusal>
     requires { length words.now ≤ MAX_LINE }
     ensures { Makes IsNews is_route news_words (tokens words.now) result }
@@ -56,7 +55,7 @@ fn read_withdraw(words: &[u8]) -> Result<News, Refusal>
     Ok(News::Withdraw(prefix))
 }
 
-/// `update P PATH ORIGIN MED`
+/// `update P PATH ORIGIN MED`, and `comm=N,N..` where the route has communities
 fn read_update(alloc: Global, words: &[u8]) -> Result<News, Refusal>
     requires { length words.now ≤ MAX_LINE }
     ensures { Makes IsNews is_route news_words (codes "update" ∷ tokens words.now) result }
@@ -64,34 +63,35 @@ fn read_update(alloc: Global, words: &[u8]) -> Result<News, Refusal>
     let Some(update) = update_of(words) else {
         return Err(Refusal::Syntax);
     };
-    match build_path(alloc, update.path) {
-        Ok(path) => Ok(News::Update(update.prefix, path, update.origin, update.med)),
+    match build_route(alloc, update) {
+        Ok(route) => Ok(News::Update(route)),
         Err(_) => Err(Refusal::Memory),
     }
 }
 
-/// The words of an update. The path is tested, and not made yet.
+/// The words of an update. Path and communities are tested, and not made yet.
 #[derive(Clone, Copy)]
 struct UpdateWords<'a> {
     prefix: Prefix,
     path: &'a [u8],
     origin: Origin,
     med: Option<u32>,
+    // All that stands behind MED.
+    communities: &'a [u8],
 }
 
-/// The four words of an update. It takes no memory.
+/// The words of an update. It takes no memory.
 fn update_of(words: &[u8]) -> Option<UpdateWords<'_>>
     requires { length words.now ≤ MAX_LINE }
-    ensures found { IfSome result (λ u.
-        tokens words.now ≡ prefix_text u.prefix ∷ u.path.now ∷ origin_text u.origin ∷ maybe_number_text u.med ∷ []) }
-    ensures prefix { IfSome result (λ u. IsPrefix u.prefix) }
-    ensures path { IfSome result (λ u. HasPath u.path.now) }
-    ensures med { IfSome result (λ u. IfSome u.med (λ m. m < 2 ^ 32)) }
-    ensures within { IfSome result (λ u. length u.path.now ≤ MAX_LINE) }
-    ensures none { IfNone result ((n : News) → IsNews n → codes "update" ∷ tokens words.now ≡ news_words n → ⊥) }
+    ensures found { IfSome result (λ u. AreUpdateWords u × (tokens words.now ≡ update_words u)) }
+    ensures none { IfNone result ((r : FedRoute) → IsFedRoute r → tokens words.now ≡ fed_words r → ⊥) }
 {
-    let (prefix, path, origin, med) = four_words(words)?;
+    let (prefix, path, rest) = next_two_words(words)?;
+    let (origin, med, rest) = next_two_words(rest)?;
     if !is_path(path) {
+        return None;
+    }
+    if !are_communities(rest) {
         return None;
     }
     Some(UpdateWords {
@@ -99,5 +99,20 @@ fn update_of(words: &[u8]) -> Option<UpdateWords<'_>>
         path,
         origin: origin_of(origin)?,
         med: med_of(med)?,
+        communities: rest,
+    })
+}
+
+/// The route that the words spell.
+fn build_route(alloc: Global, update: UpdateWords<'_>) -> Result<FedRoute, AllocError>
+    requires { AreUpdateWords update }
+    ensures { IfOk result (λ r. IsFedRoute r × (update_words update.entry ≡ fed_words r)) }
+{
+    Ok(FedRoute {
+        prefix: update.prefix,
+        path: build_path(alloc, update.path)?,
+        origin: update.origin,
+        med: update.med,
+        comms: build_communities(alloc, update.communities)?,
     })
 }

@@ -2,7 +2,9 @@
 #![tactic(auto)]
 
 mod arguments;
+mod ascending;
 mod command;
+mod communities;
 mod feed;
 mod laws;
 mod limits;

@@ -3,9 +3,10 @@
 
 ghost use Rattle.std.specs.Prelude.{◌≡◌, ◌↔◌, ℕ, ◌≤◌, List, [], ◌∷◌, ◌++◌, length, IfSome, IfNone, IfOk, IsTrue};
 ghost use Rattle.command_text.specs.declared.limits.TheConstants.{MAX_LINE};
-ghost use Rattle.command_text.specs.Paths.{HasNumber, HasNumbers, AreNumbers, HasAscending, IsPart, HasSegment, AreParts, HasSegments, IsAsPath, HasPath};
+ghost use Rattle.command_text.specs.Paths.{HasNumber, HasNumbers, AreNumbers, IsPart, HasSegment, AreParts, HasSegments, IsAsPath, HasPath};
 ghost use Rattle.sim_event.specs.Wording.{segment_text, path_text};
 
+use crate::ascending::are_ascending;
 use crate::values::{asn_of, is_dash};
 use decimal::cut_at;
 use path_attr::{AsPath, Asn, Segment};
@@ -79,7 +80,7 @@ fn is_segment(text: &[u8]) -> bool
     ensures { IsTrue result ↔ HasSegment text.now }
 {
     match within_braces(text) {
-        Some(numbers) => are_ascending(numbers),
+        Some(numbers) => are_ascending(numbers, 1),
         None => are_numbers(text),
     }
 }
@@ -114,29 +115,6 @@ fn is_number(text: &[u8]) -> bool
     ensures { IsTrue result ↔ HasNumber text.now }
 {
     asn_of(text).is_some()
-}
-
-/// Whether the text spells AS numbers joined by commas, each above the one before it.
-fn are_ascending(text: &[u8]) -> bool
-    ensures { IsTrue result ↔ HasAscending 0 text.now }
-{
-    let mut low = 0;
-    let mut rest = text;
-    while let Some((first, after)) = cut_at(rest, b',') {
-        let Some(asn) = asn_of(first) else {
-            return false;
-        };
-        let number = asn.number();
-        if number <= low {
-            return false;
-        }
-        low = number;
-        rest = after;
-    }
-    match asn_of(rest) {
-        Some(asn) => low < asn.number(),
-        None => false,
-    }
 }
 
 /// The AS numbers that the text spells.

@@ -3,16 +3,16 @@
 ghost use Rattle.std.specs.Prelude.{◌≡◌, ℕ, List, [], ◌∷◌, ◌++◌, codes, Option, IfSome, IfNone};
 ghost use Rattle.route_policy.specs.Repeats.{IsRepeat};
 ghost use Rattle.route_policy.specs.declared.rule.Match.{Match};
-ghost use Rattle.sim_event.specs.Events.{IsMatch, IsAction};
-ghost use Rattle.command_text.specs.Words.{match_words, setting_words, action_words};
+ghost use Rattle.sim_event.specs.Events.{IsMatch, AreSettings, IsAction};
+ghost use Rattle.command_text.specs.Words.{match_words, setting_words, settings_words, action_words};
 ghost use Rattle.command_text.specs.Lines.{tokens};
-ghost use Rattle.command_text.specs.Rules.{IsRule, rule_words, BeginsWith, IsMaybeNumber};
-ghost use Rattle.command_text.specs.Reading.{Reads};
+ghost use Rattle.command_text.specs.Rules.{IsRule, rule_words, IsMaybeNumber};
+ghost use Rattle.command_text.specs.Reading.{Reads, BeginsWith};
 
-use crate::values::{asn_of, prefix_of, repeat_of};
-use crate::words::{is_blank, next_word, one_word};
+use crate::values::{asn_of, prefix_of};
+use crate::words::{is_blank, next_value, next_word};
 use decimal::read_decimal;
-use route_policy::{Action, Match, Repeat, Rule};
+use route_policy::{Action, Match, Repeat, Rule, Settings};
 
 /// `MATCH ACT`
 pub(crate) fn rule_of(words: &[u8]) -> Option<Rule>
@@ -40,7 +40,7 @@ fn next_match(words: &[u8]) -> Option<(Match, &[u8])>
     Some((match_of(kind, value)?, rest))
 }
 
-/// `is P`, `under P`, `path N` or `first N`
+/// `is P`, `under P`, `path N`, `first N` or `comm N`
 fn match_of(kind: &[u8], value: &[u8]) -> Option<Match>
     ensures { Reads IsMatch match_words (kind.now ∷ value.now ∷ []) result }
 {
@@ -49,6 +49,7 @@ fn match_of(kind: &[u8], value: &[u8]) -> Option<Match>
         b"under" => Some(Match::Under(prefix_of(value)?)),
         b"path" => Some(Match::Path(asn_of(value)?)),
         b"first" => Some(Match::First(asn_of(value)?)),
+        b"comm" => Some(Match::Comm(read_decimal(value)?)),
         _ => None,
     }
 }
@@ -67,14 +68,32 @@ fn action_of(words: &[u8]) -> Option<Action>
     None
 }
 
-/// The settings of a permit, in their order: `pref=N`, `med=N` and `prepend=N`, each or none of them.
+/// A permit with these settings.
 fn permit_of(words: &[u8]) -> Option<Action>
     ensures { Reads IsAction action_words (codes "permit" ∷ tokens words.now) result }
 {
+    let settings = settings_of(words)?;
+    Some(Action::Permit(settings))
+}
+
+/// The settings of a permit, in their order: `pref=N`, `med=N`, `prepend=N` and `add=N`, each or none of them.
+fn settings_of(words: &[u8]) -> Option<Settings>
+    ensures { Reads AreSettings settings_words (tokens words.now) result }
+{
     let (pref, rest) = next_setting(words, b"pref=")?;
     let (med, rest) = next_setting(rest, b"med=")?;
-    let prepend = prepend_of(rest)?;
-    Some(Action::Permit { pref, med, prepend })
+    let (prepend, rest) = next_setting(rest, b"prepend=")?;
+    let (add, rest) = next_setting(rest, b"add=")?;
+    if !is_blank(rest) {
+        return None;
+    }
+    let prepend = repeat_of(prepend)?;
+    Some(Settings {
+        pref,
+        med,
+        prepend,
+        add,
+    })
 }
 
 /// The number of the setting of that name, where the first word is one, and the text after it. None where that word
@@ -87,28 +106,18 @@ fn next_setting<'a>(text: &'a [u8], name: &[u8]) -> Option<(Option<u32>, &'a [u8
     ensures none { IfNone result ((n : Option ℕ) (more : List (List ℕ)) → IsMaybeNumber n →
         (BeginsWith name.now more → ⊥) → tokens text.now ≡ setting_words name.now n ++ more → ⊥) }
 {
-    match named_value(text, name) {
+    match next_value(text, name) {
         Some((value, rest)) => Some((Some(read_decimal(value)?), rest)),
         None => Some((None, text)),
     }
 }
 
-/// What follows the name in the first word, where that word begins with it, and the text after the word.
-fn named_value<'a>(text: &'a [u8], name: &[u8]) -> Option<(&'a [u8], &'a [u8])>
-    ensures found { IfSome result (λ next. tokens text.now ≡ (name.now ++ next.0.now) ∷ tokens next.1.now) }
-    ensures none { IfNone result (BeginsWith name.now (tokens text.now) → ⊥) }
+/// How many times the AS is put in front, 1 to 16, where a number is given.
+fn repeat_of(number: Option<u32>) -> Option<Option<Repeat>>
+    ensures { Reads (λ n. IfSome n IsRepeat) (λ n. n) number result }
 {
-    let (word, rest) = next_word(text)?;
-    Some((word.strip_prefix(name)?, rest))
-}
-
-/// `prepend=N`, or nothing.
-fn prepend_of(words: &[u8]) -> Option<Option<Repeat>>
-    ensures { Reads (λ n. IfSome n IsRepeat) (setting_words (codes "prepend=")) (tokens words.now) result }
-{
-    if is_blank(words) {
-        return Some(None);
+    match number {
+        Some(number) => Some(Some(Repeat::new(u8::try_from(number).ok()?)?)),
+        None => Some(None),
     }
-    let value = one_word(words)?.strip_prefix(b"prepend=")?;
-    Some(Some(repeat_of(value)?))
 }

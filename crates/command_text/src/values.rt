@@ -5,7 +5,6 @@ ghost use Rattle.std.specs.Fmt.{decimal};
 ghost use Rattle.igp_cost.specs.Metric.{IsMetric};
 ghost use Rattle.net_prefix.specs.Address.{addr_text};
 ghost use Rattle.net_prefix.specs.Prefix.{prefix_text};
-ghost use Rattle.route_policy.specs.Repeats.{IsRepeat};
 ghost use Rattle.sim_event.specs.Events.{IsAddress, IsAsNumber, IsPrefix};
 ghost use Rattle.sim_event.specs.Wording.{none_text, maybe_number_text, origin_text};
 ghost use Rattle.command_text.specs.Words.{switch_word, side_word};
@@ -15,7 +14,6 @@ use decimal::read_decimal;
 use net_conf::{Metric, PolicySide};
 use net_prefix::{Addr, Prefix, read_addr, read_prefix};
 use path_attr::{Asn, Origin};
-use route_policy::Repeat;
 
 /// An address, a.b.c.d.
 pub(crate) fn addr_of(word: &[u8]) -> Option<Addr>
@@ -72,13 +70,6 @@ pub(crate) fn is_dash(word: &[u8]) -> bool
     ensures { IsTrue result ↔ (word.now ≡ none_text) }
 {
     word == b"-".as_slice()
-}
-
-/// How many times an AS is put in front of a path, 1 to 16.
-pub(crate) fn repeat_of(word: &[u8]) -> Option<Repeat>
-    ensures { Reads IsRepeat decimal word.now result }
-{
-    Repeat::new(u8::try_from(read_decimal(word)?).ok()?)
 }
 
 /// A switch: on or off.

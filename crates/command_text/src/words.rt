@@ -1,7 +1,8 @@
 //! The words of a line, one after another.
 
-ghost use Rattle.std.specs.Prelude.{◌≡◌, ◌↔◌, ℕ, ◌+◌, ◌<◌, ◌≤◌, List, [], ◌∷◌, length, IfSome, IfNone, IsTrue};
+ghost use Rattle.std.specs.Prelude.{◌≡◌, ◌↔◌, ℕ, ◌+◌, ◌<◌, ◌≤◌, List, [], ◌∷◌, ◌++◌, length, IfSome, IfNone, IsTrue};
 ghost use Rattle.command_text.specs.Lines.{tokens};
+ghost use Rattle.command_text.specs.Reading.{BeginsWith};
 
 use decimal::cut_at;
 
@@ -56,7 +57,6 @@ pub(crate) fn two_words(text: &[u8]) -> Option<(&[u8], &[u8])>
 /// The three words of a text.
 pub(crate) fn three_words(text: &[u8]) -> Option<(&[u8], &[u8], &[u8])>
     ensures found { IfSome result (λ words. tokens text.now ≡ words.0.now ∷ words.1.now ∷ words.2.now ∷ []) }
-    ensures within { IfSome result (λ words. length words.0.now ≤ length text.now) }
     ensures none { IfNone result ((a b c : List ℕ) → tokens text.now ≡ a ∷ b ∷ c ∷ [] → ⊥) }
 {
     let (first, rest) = next_word(text)?;
@@ -64,14 +64,34 @@ pub(crate) fn three_words(text: &[u8]) -> Option<(&[u8], &[u8], &[u8])>
     Some((first, second, third))
 }
 
-/// The four words of a text.
-pub(crate) fn four_words(text: &[u8]) -> Option<(&[u8], &[u8], &[u8], &[u8])>
-    ensures found { IfSome result (λ words.
-        tokens text.now ≡ words.0.now ∷ words.1.now ∷ words.2.now ∷ words.3.now ∷ []) }
-    ensures within { IfSome result (λ words. length words.1.now ≤ length text.now) }
-    ensures none { IfNone result ((a b c d : List ℕ) → tokens text.now ≡ a ∷ b ∷ c ∷ d ∷ [] → ⊥) }
+/// The first two words, and the text after them.
+pub(crate) fn next_two_words(text: &[u8]) -> Option<(&[u8], &[u8], &[u8])>
+    ensures found { IfSome result (λ next. tokens text.now ≡ next.0.now ∷ next.1.now ∷ tokens next.2.now) }
+    ensures within { IfSome result (λ next. length next.1.now ≤ length text.now) }
+    ensures none { IfNone result ((a b : List ℕ) (more : List (List ℕ)) → tokens text.now ≡ a ∷ b ∷ more → ⊥) }
 {
     let (first, rest) = next_word(text)?;
-    let (second, third, fourth) = three_words(rest)?;
-    Some((first, second, third, fourth))
+    let (second, rest) = next_word(rest)?;
+    Some((first, second, rest))
+}
+
+/// What follows the name in the first word, where that word begins with it, and the text after the word.
+pub(crate) fn next_value<'a>(text: &'a [u8], name: &[u8]) -> Option<(&'a [u8], &'a [u8])>
+    ensures found { IfSome result (λ next. tokens text.now ≡ (name.now ++ next.0.now) ∷ tokens next.1.now) }
+    ensures none { IfNone result (BeginsWith name.now (tokens text.now) → ⊥) }
+{
+    let (word, rest) = next_word(text)?;
+    Some((word.strip_prefix(name)?, rest))
+}
+
+/// What follows the name in the one word of a text, where that word begins with it.
+pub(crate) fn only_value<'a>(text: &'a [u8], name: &[u8]) -> Option<&'a [u8]>
+    ensures found { IfSome result (λ value. tokens text.now ≡ (name.now ++ value.now) ∷ []) }
+    ensures none { IfNone result ((value : List ℕ) → tokens text.now ≡ (name.now ++ value) ∷ [] → ⊥) }
+{
+    let (value, rest) = next_value(text, name)?;
+    if is_blank(rest) {
+        return Some(value);
+    }
+    None
 }

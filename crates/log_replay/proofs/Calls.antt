@@ -8,6 +8,8 @@ use Rattle.std.proofs.lemmas.List.Splits.{slice_split_at, slice_split_none}
 use Rattle.decimal.specs.Digits.{IsDigit}
 use Rattle.decimal.specs.Separators.{Lacks, lacks_test, decimal_lacks, cut_exact, not_lacks}
 use Rattle.sim_event.specs.declared.event.Event.{Event}
+use Rattle.log_text.specs.declared.version.Version.{Version}
+use Rattle.log_text.specs.declared.version.Version.TheVariants.{Two}
 use Rattle.log_text.specs.Logs.{call_line, command_text}
 use Rattle.log_replay.specs.Replaying.{IsCallLine}
 use Rattle.log_replay.specs.Reading.{IsSpaced, ReadsCall, ReadsCommand}
@@ -36,8 +38,8 @@ no_space line rest begins lacks seat command same =
     not_lacks 32 (decimal seat) command (subst (Lacks 32) tails lacks)
 
 -- the line of a call, and its command
-pub call_cut : (line command : List ℕ) (event : Event) (seat : ℕ) → line ≡ codes "@" ++ decimal seat ++ codes " " ++ command → (call : IsCallLine line event) → command ≡ command_text event
-call_cut line command event seat sign call =
+pub call_cut : (v : Version) (line command : List ℕ) (event : Event) (seat : ℕ) → line ≡ codes "@" ++ decimal seat ++ codes " " ++ command → (call : IsCallLine v line event) → command ≡ command_text event
+call_cut v line command event seat sign call =
     let first : codes "@" ++ decimal seat ++ codes " " ++ command ≡ 64 ∷ (decimal seat ++ (32 ∷ command)) = ap (λ t. 64 ∷ t) (append_assoc (decimal seat) (32 ∷ []) command) in
     let second : call_line call.0 event ≡ 64 ∷ (decimal call.0 ++ (32 ∷ command_text event)) = ap (λ t. 64 ∷ t) (append_assoc (decimal call.0) (32 ∷ []) (command_text event)) in
     let both : 64 ∷ (decimal seat ++ (32 ∷ command)) ≡ 64 ∷ (decimal call.0 ++ (32 ∷ command_text event)) = sym first ∙ sym sign ∙ call.2 ∙ second in
@@ -45,13 +47,13 @@ call_cut line command event seat sign call =
     (cut_exact 32 (decimal seat) (decimal call.0) command (command_text event) (decimal_lacks 32 space_is_none seat) (decimal_lacks 32 space_is_none call.0) tails).1
 
 -- the event of the command is that of the line
-pub call_of_command : {E : Type 0} (line command : List ℕ) → (seat : ℕ) × (seat < 256) × (line ≡ codes "@" ++ decimal seat ++ codes " " ++ command) → (found : Result (Option Event) E) → ReadsCommand command found → ReadsCall line found
+pub call_of_command : {E : Type 0} (line command : List ℕ) → (seat : ℕ) × (seat < 256) × (line ≡ codes "@" ++ decimal seat ++ codes " " ++ command) → (found : Result (Option Event) E) → ReadsCommand command found → ReadsCall Two line found
 call_of_command line command sign (Ok (Some event)) h =
-    (sign.0, (sign.1, h.0, h.1), sign.2 ∙ ap (λ t. codes "@" ++ decimal sign.0 ++ codes " " ++ t) h.2)
+    (sign.0, (sign.1, h.0, h.1, refl), sign.2 ∙ ap (λ t. codes "@" ++ decimal sign.0 ++ codes " " ++ t) h.2)
 call_of_command line command sign (Ok None) h = λ event call.
-    h event (call.1.1, call.1.2, call_cut line command event sign.0 sign.2 call)
+    h event (call.1.1, call.1.2, call_cut Two line command event sign.0 sign.2 call)
 call_of_command line command sign (Err e) h =
-    (h.0, (sign.0, (sign.1, h.1.0, h.1.1), sign.2 ∙ ap (λ t. codes "@" ++ decimal sign.0 ++ codes " " ++ t) h.1.2))
+    (h.0, (sign.0, (sign.1, h.1.0, h.1.1, refl), sign.2 ∙ ap (λ t. codes "@" ++ decimal sign.0 ++ codes " " ++ t) h.1.2))
 
 -- WORDS AND SPACES
 

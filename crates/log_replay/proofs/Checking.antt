@@ -12,7 +12,9 @@ use Rattle.reference_machine.specs.Network.{Network}
 use Rattle.reference_machine.specs.Machine.{nothing, step}
 use Rattle.reply_text.specs.Replies.{line_end}
 use Rattle.reply_text.specs.Lines.{marked, reply_lines, IsLine, RepliesAreLines}
-use Rattle.log_text.specs.Logs.{reply_mark, header}
+use Rattle.log_text.specs.declared.version.Version.{Version}
+use Rattle.log_text.specs.Versions.{header}
+use Rattle.log_text.specs.Logs.{reply_mark}
 use Rattle.log_replay.specs.declared.place.Checked.{Checked}
 use Rattle.log_replay.specs.declared.place.Checker.{Checker}
 use Rattle.log_replay.specs.declared.place.Stage.TheVariants.{Beginning, Within, Finished}
@@ -67,13 +69,13 @@ rest_at xs next rest at cut =
 
 -- THE HEADER
 
-pub header_taken : (n : ℕ) (due line : List ℕ) (s : Network) (p : Place) → IsAtStage Beginning n due s p → line ≡ header → (q : Place) × Takes p line q × IsAtStage Within n due s q
-header_taken n due line s p h is =
-    let q = within 0 nothing [] in
-    (q, subst (λ x. Takes x line q) (sym h.0) (is, refl), ([], tt, h.3, (λ i. within (sym h.2 i) (sym h.1 i) [])))
+pub header_taken : (v : Version) (n : ℕ) (due line : List ℕ) (s : Network) (p : Place) → IsAtStage Beginning n due s p → line ≡ header v → (q : Place) × Takes p line q × IsAtStage (Within v) n due s q
+header_taken v n due line s p h is =
+    let q = within v 0 nothing [] in
+    (q, subst (λ x. Takes x line q) (sym h.0) (v, is, refl), ([], tt, h.3, (λ i. within v (sym h.2 i) (sym h.1 i) [])))
 
-pub header_bad : (n : ℕ) (due line : List ℕ) (s : Network) (p : Place) → IsAtStage Beginning n due s p → (line ≡ header → ⊥) → (awaits_reply p ≡ false) × ((q : Place) → Takes p line q → ⊥)
-header_bad n due line s p h other = (ap awaits_reply h.0, λ q takes. other (subst (λ x. Takes x line q) h.0 takes).0)
+pub header_bad : (n : ℕ) (due line : List ℕ) (s : Network) (p : Place) → IsAtStage Beginning n due s p → ((v : Version) → line ≡ header v → ⊥) → (awaits_reply p ≡ false) × ((q : Place) → Takes p line q → ⊥)
+header_bad n due line s p h other = (ap awaits_reply h.0, λ q takes. let said = subst (λ x. Takes x line q) h.0 takes in other said.0 said.1)
 
 -- NOTHING
 
@@ -82,51 +84,51 @@ finished_bad n due line s p h = (ap awaits_reply h, λ q takes. subst (λ x. Tak
 
 -- A LINE OF A REPLY
 
-pub due_taken : (n : ℕ) (due next rest line left : List ℕ) (s : Network) (p : Place) → IsAtStage Within n due s p → due ≡ next ++ (10 ∷ rest) → Lacks 10 next → line ≡ next → left ≡ rest
-    → (q : Place) × Takes p line q × IsAtStage Within n left s q
-due_taken n due next rest line left s p h cut lacks is after =
+pub due_taken : (v : Version) (n : ℕ) (due next rest line left : List ℕ) (s : Network) (p : Place) → IsAtStage (Within v) n due s p → due ≡ next ++ (10 ∷ rest) → Lacks 10 next → line ≡ next → left ≡ rest
+    → (q : Place) × Takes p line q × IsAtStage (Within v) n left s q
+due_taken v n due next rest line left s p h cut lacks is after =
     let d = some_due h.0 next rest h.1 (sym h.2 ∙ cut) lacks in
-    let q = within n s d.more in
-    let place : p ≡ within n s (d.first ∷ d.more) = h.3 ∙ ap (within n s) d.are in
+    let q = within v n s d.more in
+    let place : p ≡ within v n s (d.first ∷ d.more) = h.3 ∙ ap (within v n s) d.are in
     (q, subst (λ x. Takes x line q) (sym place) (ap (λ t. t ++ line_end) is ∙ sym d.same, refl), (d.more, d.fit, after ∙ d.left, refl))
 
-pub due_differs : (n : ℕ) (due next rest line : List ℕ) (s : Network) (p : Place) → IsAtStage Within n due s p → due ≡ next ++ (10 ∷ rest) → Lacks 10 next → (line ≡ next → ⊥)
+pub due_differs : (v : Version) (n : ℕ) (due next rest line : List ℕ) (s : Network) (p : Place) → IsAtStage (Within v) n due s p → due ≡ next ++ (10 ∷ rest) → Lacks 10 next → (line ≡ next → ⊥)
     → (awaits_reply p ≡ true) × ((q : Place) → Takes p line q → ⊥)
-due_differs n due next rest line s p h cut lacks other =
+due_differs v n due next rest line s p h cut lacks other =
     let d = some_due h.0 next rest h.1 (sym h.2 ∙ cut) lacks in
-    let place : p ≡ within n s (d.first ∷ d.more) = h.3 ∙ ap (within n s) d.are in
+    let place : p ≡ within v n s (d.first ∷ d.more) = h.3 ∙ ap (within v n s) d.are in
     (ap awaits_reply place, λ q takes. other (append_cancel_right line next line_end ((subst (λ x. Takes x line q) place takes).0 ∙ d.same)))
 
 -- A CALL, OR THE END
 
-between : (n : ℕ) (due : List ℕ) (s : Network) (p : Place) → IsAtStage Within n due s p → Lacks 10 due → p ≡ within n s []
-between n due s p h lacks = h.3 ∙ ap (within n s) (no_due h.0 h.1 (subst (Lacks 10) h.2 lacks))
+between : (v : Version) (n : ℕ) (due : List ℕ) (s : Network) (p : Place) → IsAtStage (Within v) n due s p → Lacks 10 due → p ≡ within v n s []
+between v n due s p h lacks = h.3 ∙ ap (within v n s) (no_due h.0 h.1 (subst (Lacks 10) h.2 lacks))
 
-pub end_taken : (n : ℕ) (due line : List ℕ) (s : Network) (p : Place) → IsAtStage Within n due s p → Lacks 10 due → line ≡ codes "end " ++ decimal n
+pub end_taken : (v : Version) (n : ℕ) (due line : List ℕ) (s : Network) (p : Place) → IsAtStage (Within v) n due s p → Lacks 10 due → line ≡ codes "end " ++ decimal n
     → (q : Place) × Takes p line q × IsAtStage Finished n due s q
-end_taken n due line s p h lacks is =
+end_taken v n due line s p h lacks is =
     let q = finished n in
-    (q, subst (λ x. Takes x line q) (sym (between n due s p h lacks)) (inr (is, refl)), refl)
+    (q, subst (λ x. Takes x line q) (sym (between v n due s p h lacks)) (inr (is, refl)), refl)
 
-pub between_bad : (n : ℕ) (due line : List ℕ) (s : Network) (p : Place) → IsAtStage Within n due s p → Lacks 10 due → (line ≡ codes "end " ++ decimal n → ⊥) → Calls line None
+pub between_bad : (v : Version) (n : ℕ) (due line : List ℕ) (s : Network) (p : Place) → IsAtStage (Within v) n due s p → Lacks 10 due → (line ≡ codes "end " ++ decimal n → ⊥) → Calls v line None
     → (awaits_reply p ≡ false) × ((q : Place) → Takes p line q → ⊥)
-between_bad n due line s p h lacks no_end no_call =
-    let place = between n due s p h lacks in
+between_bad v n due line s p h lacks no_end no_call =
+    let place = between v n due s p h lacks in
     (ap awaits_reply place, λ q takes. ⊎_elim (λ call. no_call call.0 call.1) (λ end. no_end end.0) (subst (λ x. Takes x line q) place takes))
 
-pub call_taken : (n : ℕ) (due line left : List ℕ) (s s' : Network) (p : Place) (event : Event) → IsAtStage Within n due s p → Lacks 10 due → IsCallLine line event → RepliesAreLines
+pub call_taken : (v : Version) (n : ℕ) (due line left : List ℕ) (s s' : Network) (p : Place) (event : Event) → IsAtStage (Within v) n due s p → Lacks 10 due → IsCallLine v line event → RepliesAreLines
     → left ≡ marked reply_mark (reply_lines (step s event).reply) → s' ≡ (step s event).next
-    → (q : Place) × Takes p line q × IsAtStage Within (n + 1) left s' q
-call_taken n due line left s s' p event h lacks call law after state =
+    → (q : Place) × Takes p line q × IsAtStage (Within v) (n + 1) left s' q
+call_taken v n due line left s s' p event h lacks call law after state =
     let lines = reply_lines (step s event).reply in
-    let q = within (n + 1) (step s event).next lines in (
+    let q = within v (n + 1) (step s event).next lines in (
       q,
-      subst (λ x. Takes x line q) (sym (between n due s p h lacks)) (inl (event, call, refl)),
-      (lines, (law (step s event).reply).1, after, ap (λ t. within (n + 1) t lines) (sym state)),
+      subst (λ x. Takes x line q) (sym (between v n due s p h lacks)) (inl (event, call, refl)),
+      (lines, (law (step s event).reply).1, after, ap (λ t. within v (n + 1) t lines) (sym state)),
     )
 
-pub call_wanting : (n : ℕ) (due line : List ℕ) (s : Network) (p : Place) → IsAtStage Within n due s p → Lacks 10 due → (event : Event) × IsCallLine line event → IsCallAt p line
-call_wanting n due line s p h lacks call = (ap awaits_reply (between n due s p h lacks), call.0, call.1)
+pub call_wanting : (v : Version) (n : ℕ) (due line : List ℕ) (s : Network) (p : Place) → IsAtStage (Within v) n due s p → Lacks 10 due → (w : Version) × (event : Event) × IsCallLine w line event → IsCallAt p line
+call_wanting v n due line s p h lacks call = (ap awaits_reply (between v n due s p h lacks), call.0, call.1, call.2)
 
 -- memory was wanted
 pub call_unread : {E : Type 0} (r : Result Checked E) (p : Place) (line : List ℕ) (c : Checker) (s : Network) → IsErr r → IsCallAt p line → IsChecked p line r c s

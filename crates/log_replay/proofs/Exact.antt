@@ -1,5 +1,5 @@
 -- Which logs agree: those of legal histories, and no other.
-use Rattle.std.proofs.Common.{◌≡◌, ◌≢◌, ℕ, ◌+◌, ◌<◌, ◌≤◌, inl, inr, ⊎_elim, List, [], ◌∷◌, ◌++◌, length, codes, Ok, Err, Result, refl, sym, ap, ◌∙◌, subst, arith, append_assoc, append-nil}
+use Rattle.std.proofs.Common.{◌≡◌, ◌≢◌, ℕ, ◌+◌, ◌<◌, ◌≤◌, inl, inr, ⊎_elim, List, [], ◌∷◌, ◌++◌, length, get_or, codes, Ok, Err, Result, refl, sym, ap, ◌∙◌, subst, arith, append_assoc, append-nil}
 use Rattle.std.specs.Fmt.{decimal}
 use Rattle.std.specs.List.{flat_map, join_with_byte, AllByRecursion}
 use Rattle.std.proofs.lemmas.Bool.{true≢false}
@@ -14,12 +14,14 @@ use Rattle.reference_machine.specs.Network.{Network}
 use Rattle.reference_machine.specs.Machine.{nothing, step}
 use Rattle.reference_machine.specs.Histories.{AreAnswered}
 use Rattle.command_text.specs.Words.{words_of}
-use Rattle.command_text.specs.Lines.{Means}
 use Rattle.command_text.specs.Spelling.{OneMeaning}
 use Rattle.reply_text.specs.Replies.{line_end, end_line}
 use Rattle.reply_text.specs.Lines.{marked, reply_lines, IsLine, RepliesAreLines}
 use Rattle.reply_text.specs.Visible.{visible_lacks}
-use Rattle.log_text.specs.Logs.{command_text, header, call_line, reply_mark, entry_text, log_text}
+use Rattle.log_text.specs.declared.version.Version.{Version}
+use Rattle.log_text.specs.declared.version.Version.TheVariants.{One, Two}
+use Rattle.log_text.specs.Versions.{header}
+use Rattle.log_text.specs.Logs.{command_text, call_line, reply_mark, entry_text, log_of}
 use Rattle.watched.specs.Streams.{Reading}
 use Rattle.log_replay.specs.declared.limits.TheConstants.{MOST_LINES}
 use Rattle.log_replay.specs.declared.verdict.Replayed.{Replayed}
@@ -29,19 +31,18 @@ use Rattle.log_replay.specs.declared.verdict.ReplayFault.TheVariants.{Read, TooM
 use Rattle.log_replay.specs.Replaying.{Place, beginning, within, finished, is_finished, IsCall, IsCallLine, Takes, TakesAll, IsFit, Stands, lines_text, IsRefused, IsTooLong, IsCutOff, IsReplay}
 use Rattle.log_replay.specs.Exactness.{IsLogged, IsLogOf, IsProof, IsFair}
 use Rattle.log_replay.proofs.Words.{AreSolid, literal, spelled}
-use Rattle.log_replay.proofs.Commands.{command_means}
-use Rattle.log_replay.proofs.Calls.{call_cut}
+use Rattle.log_replay.proofs.Versions.{same_event}
 use Rattle.log_replay.proofs.Checking.{due_begins, mark_lacks}
 
 -- PLACES
 
 abbrev count_of : Place → ℕ
 count_of beginning = 0
-count_of (within n s due) = n
+count_of (within v n s due) = n
 count_of (finished n) = n
 
-not_within : (n m : ℕ) (s : Network) (due : List (List ℕ)) → finished m ≡ within n s due → ⊥
-not_within n m s due e = true≢false (ap is_finished e)
+not_within : (v : Version) (n m : ℕ) (s : Network) (due : List (List ℕ)) → finished m ≡ within v n s due → ⊥
+not_within v n m s due e = true≢false (ap is_finished e)
 
 not_beginning : (m : ℕ) → finished m ≡ beginning → ⊥
 not_beginning m e = true≢false (ap is_finished e)
@@ -51,27 +52,27 @@ ends : (n m : ℕ) (more : List (List ℕ)) → TakesAll (finished n) more (fini
 ends n m [] h = (refl, ap count_of h)
 ends n m (l ∷ ls) h = absurd h.1
 
-abbrev AreCalls : List Entry → Type 0
-AreCalls h = AllByRecursion (λ e. IsCall e.seat e.event) h
+abbrev AreCalls : Version → List Entry → Type 0
+AreCalls v h = AllByRecursion (λ e. IsCall v e.seat e.event) h
 
 -- ONLY THE LOG OF A LEGAL HISTORY AGREES
 
 -- the lines are what is due, the calls of a history from here on, and the end
-record Tells (n m : ℕ) (s : Network) (due ls : List (List ℕ)) : Type 0 where
+record Tells (v : Version) (n m : ℕ) (s : Network) (due ls : List (List ℕ)) : Type 0 where
   history : List Entry
   answered : AreAnswered s history
-  calls : AreCalls history
+  calls : AreCalls v history
   count : n + length history ≡ m
   text : lines_text ls ≡ marked reply_mark due ++ (flat_map entry_text history ++ end_line m)
 
 regroup : (a m f e : List ℕ) → a ++ (m ++ (f ++ e)) ≡ ((a ++ m) ++ f) ++ e
 regroup a m f e = sym (append_assoc a m (f ++ e)) ∙ sym (append_assoc (a ++ m) f e)
 
-tells : (n m : ℕ) (s : Network) (due ls : List (List ℕ)) → TakesAll (within n s due) ls (finished m) → Tells n m s due ls
+tells : (v : Version) (n m : ℕ) (s : Network) (due ls : List (List ℕ)) → TakesAll (within v n s due) ls (finished m) → Tells v n m s due ls
 unfolding entry_text
-tells n m s due [] h = absurd (not_within n m s due h)
-tells n m s (d ∷ ds) (line ∷ more) h =
-    let t = tells n m s ds more (subst (λ x. TakesAll x more (finished m)) h.1.1 h.2) in
+tells v n m s due [] h = absurd (not_within v n m s due h)
+tells v n m s (d ∷ ds) (line ∷ more) h =
+    let t = tells v n m s ds more (subst (λ x. TakesAll x more (finished m)) h.1.1 h.2) in
     let rest = flat_map entry_text t.history ++ end_line m in record {
       history = t.history;
       answered = t.answered;
@@ -79,11 +80,11 @@ tells n m s (d ∷ ds) (line ∷ more) h =
       count = t.count;
       text = ap (λ x. x ++ lines_text more) h.1.0 ∙ ap (λ x. (reply_mark ++ d) ++ x) t.text ∙ sym (append_assoc (reply_mark ++ d) (marked reply_mark ds) rest);
     }
-tells n m s [] (line ∷ more) h = ⊎_elim
+tells v n m s [] (line ∷ more) h = ⊎_elim
     (λ c.
     let next = step s c.0 in
     let lines = reply_lines next.reply in
-    let t = tells (n + 1) m next.next lines more (subst (λ x. TakesAll x more (finished m)) c.2 h.2) in
+    let t = tells v (n + 1) m next.next lines more (subst (λ x. TakesAll x more (finished m)) c.2 h.2) in
     let call = call_line c.1.0 c.0 in record {
       history = record { seat = c.1.0; event = c.0; reply = next.reply } ∷ t.history;
       answered = (refl, t.answered);
@@ -105,29 +106,32 @@ tells n m s [] (line ∷ more) h = ⊎_elim
 
 -- the lines of a log
 record IsHistory (ls : List (List ℕ)) (n : ℕ) : Type 0 where
+  version : Version
   history : List Entry
-  logged : IsLogged history
+  logged : IsLogged version history
   count : length history ≡ n
-  text : lines_text ls ≡ log_text history
+  text : lines_text ls ≡ log_of version history
 
 told : (ls : List (List ℕ)) (n : ℕ) → TakesAll beginning ls (finished n) → IsHistory ls n
 told [] n h = absurd (not_beginning n h)
 told (line ∷ more) n h =
-    let t = tells 0 n nothing [] more (subst (λ x. TakesAll x more (finished n)) h.1.1 h.2) in
+    let v = h.1.0 in
+    let t = tells v 0 n nothing [] more (subst (λ x. TakesAll x more (finished n)) h.1.2 h.2) in
     let same : length t.history ≡ n = omega (arith, t.count) in record {
+      version = v;
       history = t.history;
       logged = (t.answered, t.calls);
       count = same;
-      text = ap (λ x. (x ++ line_end) ++ lines_text more) h.1.0 ∙ ap (λ x. (header ++ line_end) ++ x) t.text
-          ∙ sym (append_assoc (header ++ line_end) (flat_map entry_text t.history) (end_line n))
-          ∙ ap (λ k. header ++ line_end ++ flat_map entry_text t.history ++ end_line k) (sym same);
+      text = ap (λ x. (x ++ line_end) ++ lines_text more) h.1.1 ∙ ap (λ x. (header v ++ line_end) ++ x) t.text
+          ∙ sym (append_assoc (header v ++ line_end) (flat_map entry_text t.history) (end_line n))
+          ∙ ap (λ k. header v ++ line_end ++ flat_map entry_text t.history ++ end_line k) (sym same);
     }
 
 sound_end : (bytes : List ℕ) (k n : ℕ) → Stands bytes [] k (finished n) → IsLogOf bytes n
 sound_end bytes k n so =
     let t = told so.done n so.taken in
     let whole : bytes ≡ lines_text so.done = so.parts ∙ append-nil (lines_text so.done) in
-    (t.history, t.logged, t.count, whole ∙ t.text, (so.done, whole, so.fit, omega (arith, so.count, so.few)))
+    (t.version, t.history, t.logged, t.count, whole ∙ t.text, (so.done, whole, so.fit, omega (arith, so.count, so.few)))
 
 pub sound : (bytes : List ℕ) (r : Result Replayed ReplayFault) (i : Reading) → IsReplay bytes r i → IsProof bytes r
 sound bytes (Ok (Agrees n)) i h = sound_end bytes h.0 n h.1
@@ -174,33 +178,33 @@ no_lines (l ∷ ls) e = absurd (omega (arith, ap length e, length-append (l ++ l
 some_end : (front : List ℕ) (m : ℕ) → front ++ end_line m ≡ [] → ⊥
 some_end front m e = omega (arith, ap length e, length-append front (end_line m))
 
-takes_log : (ls due : List (List ℕ)) (h : List Entry) (s : Network) (n m : ℕ) → RepliesAreLines → AllByRecursion IsFit ls → AllByRecursion IsLine due → AreAnswered s h → AreCalls h → n + length h ≡ m
-    → lines_text ls ≡ marked reply_mark due ++ (flat_map entry_text h ++ end_line m) → TakesAll (within n s due) ls (finished m)
+takes_log : (v : Version) (ls due : List (List ℕ)) (h : List Entry) (s : Network) (n m : ℕ) → RepliesAreLines → AllByRecursion IsFit ls → AllByRecursion IsLine due → AreAnswered s h → AreCalls v h → n + length h ≡ m
+    → lines_text ls ≡ marked reply_mark due ++ (flat_map entry_text h ++ end_line m) → TakesAll (within v n s due) ls (finished m)
 unfolding entry_text
-takes_log [] due h s n m law fit are answered calls count e =
+takes_log v [] due h s n m law fit are answered calls count e =
     let rest = flat_map entry_text h in
     absurd (some_end (marked reply_mark due ++ rest) m (append_assoc (marked reply_mark due) rest (end_line m) ∙ sym e))
-takes_log (line ∷ more) (d ∷ ds) h s n m law fit are answered calls count e =
+takes_log v (line ∷ more) (d ∷ ds) h s n m law fit are answered calls count e =
     let rest = flat_map entry_text h ++ end_line m in
     let front = are.0.0 in
     let head = ap (λ t. t ++ rest) (due_begins d ds are.0) ∙ append_assoc (reply_mark ++ front) (10 ∷ marked reply_mark ds) rest in
     let cut = line_cut line (reply_mark ++ front) (lines_text more) (marked reply_mark ds ++ rest) fit.0.0 (mark_lacks front are.0.1) (e ∙ head) in (
-      within n s ds,
+      within v n s ds,
       (ap (λ t. t ++ line_end) cut.0 ∙ append_assoc reply_mark front line_end ∙ ap (λ t. reply_mark ++ t) (sym are.0.2), refl),
-      takes_log more ds h s n m law fit.1 are.1 answered calls count cut.1,
+      takes_log v more ds h s n m law fit.1 are.1 answered calls count cut.1,
     )
-takes_log (line ∷ more) [] (x ∷ xs) s n m law fit are answered calls count e =
+takes_log v (line ∷ more) [] (x ∷ xs) s n m law fit are answered calls count e =
     let call = call_line x.seat x.event in
     let next = step s x.event in
     let rest = flat_map entry_text xs ++ end_line m in
     let head = sym (regroup (call ++ line_end) (marked reply_mark (reply_lines x.reply)) (flat_map entry_text xs) (end_line m)) ∙ append_assoc call line_end (marked reply_mark (reply_lines x.reply) ++ rest) in
     let cut = line_cut line call (lines_text more) (marked reply_mark (reply_lines x.reply) ++ rest) fit.0.0 (call_lacks x.seat x.event calls.0.1) (e ∙ head) in (
-      within (n + 1) next.next (reply_lines next.reply),
+      within v (n + 1) next.next (reply_lines next.reply),
       inl (x.event, (x.seat, calls.0, cut.0), refl),
-      takes_log more (reply_lines next.reply) xs next.next (n + 1) m law fit.1 (law next.reply).1 answered.1 calls.1 (omega (arith, count))
+      takes_log v more (reply_lines next.reply) xs next.next (n + 1) m law fit.1 (law next.reply).1 answered.1 calls.1 (omega (arith, count))
           (cut.1 ∙ ap (λ r. marked reply_mark (reply_lines r) ++ rest) answered.0),
     )
-takes_log (line ∷ more) [] [] s n m law fit are answered calls count e =
+takes_log v (line ∷ more) [] [] s n m law fit are answered calls count e =
     let cut = line_cut line (codes "end " ++ decimal m) (lines_text more) [] fit.0.0 (end_lacks m) e in
     let same : n ≡ m = omega (arith, count) in
     let none : more ≡ [] = no_lines more cut.1 in (
@@ -209,44 +213,48 @@ takes_log (line ∷ more) [] [] s n m law fit are answered calls count e =
       subst (λ t. TakesAll (finished n) t (finished m)) (sym none) (ap finished (sym same)),
     )
 
-header_lacks : Lacks 10 header
-header_lacks = joined_lacks (codes "bgpsim" ∷ codes "log" ∷ codes "1" ∷ []) (literal (codes "bgpsim") refl refl, (literal (codes "log") refl refl, (literal (codes "1") refl refl, tt)))
+header_lacks : (v : Version) → Lacks 10 (header v)
+header_lacks One = joined_lacks (codes "bgpsim" ∷ codes "log" ∷ codes "1" ∷ []) (literal (codes "bgpsim") refl refl, (literal (codes "log") refl refl, (literal (codes "1") refl refl, tt)))
+header_lacks Two = joined_lacks (codes "bgpsim" ∷ codes "log" ∷ codes "2" ∷ []) (literal (codes "bgpsim") refl refl, (literal (codes "log") refl refl, (literal (codes "2") refl refl, tt)))
 
 -- the lines of the log of a legal history lead to its end
-leads : (ls : List (List ℕ)) (h : List Entry) (n : ℕ) → RepliesAreLines → AllByRecursion IsFit ls → IsLogged h → length h ≡ n → lines_text ls ≡ log_text h → TakesAll beginning ls (finished n)
-leads [] h n law fit logged count e = absurd (some_end ((header ++ line_end) ++ flat_map entry_text h) (length h) (sym e))
-leads (line ∷ more) h n law fit logged count e =
+leads : (v : Version) (ls : List (List ℕ)) (h : List Entry) (n : ℕ) → RepliesAreLines → AllByRecursion IsFit ls → IsLogged v h → length h ≡ n → lines_text ls ≡ log_of v h → TakesAll beginning ls (finished n)
+leads v [] h n law fit logged count e = absurd (some_end ((header v ++ line_end) ++ flat_map entry_text h) (length h) (sym e))
+leads v (line ∷ more) h n law fit logged count e =
     let text = flat_map entry_text h in
-    let head = append_assoc (header ++ line_end) text (end_line (length h)) ∙ append_assoc header line_end (text ++ end_line (length h)) in
-    let cut = line_cut line header (lines_text more) (text ++ end_line (length h)) fit.0.0 header_lacks (e ∙ head) in
-    (within 0 nothing [], (cut.0, refl), takes_log more [] h nothing 0 n law fit.1 tt logged.0 logged.1 (omega (arith, count)) (cut.1 ∙ ap (λ k. text ++ end_line k) count))
+    let head = append_assoc (header v ++ line_end) text (end_line (length h)) ∙ append_assoc (header v) line_end (text ++ end_line (length h)) in
+    let cut = line_cut line (header v) (lines_text more) (text ++ end_line (length h)) fit.0.0 (header_lacks v) (e ∙ head) in
+    (within v 0 nothing [], (v, cut.0, refl), takes_log v more [] h nothing 0 n law fit.1 tt logged.0 logged.1 (omega (arith, count)) (cut.1 ∙ ap (λ k. text ++ end_line k) count))
 
--- a line of a call is that of one event
-same_event : OneMeaning → (line : List ℕ) (e f : Event) → IsCallLine line e → IsCallLine line f → e ≡ f
-same_event law line e f a b =
-    let same : command_text e ≡ command_text f = call_cut line (command_text e) f a.0 a.2 b in
-    law (command_text e) e f (command_means e a.1.1 a.1.2) (subst (λ t. Means t f) (sym same) (command_means f b.1.1 b.1.2))
+-- a header names one version
+same_version : (v w : Version) → header v ≡ header w → v ≡ w
+same_version One One e = refl
+same_version One Two e = let last : ◌≡◌ {A = ℕ} 49 50 = ap (λ t. get_or t 11 0) e in absurd (omega (arith, last))
+same_version Two One e = let last : ◌≡◌ {A = ℕ} 50 49 = ap (λ t. get_or t 11 0) e in absurd (omega (arith, last))
+same_version Two Two e = refl
 
 call_is_no_end : (line rest more : List ℕ) → line ≡ 64 ∷ rest → line ≡ 101 ∷ more → ⊥
 call_is_no_end line rest more a b = let both : 64 ∷ rest ≡ 101 ∷ more = sym a ∙ b in let heads : ◌≡◌ {A = ℕ} 64 101 = cc in omega (arith, heads)
 
-no_call : (line : List ℕ) (e : Event) (n : ℕ) → IsCallLine line e → line ≡ codes "end " ++ decimal n → ⊥
-no_call line e n call end = call_is_no_end line ((decimal call.0 ++ codes " ") ++ command_text e) (110 ∷ 100 ∷ 32 ∷ decimal n) call.2 end
+no_call : (v : Version) (line : List ℕ) (e : Event) (n : ℕ) → IsCallLine v line e → line ≡ codes "end " ++ decimal n → ⊥
+no_call v line e n call end = call_is_no_end line ((decimal call.0 ++ codes " ") ++ command_text e) (110 ∷ 100 ∷ 32 ∷ decimal n) call.2 end
 
 -- a line leads from a place to one place alone
 same_place : OneMeaning → (p : Place) (line : List ℕ) (q r : Place) → Takes p line q → Takes p line r → q ≡ r
-same_place law beginning line q r a b = a.1 ∙ sym b.1
-same_place law (within n s []) line q r a b = ⊎_elim
+same_place law beginning line q r a b =
+    let same : a.0 ≡ b.0 = same_version a.0 b.0 (sym a.1 ∙ b.1) in
+    a.2 ∙ ap (λ v. within v 0 nothing []) same ∙ sym b.2
+same_place law (within v n s []) line q r a b = ⊎_elim
     (λ c. ⊎_elim
-    (λ d. c.2 ∙ ap (λ e. within (n + 1) (step s e).next (reply_lines (step s e).reply)) (same_event law line c.0 d.0 c.1 d.1) ∙ sym d.2)
-    (λ d. absurd (no_call line c.0 n c.1 d.0))
+    (λ d. c.2 ∙ ap (λ e. within v (n + 1) (step s e).next (reply_lines (step s e).reply)) (same_event law v v line c.0 d.0 c.1 d.1) ∙ sym d.2)
+    (λ d. absurd (no_call v line c.0 n c.1 d.0))
     b)
     (λ c. ⊎_elim
-    (λ d. absurd (no_call line d.0 n d.1 c.0))
+    (λ d. absurd (no_call v line d.0 n d.1 c.0))
     (λ d. c.1 ∙ sym d.1)
     b)
     a
-same_place law (within n s (due ∷ more)) line q r a b = a.1 ∙ sym b.1
+same_place law (within v n s (due ∷ more)) line q r a b = a.1 ∙ sym b.1
 same_place law (finished n) line q r a b = absurd a
 
 -- lines that agree to the end, after those that bring the log to a place
@@ -276,9 +284,9 @@ ahead law (d ∷ ds) (l ∷ more) left p q f hd hl e a b =
 -- what is ahead at a place that replaying has come to
 log_ahead : OneMeaning → RepliesAreLines → (bytes left : List ℕ) (k n : ℕ) (p : Place) → Stands bytes left k p → (log : IsLogOf bytes n) → (rest : List (List ℕ)) × AllByRecursion IsFit rest × (left ≡ lines_text rest) × (k + length rest ≤ MOST_LINES) × TakesAll p rest (finished n)
 log_ahead law lines bytes left k n p so log =
-    let ls = log.4.0 in
-    let a = ahead law so.done ls left beginning p (finished n) so.fit log.4.2 (sym so.parts ∙ log.4.1) so.taken (leads ls log.0 n lines log.4.2 log.1 log.2 (sym log.4.1 ∙ log.3)) in
-    (a.rest, a.fit, a.text, omega (arith, a.count, so.count, log.4.3), a.taken)
+    let ls = log.5.0 in
+    let a = ahead law so.done ls left beginning p (finished n) so.fit log.5.2 (sym so.parts ∙ log.5.1) so.taken (leads log.0 ls log.1 n lines log.5.2 log.2 log.3 (sym log.5.1 ∙ log.4)) in
+    (a.rest, a.fit, a.text, omega (arith, a.count, so.count, log.5.3), a.taken)
 
 -- the next line may stand there
 not_refused : (left : List ℕ) (p f : Place) (rest : List (List ℕ)) → AllByRecursion IsFit rest → left ≡ lines_text rest → TakesAll p rest f → IsRefused p left → ⊥

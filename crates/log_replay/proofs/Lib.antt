@@ -1,6 +1,7 @@
 mod Words
 mod Commands
 mod Calls
+mod Versions
 mod Checking
 mod Steps
 mod Exact

@@ -61,7 +61,7 @@ first_line pending rest end is short =
 -- at the end of a log the checker has counted its calls
 ended : (stage : Stage) (n : ℕ) (due : List ℕ) (s : Network) (p : Place) → IsAtStage stage n due s p → is_finished p ≡ true → p ≡ finished n
 ended Beginning n due s p h e = absurd (true≢false (sym e ∙ ap is_finished h.0))
-ended Within n due s p h e = absurd (true≢false (sym e ∙ ap is_finished h.3))
+ended (Within v) n due s p h e = absurd (true≢false (sym e ∙ ap is_finished h.3))
 ended Finished n due s p h e = h
 
 -- THE NEXT LINE

@@ -17,7 +17,8 @@ use Rattle.path_attr.specs.declared.origin.Origin.{Origin}
 use Rattle.path_attr.specs.declared.origin.Origin.TheVariants.{Igp, Egp, Incomplete}
 use Rattle.path_attr.specs.Path.{IsSegment, AreSegments}
 use Rattle.route_policy.specs.declared.rule.Match.{Match}
-use Rattle.route_policy.specs.declared.rule.Match.TheVariants.{Any, Is, Under, Path, First}
+use Rattle.route_policy.specs.declared.rule.Match.TheVariants.{Any, Is, Under, Path, First, Comm}
+use Rattle.route_policy.specs.declared.rule.Settings.{Settings}
 use Rattle.route_policy.specs.declared.rule.Action.{Action}
 use Rattle.route_policy.specs.declared.rule.Action.TheVariants.{Deny, Permit}
 use Rattle.net_conf.specs.declared.tables.PolicySide.{PolicySide}
@@ -30,11 +31,11 @@ use Rattle.sim_event.specs.declared.event.News.{News}
 use Rattle.sim_event.specs.declared.event.News.TheVariants.{Update, Withdraw}
 use Rattle.sim_event.specs.declared.event.Ask.{Ask}
 use Rattle.sim_event.specs.declared.event.Ask.TheVariants.{Routes, Best, Why, In, Out, Queue, Quiet, Cost, Trace}
-use Rattle.sim_event.specs.Wording.{maybe_number_text, origin_text, path_text, segment_text}
+use Rattle.sim_event.specs.Wording.{numbers_text, maybe_number_text, origin_text, path_text, segment_text}
 use Rattle.sim_event.specs.Events.{IsEvent, IsNews}
-use Rattle.command_text.specs.Words.{words_of, edit_words, news_words, ask_words, match_words, action_words, setting_words, switch_word, side_word}
+use Rattle.command_text.specs.Words.{words_of, edit_words, news_words, ask_words, match_words, action_words, setting_words, settings_words, communities_words, switch_word, side_word}
 use Rattle.command_text.specs.Lines.{are_silent}
-use Rattle.reply_text.specs.Visible.{AreVisible, are_visible, visible_word, visible_both, visible_decimal, visible_addr, visible_prefix, visible_path}
+use Rattle.reply_text.specs.Visible.{AreVisible, are_visible, visible_word, visible_both, visible_decimal, visible_addr, visible_prefix, visible_numbers, visible_path}
 
 -- a word: not empty, and of visible bytes
 abbrev pub IsSolid : List ℕ → Type 0
@@ -97,19 +98,24 @@ matches (Is p) = (literal (codes "is") refl refl, (block p, tt))
 matches (Under p) = (literal (codes "under") refl refl, (block p, tt))
 matches (Path n) = (literal (codes "path") refl refl, (number n, tt))
 matches (First n) = (literal (codes "first") refl refl, (number n, tt))
+matches (Comm n) = (literal (codes "comm") refl refl, (number n, tt))
 
 setting : (name : List ℕ) (n : Option ℕ) → are_visible name ≡ true → AreSolid (setting_words name n)
 setting name None h = tt
 setting name (Some n) h =
     ((omega (arith, decimal_some n, length-append name (decimal n)), visible_both name (decimal n) (visible_word name h) (visible_decimal n)), tt)
 
+settings : (s : Settings) → AreSolid (settings_words s)
+settings s =
+    append (setting_words (codes "pref=") s.pref ++ setting_words (codes "med=") s.med ++ setting_words (codes "prepend=") s.prepend) (setting_words (codes "add=") s.add)
+    (append (setting_words (codes "pref=") s.pref ++ setting_words (codes "med=") s.med) (setting_words (codes "prepend=") s.prepend)
+    (append (setting_words (codes "pref=") s.pref) (setting_words (codes "med=") s.med) (setting (codes "pref=") s.pref refl) (setting (codes "med=") s.med refl))
+    (setting (codes "prepend=") s.prepend refl))
+    (setting (codes "add=") s.add refl)
+
 action : (a : Action) → AreSolid (action_words a)
 action Deny = (literal (codes "deny") refl refl, tt)
-action (Permit pref med prepend) =
-    append (codes "permit" ∷ setting_words (codes "pref=") pref ++ setting_words (codes "med=") med) (setting_words (codes "prepend=") prepend)
-    (append (codes "permit" ∷ setting_words (codes "pref=") pref) (setting_words (codes "med=") med)
-    (literal (codes "permit") refl refl, setting (codes "pref=") pref refl) (setting (codes "med=") med refl))
-    (setting (codes "prepend=") prepend refl)
+action (Permit s) = (literal (codes "permit") refl refl, settings s)
 
 -- how a command's words are made
 pub record IsSpelled (words : List (List ℕ)) : Type 0 where
@@ -143,8 +149,15 @@ edit (Clear a b s) = record { solid = (literal (codes "clear") refl refl, (addre
 edit (Originate a p) = record { solid = (literal (codes "origin") refl refl, prefixed a p); loud = refl }
 edit (NoOrigin a p) = record { solid = (literal (codes "noorigin") refl refl, prefixed a p); loud = refl }
 
+communities : (cs : List ℕ) → AreSolid (communities_words cs)
+communities [] = tt
+communities (c ∷ cs) =
+    let numbers = numbers_text (c ∷ cs) in
+    ((omega (arith, length-append (codes "comm=") numbers), visible_both (codes "comm=") numbers (visible_word (codes "comm=") refl) (visible_numbers (c ∷ cs))), tt)
+
 news : (n : News) → IsNews n → AreSolid (news_words n)
-news (Update p path o m) h = (literal (codes "update") refl refl, (block p, ((path_some path h.1.0, visible_path path), (origin o, (med m, tt)))))
+news (Update r) h =
+    (literal (codes "update") refl refl, (block r.prefix, ((path_some r.path h.1.0, visible_path r.path), (origin r.origin, (med r.med, communities r.comms)))))
 news (Withdraw p) h = (literal (codes "withdraw") refl refl, (block p, tt))
 
 ask : (q : Ask) → IsSpelled (ask_words q)

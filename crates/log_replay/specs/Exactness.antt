@@ -3,7 +3,8 @@ use Rattle.std.specs.Prelude.{◌≡◌, ℕ, ◌≤◌, List, length, Result, O
 use Rattle.std.specs.List.{AllByRecursion}
 use Rattle.sim_event.specs.declared.entry.Entry.{Entry}
 use Rattle.reference_machine.specs.Histories.{IsLegal}
-use Rattle.log_text.specs.Logs.{log_text}
+use Rattle.log_text.specs.declared.version.Version.{Version}
+use Rattle.log_text.specs.Logs.{log_of}
 use Rattle.log_replay.specs.Replaying.{IsCall, IsFit, lines_text}
 use Rattle.log_replay.specs.declared.limits.TheConstants.{MOST_LINES}
 use Rattle.log_replay.specs.declared.verdict.Replayed.{Replayed}
@@ -11,17 +12,17 @@ use Rattle.log_replay.specs.declared.verdict.Replayed.TheVariants.{Agrees}
 use Rattle.log_replay.specs.declared.verdict.ReplayFault.{ReplayFault}
 use Rattle.log_replay.specs.declared.verdict.ReplayFault.TheVariants.{Read, TooManyLines, Memory}
 
--- a legal history whose calls a log may hold
-abbrev pub IsLogged : List Entry → Type 0
-IsLogged h = IsLegal h × AllByRecursion (λ e. IsCall e.seat e.event) h
+-- a legal history whose calls a log of the version may hold
+abbrev pub IsLogged : Version → List Entry → Type 0
+IsLogged v h = IsLegal h × AllByRecursion (λ e. IsCall v e.seat e.event) h
 
 -- no more lines than a log may have, none too long, each with its line feed
 abbrev pub AreLogLines : List ℕ → Type 0
 AreLogLines bytes = (ls : List (List ℕ)) × (bytes ≡ lines_text ls) × AllByRecursion IsFit ls × (length ls ≤ MOST_LINES)
 
--- the bytes are the log of a legal history of n calls, within the limits
+-- the bytes are the log, of either version, of a legal history of n calls, within the limits
 abbrev pub IsLogOf : List ℕ → ℕ → Type 0
-IsLogOf bytes n = (h : List Entry) × IsLogged h × (length h ≡ n) × (bytes ≡ log_text h) × AreLogLines bytes
+IsLogOf bytes n = (v : Version) × (h : List Entry) × IsLogged v h × (length h ≡ n) × (bytes ≡ log_of v h) × AreLogLines bytes
 
 -- where the answer is that the log agrees, it is such a log
 abbrev pub IsProof : List ℕ → Result Replayed ReplayFault → Type 0

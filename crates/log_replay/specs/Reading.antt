@@ -7,6 +7,8 @@ use Rattle.reference_machine.specs.Network.{Network}
 use Rattle.reference_machine.specs.Machine.{nothing}
 use Rattle.command_text.specs.declared.limits.TheConstants.{MAX_LINE}
 use Rattle.reply_text.specs.Lines.{IsLine, marked}
+use Rattle.log_text.specs.declared.version.Version.{Version}
+use Rattle.log_text.specs.declared.version.Version.TheVariants.{Two}
 use Rattle.log_text.specs.Logs.{command_text, reply_mark}
 use Rattle.log_replay.specs.declared.place.Stage.{Stage}
 use Rattle.log_replay.specs.declared.place.Stage.TheVariants.{Beginning, Within, Finished}
@@ -33,19 +35,19 @@ abbrev pub ReadsCommand : {E : Type 0} → List ℕ → Result (Option Event) E 
 ReadsCommand text (Ok found) = Spells text found
 ReadsCommand text (Err e) = (event : Event) × IsCommand text event
 
--- the event of a call's line; none where the line is no call
-abbrev pub Calls : List ℕ → Option Event → Type 0
-Calls line (Some event) = IsCallLine line event
-Calls line None = (event : Event) → IsCallLine line event → ⊥
+-- the event of a call's line, in a log of the version; none where the line is no call of it
+abbrev pub Calls : Version → List ℕ → Option Event → Type 0
+Calls v line (Some event) = IsCallLine v line event
+Calls v line None = (event : Event) → IsCallLine v line event → ⊥
 
--- the same, with want of memory only for a call
-abbrev pub ReadsCall : {E : Type 0} → List ℕ → Result (Option Event) E → Type 0
-ReadsCall line (Ok found) = Calls line found
-ReadsCall line (Err e) = (event : Event) × IsCallLine line event
+-- the same, with want of memory only for a call, as the latest version has it
+abbrev pub ReadsCall : {E : Type 0} → Version → List ℕ → Result (Option Event) E → Type 0
+ReadsCall v line (Ok found) = Calls v line found
+ReadsCall v line (Err e) = (event : Event) × IsCallLine Two line event
 
 abbrev pub IsAtStage : Stage → ℕ → List ℕ → Network → Place → Type 0
 IsAtStage Beginning n due s p = (p ≡ beginning) × (s ≡ nothing) × (n ≡ 0) × (due ≡ [])
-IsAtStage Within n due s p = (lines : List (List ℕ)) × AllByRecursion IsLine lines × (due ≡ marked reply_mark lines) × (p ≡ within n s lines)
+IsAtStage (Within v) n due s p = (lines : List (List ℕ)) × AllByRecursion IsLine lines × (due ≡ marked reply_mark lines) × (p ≡ within v n s lines)
 IsAtStage Finished n due s p = p ≡ finished n
 
 -- the checker, and the machine's state, are at the place

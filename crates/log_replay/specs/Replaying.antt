@@ -11,35 +11,38 @@ use Rattle.reference_machine.specs.Machine.{nothing, step}
 use Rattle.command_text.specs.declared.limits.TheConstants.{MAX_LINE}
 use Rattle.reply_text.specs.Replies.{line_end}
 use Rattle.reply_text.specs.Lines.{reply_lines}
-use Rattle.log_text.specs.Logs.{command_text, header, call_line, reply_mark}
+use Rattle.log_text.specs.declared.version.Version.{Version}
+use Rattle.log_text.specs.Versions.{has_form, header}
+use Rattle.log_text.specs.Logs.{command_text, call_line, reply_mark}
 use Rattle.log_replay.specs.declared.limits.TheConstants.{MOST_BYTES, MOST_LINES}
 use Rattle.log_replay.specs.declared.verdict.Replayed.{Replayed}
 use Rattle.log_replay.specs.declared.verdict.Replayed.TheVariants.{Agrees, Differs, BadLine}
 use Rattle.log_replay.specs.declared.verdict.ReplayFault.{ReplayFault}
 use Rattle.log_replay.specs.declared.verdict.ReplayFault.TheVariants.{Read, TooManyLines, Memory}
 
--- what a log has come to: nothing; so many calls, the state that they leave, and the lines that are still due of the last
--- one's reply; or its end, after so many calls
+-- what a log has come to: nothing; within a log of some version so many calls, the state that they leave, and the lines that
+-- are still due of the last one's reply; or its end, after so many calls
 pub data Place : Type 0 where
   beginning : Place
-  within : ℕ → Network → List (List ℕ) → Place
+  within : Version → ℕ → Network → List (List ℕ) → Place
   finished : ℕ → Place
 
--- a call that a log may hold: its values are in their ranges, and its command is not too long
-abbrev pub IsCall : ℕ → Event → Type 0
-IsCall seat event = (seat < 256) × IsEvent event × (length (command_text event) ≤ MAX_LINE)
+-- a call that a log of the version may hold: its values are in their ranges, its command is not too long, and the version has a form
+-- for it
+abbrev pub IsCall : Version → ℕ → Event → Type 0
+IsCall v seat event = (seat < 256) × IsEvent event × (length (command_text event) ≤ MAX_LINE) × (has_form v event ≡ true)
 
-abbrev pub IsCallLine : List ℕ → Event → Type 0
-IsCallLine line event = (seat : ℕ) × IsCall seat event × (line ≡ call_line seat event)
+abbrev pub IsCallLine : Version → List ℕ → Event → Type 0
+IsCallLine v line event = (seat : ℕ) × IsCall v seat event × (line ≡ call_line seat event)
 
--- the line may stand at the place, and brings the log to the next one: the header; a call, whose reply is then due line by
--- line as the machine gives it; each line of that; and, where none is due, the end, with the number of calls
+-- the line may stand at the place, and brings the log to the next one: the header of a version; a call, whose reply is then due
+-- line by line as the machine gives it; each line of that; and, where none is due, the end, with the number of calls
 abbrev pub Takes : Place → List ℕ → Place → Type 0
-Takes beginning line next = (line ≡ header) × (next ≡ within 0 nothing [])
-Takes (within n s []) line next =
-    ((event : Event) × IsCallLine line event × (next ≡ within (n + 1) (step s event).next (reply_lines (step s event).reply)))
+Takes beginning line next = (v : Version) × (line ≡ header v) × (next ≡ within v 0 nothing [])
+Takes (within v n s []) line next =
+    ((event : Event) × IsCallLine v line event × (next ≡ within v (n + 1) (step s event).next (reply_lines (step s event).reply)))
     ⊎ ((line ≡ codes "end " ++ decimal n) × (next ≡ finished n))
-Takes (within n s (due ∷ more)) line next = (line ++ line_end ≡ reply_mark ++ due) × (next ≡ within n s more)
+Takes (within v n s (due ∷ more)) line next = (line ++ line_end ≡ reply_mark ++ due) × (next ≡ within v n s more)
 Takes (finished n) line next = ⊥
 
 -- the lines bring a log from one place to the other
@@ -50,13 +53,13 @@ TakesAll p (line ∷ more) q = (mid : Place) × Takes p line mid × TakesAll mid
 -- whether a line of a reply is due
 abbrev pub awaits_reply : Place → Bool
 awaits_reply beginning = false
-awaits_reply (within n s []) = false
-awaits_reply (within n s (due ∷ more)) = true
+awaits_reply (within v n s []) = false
+awaits_reply (within v n s (due ∷ more)) = true
 awaits_reply (finished n) = false
 
 abbrev pub is_finished : Place → Bool
 is_finished beginning = false
-is_finished (within n s due) = false
+is_finished (within v n s due) = false
 is_finished (finished n) = true
 
 -- a line is not too long, and has no line feed of its own; a carriage return is a byte like any other
@@ -96,9 +99,9 @@ IsCutOff p left = Lacks 10 left × (is_finished p ≡ true → 0 < length left)
 abbrev pub IsBad : Place → List ℕ → Type 0
 IsBad p left = ((awaits_reply p ≡ false) × IsRefused p left) ⊎ (IsTooLong left ⊎ IsCutOff p left)
 
--- the line is a call, where no reply is due
+-- the line is a call, where no reply is due; of whatever version, since memory is taken to read it
 abbrev pub IsCallAt : Place → List ℕ → Type 0
-IsCallAt p line = (awaits_reply p ≡ false) × (event : Event) × IsCallLine line event
+IsCallAt p line = (awaits_reply p ≡ false) × (v : Version) × (event : Event) × IsCallLine v line event
 
 -- the next line is a call, for which memory may be wanted
 abbrev pub IsCalled : Place → List ℕ → Type 0

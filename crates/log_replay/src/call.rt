@@ -4,16 +4,37 @@ ghost use Rattle.std.specs.Prelude.{◌≡◌, ◌↔◌, ◌++◌, ◌∷◌, �
 ghost use Rattle.std.specs.Fmt.{decimal};
 ghost use Rattle.log_replay.specs.Reading.{IsSpaced, ReadsCall, ReadsCommand};
 
-use command_text::read_line;
+use command_text::{one_meaning, read_line};
 use decimal::{cut_at, read_decimal};
+use log_text::Version;
 use net_conf::Refusal;
 use sim_event::Event;
 use std::alloc::{AllocError, Global};
 
+/// The event of a call's line, where the version has a form for it. None where the line is no call, or the version has
+/// none; want of memory only where the line is a call.
+pub(crate) fn read_call(
+    alloc: Global,
+    version: Version,
+    line: &[u8],
+) -> Result<Option<Event>, AllocError>
+    ensures { ReadsCall version line.now result }
+{
+    let event = match read_any_call(alloc, line)? {
+        Some(event) => event,
+        None => return Ok(None),
+    };
+    if version.has_form(&event) {
+        return Ok(Some(event));
+    }
+    one_meaning();
+    Ok(None)
+}
+
 /// The event of a call's line: `@`, the number of a seat, and a command with single spaces. None where the line is no
 /// call; want of memory only where it is one.
-pub(crate) fn read_call(alloc: Global, line: &[u8]) -> Result<Option<Event>, AllocError>
-    ensures { ReadsCall line.now result }
+fn read_any_call(alloc: Global, line: &[u8]) -> Result<Option<Event>, AllocError>
+    ensures { ReadsCall Version.Two line.now result }
 {
     match command_of(line) {
         Some(command) => read_command(alloc, command),

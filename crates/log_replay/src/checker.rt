@@ -1,11 +1,12 @@
 //! What a log has come to, and what becomes of its next line.
 
-ghost use Rattle.std.specs.Prelude.{◌≡◌, ◌↔◌, ◌+◌, ◌^◌, ◌<◌, ◌≤◌, ◌++◌, codes, drop, OnOk, IsTrue};
+ghost use Rattle.std.specs.Prelude.{◌≡◌, ◌↔◌, ◌+◌, ◌^◌, ◌<◌, ◌≤◌, ◌++◌, codes, drop, OnOk, IfSome, IfNone, IsTrue};
 ghost use Rattle.std.specs.Fmt.{decimal};
 ghost use Rattle.decimal.specs.Separators.{Lacks};
 ghost use Rattle.reference_machine.specs.Network.{Network};
 ghost use Rattle.reference_machine.specs.Machine.{nothing};
-ghost use Rattle.log_text.specs.Logs.{header};
+ghost use Rattle.log_text.specs.declared.version.Version.{Version};
+ghost use Rattle.log_text.specs.Versions.{header};
 ghost use Rattle.log_replay.specs.Replaying.{Place, beginning, is_finished};
 ghost use Rattle.log_replay.specs.Reading.{IsAt, Becomes, IsChecked};
 
@@ -14,6 +15,7 @@ use crate::call::read_call;
 use crate::place::{Checked, Checker, Stage};
 use decimal::cut_at;
 use itoa::Buffer;
+use log_text::Version;
 use reference_machine::Machine;
 use reply_text::replies_are_lines;
 use std::alloc::{AllocError, Global};
@@ -40,7 +42,7 @@ pub(crate) fn has_ended(checker: &Checker) -> bool
 {
     match checker.stage {
         Stage::Beginning => false,
-        Stage::Within => false,
+        Stage::Within(_) => false,
         Stage::Finished => true,
     }
 }
@@ -60,7 +62,7 @@ pub(crate) fn check_line<M: Machine>(
 {
     match checker.stage {
         Stage::Beginning => Ok(check_header(checker, line)),
-        Stage::Within => check_within(rt, alloc, checker, line, machine),
+        Stage::Within(version) => check_within(rt, alloc, version, checker, line, machine),
         Stage::Finished => Ok(Checked::Bad),
     }
 }
@@ -71,29 +73,32 @@ fn check_header(checker: &mut Checker, line: &[u8]) -> Checked
     ensures checked { (s : Network) (p : Place) → IsAt checker.old s p → Becomes p line.now result checker.new s }
     ensures count { checker.new.entries ≡ checker.old.entries }
 {
-    if !is_header(line) {
-        return Checked::Bad;
+    match version_of(line) {
+        Some(version) => {
+            checker.stage = Stage::Within(version);
+            Checked::Taken
+        }
+        None => Checked::Bad,
     }
-    checker.stage = Stage::Within;
-    Checked::Taken
 }
 
 /// Takes a line that is due of a reply, or, where none is, a call or the end.
 fn check_within<M: Machine>(
     rt: &(impl Threads + Sync),
     alloc: Global,
+    version: Version,
     checker: &mut Checker,
     line: &[u8],
     machine: &mut M,
 ) -> Result<Checked, AllocError>
-    requires stage { checker.old.stage ≡ Stage.Within }
+    requires stage { checker.old.stage ≡ Stage.Within version }
     requires few { checker.old.entries < 2 ^ 63 }
     ensures checked { (p : Place) → IsAt checker.old (M.network machine.old) p →
         IsChecked p line.now result checker.new (M.network machine.new) }
     ensures count { OnOk result (checker.new.entries ≤ checker.old.entries + 1) }
 {
     let Some((next, rest)) = cut_at(due_text(checker), b'\n') else {
-        return check_between(rt, alloc, checker, line, machine);
+        return check_between(rt, alloc, version, checker, line, machine);
     };
     if !is_same(line, next) {
         return Ok(Checked::Differs);
@@ -107,11 +112,12 @@ fn check_within<M: Machine>(
 fn check_between<M: Machine>(
     rt: &(impl Threads + Sync),
     alloc: Global,
+    version: Version,
     checker: &mut Checker,
     line: &[u8],
     machine: &mut M,
 ) -> Result<Checked, AllocError>
-    requires stage { checker.old.stage ≡ Stage.Within }
+    requires stage { checker.old.stage ≡ Stage.Within version }
     requires few { checker.old.entries < 2 ^ 63 }
     requires none { Lacks 10 (drop checker.old.at checker.old.due.items) }
     ensures checked { (p : Place) → IsAt checker.old (M.network machine.old) p →
@@ -122,13 +128,13 @@ fn check_between<M: Machine>(
         checker.stage = Stage::Finished;
         return Ok(Checked::Taken);
     }
-    let event = match read_call(alloc, line)? {
+    let event = match read_call(alloc, version, line)? {
         Some(event) => event,
         None => return Ok(Checked::Bad),
     };
     let due = answer(rt, alloc, &event, machine)?;
     *checker = Checker {
-        stage: Stage::Within,
+        stage: Stage::Within(version),
         entries: checker.entries + 1,
         due,
         at: 0,
@@ -144,11 +150,16 @@ fn due_text(checker: &Checker) -> &[u8]
     &checker.due.as_slice()[checker.at..]
 }
 
-/// Whether the line is the header.
-fn is_header(line: &[u8]) -> bool
-    ensures { IsTrue result ↔ (line.now ≡ header) }
+/// The version whose header the line is.
+fn version_of(line: &[u8]) -> Option<Version>
+    ensures found { IfSome result (λ v. line.now ≡ header v) }
+    ensures none { IfNone result ((v : Version) → line.now ≡ header v → ⊥) }
 {
-    line == b"bgpsim log 1".as_slice()
+    match line {
+        b"bgpsim log 1" => Some(Version::One),
+        b"bgpsim log 2" => Some(Version::Two),
+        _ => None,
+    }
 }
 
 /// Whether the two lines are the same.

@@ -2,13 +2,15 @@
 
 ghost use Rattle.std.specs.Prelude.{◌≤◌, vec_len};
 
+use log_text::Version;
+
 /// The parts of a log.
 #[derive(Clone, Copy, Debug, PartialEq, Eq)]
 pub(crate) enum Stage {
     /// The header is awaited.
     Beginning,
-    /// A call, a line of a reply, or the end is awaited.
-    Within,
+    /// A call of this version, a line of a reply, or the end is awaited.
+    Within(Version),
     /// Nothing is awaited.
     Finished,
 }

@@ -10,6 +10,10 @@ spaced_both (w ∷ a) b = ap (λ t. (32 ∷ w) ++ t) (spaced_both a b) ∙ sym (
 pub spaced_three : (a b c : List (List ℕ)) → spaced (a ++ b ++ c) ≡ spaced a ++ (spaced b ++ spaced c)
 spaced_three a b c = spaced_both (a ++ b) c ∙ ap (λ t. t ++ spaced c) (spaced_both a b) ∙ append_assoc (spaced a) (spaced b) (spaced c)
 
+pub spaced_four : (a b c d : List (List ℕ)) → spaced (a ++ b ++ c ++ d) ≡ spaced a ++ (spaced b ++ (spaced c ++ spaced d))
+spaced_four a b c d =
+    spaced_three (a ++ b) c d ∙ ap (λ t. t ++ (spaced c ++ spaced d)) (spaced_both a b) ∙ append_assoc (spaced a) (spaced b) (spaced c ++ spaced d)
+
 -- the first word, and a space before each other one
 pub join_first : (w : List ℕ) (ws : List (List ℕ)) → join_with_byte 32 (w ∷ ws) ≡ w ++ spaced ws
 join_first w [] = sym (append-nil w)

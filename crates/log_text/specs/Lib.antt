@@ -1,3 +1,4 @@
+pub mod Versions
 pub mod Logs
 pub mod LogParts
 pub mod Rules

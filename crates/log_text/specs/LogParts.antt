@@ -7,10 +7,12 @@ use Rattle.sim_event.specs.declared.entry.Entry.{Entry}
 use Rattle.reply_text.specs.Replies.{line_end, end_line}
 use Rattle.reply_text.specs.Pieces.{WritesAll, WritesFront, writes_same, writes_cut, writes_next}
 use Rattle.watched.specs.Streams.{Writing, Writes}
-use Rattle.log_text.specs.Logs.{header, entry_text, log_text}
+use Rattle.log_text.specs.declared.version.Version.TheVariants.{Two}
+use Rattle.log_text.specs.Versions.{header}
+use Rattle.log_text.specs.Logs.{entry_text, log_text}
 
 abbrev pub first_line : List ℕ
-first_line = header ++ line_end
+first_line = header Two ++ line_end
 
 abbrev pub calls_text : List Entry → List ℕ
 calls_text h = flat_map entry_text h

@@ -5,15 +5,17 @@ ghost use Rattle.std.specs.Fmt.{decimal};
 ghost use Rattle.std.specs.List.{join_with_byte};
 ghost use Rattle.net_prefix.specs.Address.{addr_text};
 ghost use Rattle.net_prefix.specs.Prefix.{prefix_text};
-ghost use Rattle.command_text.specs.Words.{ask_words, edit_words, news_words, side_word, switch_word};
+ghost use Rattle.command_text.specs.Words.{ask_words, communities_words, edit_words, news_words, side_word, switch_word};
+ghost use Rattle.sim_event.specs.Wording.{maybe_number_text, origin_text, path_text};
 ghost use Rattle.log_text.specs.Logs.{command_text};
+ghost use Rattle.log_text.specs.Rules.{spaced};
 ghost use Rattle.watched.specs.Streams.{Writes};
 
 use crate::rule::write_rule;
 use net_conf::{Edit, PolicySide};
 use net_prefix::{Addr, Prefix};
 use reply_text::{Part, write_joined};
-use sim_event::{Ask, Event, Feed, News};
+use sim_event::{Ask, Event, FedRoute, Feed, News};
 use std::io::Write;
 use watched::{Output, WriterFailed};
 
@@ -81,36 +83,61 @@ fn write_feed<W: Write>(feed: &Feed, output: &mut Output<W>) -> Result<(), Write
         (join_with_byte 32 (codes "feed" ∷ addr_text feed.now.from ∷ addr_text feed.now.to ∷ news_words feed.now.news))
         result output.new }
 {
-    let (verb, from, to) = (
-        Part::Bytes(b"feed"),
-        Part::Addr(feed.from),
-        Part::Addr(feed.to),
-    );
     match &feed.news {
-        News::Update(prefix, path, origin, med) => {
-            let words = [
-                verb,
-                from,
-                to,
-                Part::Bytes(b"update"),
-                Part::Prefix(*prefix),
-                Part::Path(path),
-                Part::Origin(*origin),
-                Part::MaybeNumber(*med),
-            ];
-            write_joined(b' ', &words, output)
+        News::Update(route) => {
+            write_route(feed.from, feed.to, route, output)?;
+            write_communities(route.comms.numbers(), output)
         }
         News::Withdraw(prefix) => {
             let words = [
-                verb,
-                from,
-                to,
+                Part::Bytes(b"feed"),
+                Part::Addr(feed.from),
+                Part::Addr(feed.to),
                 Part::Bytes(b"withdraw"),
                 Part::Prefix(*prefix),
             ];
             write_joined(b' ', &words, output)
         }
     }
+}
+
+/// Writes the words of a route that is fed, but for its communities.
+fn write_route<W: Write>(
+    from: Addr,
+    to: Addr,
+    route: &FedRoute,
+    output: &mut Output<W>,
+) -> Result<(), WriterFailed>
+    ensures { Writes output.old
+        (join_with_byte 32 (codes "feed" ∷ addr_text from ∷ addr_text to ∷ codes "update" ∷ prefix_text route.now.prefix
+        ∷ path_text route.now.path ∷ origin_text route.now.origin ∷ maybe_number_text route.now.med ∷ []))
+        result output.new }
+{
+    let words = [
+        Part::Bytes(b"feed"),
+        Part::Addr(from),
+        Part::Addr(to),
+        Part::Bytes(b"update"),
+        Part::Prefix(route.prefix),
+        Part::Path(&route.path),
+        Part::Origin(route.origin),
+        Part::MaybeNumber(route.med),
+    ];
+    write_joined(b' ', &words, output)
+}
+
+/// Writes the word of the communities after a space. Nothing where there are none.
+fn write_communities<W: Write>(
+    communities: &[u32],
+    output: &mut Output<W>,
+) -> Result<(), WriterFailed>
+    ensures { Writes output.old (spaced (communities_words communities.now)) result output.new }
+{
+    if communities.is_empty() {
+        return Ok(());
+    }
+    output.write(b" comm=")?;
+    write_joined(b',', communities, output)
 }
 
 /// Writes a verb and two addresses.

@@ -5,7 +5,9 @@ mod command;
 mod in_threads;
 mod log;
 mod rule;
+mod version;
 
 pub use command::write_command;
 pub use in_threads::write_log_in_threads;
 pub use log::{write_end, write_entries, write_header, write_log};
+pub use version::Version;

@@ -4,7 +4,9 @@ ghost use Rattle.std.specs.Prelude.{◌++◌, length, codes};
 ghost use Rattle.std.specs.Fmt.{decimal};
 ghost use Rattle.std.specs.List.{flat_map};
 ghost use Rattle.reply_text.specs.Replies.{line_end, end_line};
-ghost use Rattle.log_text.specs.Logs.{header, call_line, entry_text, log_text};
+ghost use Rattle.log_text.specs.declared.version.Version.TheVariants.{Two};
+ghost use Rattle.log_text.specs.Versions.{header};
+ghost use Rattle.log_text.specs.Logs.{call_line, entry_text, log_text};
 ghost use Rattle.watched.specs.Streams.{Writes};
 
 use crate::command::write_command;
@@ -23,11 +25,12 @@ pub fn write_log<W: Write>(entries: &[Entry], output: &mut Output<W>) -> Result<
     write_end(entries.len() as u64, output)
 }
 
-/// Writes the first line of a log. At an error a front of it went out, here and in the calls below.
+/// Writes the first line of a log, which names the second version. At an error a front of it went out, here and in the
+/// calls below.
 pub fn write_header<W: Write>(output: &mut Output<W>) -> Result<(), WriterFailed>
-    ensures { Writes output.old (header ++ line_end) result output.new }
+    ensures { Writes output.old (header Two ++ line_end) result output.new }
 {
-    output.write(b"bgpsim log 1\n")
+    output.write(b"bgpsim log 2\n")
 }
 
 /// Writes the last line of a log of so many calls.

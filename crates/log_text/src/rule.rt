@@ -5,7 +5,7 @@ ghost use Rattle.std.specs.List.{join_with_byte};
 ghost use Rattle.std.specs.Fmt.{decimal};
 ghost use Rattle.net_prefix.specs.Address.{addr_text};
 ghost use Rattle.net_prefix.specs.Prefix.{prefix_text};
-ghost use Rattle.command_text.specs.Words.{action_words, match_words, setting_words, side_word};
+ghost use Rattle.command_text.specs.Words.{action_words, match_words, setting_words, settings_words, side_word};
 ghost use Rattle.log_text.specs.Rules.{spaced};
 ghost use Rattle.watched.specs.Streams.{Writes};
 
@@ -13,7 +13,7 @@ use crate::command::side_name;
 use net_conf::PolicySide;
 use net_prefix::{Addr, Prefix};
 use reply_text::{Part, write_each, write_joined};
-use route_policy::{Action, Match, Repeat, Rule};
+use route_policy::{Action, Match, Repeat, Rule, Settings};
 use std::io::Write;
 use watched::{Output, WriterFailed};
 
@@ -64,6 +64,7 @@ fn write_match<W: Write>(cond: Match, output: &mut Output<W>) -> Result<(), Writ
         Match::Under(prefix) => write_prefixed(b" under ", prefix, output),
         Match::Path(asn) => write_numbered(b" path ", asn.number(), output),
         Match::First(asn) => write_numbered(b" first ", asn.number(), output),
+        Match::Comm(number) => write_numbered(b" comm ", number, output),
     }
 }
 
@@ -73,39 +74,26 @@ fn write_action<W: Write>(act: Action, output: &mut Output<W>) -> Result<(), Wri
 {
     match act {
         Action::Deny => output.write(b" deny"),
-        Action::Permit { pref, med, prepend } => write_permit(pref, med, prepend, output),
+        Action::Permit(settings) => write_permit(settings, output),
     }
 }
 
 /// Writes the words of a permit, a space before each.
-fn write_permit<W: Write>(
-    pref: Option<u32>,
-    med: Option<u32>,
-    prepend: Option<Repeat>,
-    output: &mut Output<W>,
-) -> Result<(), WriterFailed>
-    ensures { Writes output.old
-        (spaced (codes "permit" ∷ setting_words (codes "pref=") pref ++ setting_words (codes "med=") med
-        ++ setting_words (codes "prepend=") prepend)) result output.new }
+fn write_permit<W: Write>(settings: Settings, output: &mut Output<W>) -> Result<(), WriterFailed>
+    ensures { Writes output.old (spaced (codes "permit" ∷ settings_words settings)) result output.new }
 {
     output.write(b" permit")?;
-    write_settings(pref, med, prepend, output)
+    write_settings(settings, output)
 }
 
 /// Writes the settings that are made, a space before each.
-fn write_settings<W: Write>(
-    pref: Option<u32>,
-    med: Option<u32>,
-    prepend: Option<Repeat>,
-    output: &mut Output<W>,
-) -> Result<(), WriterFailed>
-    ensures { Writes output.old
-        (spaced (setting_words (codes "pref=") pref ++ setting_words (codes "med=") med ++ setting_words
-        (codes "prepend=") prepend)) result output.new }
+fn write_settings<W: Write>(settings: Settings, output: &mut Output<W>) -> Result<(), WriterFailed>
+    ensures { Writes output.old (spaced (settings_words settings)) result output.new }
 {
-    write_setting(b"pref=", pref, output)?;
-    write_setting(b"med=", med, output)?;
-    write_setting(b"prepend=", count_of(prepend), output)
+    write_setting(b"pref=", settings.pref, output)?;
+    write_setting(b"med=", settings.med, output)?;
+    write_setting(b"prepend=", count_of(settings.prepend), output)?;
+    write_setting(b"add=", settings.add, output)
 }
 
 /// How many times, as a number.

@@ -8,6 +8,7 @@ use Rattle.std.specs.BTreeSet.{insert_key}
 use Rattle.net_prefix.specs.declared.addr.Addr.{Addr}
 use Rattle.net_prefix.specs.Address.{addr_cmp}
 use Rattle.route_policy.specs.declared.rule.Rule.{Rule}
+use Rattle.route_policy.specs.declared.rule.Settings.{Settings}
 use Rattle.route_policy.specs.declared.rule.Action.{Action}
 use Rattle.route_policy.specs.declared.rule.Action.TheVariants.{Deny, Permit}
 use Rattle.route_policy.specs.Limits.{is_full}
@@ -121,13 +122,17 @@ needs_internal c (Client a b on) = is_external c a b
 needs_internal c (OwnNext a b on) = is_external c a b
 needs_internal c _ = false
 
+-- the rule gives a setting
+abbrev pub sets_anything : Settings → Bool
+sets_anything s = is_some s.pref || is_some s.med || is_some s.prepend || is_some s.add
+
 -- what a rule may not set: anything on an internal session; on an external one a prepend in the import policy, and a
 -- preference in the export policy (own)
 abbrev pub sets_too_much : Bool → PolicySide → Action → Bool
 sets_too_much external side Deny = false
-sets_too_much false side (Permit pref med prepend) = is_some pref || is_some med || is_some prepend
-sets_too_much true Import (Permit pref med prepend) = is_some prepend
-sets_too_much true Export (Permit pref med prepend) = is_some pref
+sets_too_much false side (Permit s) = sets_anything s
+sets_too_much true Import (Permit s) = is_some s.prepend
+sets_too_much true Export (Permit s) = is_some s.pref
 
 -- 13: the rule sets what it may not set there
 abbrev pub breaks_rule : Configuration → Edit → Bool

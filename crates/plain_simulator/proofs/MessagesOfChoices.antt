@@ -1,11 +1,10 @@
 -- What is worked out once for a router gives what it sends.
-use Rattle.std.proofs.Common.{◌≡◌, Bool, true, List, [], ◌∷◌, ◌++◌, map, Option, Some, None, IfSome, if◌then◌else◌, refl, sym, ap, subst, ◌∙◌}
+use Rattle.std.proofs.Common.{◌≡◌, Bool, true, List, [], ◌∷◌, ◌++◌, map, Option, Some, if◌then◌else◌, refl, sym, ap, ◌∙◌}
 use Rattle.std.specs.List.{filter_map, cons_option}
 use Rattle.net_prefix.specs.declared.addr.Addr.{Addr}
-use Rattle.net_prefix.specs.Prefix.{Prefix}
 use Rattle.net_conf.specs.Costs.{is_up}
 use Rattle.reference_machine.specs.Network.{Network}
-use Rattle.reference_machine.specs.Advertising.{prefixes_at, in_order, changes, advertised, change_of, sends, sent}
+use Rattle.reference_machine.specs.Advertising.{prefixes_at, in_order, changes, advertised, sends, sent}
 use Rattle.plain_simulator.specs.Choices.{prefix_choices, router_choices, message_of, messages_of, AreChoices}
 use Rattle.plain_simulator.specs.declared.choices.RouterChoices.{RouterChoices}
 

@@ -33,6 +33,7 @@ pub fn route_from(
 
 /// Adds the route that was received over the session, if there is one and the session is up.
 fn add_peer<S: Selector>(
+    alloc: Global,
     chosen: &mut S,
     site: &SiteConf,
     prefix: Prefix,
@@ -45,12 +46,13 @@ fn add_peer<S: Selector>(
 {
     match route_from(received, site.me, prefix, from.peer) {
         None => Ok(()),
-        Some(attr) => put_received(chosen, site, prefix, attr, from),
+        Some(attr) => put_received(alloc, chosen, site, prefix, attr, from),
     }
 }
 
 /// Adds the routes that were received over these sessions of the router.
 fn add_peers<S: Selector>(
+    alloc: Global,
     chosen: &mut S,
     site: &SiteConf,
     sessions: &[SiteSession],
@@ -62,7 +64,7 @@ fn add_peers<S: Selector>(
         (filter_map (standing_from site.now prefix received.now.entries) sessions.now)) }
 {
     for from in sessions {
-        add_peer(chosen, site, prefix, received, from)?;
+        add_peer(alloc, chosen, site, prefix, received, from)?;
     }
     Ok(())
 }
@@ -79,6 +81,7 @@ pub fn standings<S: Selector + Drop>(
     let mut chosen = S::new(alloc);
     put_own(&mut chosen, site, prefix)?;
     add_peers(
+        alloc,
         &mut chosen,
         site,
         site.sessions.as_slice(),

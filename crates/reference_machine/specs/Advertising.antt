@@ -1,5 +1,5 @@
 -- What a router advertises to its peers, and what it sends when that changes (RFC 4271, 9.1.3 and 9.2).
-use Rattle.std.specs.Prelude.{ℕ, Bool, not, ◌&&◌, List, [], ◌++◌, map, fold, Option, Some, None, option_and_then, if◌then◌else◌}
+use Rattle.std.specs.Prelude.{Bool, not, ◌&&◌, List, [], ◌++◌, map, fold, Option, Some, None, option_and_then, if◌then◌else◌}
 use Rattle.std.specs.List.{filter_map}
 use Rattle.std.specs.BTreeSet.{insert_key}
 use Rattle.net_prefix.specs.declared.addr.Addr.{Addr}

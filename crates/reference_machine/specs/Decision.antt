@@ -1,6 +1,6 @@
 -- What a router decides, afresh, from what is configured and received (RFC 4271, 9.1.1 and 9.1.2; RFC 4456, 8 and 9).
 use Rattle.std.specs.Prelude.{ℕ, Bool, true, false, ◌&&◌, List, [], ◌∷◌, ◌++◌, fold, Option, Some, None, option_and_then, is_none, if◌then◌else◌}
-use Rattle.std.specs.Option.{unwrap_or}
+use Rattle.std.specs.Option.{unwrap_or, option_or}
 use Rattle.std.specs.List.{filter_map, list_any}
 use Rattle.std.specs.Map.{lookup}
 use Rattle.std.specs.BTreeMap.{is_at}
@@ -10,8 +10,8 @@ use Rattle.net_prefix.specs.Address.{same_addr}
 use Rattle.net_prefix.specs.Prefix.{Prefix, same_prefix}
 use Rattle.path_attr.specs.Path.{holds}
 use Rattle.path_attr.specs.declared.attr.Attr.{Attr}
-use Rattle.path_attr.specs.Attribute.{same_maybe_addr}
-use Rattle.path_attr.specs.declared.origin.Origin.TheVariants.{Igp}
+use Rattle.path_attr.specs.Attribute.{plain_attr, same_maybe_addr}
+use Rattle.path_attr.specs.Communities.{with_given}
 use Rattle.igp_cost.specs.Trees.{cost_in}
 use Rattle.route_policy.specs.declared.rule.Action.{Action}
 use Rattle.route_policy.specs.declared.rule.Action.TheVariants.{Deny, Permit}
@@ -36,9 +36,9 @@ default_preference = 100
 
 -- THE ROUTER'S OWN ROUTE
 
--- an empty path, ORIGIN IGP and the router as NEXT_HOP (RFC 4271, 5.1.1 to 5.1.3), with the default preference (own)
+-- an empty path, ORIGIN IGP and the router as NEXT_HOP (RFC 4271, 5.1.1 to 5.1.3), with the default preference and no communities (own)
 abbrev pub own_attr : Addr → Attr
-own_attr r = record { path = []; origin = Igp; next = r; med = None; pref = Some default_preference; oid = None; clusters = [] }
+own_attr r = record (plain_attr r) { pref = Some default_preference }
 
 -- it counts with the external ones, its cost is 0, and its identifier is the router's (own)
 abbrev pub own_candidate : Addr → Candidate
@@ -58,7 +58,7 @@ has_cluster_loop site attr = site.reflector && list_any (same_addr site.cluster)
 
 abbrev pub is_denial : Action → Bool
 is_denial Deny = true
-is_denial (Permit pref med prepend) = false
+is_denial (Permit s) = false
 
 -- why the router may not choose a peer's route: the first test that holds. A route with the router itself as NEXT_HOP needs no
 -- test (RFC 4271, 5.1.3): the router put itself there in a route that it advertised inside its AS, which comes back only by
@@ -80,12 +80,16 @@ exclusion site action attr =
 -- what the import policy sets
 abbrev pub set_preference : Action → Option ℕ
 set_preference Deny = None
-set_preference (Permit pref med prepend) = pref
+set_preference (Permit s) = s.pref
 
 abbrev pub set_med : Action → Option ℕ → Option ℕ
 set_med Deny med = med
-set_med (Permit pref None prepend) med = med
-set_med (Permit pref (Some m) prepend) med = Some m
+set_med (Permit s) med = option_or s.med med
+
+-- the communities, with the one that it adds
+abbrev pub set_communities : Action → List ℕ → List ℕ
+set_communities Deny cs = cs
+set_communities (Permit s) cs = with_given s.add cs
 
 -- the degree of preference: of an external route what the import policy sets, of an internal one its LOCAL_PREF
 -- (RFC 4271, 9.1.1)
@@ -93,9 +97,13 @@ abbrev pub preference : Bool → Action → Attr → ℕ
 preference true action attr = unwrap_or (set_preference action) default_preference
 preference false action attr = unwrap_or attr.pref default_preference
 
--- the attributes after import: MED as the policy left it, and the preference as LOCAL_PREF
+-- the attributes after import: MED and communities as the policy left them, and the preference as LOCAL_PREF
 abbrev pub imported : Bool → Action → Attr → Attr
-imported external action attr = record attr { med = set_med action attr.med; pref = Some (preference external action attr) }
+imported external action attr = record attr {
+  med = set_med action attr.med;
+  pref = Some (preference external action attr);
+  comms = set_communities action attr.comms;
+}
 
 -- a peer's route as a candidate; its identifier is the peer's address (own), and its ORIGINATOR_ID counts as that where it has one
 abbrev pub peer_candidate : SiteConf → SiteSession → Action → Attr → Candidate

@@ -1,8 +1,8 @@
 -- The machine: what each event does, and runs of events.
-use Rattle.std.specs.Prelude.{◌≡◌, ℕ, Bool, true, false, not, ◌==◌, ◌&&◌, ◌||◌, nat_lt, ◌⊎◌, List, [], ◌∷◌, map, filter, Option, Some, None, Result, Ok, Err, is_none, if◌then◌else◌}
+use Rattle.std.specs.Prelude.{◌≡◌, Bool, true, false, not, ◌&&◌, ◌||◌, nat_lt, ◌⊎◌, List, [], ◌∷◌, length, map, filter, Option, Some, None, Result, Ok, Err, if◌then◌else◌}
 use Rattle.net_prefix.specs.declared.addr.Addr.{Addr}
-use Rattle.net_prefix.specs.Prefix.{Prefix}
 use Rattle.path_attr.specs.declared.attr.Attr.{Attr}
+use Rattle.path_attr.specs.Attribute.{plain_attr}
 use Rattle.path_attr.specs.Path.{neighbour, number_count}
 use Rattle.path_attr.specs.Number.{same_number}
 use Rattle.session_queue.specs.declared.message.Message.{Message}
@@ -18,6 +18,7 @@ use Rattle.net_conf.specs.Edits.{first_of, refusal_of, edited}
 use Rattle.sim_event.specs.declared.event.Event.{Event}
 use Rattle.sim_event.specs.declared.event.Event.TheVariants.{Edit as AnEdit, Feed as AFeed, Deliver, Ask as AnAsk}
 use Rattle.sim_event.specs.declared.event.Feed.{Feed}
+use Rattle.sim_event.specs.declared.event.FedRoute.{FedRoute}
 use Rattle.sim_event.specs.declared.event.News.{News}
 use Rattle.sim_event.specs.declared.event.News.TheVariants.{Update, Withdraw}
 use Rattle.sim_event.specs.declared.event.Ask.{Ask}
@@ -27,7 +28,7 @@ use Rattle.sim_event.specs.declared.reply.Report.TheVariants.{Routes as TheRoute
 use Rattle.sim_event.specs.declared.reply.Reply.{Reply}
 use Rattle.sim_event.specs.declared.reply.Reply.TheVariants.{Done, Took, Report as AReport, Refused}
 use Rattle.session_queue.specs.declared.direction.Direction.{Direction}
-use Rattle.reference_machine.specs.declared.limits.TheConstants.{MOST_FED_NUMBERS}
+use Rattle.reference_machine.specs.declared.limits.TheConstants.{MOST_FED_NUMBERS, MOST_FED_COMMUNITIES}
 use Rattle.reference_machine.specs.declared.rows.RouteKey.{RouteKey}
 use Rattle.reference_machine.specs.declared.rows.Queue.{Queue}
 use Rattle.reference_machine.specs.Network.{Network, with_route, without_route, messages_in, with_direction, with_more, with_message, without_head}
@@ -86,13 +87,18 @@ edit_step s e = unless_refused (refusal_of s.conf e) s (record { reply = Done; n
 
 -- the path does not begin with a sequence whose first number is the feeder's AS (RFC 4271, 6.3)
 abbrev pub has_foreign_first : Configuration → Addr → News → Bool
-has_foreign_first c v (Update p path origin med) = not (same_number (neighbour path) (as_of c v))
+has_foreign_first c v (Update r) = not (same_number (neighbour r.path) (as_of c v))
 has_foreign_first c v (Withdraw p) = false
 
 -- the path holds more AS numbers than one that is fed may (own)
 abbrev pub is_too_long : News → Bool
-is_too_long (Update p path origin med) = nat_lt MOST_FED_NUMBERS (number_count path)
+is_too_long (Update r) = nat_lt MOST_FED_NUMBERS (number_count r.path)
 is_too_long (Withdraw p) = false
+
+-- the route carries more communities than one that is fed may (own)
+abbrev pub carries_too_many : News → Bool
+carries_too_many (Update r) = nat_lt MOST_FED_COMMUNITIES (length r.comms)
+carries_too_many (Withdraw p) = false
 
 -- why the feed is refused: the first test that holds, in the order of their numbers
 unfoldable pub feed_refusal : Configuration → Feed → Option Refusal
@@ -102,12 +108,16 @@ feed_refusal c f = first_of (
     ∷ (not (has_session c f.from f.to), NoSession)
     ∷ (not (is_up c f.from f.to), SessionDown)
     ∷ (has_foreign_first c f.from f.news, FirstAs)
-    ∷ (is_too_long f.news, Limit)
+    ∷ (is_too_long f.news || carries_too_many f.news, Limit)
     ∷ [])
 
--- the message that is fed: a route has its feeder as NEXT_HOP
+-- a route that is fed has its feeder as NEXT_HOP, and what the feed says
+abbrev pub fed_attr : Addr → FedRoute → Attr
+fed_attr v r = record (plain_attr v) { path = r.path; origin = r.origin; med = r.med; comms = r.comms }
+
+-- the message that is fed
 abbrev pub fed_message : Addr → News → Message
-fed_message v (Update p path origin med) = AnUpdate p (record { path = path; origin = origin; next = v; med = med; pref = None; oid = None; clusters = [] })
+fed_message v (Update r) = AnUpdate r.prefix (fed_attr v r)
 fed_message v (Withdraw p) = AWithdrawal p
 
 -- the state with what is fed on its way

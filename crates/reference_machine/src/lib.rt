@@ -10,7 +10,7 @@ mod rows;
 mod tracing;
 
 pub use laws::{longest_match_is_longest, traces_follow_looks};
-pub use limits::MOST_FED_NUMBERS;
+pub use limits::{MOST_FED_COMMUNITIES, MOST_FED_NUMBERS};
 pub use machine::Machine;
 pub use machine_rules::{
     advert_of, ask_refusal, change_of, cost_and_hop, delivery_refusal, exclusion, fed_message,
@@ -19,5 +19,5 @@ pub use machine_rules::{
 };
 pub use rows::{Queue, RouteKey};
 pub use session_queue::Direction;
-pub use sim_event::{Ask, Event, Feed, Held, News, Reply, Report, TraceEnd};
+pub use sim_event::{Ask, Event, FedRoute, Feed, Held, News, Reply, Report, TraceEnd};
 pub use tracing::{Look, Traced};

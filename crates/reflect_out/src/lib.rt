@@ -1,20 +1,21 @@
-//! What a router advertises to a peer of the route that it chose (RFC 4271, 9.1.3 and 9.2; RFC 4456, 6, 8 and 10).
+//! What a router advertises to a peer of the route that it chose (RFC 4271, 9.1.3 and 9.2; RFC 4456, 6, 8 and 10;
+//! RFC 1997).
 #![tactic(auto)]
 
 ghost use Rattle.std.specs.Prelude.{◌≡◌, ℕ, ◌∷◌, Some, IfOk, if◌then◌else◌};
-ghost use Rattle.std.specs.Option.{unwrap_or};
-ghost use Rattle.reflect_out.specs.Advertising.{is_from, to_other_as, to_own_as, reflected, is_client_of, reflected_to, inside, permitted, advertised_over, advert};
+ghost use Rattle.reflect_out.specs.Advertising.{is_from, is_kept_back, to_other_as, to_own_as, reflected, is_client_of, reflected_to, inside, permitted, advertised_over, advert};
 
 use net_conf::{SiteConf, SiteSession};
 use net_prefix::{Addr, Prefix};
-use path_attr::Attr;
-use route_policy::{Action, Repeat, judge};
+use path_attr::{Attr, Communities, NO_ADVERTISE, NO_EXPORT, NO_EXPORT_SUBCONFED};
+use route_policy::{Action, Settings, judge};
 use route_select::{Candidate, Source};
 use seq::SharedSeq;
 use std::alloc::{AllocError, Global};
 
 /// What the router advertises to the peer of the route that it chose for the prefix: nothing where it learned the route
-/// from that peer, where its export policy denies it, or where the route is an internal one that may not be reflected.
+/// from that peer, where a community keeps it back, where its export policy denies it, or where the route is an
+/// internal one that may not be reflected.
 #[tactic(auto, unfolding(crate::specs::Advertising::advert))]
 pub fn advert(
     alloc: Global,
@@ -44,6 +45,15 @@ fn is_from(peer: Addr, source: Source) -> bool
     }
 }
 
+/// Whether the route's communities keep it at its router, or within its AS.
+fn is_kept_back(external: bool, communities: &Communities) -> bool
+    ensures { result ≡ is_kept_back external communities.now }
+{
+    communities.carries(NO_ADVERTISE)
+        || (external
+            && (communities.carries(NO_EXPORT) || communities.carries(NO_EXPORT_SUBCONFED)))
+}
+
 /// What is advertised over the session.
 fn advertised_over(
     alloc: Global,
@@ -54,13 +64,12 @@ fn advertised_over(
 ) -> Result<Option<Attr>, AllocError>
     ensures { IfOk result (λ attr. attr ≡ advertised_over site.now prefix best.now to.now) }
 {
+    if is_kept_back(to.external, &best.attr.comms) {
+        return Ok(None);
+    }
     match judge(&to.policy_out, prefix, &best.attr) {
         Action::Deny => Ok(None),
-        Action::Permit {
-            pref: _,
-            med,
-            prepend,
-        } => permitted(alloc, site, best, to, med, prepend),
+        Action::Permit(settings) => permitted(alloc, site, best, to, settings),
     }
 }
 
@@ -70,15 +79,14 @@ fn permitted(
     site: &SiteConf,
     best: &Candidate,
     to: &SiteSession,
-    med: Option<u32>,
-    prepend: Option<Repeat>,
+    settings: Settings,
 ) -> Result<Option<Attr>, AllocError>
     ensures { IfOk result (λ attr.
-        attr ≡ (if to.now.external then Some (to_other_as site.now med prepend best.now.attr) else inside site.now
-        to.now best.now)) }
+        attr ≡ (if to.now.external then Some (to_other_as site.now settings best.now.attr) else inside site.now to.now
+        best.now)) }
 {
     if to.external {
-        Ok(Some(to_other_as(alloc, site, med, prepend, &best.attr)?))
+        Ok(Some(to_other_as(alloc, site, settings, &best.attr)?))
     } else {
         inside(alloc, site, to, best)
     }
@@ -88,25 +96,22 @@ fn permitted(
 fn to_other_as(
     alloc: Global,
     site: &SiteConf,
-    med: Option<u32>,
-    prepend: Option<Repeat>,
+    settings: Settings,
     attr: &Attr,
 ) -> Result<Attr, AllocError>
-    ensures { IfOk result (λ a. a ≡ to_other_as site.now med prepend attr.now) }
+    ensures { IfOk result (λ a. a ≡ to_other_as site.now settings attr.now) }
 {
-    let times = prepend.map_or(0, |repeat| repeat.count());
+    let times = settings.prepend.map_or(0, |repeat| repeat.count());
     let path = attr
         .path
         .prepended_times(alloc, site.asn, u16::from(times) + 1)?;
-    Ok(Attr {
-        path,
-        origin: attr.origin,
-        next: site.me,
-        med,
-        pref: None,
-        oid: None,
-        clusters: SharedSeq::empty(),
-    })
+    let comms = attr.comms.with_given(alloc, settings.add)?;
+    let mut told = Attr::plain(site.me);
+    told.path = path;
+    told.origin = attr.origin;
+    told.med = settings.med;
+    told.comms = comms;
+    Ok(told)
 }
 
 /// What is advertised inside the AS.
@@ -125,20 +130,19 @@ fn inside(
     }
 }
 
-/// The attributes inside the AS, of the router's own route or an external one. They share the path and take no memory:
-/// the only fault is that 2^63 owners share it.
+/// The attributes inside the AS, of the router's own route or an external one. They share its lists and take no memory:
+/// the only fault is that 2^63 owners share one.
 fn to_own_as(site: &SiteConf, to: &SiteSession, best: &Candidate) -> Result<Attr, AllocError>
     ensures { IfOk result (λ a. a ≡ to_own_as site.now to.now best.now) }
 {
-    Ok(Attr {
-        path: best.attr.path.share()?,
-        origin: best.attr.origin,
-        next: if to.own_next { site.me } else { best.attr.next },
-        med: best.attr.med,
-        pref: Some(best.pref),
-        oid: None,
-        clusters: SharedSeq::empty(),
-    })
+    let mut told = best.attr.share()?;
+    if to.own_next {
+        told.next = site.me;
+    }
+    told.pref = Some(best.pref);
+    told.oid = None;
+    told.clusters = SharedSeq::empty();
+    Ok(told)
 }
 
 /// An internal peer's route, inside the AS: only from a client, or to one.

@@ -21,17 +21,16 @@ use Rattle.session_queue.specs.declared.message.MessageKind.TheVariants.{Update,
 use Rattle.net_conf.specs.declared.refusal.Refusal.{Refusal}
 use Rattle.net_conf.specs.declared.refusal.Refusal.TheVariants.{Syntax, NoRouter, RouterExists, SameRouter, BadEnd, VirtualInside, NoLink, LinkExists, NotLinked, NoSession, SessionExists, InternalOnly, RuleNotAllowed, OriginExists, NoOrigin, SessionDown, QueueEmpty, FirstAs, Limit, Memory}
 use Rattle.net_conf.specs.Refusals.{number_of, name_of}
-use Rattle.sim_event.specs.Wording.{path_text, origin_text, maybe_number_text, maybe_addr_text, clusters_text}
+use Rattle.sim_event.specs.Wording.{numbers_text, path_text}
 use Rattle.sim_event.specs.declared.reply.Held.{Held}
 use Rattle.sim_event.specs.declared.reply.Report.{Report}
 use Rattle.sim_event.specs.declared.reply.Report.TheVariants.{Routes, Best as TheBest, Why, Rib, Queue, Quiet, Cost as Way, Trace}
 use Rattle.sim_event.specs.declared.reply.TraceEnd.{TraceEnd}
 use Rattle.sim_event.specs.declared.reply.TraceEnd.TheVariants.{Reached, NoRoute, Loop as Round}
-use Rattle.sim_event.specs.declared.reply.Reply.{Reply}
 use Rattle.sim_event.specs.declared.reply.Reply.TheVariants.{Done, Took, Report as AReport, Refused}
-use Rattle.reply_text.specs.Replies.{attr_text, source_text, held_line, end_line, kind_text, refusal_text, reason_text, reason_line, route_line, message_line, hop_line, trace_end_line, best_text, quiet_text, way_text, reply_text, report_text}
-use Rattle.reply_text.specs.Lines.{report_lines, reply_lines, IsLine, RepliesAreLines}
-use Rattle.reply_text.specs.Visible.{AreVisible, visible_lacks, visible_decimal, visible_addr, visible_prefix, visible_path, visible_origin, visible_maybe_number, visible_maybe_addr, visible_clusters}
+use Rattle.reply_text.specs.Replies.{communities_text, attr_text, source_text, held_line, end_line, kind_text, refusal_text, reason_text, reason_line, route_line, message_line, hop_line, trace_end_line, best_text, quiet_text, way_text, reply_text, report_text}
+use Rattle.reply_text.specs.Lines.{report_lines, IsLine, RepliesAreLines}
+use Rattle.reply_text.specs.Visible.{AreVisible, visible_lacks, visible_decimal, visible_addr, visible_prefix, visible_numbers, visible_path, visible_origin, visible_maybe_number, visible_maybe_addr, visible_clusters}
 
 -- NO LINE FEED
 
@@ -61,10 +60,15 @@ value text h = record { lacks = visible_lacks 10 (λ over. omega arith) text h }
 named : (before name text : List ℕ) → is_plain name ≡ true → Plain before → AreVisible text → Plain (before ++ name ++ text)
 named before name text e h g = both (before ++ name) text (both before name h (word name e)) (value text g)
 
+communities_plain : (cs : List ℕ) → Plain (communities_text cs)
+communities_plain [] = word [] refl
+communities_plain (c ∷ cs) = both (codes " comms=") (numbers_text (c ∷ cs)) (word (codes " comms=") refl) (value (numbers_text (c ∷ cs)) (visible_numbers (c ∷ cs)))
+
 attr_plain : (a : Attr) → Plain (attr_text a)
 unfolding attr_text
 attr_plain a =
-    named _ (codes " clusters=") _ refl
+    both _ (communities_text a.comms)
+    (named _ (codes " clusters=") _ refl
     (named _ (codes " oid=") _ refl
     (named _ (codes " pref=") _ refl
     (named _ (codes " med=") _ refl
@@ -76,7 +80,8 @@ attr_plain a =
     (visible_maybe_number a.med))
     (visible_maybe_number a.pref))
     (visible_maybe_addr a.oid))
-    (visible_clusters a.clusters)
+    (visible_clusters a.clusters))
+    (communities_plain a.comms)
 
 source_plain : (s : Source) → Plain (source_text s)
 source_plain Own = word (source_text Own) refl

@@ -16,7 +16,7 @@ use Rattle.session_queue.specs.declared.message.MessageKind.{MessageKind}
 use Rattle.session_queue.specs.declared.message.MessageKind.TheVariants.{Update, Withdraw}
 use Rattle.net_conf.specs.declared.refusal.Refusal.{Refusal}
 use Rattle.net_conf.specs.Refusals.{number_of, name_of}
-use Rattle.sim_event.specs.Wording.{path_text, origin_text, maybe_number_text, maybe_addr_text, clusters_text}
+use Rattle.sim_event.specs.Wording.{numbers_text, path_text, origin_text, maybe_number_text, maybe_addr_text, clusters_text}
 use Rattle.sim_event.specs.declared.reply.Held.{Held}
 use Rattle.sim_event.specs.declared.reply.Report.{Report}
 use Rattle.sim_event.specs.declared.reply.Report.TheVariants.{Routes, Best as TheBest, Why, Rib, Queue, Quiet, Cost as Way, Trace}
@@ -28,11 +28,16 @@ use Rattle.sim_event.specs.declared.reply.Reply.TheVariants.{Done, Took, Report 
 abbrev pub line_end : List ℕ
 line_end = 10 ∷ []
 
--- the seven attributes, each with its name
+-- the communities with their name, where there are some
+abbrev pub communities_text : List ℕ → List ℕ
+communities_text [] = []
+communities_text (c ∷ cs) = codes " comms=" ++ numbers_text (c ∷ cs)
+
+-- the eight attributes, each with its name
 unfoldable pub attr_text : Attr → List ℕ
 attr_text a = codes "path=" ++ path_text a.path ++ codes " origin=" ++ origin_text a.origin ++ codes " next=" ++ addr_text a.next
     ++ codes " med=" ++ maybe_number_text a.med ++ codes " pref=" ++ maybe_number_text a.pref
-    ++ codes " oid=" ++ maybe_addr_text a.oid ++ codes " clusters=" ++ clusters_text a.clusters
+    ++ codes " oid=" ++ maybe_addr_text a.oid ++ codes " clusters=" ++ clusters_text a.clusters ++ communities_text a.comms
 
 abbrev pub source_text : Source → List ℕ
 source_text Own = codes "self"

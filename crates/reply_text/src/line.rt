@@ -153,6 +153,7 @@ fn write_with_attr<W: Write>(
         Part::MaybeAddr(attr.oid),
         Part::Bytes(b" clusters="),
         Part::Clusters(&attr.clusters),
+        Part::Communities(&attr.comms),
         Part::Bytes(b"\n"),
     ];
     write_each(&parts, output)

@@ -30,6 +30,16 @@ impl Text for u8 {
     }
 }
 
+impl Text for u32 {
+    ghost use Rattle.std.specs.Fmt.{decimal};
+
+    ghost text = { decimal };
+
+    fn write<W: Write>(&self, output: &mut Output<W>) -> Result<(), WriterFailed> {
+        write_number(*self, output)
+    }
+}
+
 impl Text for Asn {
     ghost use Rattle.std.specs.Fmt.{decimal};
 

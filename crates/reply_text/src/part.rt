@@ -5,10 +5,10 @@ ghost use Rattle.sim_event.specs.Wording.{origin_text, maybe_number_text, maybe_
 ghost use Rattle.watched.specs.Streams.{Writes};
 
 use crate::number::write_number;
-use crate::path::{write_clusters, write_path};
+use crate::path::{write_clusters, write_communities, write_path};
 use crate::text::Text;
 use net_prefix::{Addr, Prefix};
-use path_attr::{AsPath, Origin};
+use path_attr::{AsPath, Communities, Origin};
 use route_select::Source;
 use seq::SharedSeq;
 use session_queue::MessageKind;
@@ -32,6 +32,8 @@ pub enum Part<'a> {
     Origin(Origin),
     Path(&'a AsPath),
     Clusters(&'a SharedSeq<Addr>),
+    /// Nothing where there are no communities.
+    Communities(&'a Communities),
 }
 
 impl Text for Part<'_> {
@@ -52,6 +54,7 @@ impl Text for Part<'_> {
             Part::Origin(origin) => write_origin(*origin, output),
             Part::Path(path) => write_path(path.segments(), output),
             Part::Clusters(clusters) => write_clusters(clusters.as_slice(), output),
+            Part::Communities(communities) => write_communities(communities.numbers(), output),
         }
     }
 }

@@ -1,8 +1,9 @@
-//! AS paths and cluster lists as text.
+//! AS paths, cluster lists and communities as text.
 
 ghost use Rattle.std.specs.Prelude.{[], ◌++◌, ◌∷◌, map};
 ghost use Rattle.watched.specs.Streams.{Writes};
 ghost use Rattle.sim_event.specs.Wording.{numbers_text, path_text, clusters_text};
+ghost use Rattle.reply_text.specs.Replies.{communities_text};
 ghost use Rattle.reply_text.specs.Parts.{dash_or_joined};
 
 use crate::text::{Text, write_joined};
@@ -67,4 +68,18 @@ pub(crate) fn write_clusters<W: Write>(
     ensures { Writes output.old (clusters_text clusters.now) result output.new }
 {
     write_list(b',', clusters, output)
+}
+
+/// Writes the name of communities and the numbers, joined by commas. Nothing where there is none.
+pub(crate) fn write_communities<W: Write>(
+    communities: &[u32],
+    output: &mut Output<W>,
+) -> Result<(), WriterFailed>
+    ensures { Writes output.old (communities_text communities.now) result output.new }
+{
+    if communities.is_empty() {
+        return Ok(());
+    }
+    output.write(b" comms=")?;
+    write_joined(b',', communities, output)
 }

@@ -6,8 +6,10 @@ use Rattle.net_prefix.specs.Tests.{covers}
 use Rattle.path_attr.specs.declared.attr.Attr.{Attr}
 use Rattle.path_attr.specs.Number.{same_number}
 use Rattle.path_attr.specs.Path.{holds, neighbour}
+use Rattle.path_attr.specs.Communities.{carries}
 use Rattle.route_policy.specs.declared.rule.Match.{Match}
-use Rattle.route_policy.specs.declared.rule.Match.TheVariants.{Any, Is, Under, Path, First}
+use Rattle.route_policy.specs.declared.rule.Match.TheVariants.{Any, Is, Under, Path, First, Comm}
+use Rattle.route_policy.specs.declared.rule.Settings.{Settings}
 use Rattle.route_policy.specs.declared.rule.Action.{Action}
 use Rattle.route_policy.specs.declared.rule.Action.TheVariants.{Permit}
 use Rattle.route_policy.specs.declared.rule.Rule.{Rule}
@@ -24,6 +26,8 @@ Meets (Under q) p a = Covers q p
 Meets (Path n) p a = IsTrue (holds n a.path)
 -- the AS is its neighbouring AS (RFC 4271, 9.1.2.2 c)
 Meets (First n) p a = neighbour a.path ≡ Some n
+-- it carries the community (RFC 1997)
+Meets (Comm n) p a = IsTrue (carries n a.comms)
 
 -- whether a route to the prefix with these attributes meets it
 abbrev pub matches : Match → Prefix → Attr → Bool
@@ -32,10 +36,15 @@ matches (Is q) p a = same_prefix q p
 matches (Under q) p a = covers q p
 matches (Path n) p a = holds n a.path
 matches (First n) p a = same_number (neighbour a.path) (Some n)
+matches (Comm n) p a = carries n a.comms
+
+-- nothing is set
+abbrev pub no_settings : Settings
+no_settings = record { pref = None; med = None; prepend = None; add = None }
 
 -- a permit without settings
 abbrev pub plain_permit : Action
-plain_permit = Permit None None None
+plain_permit = Permit no_settings
 
 -- what becomes of the route: the action of the first rule that matches it, and a plain permit where none does (own)
 unfoldable pub judged : List Rule → Prefix → Attr → Action

@@ -7,11 +7,12 @@ use Rattle.net_prefix.specs.Prefix.{Prefix, same_prefix}
 use Rattle.path_attr.specs.Number.{same_number}
 use Rattle.path_attr.specs.Sameness.{IsExact, lists_exact}
 use Rattle.route_policy.specs.declared.rule.Match.{Match}
-use Rattle.route_policy.specs.declared.rule.Match.TheVariants.{Any, Is, Under, Path, First}
+use Rattle.route_policy.specs.declared.rule.Match.TheVariants.{Any, Is, Under, Path, First, Comm}
+use Rattle.route_policy.specs.declared.rule.Settings.{Settings}
 use Rattle.route_policy.specs.declared.rule.Action.{Action}
 use Rattle.route_policy.specs.declared.rule.Action.TheVariants.{Deny, Permit}
 use Rattle.route_policy.specs.declared.rule.Rule.{Rule}
-use Rattle.route_policy.specs.Sameness.{same_match, same_action, same_rule, same_policy}
+use Rattle.route_policy.specs.Sameness.{same_match, same_settings, same_action, same_rule, same_policy}
 
 both_true : (p q : Bool) → p ≡ true → q ≡ true → (p && q) ≡ true
 both_true p q h g = λ i. h i && g i
@@ -44,6 +45,7 @@ match_true (Is p) (Is q) h = ap Is (prefix_true p q h)
 match_true (Under p) (Under q) h = ap Under (prefix_true p q h)
 match_true (Path m) (Path n) h = ap Path ((unsigned_Decides m n).0 h)
 match_true (First m) (First n) h = ap First ((unsigned_Decides m n).0 h)
+match_true (Comm m) (Comm n) h = ap Comm ((unsigned_Decides m n).0 h)
 match_true _ _ h = absurd (true≢false (sym h))
 
 match_itself : (m : Match) → same_match m m ≡ true
@@ -52,20 +54,31 @@ match_itself (Is p) = prefix_itself p
 match_itself (Under p) = prefix_itself p
 match_itself (Path n) = number_itself n
 match_itself (First n) = number_itself n
+match_itself (Comm n) = number_itself n
+
+settings_true : (s t : Settings) → same_settings s t ≡ true → s ≡ t
+settings_true s t h =
+    let three = second_so (same_number s.pref t.pref) (same_number s.med t.med && (same_number s.prepend t.prepend && same_number s.add t.add)) h in
+    let two = second_so (same_number s.med t.med) (same_number s.prepend t.prepend && same_number s.add t.add) three in
+    let prefs = maybe_number_true s.pref t.pref (first_so (same_number s.pref t.pref) (same_number s.med t.med && (same_number s.prepend t.prepend && same_number s.add t.add)) h) in
+    let meds = maybe_number_true s.med t.med (first_so (same_number s.med t.med) (same_number s.prepend t.prepend && same_number s.add t.add) three) in
+    let prepends = maybe_number_true s.prepend t.prepend (first_so (same_number s.prepend t.prepend) (same_number s.add t.add) two) in
+    let adds = maybe_number_true s.add t.add (second_so (same_number s.prepend t.prepend) (same_number s.add t.add) two) in
+    λ i. record { pref = prefs i; med = meds i; prepend = prepends i; add = adds i }
+
+settings_itself : (s : Settings) → same_settings s s ≡ true
+settings_itself s =
+    both_true _ _ (maybe_number_itself s.pref)
+    (both_true _ _ (maybe_number_itself s.med) (both_true _ _ (maybe_number_itself s.prepend) (maybe_number_itself s.add)))
 
 action_true : (a b : Action) → same_action a b ≡ true → a ≡ b
 action_true Deny Deny h = refl
-action_true (Permit pref med prepend) (Permit pref' med' prepend') h =
-    let prefs = maybe_number_true pref pref' (first_so (same_number pref pref') (same_number med med' && same_number prepend prepend') h) in
-    let two = second_so (same_number pref pref') (same_number med med' && same_number prepend prepend') h in
-    let meds = maybe_number_true med med' (first_so (same_number med med') (same_number prepend prepend') two) in
-    let prepends = maybe_number_true prepend prepend' (second_so (same_number med med') (same_number prepend prepend') two) in
-    λ i. Permit (prefs i) (meds i) (prepends i)
+action_true (Permit s) (Permit t) h = ap Permit (settings_true s t h)
 action_true _ _ h = absurd (true≢false (sym h))
 
 action_itself : (a : Action) → same_action a a ≡ true
 action_itself Deny = refl
-action_itself (Permit pref med prepend) = both_true _ _ (maybe_number_itself pref) (both_true _ _ (maybe_number_itself med) (maybe_number_itself prepend))
+action_itself (Permit s) = settings_itself s
 
 rule_true : (r s : Rule) → same_rule r s ≡ true → r ≡ s
 rule_true r s h =

@@ -7,4 +7,4 @@ mod rule;
 
 pub use policy::{AddFault, MAX_RULES, Policy, judge};
 pub use repeat::Repeat;
-pub use rule::{Action, Match, Rule};
+pub use rule::{Action, Match, Rule, Settings};

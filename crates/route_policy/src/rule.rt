@@ -19,6 +19,21 @@ pub enum Match {
     Path(Asn),
     /// The routes that came through this neighbouring AS: none whose path is empty or begins with a set.
     First(Asn),
+    /// The routes that carry the community (RFC 1997).
+    Comm(u32),
+}
+
+/// What a rule sets of the routes that it permits: each setting where it is given.
+#[derive(Clone, Copy, Debug, PartialEq, Eq)]
+pub struct Settings {
+    /// Its LOCAL_PREF.
+    pub pref: Option<u32>,
+    /// Its MULTI_EXIT_DISC.
+    pub med: Option<u32>,
+    /// How many more times than once the own AS is put in front of its path.
+    pub prepend: Option<Repeat>,
+    /// A community that it carries from then on.
+    pub add: Option<u32>,
 }
 
 /// What becomes of a route.
@@ -26,24 +41,18 @@ pub enum Match {
 pub enum Action {
     /// It is left out.
     Deny,
-    /// It passes, with those settings that are given.
-    Permit {
-        /// Its LOCAL_PREF.
-        pref: Option<u32>,
-        /// Its MULTI_EXIT_DISC.
-        med: Option<u32>,
-        /// How many more times than once the own AS is put in front of its path.
-        prepend: Option<Repeat>,
-    },
+    /// It passes, with these settings.
+    Permit(Settings),
 }
 
 impl Action {
     /// A permit without settings.
-    pub const PLAIN_PERMIT: Action = Action::Permit {
+    pub const PLAIN_PERMIT: Action = Action::Permit(Settings {
         pref: None,
         med: None,
         prepend: None,
-    };
+        add: None,
+    });
 }
 
 /// A rule: what becomes of the routes that it is about.
@@ -69,6 +78,7 @@ impl Match {
             Match::Under(block) => block.covers(&prefix),
             Match::Path(asn) => attr.path.holds(asn),
             Match::First(asn) => attr.path.neighbour() == Some(asn),
+            Match::Comm(number) => attr.comms.carries(number),
         }
     }
 }

@@ -2,33 +2,19 @@
 
 use crate::common::prefix;
 use net_prefix::Addr;
-use path_attr::{AsPath, Attr, Origin};
-use route_policy::{Action, Match, Policy, Rule, judge};
-use seq::SharedSeq;
+use path_attr::Attr;
+use route_policy::{Action, Match, Policy, Rule, Settings, judge};
 use std::process::Abort;
 
-const PREFER_FIVE: Action = Action::Permit {
+const PREFER_FIVE: Action = Action::Permit(Settings {
     pref: Some(5),
     med: None,
     prepend: None,
-};
-
-const PLAIN: Action = Action::Permit {
-    pref: None,
-    med: None,
-    prepend: None,
-};
+    add: None,
+});
 
 fn route() -> Attr {
-    Attr {
-        path: AsPath::empty(),
-        origin: Origin::Igp,
-        next: Addr(1),
-        med: None,
-        pref: None,
-        oid: None,
-        clusters: SharedSeq::empty(),
-    }
+    Attr::plain(Addr(1))
 }
 
 fn add(rt: &impl Abort, policy: &mut Policy, cond: Match, act: Action) {
@@ -49,5 +35,17 @@ fn judges_by_the_first_rule(rt: HostRuntime) {
     let other = prefix(&rt, "11.0.0.0/8");
     assert_eq!(rt; judge(&policy, other, &route), PREFER_FIVE);
     policy.clear();
-    assert_eq!(rt; judge(&policy, part, &route), PLAIN);
+    assert_eq!(rt; judge(&policy, part, &route), Action::PLAIN_PERMIT);
+}
+
+/// The policy `comm 5 deny`.
+#[test]
+fn judges_by_communities(rt: HostRuntime) {
+    let mut route = route();
+    let mut policy = Policy::new(rt.alloc());
+    add(&rt, &mut policy, Match::Comm(5), Action::Deny);
+    let ten = prefix(&rt, "10.0.0.0/8");
+    assert_eq!(rt; judge(&policy, ten, &route), Action::PLAIN_PERMIT);
+    route.comms = route.comms.with(rt.alloc(), 5).expect(&rt, "memory");
+    assert_eq!(rt; judge(&policy, ten, &route), Action::Deny);
 }

@@ -21,7 +21,7 @@ use Rattle.reference_machine.specs.declared.rows.Queue.{Queue}
 use Rattle.reference_machine.specs.Network.{Network, is_of, messages_in}
 use Rattle.reference_machine.specs.Decision.{route_from}
 use Rattle.reference_machine.specs.Reports.{is_empty, is_quiet}
-use Rattle.reference_machine.specs.Machine.{nothing, Outcome, unless_refused, after_edit, edit_step, has_foreign_first, is_too_long, fed_message, feed_refusal, feed_step, taken, head_step, delivery_refusal, delivery_step, ask_refusal, question_step, step, IsStep, IsRun}
+use Rattle.reference_machine.specs.Machine.{nothing, Outcome, unless_refused, after_edit, edit_step, has_foreign_first, is_too_long, carries_too_many, fed_message, feed_refusal, feed_step, taken, head_step, delivery_refusal, delivery_step, ask_refusal, question_step, step, IsStep, IsRun}
 use Rattle.session_law.specs.SessionLaw.{after_messages, applied, SessionLaw, QuietLaw}
 use Rattle.session_law.proofs.Configs.{all_fail, passes}
 use Rattle.session_law.proofs.Told.{direction, IsTold, sends_parts, applied_up, told_sent, told_nothing}
@@ -47,7 +47,7 @@ feed_tests c f =
     ∷ (not (has_session c f.from f.to), NoSession)
     ∷ (not (is_up c f.from f.to), SessionDown)
     ∷ (has_foreign_first c f.from f.news, FirstAs)
-    ∷ (is_too_long f.news, Limit)
+    ∷ (is_too_long f.news || carries_too_many f.news, Limit)
     ∷ []
 
 -- who feeds is a virtual peer, over a session that is up

@@ -1,6 +1,6 @@
 -- The session law: what a router has received from a peer, with what is on its way from there put over it, is what the
 -- peer advertises to it now: only changes are sent (RFC 4271, 9.2), and they come in order.
-use Rattle.std.specs.Prelude.{◌≡◌, Bool, true, List, fold, Option, Some, None, if◌then◌else◌}
+use Rattle.std.specs.Prelude.{◌≡◌, true, List, fold, Option, Some, None, if◌then◌else◌}
 use Rattle.net_prefix.specs.declared.addr.Addr.{Addr}
 use Rattle.net_prefix.specs.Prefix.{Prefix, same_prefix}
 use Rattle.path_attr.specs.declared.attr.Attr.{Attr}

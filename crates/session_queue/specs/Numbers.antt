@@ -1,9 +1,9 @@
 -- No public contract cites this file. Messages whose attributes are numbers of a pool.
-use Rattle.std.specs.Prelude.{◌<◌, List, [], map, length, get_or, None}
+use Rattle.std.specs.Prelude.{◌<◌, List, map, length, get_or}
 use Rattle.std.specs.List.{All}
 use Rattle.net_prefix.specs.declared.addr.Addr.{Addr}
-use Rattle.path_attr.specs.declared.origin.Origin.TheVariants.{Incomplete}
 use Rattle.path_attr.specs.declared.attr.Attr.{Attr}
+use Rattle.path_attr.specs.Attribute.{plain_attr}
 use Rattle.session_queue.specs.declared.message.Message.{Message}
 use Rattle.session_queue.specs.declared.message.Message.TheVariants.{Update, Withdraw}
 use Rattle.session_queue.specs.declared.numbered.Numbered.{Numbered}
@@ -13,7 +13,7 @@ use Rattle.session_queue.specs.Waiting.{Queues}
 
 -- what stands for a number that no pool has given: it is never seen
 abbrev pub no_attr : Attr
-no_attr = record { path = []; origin = Incomplete; next = record { 0 = 0 }; med = None; pref = None; oid = None; clusters = [] }
+no_attr = plain_attr (record { 0 = 0 })
 
 -- the message, its attributes by the pool's numbers
 abbrev pub message_by : List Attr → Numbered → Message

@@ -177,6 +177,7 @@ impl<S: Selector + Drop, T: PrefixTable<Cell<S>> + Drop> Sim<S, T> {
             return reply;
         }
         if let Some(taken) = taken {
+            drop(pushed);
             take(&mut self.state, taken);
             return reply;
         }

@@ -3,17 +3,19 @@ use Rattle.std.specs.Prelude.{ℕ, ◌<◌, ◌^◌, List, [], ◌∷◌, IfSome
 use Rattle.net_prefix.specs.declared.addr.Addr.{Addr}
 use Rattle.net_prefix.specs.Prefix.{Prefix, MakePrefix}
 use Rattle.path_attr.specs.declared.path.Segment.{Segment}
-use Rattle.path_attr.specs.Path.{IsPath, numbers_of}
+use Rattle.path_attr.specs.Path.{IsPath, IsAscending, numbers_of}
 use Rattle.igp_cost.specs.Metric.{IsMetric}
 use Rattle.route_policy.specs.Repeats.{IsRepeat}
 use Rattle.route_policy.specs.declared.rule.Match.{Match}
-use Rattle.route_policy.specs.declared.rule.Match.TheVariants.{Any, Is, Under, Path, First}
+use Rattle.route_policy.specs.declared.rule.Match.TheVariants.{Any, Is, Under, Path, First, Comm}
+use Rattle.route_policy.specs.declared.rule.Settings.{Settings}
 use Rattle.route_policy.specs.declared.rule.Action.{Action}
 use Rattle.route_policy.specs.declared.rule.Action.TheVariants.{Deny, Permit}
 use Rattle.net_conf.specs.declared.edit.Edit.{Edit}
 use Rattle.net_conf.specs.declared.edit.Edit.TheVariants.{Router, Virtual, Link, Metric, Fail, Mend, Join, Stop, Start, Client, OwnNext, Cluster, Rule as AddRule, Clear, Origin, NoOrigin}
 use Rattle.sim_event.specs.declared.event.Event.{Event}
 use Rattle.sim_event.specs.declared.event.Event.TheVariants.{Edit as AnEdit, Feed as AFeed, Deliver, Ask as AnAsk}
+use Rattle.sim_event.specs.declared.event.FedRoute.{FedRoute}
 use Rattle.sim_event.specs.declared.event.News.{News}
 use Rattle.sim_event.specs.declared.event.News.TheVariants.{Update, Withdraw}
 use Rattle.sim_event.specs.declared.event.Ask.{Ask}
@@ -39,10 +41,14 @@ IsMatch (Is p) = IsPrefix p
 IsMatch (Under p) = IsPrefix p
 IsMatch (Path n) = IsAsNumber n
 IsMatch (First n) = IsAsNumber n
+IsMatch (Comm n) = n < 2 ^ 32
+
+abbrev pub AreSettings : Settings → Type 0
+AreSettings s = IfSome s.pref (λ n. n < 2 ^ 32) × IfSome s.med (λ n. n < 2 ^ 32) × IfSome s.prepend IsRepeat × IfSome s.add (λ n. n < 2 ^ 32)
 
 abbrev pub IsAction : Action → Type 0
 IsAction Deny = Unit {0}
-IsAction (Permit pref med prepend) = IfSome pref (λ n. n < 2 ^ 32) × IfSome med (λ n. n < 2 ^ 32) × IfSome prepend IsRepeat
+IsAction (Permit s) = AreSettings s
 
 abbrev pub IsEdit : Edit → Type 0
 IsEdit (Router a n) = IsAddress a × IsAsNumber n
@@ -62,8 +68,15 @@ IsEdit (Clear a b side) = IsAddress a × IsAddress b
 IsEdit (Origin a p) = IsAddress a × IsPrefix p
 IsEdit (NoOrigin a p) = IsAddress a × IsPrefix p
 
+-- numbers of 32 bits (RFC 1997), in strictly ascending order (own)
+abbrev pub AreCommunities : List ℕ → Type 0
+AreCommunities cs = IsAscending cs × All (λ n. n < 2 ^ 32) cs
+
+abbrev pub IsFedRoute : FedRoute → Type 0
+IsFedRoute r = IsPrefix r.prefix × IsPath r.path × HasAsNumbers r.path × IfSome r.med (λ m. m < 2 ^ 32) × AreCommunities r.comms
+
 abbrev pub IsNews : News → Type 0
-IsNews (Update p path origin med) = IsPrefix p × IsPath path × HasAsNumbers path × IfSome med (λ m. m < 2 ^ 32)
+IsNews (Update r) = IsFedRoute r
 IsNews (Withdraw p) = IsPrefix p
 
 abbrev pub IsAsk : Ask → Type 0

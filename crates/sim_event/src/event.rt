@@ -2,7 +2,7 @@
 
 use net_conf::Edit;
 use net_prefix::{Addr, Prefix};
-use path_attr::{AsPath, Origin};
+use path_attr::{AsPath, Communities, Origin};
 use seq::Copied;
 use std::alloc::{AllocError, Global};
 
@@ -32,10 +32,24 @@ pub struct Feed {
 /// News of a prefix that is fed by hand.
 #[derive(Debug, Drop)]
 pub enum News {
-    /// A route, with its AS_PATH, ORIGIN and MULTI_EXIT_DISC.
-    Update(Prefix, AsPath, Origin, Option<u32>),
+    /// A route.
+    Update(FedRoute),
     /// No route any more.
     Withdraw(Prefix),
+}
+
+/// A route as it is fed: what its feeder says of it.
+#[derive(Debug, Drop)]
+pub struct FedRoute {
+    pub prefix: Prefix,
+    /// AS_PATH.
+    pub path: AsPath,
+    /// ORIGIN.
+    pub origin: Origin,
+    /// MULTI_EXIT_DISC.
+    pub med: Option<u32>,
+    /// COMMUNITIES.
+    pub comms: Communities,
 }
 
 /// A question, one variant a kind of command.
@@ -61,12 +75,22 @@ pub enum Ask {
     Trace(Addr, Addr),
 }
 
+impl Copied for FedRoute {
+    fn copy(&self, alloc: Global) -> Result<FedRoute, AllocError> {
+        Ok(FedRoute {
+            prefix: self.prefix,
+            path: self.path.copy(alloc)?,
+            origin: self.origin,
+            med: self.med,
+            comms: self.comms.copy(alloc)?,
+        })
+    }
+}
+
 impl Copied for News {
     fn copy(&self, alloc: Global) -> Result<News, AllocError> {
         match self {
-            News::Update(prefix, path, origin, med) => {
-                Ok(News::Update(*prefix, path.copy(alloc)?, *origin, *med))
-            }
+            News::Update(route) => Ok(News::Update(route.copy(alloc)?)),
             News::Withdraw(prefix) => Ok(News::Withdraw(*prefix)),
         }
     }

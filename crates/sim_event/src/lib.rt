@@ -9,6 +9,6 @@ mod same_event;
 mod same_reply;
 
 pub use entry::{Call, Entry};
-pub use event::{Ask, Event, Feed, News};
+pub use event::{Ask, Event, FedRoute, Feed, News};
 pub use reply::{Held, Reply, Report, TraceEnd};
 pub use same::{Same, are_same};

@@ -1,6 +1,6 @@
 //! Whether two events are the same.
 
-use crate::event::{Ask, Event, Feed, News};
+use crate::event::{Ask, Event, FedRoute, Feed, News};
 use crate::same::Same;
 use net_conf::Edit;
 use route_policy::{Action, Match, Rule};
@@ -53,12 +53,20 @@ impl Same for Edit {
     }
 }
 
+impl Same for FedRoute {
+    fn is_same(&self, other: &FedRoute) -> bool {
+        self.prefix == other.prefix
+            && self.path.is_same(&other.path)
+            && self.origin == other.origin
+            && self.med == other.med
+            && self.comms == other.comms
+    }
+}
+
 impl Same for News {
     fn is_same(&self, other: &News) -> bool {
         match (self, other) {
-            (News::Update(p, path, origin, med), News::Update(q, also, another, metric)) => {
-                p == q && path.is_same(also) && origin == another && med == metric
-            }
+            (News::Update(route), News::Update(another)) => route.is_same(another),
             (News::Withdraw(p), News::Withdraw(q)) => p == q,
             _ => false,
         }

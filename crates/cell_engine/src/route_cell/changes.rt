@@ -34,7 +34,7 @@ pub fn deliver<S: Selector + Drop>(
 {
     let received = cell.received.with_news(alloc, from, message)?;
     let mut chosen = cell.chosen.copy(alloc)?;
-    take(&mut chosen, site, from, message)?;
+    take(alloc, &mut chosen, site, from, message)?;
     let sends = sends_at(
         alloc,
         site,

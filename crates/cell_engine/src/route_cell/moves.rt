@@ -215,7 +215,8 @@ fn is_about_cost(exclusion: Option<Reason>) -> bool
 fn counts_cost(site: &SiteConf, prefix: Prefix, attr: &Attr, from: &SiteSession) -> bool
     ensures { result ≡ counts_cost site.now prefix attr.now from.now }
 {
-    from.up && is_about_cost(exclusion(site, judge(&from.policy_in, prefix, attr), attr))
+    let action = judge(&from.policy_in, prefix, attr);
+    from.up && is_about_cost(exclusion(site, &action, attr))
 }
 
 impl<S: Selector> Cell<S> {

@@ -17,6 +17,7 @@ use std::alloc::{AllocError, Global};
 
 /// Puts the route that was received over the session, if there is one and the session is up.
 fn put_peer<S: Selector>(
+    alloc: Global,
     chosen: &mut S,
     site: &SiteConf,
     prefix: Prefix,
@@ -29,12 +30,13 @@ fn put_peer<S: Selector>(
 {
     match received.route_of(from.peer) {
         None => Ok(()),
-        Some(attr) => put_received(chosen, site, prefix, attr, from),
+        Some(attr) => put_received(alloc, chosen, site, prefix, attr, from),
     }
 }
 
 /// Puts the routes that were received over these sessions of the router.
 fn put_peers<S: Selector>(
+    alloc: Global,
     chosen: &mut S,
     site: &SiteConf,
     sessions: &[SiteSession],
@@ -46,7 +48,7 @@ fn put_peers<S: Selector>(
         (filter_map (standing_of site.now prefix received.now) sessions.now)) }
 {
     for from in sessions {
-        put_peer(chosen, site, prefix, received, from)?;
+        put_peer(alloc, chosen, site, prefix, received, from)?;
     }
     Ok(())
 }
@@ -63,6 +65,7 @@ pub(crate) fn decide<S: Selector + Drop>(
     let mut chosen = S::new(alloc);
     put_own(&mut chosen, site, prefix)?;
     put_peers(
+        alloc,
         &mut chosen,
         site,
         site.sessions.as_slice(),
@@ -74,6 +77,7 @@ pub(crate) fn decide<S: Selector + Drop>(
 
 /// Takes the sender's message into the choice: its route is put, where their session is up, or dropped.
 pub(crate) fn take<S: Selector>(
+    alloc: Global,
     chosen: &mut S,
     site: &SiteConf,
     sender: Addr,
@@ -85,7 +89,7 @@ pub(crate) fn take<S: Selector>(
     match message {
         Message::Update(prefix, attr) => match site.session(sender) {
             None => Ok(()),
-            Some(from) => put_received(chosen, site, *prefix, attr, from),
+            Some(from) => put_received(alloc, chosen, site, *prefix, attr, from),
         },
         Message::Withdraw(_) => {
             chosen.drop_source(Source::Peer(sender));

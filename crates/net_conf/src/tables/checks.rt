@@ -2,7 +2,7 @@
 
 ghost use Rattle.std.specs.Prelude.{◌≡◌, MatchResult, length};
 ghost use Rattle.net_conf.specs.Configuration.{rules_at};
-ghost use Rattle.net_conf.specs.Edits.{lacks_either, lacks_node, repeats_node, has_one_end, has_bad_end, has_virtual_inside, is_inside, lacks_link, repeats_link, is_unlinked, lacks_session, repeats_session, needs_internal, sets_too_much, breaks_rule, repeats_origin, lacks_origin, rules_of, is_past_limit, refusal_of};
+ghost use Rattle.net_conf.specs.Edits.{lacks_either, lacks_node, repeats_node, has_one_end, has_bad_end, has_virtual_inside, is_inside, lacks_link, repeats_link, is_unlinked, lacks_session, repeats_session, needs_internal, sets_anything, sets_too_much, breaks_rule, repeats_origin, lacks_origin, rules_of, is_past_limit, refusal_of};
 
 use crate::edit::Edit;
 use crate::limits::{MAX_LINKS, MAX_SESSIONS};
@@ -11,7 +11,7 @@ use crate::tables::conf_tables::ConfTables;
 use crate::tables::{End, PolicySide};
 use igp_cost::MAX_NODES;
 use net_prefix::Addr;
-use route_policy::{Action, MAX_RULES, Policy};
+use route_policy::{Action, MAX_RULES, Policy, Settings};
 use shared_map::SharedMap;
 
 impl ConfTables {
@@ -268,17 +268,27 @@ fn sets_too_much(external: bool, side: PolicySide, action: Action) -> bool
 {
     match action {
         Action::Deny => false,
-        Action::Permit { pref, med, prepend } => {
+        Action::Permit(settings) => {
             if !external {
-                pref.is_some() || med.is_some() || prepend.is_some()
+                sets_anything(settings)
             } else {
                 match side {
-                    PolicySide::Import => prepend.is_some(),
-                    PolicySide::Export => pref.is_some(),
+                    PolicySide::Import => settings.prepend.is_some(),
+                    PolicySide::Export => settings.pref.is_some(),
                 }
             }
         }
     }
+}
+
+/// Whether a setting is given.
+fn sets_anything(settings: Settings) -> bool
+    ensures { result ≡ sets_anything settings }
+{
+    settings.pref.is_some()
+        || settings.med.is_some()
+        || settings.prepend.is_some()
+        || settings.add.is_some()
 }
 
 /// How many rules the policy of the end has.

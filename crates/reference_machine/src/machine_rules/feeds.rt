@@ -1,15 +1,14 @@
 //! What a virtual peer feeds.
 
 ghost use Rattle.std.specs.Prelude.{◌≡◌, IfOk};
-ghost use Rattle.reference_machine.specs.Machine.{has_foreign_first, is_too_long, feed_refusal, fed_message};
+ghost use Rattle.reference_machine.specs.Machine.{has_foreign_first, is_too_long, carries_too_many, feed_refusal, fed_attr, fed_message};
 
-use crate::limits::MOST_FED_NUMBERS;
+use crate::limits::{MOST_FED_COMMUNITIES, MOST_FED_NUMBERS};
 use net_conf::{Conf, Refusal};
 use net_prefix::Addr;
 use path_attr::Attr;
-use seq::SharedSeq;
 use session_queue::Message;
-use sim_event::{Feed, News};
+use sim_event::{FedRoute, Feed, News};
 use std::alloc::AllocError;
 
 /// Whether a fed path does not begin with the feeder's AS.
@@ -17,7 +16,7 @@ fn has_foreign_first(conf: &Conf, feeder: Addr, news: &News) -> bool
     ensures { result ≡ has_foreign_first conf.now feeder news.now }
 {
     match news {
-        News::Update(_, path, _, _) => path.neighbour() != conf.as_of(feeder),
+        News::Update(route) => route.path.neighbour() != conf.as_of(feeder),
         News::Withdraw(_) => false,
     }
 }
@@ -26,7 +25,16 @@ fn is_too_long(news: &News) -> bool
     ensures { result ≡ is_too_long news.now }
 {
     match news {
-        News::Update(_, path, _, _) => path.number_count() > MOST_FED_NUMBERS,
+        News::Update(route) => route.path.number_count() > MOST_FED_NUMBERS,
+        News::Withdraw(_) => false,
+    }
+}
+
+fn carries_too_many(news: &News) -> bool
+    ensures { result ≡ carries_too_many news.now }
+{
+    match news {
+        News::Update(route) => route.comms.numbers().len() > MOST_FED_COMMUNITIES,
         News::Withdraw(_) => false,
     }
 }
@@ -46,31 +54,34 @@ pub fn feed_refusal(conf: &Conf, feed: &Feed) -> Option<Refusal>
         Some(Refusal::SessionDown)
     } else if has_foreign_first(conf, feed.from, &feed.news) {
         Some(Refusal::FirstAs)
-    } else if is_too_long(&feed.news) {
+    } else if is_too_long(&feed.news) || carries_too_many(&feed.news) {
         Some(Refusal::Limit)
     } else {
         None
     }
 }
 
-/// The message that is fed: a route has its feeder as next hop. It shares the path: the only fault is that 2^63 owners
-/// share it.
+/// The message that is fed: a route has its feeder as next hop. It shares the path and the communities: the only fault
+/// is that 2^63 owners share one.
 pub fn fed_message(feeder: Addr, news: &News) -> Result<Message, AllocError>
     ensures { IfOk result (λ message. message ≡ fed_message feeder news.now) }
 {
     match news {
-        News::Update(prefix, path, origin, med) => Ok(Message::Update(
-            *prefix,
-            Attr {
-                path: path.share()?,
-                origin: *origin,
-                next: feeder,
-                med: *med,
-                pref: None,
-                oid: None,
-                clusters: SharedSeq::empty(),
-            },
-        )),
+        News::Update(route) => Ok(Message::Update(route.prefix, fed_attr(feeder, route)?)),
         News::Withdraw(prefix) => Ok(Message::Withdraw(*prefix)),
     }
+}
+
+/// The attributes of a route that is fed.
+fn fed_attr(feeder: Addr, route: &FedRoute) -> Result<Attr, AllocError>
+    ensures { IfOk result (λ attr. attr ≡ fed_attr feeder route.now) }
+{
+    let path = route.path.share()?;
+    let comms = route.comms.share()?;
+    let mut attr = Attr::plain(feeder);
+    attr.path = path;
+    attr.origin = route.origin;
+    attr.med = route.med;
+    attr.comms = comms;
+    Ok(attr)
 }

@@ -4,18 +4,26 @@ ghost use Rattle.std.specs.Prelude.{◌≡◌, Some, OnOk, OnErr, IfOk};
 ghost use Rattle.std.specs.List.{list_any};
 ghost use Rattle.std.specs.Option.{option_to_list};
 ghost use Rattle.net_prefix.specs.Address.{same_addr};
-ghost use Rattle.reference_machine.specs.Decision.{own_candidate, is_originated, own_standings, has_cluster_loop, is_denial, exclusion, set_preference, set_med, preference, imported, peer_candidate, judged_standing, peer_standing, standing_over, added};
+ghost use Rattle.reference_machine.specs.Decision.{own_attr, own_candidate, is_originated, own_standings, has_cluster_loop, is_denial, exclusion, set_preference, set_med, set_communities, preference, imported, peer_candidate, judged_standing, peer_standing, standing_over, added};
 
 use net_conf::{SiteConf, SiteSession};
 use net_prefix::{Addr, Prefix};
-use path_attr::{AsPath, Attr, Origin};
+use path_attr::{Attr, Communities};
 use route_policy::{Action, judge};
 use route_select::{Candidate, Reason, Selector, Source, Standing};
-use seq::SharedSeq;
-use std::alloc::AllocError;
+use std::alloc::{AllocError, Global};
 
 /// The preference of a route that nothing sets.
 const DEFAULT_PREFERENCE: u32 = 100;
+
+/// The attributes of the router's own route. It takes no memory.
+fn own_attr(router: Addr) -> Attr
+    ensures { result ≡ own_attr router }
+{
+    let mut attr = Attr::plain(router);
+    attr.pref = Some(DEFAULT_PREFERENCE);
+    attr
+}
 
 /// The route that the router originates, as a candidate. It takes no memory.
 pub fn own_candidate(router: Addr) -> Candidate
@@ -23,15 +31,7 @@ pub fn own_candidate(router: Addr) -> Candidate
 {
     Candidate {
         source: Source::Own,
-        attr: Attr {
-            path: AsPath::empty(),
-            origin: Origin::Igp,
-            next: router,
-            med: None,
-            pref: Some(DEFAULT_PREFERENCE),
-            oid: None,
-            clusters: SharedSeq::empty(),
-        },
+        attr: own_attr(router),
         pref: DEFAULT_PREFERENCE,
         external: true,
         cost: 0,
@@ -59,18 +59,18 @@ fn is_among(id: Addr, ids: &[Addr]) -> bool
     ids.iter().any(|other| id == *other)
 }
 
-fn is_denial(action: Action) -> bool
-    ensures { result ≡ is_denial action }
+fn is_denial(action: &Action) -> bool
+    ensures { result ≡ is_denial action.now }
 {
     match action {
         Action::Deny => true,
-        Action::Permit { .. } => false,
+        Action::Permit(_) => false,
     }
 }
 
 /// Why the router may not choose a peer's route: the first test that holds.
-pub fn exclusion(site: &SiteConf, action: Action, attr: &Attr) -> Option<Reason>
-    ensures { result ≡ exclusion site.now action attr.now }
+pub fn exclusion(site: &SiteConf, action: &Action, attr: &Attr) -> Option<Reason>
+    ensures { result ≡ exclusion site.now action.now attr.now }
 {
     if attr.path.holds(site.asn) {
         // The router's AS in its AS_PATH (RFC 4271, 9.1.2).
@@ -92,28 +92,41 @@ pub fn exclusion(site: &SiteConf, action: Action, attr: &Attr) -> Option<Reason>
     }
 }
 
-fn set_preference(action: Action) -> Option<u32>
-    ensures { result ≡ set_preference action }
+fn set_preference(action: &Action) -> Option<u32>
+    ensures { result ≡ set_preference action.now }
 {
     match action {
         Action::Deny => None,
-        Action::Permit { pref, .. } => pref,
+        Action::Permit(settings) => settings.pref,
     }
 }
 
-fn set_med(action: Action, med: Option<u32>) -> Option<u32>
-    ensures { result ≡ set_med action med }
+fn set_med(action: &Action, med: Option<u32>) -> Option<u32>
+    ensures { result ≡ set_med action.now med }
 {
     match action {
         Action::Deny => med,
-        Action::Permit { med: None, .. } => med,
-        Action::Permit { med: Some(set), .. } => Some(set),
+        Action::Permit(settings) => settings.med.or(med),
+    }
+}
+
+/// The communities, with the one that the policy adds.
+fn set_communities(
+    alloc: Global,
+    action: &Action,
+    communities: &Communities,
+) -> Result<Communities, AllocError>
+    ensures { IfOk result (λ more. more ≡ set_communities action.now communities.now) }
+{
+    match action {
+        Action::Deny => communities.share(),
+        Action::Permit(settings) => communities.with_given(alloc, settings.add),
     }
 }
 
 /// The degree of preference (RFC 4271, 9.1.1).
-fn preference(external: bool, action: Action, attr: &Attr) -> u32
-    ensures { result ≡ preference external action attr.now }
+fn preference(external: bool, action: &Action, attr: &Attr) -> u32
+    ensures { result ≡ preference external action.now attr.now }
 {
     if external {
         set_preference(action).unwrap_or(DEFAULT_PREFERENCE)
@@ -122,35 +135,33 @@ fn preference(external: bool, action: Action, attr: &Attr) -> u32
     }
 }
 
-/// The attributes after import, which share the path and the CLUSTER_LIST: the only fault is that 2^63 owners share
-/// one.
-fn imported(external: bool, action: Action, attr: &Attr) -> Result<Attr, AllocError>
-    ensures { IfOk result (λ a. a ≡ imported external action attr.now) }
+/// The attributes after import, which share the lists that the policy leaves as they are. Memory is taken for a
+/// community that it adds.
+fn imported(alloc: Global, external: bool, action: &Action, attr: &Attr) -> Result<Attr, AllocError>
+    ensures { IfOk result (λ a. a ≡ imported external action.now attr.now) }
 {
-    Ok(Attr {
-        path: attr.path.share()?,
-        origin: attr.origin,
-        next: attr.next,
-        med: set_med(action, attr.med),
-        pref: Some(preference(external, action, attr)),
-        oid: attr.oid,
-        clusters: attr.clusters.share()?,
-    })
+    let comms = set_communities(alloc, action, &attr.comms)?;
+    let mut taken = attr.share()?;
+    taken.med = set_med(action, attr.med);
+    taken.pref = Some(preference(external, action, attr));
+    taken.comms = comms;
+    Ok(taken)
 }
 
-/// A peer's route as a candidate; its identifier is the peer's address. It shares the
-/// route's lists: the only fault is that 2^63 owners share one.
+/// A peer's route as a candidate; its identifier is the peer's address. It shares the lists that the policy leaves as
+/// they are.
 pub fn peer_candidate(
+    alloc: Global,
     site: &SiteConf,
     from: &SiteSession,
-    action: Action,
+    action: &Action,
     attr: &Attr,
 ) -> Result<Candidate, AllocError>
-    ensures { IfOk result (λ c. c ≡ peer_candidate site.now from.now action attr.now) }
+    ensures { IfOk result (λ c. c ≡ peer_candidate site.now from.now action.now attr.now) }
 {
     Ok(Candidate {
         source: Source::Peer(from.peer),
-        attr: imported(from.external, action, attr)?,
+        attr: imported(alloc, from.external, action, attr)?,
         pref: preference(from.external, action, attr),
         external: from.external,
         cost: site.costs.cost(attr.next).unwrap_or(0),
@@ -158,25 +169,26 @@ pub fn peer_candidate(
     })
 }
 
-/// How a route that the import policy judged stands at the router. The only fault is that 2^63 owners share one of its
-/// lists.
+/// How a route that the import policy judged stands at the router.
 fn judged_standing(
+    alloc: Global,
     site: &SiteConf,
     from: &SiteSession,
-    action: Action,
+    action: &Action,
     attr: &Attr,
 ) -> Result<Standing, AllocError>
-    ensures { IfOk result (λ standing. standing ≡ judged_standing site.now from.now action attr.now) }
+    ensures { IfOk result (λ standing. standing ≡ judged_standing site.now from.now action.now attr.now) }
 {
     match exclusion(site, action, attr) {
         Some(reason) => Ok(Standing::Excluded(reason)),
-        None => Ok(Standing::Considered(peer_candidate(site, from, action, attr)?)),
+        None => Ok(Standing::Considered(peer_candidate(alloc, site, from, action, attr)?)),
     }
 }
 
-/// How a route from the peer of the session stands at the router. A candidate shares the route's lists: the only fault
-/// is that 2^63 owners share one.
+/// How a route from the peer of the session stands at the router. A candidate shares the lists that the import policy
+/// leaves as they are.
 pub fn peer_standing(
+    alloc: Global,
     site: &SiteConf,
     prefix: Prefix,
     from: &SiteSession,
@@ -184,7 +196,8 @@ pub fn peer_standing(
 ) -> Result<Standing, AllocError>
     ensures { IfOk result (λ standing. standing ≡ peer_standing site.now prefix from.now attr.now) }
 {
-    judged_standing(site, from, judge(&from.policy_in, prefix, attr), attr)
+    let action = judge(&from.policy_in, prefix, attr);
+    judged_standing(alloc, site, from, &action, attr)
 }
 
 /// Puts the router's own route to the prefix among the choice's, if it originates it. An error changes nothing.
@@ -204,6 +217,7 @@ pub fn put_own<S: Selector>(
 
 /// Puts a route that was received over the session among the choice's, if the session is up. An error changes nothing.
 pub fn put_received<S: Selector>(
+    alloc: Global,
     chosen: &mut S,
     site: &SiteConf,
     prefix: Prefix,
@@ -216,7 +230,7 @@ pub fn put_received<S: Selector>(
     ensures err { OnErr result (S.standings chosen.new ≡ S.standings chosen.old) }
 {
     if from.up {
-        let standing = peer_standing(site, prefix, from, attr)?;
+        let standing = peer_standing(alloc, site, prefix, from, attr)?;
         chosen.put(Source::Peer(from.peer), standing)?;
     }
     Ok(())

@@ -1,4 +1,3 @@
-use Rattle.std.proofs.Common.{ap}
 use Rattle.plain_simulator.specs.Choices.{message_of}
 use Rattle.plain_simulator.proofs.Lists.{filter_map_pushed}
 use Rattle.plain_simulator.proofs.choices.messages_for.Goals as goal

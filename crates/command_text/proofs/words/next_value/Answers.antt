@@ -3,7 +3,7 @@ use Rattle.std.proofs.lemmas.Bool.Decides.{Decides-eqb}
 use Rattle.std.proofs.lemmas.Slice.Eq.{strip_prefix_is}
 use Rattle.command_text.proofs.Readings.{when_none}
 use Rattle.command_text.proofs.Settings.{named_first, unnamed_first}
-use Rattle.command_text.proofs.rule.named_value.Goals as goal
+use Rattle.command_text.proofs.words.next_value.Goals as goal
 
 pub returns-in_err-strip_prefix-clause-none : goal.returns-in_err-strip_prefix-clause-none
 returns-in_err-strip_prefix-clause-none c =

@@ -1,9 +1,0 @@
-use Rattle.std.proofs.Common.{length}
-use Rattle.command_text.specs.Paths.{HasAscending}
-use Rattle.command_text.proofs.path.are_ascending.Given as goal
-
-abbrev pub invariant-loop-first : goal.invariant-loop-first
-invariant-loop-first l = record { up : HasAscending l.low l.rest → HasAscending 0 l.text; down : HasAscending 0 l.text → HasAscending l.low l.rest }
-
-abbrev pub decreases-loop-first : goal.decreases-loop-first
-decreases-loop-first l = length l.rest
