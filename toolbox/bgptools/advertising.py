@@ -2,8 +2,9 @@
 from __future__ import annotations
 
 import functools
-from typing import Dict, Iterable, List, Set, Tuple
+from typing import Collection, Dict, Iterable, List, Optional, Set, Tuple
 
+from .communities import withholding
 from .language import as_path, contains, neighbour, prefix
 from .network import Network
 from .replies import best
@@ -24,19 +25,30 @@ def _is_about(match: str, value: str, to: str) -> bool:
     return match == "any" or match == "is" and value == to
 
 
-def _meets(match: str, value: str, to: str, path: str) -> bool:
+def _meets(match: str, value: str, to: str, path: str, carried: Collection[int]) -> bool:
     if match == "path":
         return any(int(value) in numbers for _, numbers in as_path(path) or [])
+    if match == "comm":
+        return int(value) in carried
     return int(value) == neighbour(path) if match == "first" else _is_about(match, value, to)
 
 
-def permits(rules: List[str], to: str, path: str) -> bool:
+def deciding(rules: List[str], to: str, path: str, carried: Collection[int]) -> Optional[int]:
+    """The rule of a policy, counted from 0, that decides about a route with these communities: the first to match."""
+    read = enumerate(map(_read, rules))
+    return next((at for at, (match, value, _) in read if _meets(match, value, to, path, carried)), None)
+
+
+def permits(rules: List[str], to: str, path: str, carried: Collection[int] = ()) -> bool:
     """Whether a policy lets a route pass: by the first rule that matches, or where none does."""
-    return next((is_permit for match, value, is_permit in map(_read, rules) if _meets(match, value, to, path)), True)
+    at = deciding(rules, to, path, carried)
+    return at is None or _read(rules[at])[2]
 
 
 def may_permit(rules: List[str], to: str, asns: Set[int], has_inner: bool) -> bool:
-    """Whether a policy may let a route pass that comes from one of these ASes, whose path begins with it, or from inside the AS."""
+    """Whether a policy may let a route pass that comes from one of these ASes, the first of its path, or from inside.
+
+    What it carries is not known: each community that a rule matches it may carry or not."""
     left = set(asns)
     for match, value, is_permit in map(_read, rules):
         if match in ("first", "path"):
@@ -44,6 +56,8 @@ def may_permit(rules: List[str], to: str, asns: Set[int], has_inner: bool) -> bo
             if is_permit and (has_inner or asn in left or match == "path" and left):
                 return True
             left.discard(asn)
+        elif match == "comm" and is_permit and (has_inner or left):
+            return True
         elif _is_about(match, value, to):
             return is_permit and (has_inner or bool(left))
     return has_inner or bool(left)
@@ -61,7 +75,10 @@ def tells(network: Network, router: str, peer: str, reply: str) -> bool:
         return False
     if route.source != "self" and not is_open(network, router, route.source) and not is_open(network, router, peer):
         return False
-    return permits(network.rules.get((router, peer, "out"), []), route.prefix, route.attributes.path)
+    carried = route.attributes.communities
+    if withholding(carried, network.is_external(router, peer)):
+        return False
+    return permits(network.rules.get((router, peer, "out"), []), route.prefix, route.attributes.path, carried)
 
 
 class Telling:

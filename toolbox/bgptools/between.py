@@ -4,6 +4,7 @@ from __future__ import annotations
 from dataclasses import dataclass, field
 from typing import Dict, List, Tuple
 
+from . import communities
 from .network import Direction, Network
 from .replies import Route, refusal, route, routes
 from .run import Run
@@ -100,7 +101,11 @@ class Watch:
 def message_text(message: str) -> str:
     """A message of a queue in few words."""
     word, rest = message.split(" ", 1)
-    return message if word == "withdraw" else "update %s path %s" % (route(rest).prefix, route(rest).attributes.path)
+    if word == "withdraw":
+        return message
+    told = route(rest).attributes
+    comms = " comms " + communities.told(told.communities) if told.communities else ""
+    return "update %s path %s%s" % (route(rest).prefix, told.path, comms)
 
 
 def advice(passing: List[Passing], network: Network) -> List[str]:

@@ -4,10 +4,11 @@ from __future__ import annotations
 from dataclasses import dataclass, field
 from typing import Dict, List, Optional, Set, Tuple
 
+from . import communities
 from .language import by_address, by_prefix, contains, prefix, show_address, words_of
 from .network import Direction, Network, Pair, pair
 from .output import Progress
-from .replies import Route, Trace, reasons, routes, trace
+from .replies import Route, Trace, best, reasons, routes, trace
 from .run import Run
 
 REASONS = {
@@ -111,7 +112,20 @@ def _tell_why(before: Run, after: Run, found: Difference) -> None:
         elif pair(router, source) in stopped and not after.network.is_router(source):
             change.reason = "the session with %s was down for a while, and it was not fed again" % shown
         else:
-            change.reason = "%s does not tell it any more" % shown
+            kept = _kept_back(after, source, router, change.prefix)
+            kept = ": it chose a route that carries " + kept if kept else ""
+            change.reason = "%s does not tell it any more%s" % (shown, kept)
+
+
+def _kept_back(run: Run, router: str, peer: str, to: str) -> str:
+    """The communities by which a router does not tell a peer the route that it chose; empty where it has none."""
+    if not run.network.communities or not run.network.is_router(router):
+        return ""
+    chosen = best(run.ask(["best %s %s" % (router, to)])[0])
+    if chosen is None or chosen.source == peer:
+        return ""
+    keeping = communities.withholding(chosen.attributes.communities, run.network.is_external(router, peer))
+    return communities.told(keeping) if keeping else ""
 
 
 def _stopped(lines: List[str]) -> Set[Pair]:
@@ -129,8 +143,14 @@ def _compare_told(before: Run, after: Run, found: Difference) -> None:
     """What virtual peers are told: they are the external neighbours that no router's table shows."""
     for router, peer in ((r, v) for v in after.network.virtuals() for r in sorted(after.network.peers.get(v, ()), key=by_address)):
         old, new = (routes(run.ask(["out %s %s" % (router, peer)])[0]) if peer in run.network.peers.get(router, ()) else {} for run in (before, after))
-        if _changes(old, new):
-            found.told[router, peer] = _changes(old, new)
+        changes = _changes(old, new)
+        is_up = after.sessions_up([(router, peer)])[router, peer]
+        for change in (each for each in changes if each.after is None and is_up):
+            kept = _kept_back(after, router, peer, change.prefix)
+            shown = after.network.names.shown(router)
+            change.reason = "%s chose a route that carries %s" % (shown, kept) if kept else ""
+        if changes:
+            found.told[router, peer] = changes
 
 
 def _ways(before: Run, after: Run, asked: List[Tuple[str, str]]) -> List[Way]:

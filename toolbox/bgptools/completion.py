@@ -4,7 +4,8 @@ from __future__ import annotations
 import os
 from typing import Callable, Iterable, List, Sequence
 
-from .language import FORMS, NAMES, Form, words_of
+from .communities import WELL_KNOWN
+from .language import COMMUNITIES, FORMS, MATCHES, NAMES, SETTINGS, Form, words_of
 from .network import Direction, Network
 
 ADDRESSES = ("A", "B", "V", "R", "X", "D", "ID")
@@ -25,7 +26,7 @@ class Completion:
             return self._queues(words, text)
         if words[0] == "rule":
             return self._rule_words(words, text)
-        if words[0] in ("draw", "what-if") and len(words) > 1:
+        if words[0] in ("draw", "what-if") and len(words) > 1 or words[0] == "explain" and len(words) > 2:
             return self._options(words, text)
         found: List[str] = []
         for form in (form for form in (*FORMS, *self.own) if form.words[0] == words[0] and len(form.words) > len(words)):
@@ -54,25 +55,49 @@ class Completion:
             return files(text)
         if kind == "ORIGIN":
             return ["igp", "egp", "inc"]
+        if kind == COMMUNITIES:
+            return self._communities(text)
         return [] if kind.isupper() else kind.split("|")
+
+    def _known(self) -> List[int]:
+        """The communities that can be meant: those of the network, and the well-known ones."""
+        return sorted(self.network().communities | set(WELL_KNOWN))
+
+    def _communities(self, text: str) -> List[str]:
+        """The last word of a feed: its begin, or behind that each community that may come next."""
+        if not text.startswith("comm="):
+            return ["comm="]
+        before, comma, _ = text[len("comm="):].rpartition(",")
+        last = before.split(",")[-1]
+        more = [each for each in self._known() if not last.isdigit() or each > int(last)]
+        return ["comm=%s%s%d" % (before, comma, each) for each in more]
 
     def _options(self, words: List[str], text: str) -> List[str]:
         if words[-1] == "--prefix":
             return sorted(self.network().prefixes)
         if "--trace" in words[-2:]:
             return self._named(self.network().nodes, text)
+        if words[-1] == "--to":
+            return self._named(self.network().peers.get(self.network().names.address_of(words[1]), ()), text)
+        if words[0] == "explain":
+            return ["--to"] if len(words) == 3 else []
         return ["--prefix", "--trace"] if words[0] == "draw" else ["--trace", "--each", "--all"]
 
     def _rule_words(self, words: List[str], text: str) -> List[str]:
         if len(words) < 3:
             return self._named(self.network().nodes, text)
         if len(words) < 5:
-            return ["in", "out"] if len(words) == 3 else ["any", "is", "under", "path", "first"]
+            return ["in", "out"] if len(words) == 3 else list(MATCHES)
         if words[-1] in ("is", "under"):
             return sorted(self.network().prefixes)
         if words[-1] in ("path", "first"):
             return sorted({str(node.asn) for node in self.network().nodes.values()})
-        return ["pref=", "med=", "prepend="] if "permit" in words else [] if "deny" in words else ["deny", "permit"]
+        if words[-1] == "comm":
+            return list(map(str, self._known()))
+        if "permit" in words:
+            added = ["add=%d" % each for each in self._known()] if text.startswith("add=") else []
+            return [name + "=" for name, _, _ in SETTINGS] + added
+        return [] if "deny" in words else ["deny", "permit"]
 
 
 def files(text: str) -> List[str]:

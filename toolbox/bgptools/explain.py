@@ -1,4 +1,4 @@
-"""Why a router chose a route: `why` with each route's attributes, and against which route each other one lost, by which value."""
+"""Why a router chose a route: against which each other one lost, by which value; what it tells a peer, or why not."""
 from __future__ import annotations
 
 import argparse
@@ -6,9 +6,10 @@ import sys
 from dataclasses import dataclass
 from typing import Callable, Dict, List, Optional, Tuple
 
+from . import adverts, communities
 from .compare import REASONS
 from .language import by_address, neighbour, prefix
-from .mistakes import CHANGED, Mistake
+from .mistakes import CHANGED, DISAGREES, Mistake
 from .names import Names
 from .orders import add_order, order_of
 from .replies import Attributes, Route, best, reasons, routes
@@ -130,19 +131,26 @@ def text_of(router: str, to: str, found: List[Explained], names: Names) -> str:
         source = "its own" if one.source == "self" else "from " + names.shown(one.source)
         lines.append("  %-20s %s" % (source, verdict(one, found, names)))
         if one.attributes:
-            lines.append("      %s%s" % (one.attributes, " (as received)" if one.is_excluded else ", cost %d" % one.cost))
+            shown = communities.in_text(str(one.attributes))
+            lines.append("      %s%s" % (shown, " (as received)" if one.is_excluded else ", cost %d" % one.cost))
+            reach = communities.reach(one.attributes.communities) if one.reason == "best" else ""
+            lines += ["      " + reach] if reach else []
     return "\n".join(lines) + "\n"
 
 
 def parser() -> argparse.ArgumentParser:
     """The words of the command line."""
     made = argparse.ArgumentParser(prog="explain", description=(
-        "Plays SCRIPT and tells all routes of ROUTER to PREFIX: which was chosen, and against which route and by which value each other one lost."),
-        epilog="Attributes are those after the import policy; of a route that is excluded, as received. Exit status: 0; 1 where the network "
-               "does not settle; 2 a mistake.")
+        "Plays SCRIPT and tells all routes of ROUTER to PREFIX: which was chosen, and against which route and by "
+        "which value each other one lost. With --to, what it advertises to a peer, or why nothing."),
+        epilog="Attributes are those after the import policy; of a route that is excluded, as received. Exit status: "
+               "0; 1 where the network does not settle; 2 a mistake; 3 where the program advertises other than what "
+               "--to works out from the script.")
     made.add_argument("script", metavar="SCRIPT", help="the script; - is standard input")
     made.add_argument("router", metavar="ROUTER", help="a router's address, or its name")
     made.add_argument("prefix", metavar="PREFIX", help="a prefix, as 10.0.0.0/8")
+    made.add_argument("--to", metavar="X", help="tell what ROUTER advertises to its peer X, an address or a name, and "
+                                                "what is changed on the way; or why nothing")
     made.add_argument("--settle", action="store_true", help="empty all queues after the script")
     add_order(made)
     return made
@@ -158,15 +166,37 @@ def _check(run: Run, router: str, to: str) -> Tuple[str, str]:
     return found, to
 
 
+def _peer(run: Run, router: str, word: str) -> str:
+    """The peer that --to names."""
+    found, names = run.network.names.address_of(word), run.network.names
+    peers = sorted(run.network.peers.get(router, ()), key=by_address)
+    if found not in peers:
+        known = ", ".join(map(names.shown, peers[:8]))
+        shown = names.shown(router)
+        raise Mistake("--to %s: %s has no session with it; it has sessions with %s" % (word, shown, known or "none"))
+    return found
+
+
+def _told(run: Run, router: str, to: str, peer: Optional[str]) -> Tuple[str, int]:
+    """The answer, and the exit status."""
+    names = run.network.names
+    if peer is None:
+        return text_of(router, to, explain(run, router, to), names), 0
+    found = adverts.Teller(run, router, peer).advert(to)
+    return adverts.text_of(router, peer, to, found, names), DISAGREES if found.doubts else 0
+
+
 def main(words: Optional[List[str]] = None) -> int:
     """The tool."""
     chosen = parser().parse_args(words)
     with Run(order_of(chosen), tries_others=True) as run:
         run.play(read(chosen.script))
         router, to = _check(run, chosen.router, chosen.prefix)
+        peer = None if chosen.to is None else _peer(run, router, chosen.to)
         done = run.settle() if chosen.settle else None
         names = run.network.names
-        sys.stdout.write(text_of(router, to, explain(run, router, to), names))
+        text, status = _told(run, router, to, peer)
+        sys.stdout.write(text)
     if done and told_of(done):
         print("%s: %s" % (chosen.script, told_of(done, names)), file=sys.stderr)
-    return CHANGED if done and not done.is_settled else 0
+    return status or (CHANGED if done and not done.is_settled else 0)

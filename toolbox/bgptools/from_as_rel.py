@@ -5,7 +5,7 @@ import argparse
 import sys
 from typing import Dict, List, Optional, Set, Tuple
 
-from . import output
+from . import communities, output
 from .counted import check_length
 from .language import number, show_address
 from .mistakes import Mistake
@@ -14,6 +14,10 @@ from .sources import lines_in
 MOST_ROUTERS, MOST_SESSIONS = 4096, 256
 FORM = "PROVIDER|CUSTOMER|-1 or PEER|PEER|0 is expected, each an AS number"
 Tie = Tuple[int, int, int]
+# Whose a route is: the low half of the community that marks it.
+CUSTOMER, PEER, PROVIDER = 1, 2, 3
+# The AS number of 16 bits that stands for any greater one (RFC 6793); no AS has it.
+AS_TRANS = 23456
 
 
 class Relations:
@@ -97,7 +101,9 @@ def within_limits(whole: Relations, path: str) -> Relations:
 
 
 class Writer:
-    """The script."""
+    """The script, with policies that name neighbours."""
+    HEAD = ["# Valley-free policies: routes of customers have preference 100, as a router's own, those of peers 90, "
+            "those of providers 80."]
 
     def __init__(self, known: Relations, origins: List[int]) -> None:
         self.known, self.origins = known, origins
@@ -105,8 +111,7 @@ class Writer:
         self.prefixes = {asn: "%s/24" % show_address((100 << 24) + (n << 8)) for n, asn in enumerate(known.asns())}
 
     def lines(self) -> List[str]:
-        lines = ["# Valley-free policies: routes of customers have preference 100, as a router's own, those of peers 90, those of providers 80."]
-        lines += ["router %s %d" % (self.routers[asn], asn) for asn in self.known.asns()]
+        lines = self.HEAD + ["router %s %d" % (self.routers[asn], asn) for asn in self.known.asns()]
         for one, other, _ in self.known.ties:
             lines += ["link %s %s 1" % (self.routers[one], self.routers[other]), "join %s %s" % (self.routers[one], self.routers[other])]
         for asn in self.known.asns():
@@ -126,8 +131,46 @@ class Writer:
 
     def count(self) -> int:
         """How many lines the script has."""
-        upward = [len(self.known.peers[asn] | self.known.providers[asn]) for asn in self.known.asns()]
-        return 1 + len(upward) + 2 * len(self.known.ties) + sum(count * count for count in upward) + len(self.origins)
+        asns = self.known.asns()
+        policies = sum(map(self._count_of_policies, asns))
+        return len(self.HEAD) + len(asns) + 2 * len(self.known.ties) + policies + len(self.origins)
+
+    def _count_of_policies(self, asn: int) -> int:
+        return len(self.known.peers[asn] | self.known.providers[asn]) ** 2
+
+
+class Marking(Writer):
+    """The script, with policies by communities: an AS marks what it takes as of a customer, a peer or a provider.
+
+    Each AS has marks of its own. What has passed an AS has its number in the path, and so the AS does not take it
+    again. So a route that it takes carries the one mark that its import gave it, and its own routes carry none."""
+    HEAD = Writer.HEAD + [
+        "# An AS marks routes of its customers by a community that ends with 1, those of its peers with 2, those of its",
+        "# providers with 3, and tells peers and providers nothing marked 2 or 3. Its marks are given by no other AS."]
+
+    def __init__(self, known: Relations, origins: List[int]) -> None:
+        super().__init__(known, origins)
+        large = [asn for asn in known.asns() if asn > 65535]
+        self.before = {asn: (AS_TRANS << 16) + 10 * at for at, asn in enumerate(large, 1)}
+
+    def _marks(self, asn: int) -> List[int]:
+        """AS 7 has 7:1, 7:2 and 7:3; of those above 65535 the first has 23456:11 to 23456:13, the next 23456:21 on."""
+        return [self.before.get(asn, asn << 16) + kind for kind in (CUSTOMER, PEER, PROVIDER)]
+
+    def _policies(self, asn: int) -> List[str]:
+        """A rule for what comes from a neighbour, and two for what goes to a peer or provider, whoever else is there."""
+        known, here, marks = self.known, self.routers[asn], self._marks(asn)
+        settings = dict.fromkeys(known.customers[asn], "add=%d" % marks[0])
+        settings.update(dict.fromkeys(known.peers[asn], "pref=90 add=%d" % marks[1]))
+        settings.update(dict.fromkeys(known.providers[asn], "pref=80 add=%d" % marks[2]))
+        upward = sorted(known.peers[asn] | known.providers[asn])
+        lines = ["# AS %d: %s" % (asn, ", ".join("%s is %d" % (communities.shown(mark), mark) for mark in marks))]
+        lines += ["rule %s %s in any permit %s" % (here, self.routers[to], settings[to]) for to in sorted(settings)]
+        return lines + ["rule %s %s out comm %d deny" % (here, self.routers[to], mark)
+                        for to in upward for mark in marks[1:]]
+
+    def _count_of_policies(self, asn: int) -> int:
+        return 1 + self.known.degree(asn) + 2 * len(self.known.peers[asn] | self.known.providers[asn])
 
 
 def _addresses(asns: List[int]) -> Dict[int, str]:
@@ -158,6 +201,8 @@ def parser() -> argparse.ArgumentParser:
     made.add_argument("file", metavar="FILE", help="the relationships; - is standard input; a name that ends with .gz or .bz2 is unpacked")
     made.add_argument("--core", type=int, metavar="N", help="keep the N ASes with the most relationships")
     made.add_argument("--origins", metavar="AS,..", help="which ASes originate a prefix, or `all`; without it the ten with the fewest customers")
+    made.add_argument("--communities", action="store_true",
+                      help="policies that mark what comes in, by communities, and look at the marks of what goes out")
     made.add_argument("-o", dest="out", metavar="FILE", help="write to this file, and not to standard output")
     return made
 
@@ -168,7 +213,7 @@ def main(words: Optional[List[str]] = None) -> int:
     if chosen.core is not None and chosen.core < 2:
         raise Mistake("--core %d: at least 2 are expected" % chosen.core)
     known = within_limits(core(relations(chosen.file), chosen.core), chosen.file)
-    writer = Writer(known, _origins(known, chosen.origins, chosen.file))
+    writer = (Marking if chosen.communities else Writer)(known, _origins(known, chosen.origins, chosen.file))
     check_length(writer.count(), chosen.file, "--core N keeps fewer ASes")
     output.write("".join(line + "\n" for line in writer.lines()), chosen.out)
     return 0

@@ -7,6 +7,7 @@ from collections import Counter
 from typing import Dict, List, Optional, Set, Tuple
 
 from . import frr_checks, frr_costs, frr_origins, frr_sessions, output
+from .frr_communities import sets_some
 from .frr_config import Config, Neighbour, Told, read, short
 from .frr_layout import routers_in
 from .frr_lists import Place, World, shown
@@ -52,7 +53,21 @@ class Translation:
         world.prepending.update(config.asn or 0 for config in network.routers.values()
                                 if any("prepend" in entry.settings for entries in config.maps.values()
                                        for entry in entries.values()))
+        world.marking.update(self._marking())
         return world
+
+    def _marking(self) -> Dict[int, Set[str]]:
+        """Where maps of each AS set communities: on the way in or out, or inside it."""
+        network = self.network
+        used = [(name, way if network.is_external(name, other) else "inside", each.filters["route-map", way][0])
+                for (name, other), each in network.peers.items() for way in ("in", "out")
+                if ("route-map", way) in each.filters]
+        used += [(name, "inside", origin.map) for name, config in network.routers.items() for origin in config.origins]
+        found: Dict[int, Set[str]] = {}
+        for name, way, map_name in used:
+            if sets_some(network.routers[name], map_name):
+                found.setdefault(network.asn_of(name), set()).add(way)
+        return found
 
     def _routers(self) -> None:
         for name in sorted(self.network.routers, key=by_address):
@@ -101,8 +116,14 @@ class Translation:
             elif each.has(flag) and word == "client":
                 config.tell(each.at(flag), "%s: it is in another AS, and no client, in FRR neither" %
                             short(each.at(flag).text), False)
-        for way in ("in", "out"):
-            rules = policy(config, each, way, Place(config.asn or 0, is_external, way), self.world)
+        line = each.at("send-community")
+        is_sent = each.flags.get("send-community", (True, line))[0]
+        places = {way: Place(config.asn or 0, self.network.asn_of(other), way, is_sent) for way in ("in", "out")}
+        if not is_sent and not self.world.is_bare(places["out"]):
+            config.tell(line, "%s: FRR tells routes to it without their communities; here they keep them" %
+                        short(line.text))
+        for way, place in places.items():
+            rules = policy(config, each, way, place, self.world)
             rules = self._with_front(name, config, other, each, rules) if way == "out" else rules
             if rules is not None:
                 self._rules(name, config, other, each, way, shortened(without_covered(rules)))

@@ -6,6 +6,7 @@ import os
 import re
 from typing import Any, Callable, Dict, List, Optional, Tuple
 
+from .frr_communities import given, numbers_of
 from .frr_config import (
     NOWHERE, Address, Config, Entry, Interface, Item, Neighbour, Origin, Static, Taker, loose_prefix, short, taken
 )
@@ -179,6 +180,25 @@ def _access_list(config: Config, line: Line, name: str, sequence: Optional[str],
 
 def _path_list(config: Config, line: Line, name: str, sequence: Optional[str], action: str, said: str) -> None:
     _put(config.path_lists, name, sequence, Item(action == "permit", line, said=said))
+
+
+def _community_list(config: Config, line: Line, style: Optional[str], named: Optional[str], numbered: Optional[str],
+                    sequence: Optional[str], action: str, said: str) -> Optional[bool]:
+    """An entry of a community list, which is standard or expanded by its word or its number."""
+    at = int(numbered or 0)
+    is_standard = style == "standard" or at in range(1, 100)
+    numbers = numbers_of(said) if is_standard else ()
+    if numbers is None or numbered and at not in range(1, 501):
+        return False
+    name, is_permit, expression = named or numbered or "", action == "permit", "" if is_standard else said
+    known = list(config.community_lists.get(name, {}).values())
+    if known and bool(known[0].numbers) != is_standard:
+        config.tell(line, "%s: the list is %s before, and FRR takes no entry of the other kind into it" % (
+            short(line.text), "expanded" if is_standard else "standard"), False)
+    # Of two entries that say the same FRR keeps the first.
+    elif all((each.is_permit, each.said, each.numbers) != (is_permit, expression, numbers) for each in known):
+        _put(config.community_lists, name, sequence, Item(is_permit, line, said=expression, numbers=numbers))
+    return None
 
 
 # An interface
@@ -367,6 +387,13 @@ def _match(config: Config, entry: Entry, line: Line, kind: str, name: str) -> No
     entry.matches[called] = (name, line)
 
 
+def _set_community(config: Config, entry: Entry, line: Line, said: str) -> Optional[bool]:
+    if given(said) is None:
+        return False
+    entry.settings["community"] = (said, line)
+    return None
+
+
 def _set_number(config: Config, entry: Entry, line: Line, kind: str, said: str) -> Optional[bool]:
     entry.settings[{"local-preference": "pref", "metric": "med"}[kind]] = (said, line)
     return number(said) is not None
@@ -404,7 +431,9 @@ TAKERS: Dict[str, List[Taker]] = {
         (r"(?:ip )?router-id (\S+)", _interior_identifier), (r"ip route (.+)", _static),
         (r"ip prefix-list (\S+) (?:seq ([0-9]+) )?(permit|deny) (\S+)((?: (?:le|ge) [0-9]+)*)", _prefix_list),
         (r"access-list (\S+) (?:seq ([0-9]+) )?(permit|deny) (.+)", _access_list),
-        (r"(?:bgp|ip) as-path access-list (\S+) (?:seq ([0-9]+) )?(permit|deny) (.+)", _path_list)),
+        (r"(?:bgp|ip) as-path access-list (\S+) (?:seq ([0-9]+) )?(permit|deny) (.+)", _path_list),
+        (r"(?:bgp|ip) community-list (?:(standard|expanded) (\S+)|([0-9]+)) (?:seq ([0-9]+) )?(permit|deny) (.+)",
+         _community_list)),
     "interface": _takers(
         (r"ip address ([0-9.]+)/([0-9]+)(?: label \S+)?()", _address),
         (r"ip address ([0-9.]+)(?:/[0-9]+)? peer ([0-9.]+/[0-9]+)", _address_with_peer),
@@ -427,8 +456,9 @@ TAKERS: Dict[str, List[Taker]] = {
         (r"redistribute (\S+)( .+)?", _redistribute), (r"(no )?neighbor (\S+) (.+)", _neighbour)),
     "map": _takers(
         (r"match (ip address prefix-list|ip address|as-path) (\S+)", _match),
+        (r"match (community) (\S+(?: exact-match| any)?)", _match), (r"set community (.+)", _set_community),
         (r"set (local-preference|metric) ([0-9]+)", _set_number),
-        (r"set (as-path prepend|weight|community|ip next-hop) (.+)", _set_word),
+        (r"set (as-path prepend|weight|ip next-hop) (.+)", _set_word), (r"set (comm-list) (\S+) delete", _set_word),
         (r"((?:match|call|on-match|continue).*)", _broken)),
 }
 
@@ -436,6 +466,7 @@ OF_NEIGHBOUR: List[Taker] = _takers(
     (r"remote-as (\S+)", _remote), (r"peer-group (\S+)", _group),
     (r"interface(?: v6only)?((?: remote-as \S+| peer-group \S+)*)", _unnumbered),
     (r"(route-reflector-client|next-hop-self|activate|passive|disable-connected-check)", _neighbour_flag),
+    (r"(send-community)(?: standard| both| all)?", _neighbour_flag),
     (r"(shutdown)(?: message .+)?", _neighbour_flag),
     (r"(ebgp-multihop)(?: [0-9]+)?", _neighbour_flag), (r"(ttl-security) hops [0-9]+", _neighbour_flag),
     (r"next-hop-self (?:force|all)", _force),

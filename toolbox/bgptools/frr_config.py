@@ -90,8 +90,8 @@ class Entry:
 @dataclass
 class Item:
     """An entry of a prefix list or an access list (a prefix with the lengths that it is about; `wild` is any that has
-    the same first bits) or of
-    an as-path list (`said`)."""
+    the same first bits), of an as-path list or an expanded community list (`said`), or of a standard one
+    (`numbers`)."""
     is_permit: bool
     line: Line
     where: Prefix = ALL
@@ -99,6 +99,7 @@ class Item:
     most: int = 32
     said: str = ""
     is_wild: bool = False
+    numbers: Tuple[int, ...] = ()
 
 
 @dataclass
@@ -158,6 +159,7 @@ class Config:
         self.prefix_lists: Dict[str, Dict[int, Item]] = {}
         self.access_lists: Dict[str, Dict[int, Item]] = {}
         self.path_lists: Dict[str, Dict[int, Item]] = {}
+        self.community_lists: Dict[str, Dict[int, Item]] = {}
         self.has_ospf = self.has_isis = False
         self.ospf_networks: List[Prefix] = []
         self.areas: Dict[str, Line] = {}

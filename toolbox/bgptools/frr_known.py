@@ -20,10 +20,9 @@ COUNTED: Dict[str, Table] = {
         ("service|zebra|fpm|mpls label|ip ssh|allow-external-route-update", "services"),
         ("password|enable|line", "passwords"), ("ipv6", "IPv6"),
         ("ip multicast", "multicast"), ("ip forwarding", "forwarding"),
-        (r"bgp (large-|ext)?community-list|bgp community alias|ip (large-|ext)?community-list", "community lists"),
         (r"ip prefix-list \S+ description|access-list \S+ remark|route-map \S+ optimization|ip prefix-list "
          r"sequence-number", "descriptions"),
-        ("key chain|router-id|ip router-id", "names")),
+        ("key chain|router-id|ip router-id|bgp community alias", "names")),
     "interface": _table(
         ("description", "descriptions"), ("ipv6", "IPv6"), ("bfd|ip ospf bfd|isis bfd", "bfd"),
         ("(ip )?(pim|igmp|multicast|mroute)|multicast|ip pim", "multicast"),
@@ -67,11 +66,11 @@ COUNTED: Dict[str, Table] = {
     "map": _table(
         ("description", "descriptions"),
         ("set (tag|ipv6|vpn|l3vpn|evpn|label-index|aggregator|atomic-aggregate|table|sr-te|src|vpnv4|vpnv6|"
-         "metric-type|forwarding-address)", "other families"),
-        ("set (large-community|extcommunity|comm-list|large-comm-list|extended-comm-list)", "communities")),
+         "metric-type|forwarding-address)", "other families")),
 }
 
 _ONE_WAY = "one route is chosen and packets go one way here"
+_OTHER_KINDS = "there are no large and no extended communities here"
 
 # Lines that may decide a route: what comes of leaving them out.
 TOLD: Dict[str, Table] = {
@@ -80,6 +79,9 @@ TOLD: Dict[str, Table] = {
          "all are used"),
         ("ip nht", "FRR then takes the default route for a way to a next hop; here the links lead there"),
         ("ip import-table", "routes of another table are in FRR's, and not here"),
+        ("(bgp|ip) (large-|ext)community-list", _OTHER_KINDS),
+        ("(bgp|ip) community-list", "FRR's lists are `standard` with communities or `expanded` with an expression; "
+         "this is no entry of either, and is left out"),
         ("maximum-paths", _ONE_WAY)),
     "interface": _table(
         ("bandwidth", "FRR reckons the OSPF cost from it; here the cost is 10 where no `ip ospf cost` stands"),
@@ -154,14 +156,16 @@ TOLD: Dict[str, Table] = {
         ("redistribute|summary-address|overload-bit|advertise-passive-only",
          "IS-IS knows ways by it, or avoids some; here the links and their costs alone count")),
     "map": _table(
-        (r"match (community|large-community|extcommunity|alias)", "there are no communities here"),
+        ("match community", "a match is of one list, with `exact-match` or `any` behind it"),
+        ("(match|set) (large-community|extcommunity)|set (large|extended)-comm-list", _OTHER_KINDS),
+        ("match alias", "communities have no other names here; match a community list"),
         (r"match (metric|local-preference|origin|tag|peer|interface|source-\S+|probability|rpki|ip next-hop|ip "
          r"route-source|ip address prefix-len|ip6?|ipv6|evpn|rmap|weight|set|aspath|as-path)",
-         "rules match by prefix, by an AS in the path and by the neighbouring AS"),
+         "rules match by prefix, by an AS in the path, by the neighbouring AS and by a community"),
         ("call", "a rule calls no other policy"), ("on-match|continue", "the first rule that matches decides"),
         ("set ip next-hop", "the next hop is what the session gives"),
         ("set (origin|originator-id|distance|as-path (exclude|replace))",
-         "a rule sets preference, MED and prepending alone"),
+         "a rule sets preference, MED and prepending, and adds one community; nothing else"),
         ("set (local-preference|metric)", "a rule sets a number, and none that is reckoned from the route's")),
 }
 

@@ -1,10 +1,12 @@
-"""Prefix lists, access lists and as-path lists as regions of rules, and what they say of one prefix."""
+"""Prefix lists, access lists, as-path lists and community lists as regions of rules, and what they say of an own
+route."""
 from __future__ import annotations
 
 import re
 from dataclasses import dataclass, field
 from typing import Dict, List, Optional, Set
 
+from .frr_communities import check_exact, finds_nothing, is_about_none, matches_of, region_of_any
 from .frr_config import Config, Item
 from .frr_policy import ALL, ANY, NOTHING, Match, Prefix, Region, Unsayable, chosen, is_, shortened, under
 from .language import contains, number, show_address
@@ -12,24 +14,49 @@ from .language import contains, number, show_address
 # So many rules at most stand for one entry of a prefix list.
 MOST_OF_ONE = 32
 LISTS = {"prefix-list": "prefix_lists", "distribute-list": "access_lists", "access-list": "access_lists",
-         "as-path": "path_lists", "filter-list": "path_lists"}
+         "as-path": "path_lists", "filter-list": "path_lists", "community": "community_lists"}
 
 
 @dataclass
 class World:
-    """What is known of all ASes: the neighbours of each, those that are fed by hand, and those that put themselves
-    into paths more than once."""
+    """What is known of all ASes: the neighbours of each, those that are fed by hand, those that put themselves into
+    paths more than once, and where maps of each set communities: on the way in or out, or inside it."""
     neighbours: Dict[int, Set[int]] = field(default_factory=dict)
     fed: Set[int] = field(default_factory=set)
     prepending: Set[int] = field(default_factory=set)
+    marking: Dict[int, Set[str]] = field(default_factory=dict)
+
+    def is_bare(self, place: Place) -> bool:
+        """Whether all routes there are known to come without communities: none of the ASes by which they may come is
+        fed, or sets any before."""
+        start, barred = (place.other, place.asn) if place.is_from_outside else (place.asn, place.other)
+        # A route that went through the AS that it comes to is dropped as a loop.
+        seen, waiting = {start} if barred in self.fed | {start} else {start, barred}, [start]
+        while waiting:
+            here = waiting.pop()
+            if here in self.fed or self.marking.get(here, set()) - ({"out"} if here == place.asn else set()):
+                return False
+            around = self.neighbours.get(here, set()) - seen
+            seen |= around
+            waiting += around
+        return True
+
+    def is_own_bare(self, asn: int) -> bool:
+        """Whether an AS's own routes are known to have no communities inside of it."""
+        return "inside" not in self.marking.get(asn, set())
 
 
 @dataclass(frozen=True)
 class Place:
-    """Where a policy stands: the router's AS, and whether it is about what comes from another AS."""
+    """Where a policy stands: the router's AS and the neighbour's, the way, and whether FRR sends communities."""
     asn: int
-    is_external: bool
+    other: int
     way: str
+    is_sent: bool = True
+
+    @property
+    def is_external(self) -> bool:
+        return self.asn != self.other
 
     @property
     def is_from_outside(self) -> bool:
@@ -38,15 +65,20 @@ class Place:
 
 def entries_of(config: Config, kind: str, name: str) -> Optional[List[Item]]:
     """The entries of a list in the order of their numbers; nothing where there is no such list."""
-    known: Dict[str, Dict[int, Item]] = getattr(config, LISTS[kind])
-    return [known[name][sequence] for sequence in sorted(known[name])] if name in known else None
+    known: Optional[Dict[int, Item]] = getattr(config, LISTS[kind]).get(name.partition(" ")[0])
+    return [known[sequence] for sequence in sorted(known)] if known is not None else None
 
 
 def region_of(config: Config, kind: str, name: str, world: World, place: Place) -> Optional[Region]:
-    """What a list permits; nothing where there is no such list. An entry that no rules say is told."""
+    """What a list permits; nothing where there is no such list. An entry that no rules say is told; raises Unsayable
+    where no rules say what is asked of the list."""
     entries = entries_of(config, kind, name)
     if entries is None:
         return None
+    if name.endswith(" any"):
+        return region_of_any(entries)
+    if name.endswith(" exact-match"):
+        check_exact(entries)
     region = NOTHING
     for item in reversed(entries):
         try:
@@ -59,6 +91,8 @@ def region_of(config: Config, kind: str, name: str, world: World, place: Place) 
 
 def _with_item(item: Item, kind: str, region: Region, world: World, place: Place) -> Region:
     """The region with an entry before it; raises Unsayable."""
+    if kind == "community":
+        return [(match, item.is_permit) for match in matches_of(item)] + region
     if kind not in ("as-path", "filter-list"):
         return [(match, item.is_permit) for match in prefix_matches(item)] + region
     said = path_region(item.said, world, place)
@@ -122,20 +156,19 @@ def _alone(asn: int, may_repeat: bool, world: World) -> Region:
         True), (ANY, False)]
 
 
-# One prefix
+# An own route
 
 def permits(config: Config, kind: str, name: str, where: Prefix) -> bool:
     """Whether a list permits the router's own route to a prefix."""
-    found = next((item for item in entries_of(config, kind, name) or [] if _is_about(item, kind, where)), None)
+    found = next((item for item in entries_of(config, kind, name) or [] if _is_about(item, kind, name, where)), None)
     return found is not None and found.is_permit
 
 
-def _is_about(item: Item, kind: str, where: Prefix) -> bool:
+def _is_about(item: Item, kind: str, name: str, where: Prefix) -> bool:
     if kind == "as-path":
-        try:
-            return re.search(item.said.replace("_", r"(?:^|[,{}() ]|$)"), "") is not None
-        except re.error:
-            return False
+        return finds_nothing(item.said)
+    if kind == "community":
+        return is_about_none(item, name.partition(" ")[2])
     if item.is_wild:
         return where[0] >> (32 - item.where[1]) == item.where[0] >> (32 - item.where[1]) if item.where[1] else True
     return contains(item.where, where) and item.least <= where[1] <= item.most

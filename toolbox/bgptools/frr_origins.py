@@ -9,7 +9,7 @@ from .frr_lines import Line
 from .frr_lists import shown
 from .frr_network import Network
 from .frr_policy import Action, Match, Rules, covers, is_, meet
-from .frr_rules import HEEDED, judged
+from .frr_rules import judged
 from .language import address, contains
 
 OWN = 100
@@ -74,8 +74,10 @@ def _tell_setting(config: Config, line: Line, kind: str, value: str, at: Line, w
     """What a route map sets of an own route: no script says it."""
     if kind == "weight" or kind == "med" and value == "0" or kind == "pref" and value == str(OWN):
         return
-    if kind == "community" and not any(each in value for each in HEEDED):
-        config.count_line("communities", at)
+    if kind in ("community", "comm-list"):
+        if kind == "community" and value != "none":
+            config.tell(at, "%s: `%s` gives it to %s, and an own route has no communities here; `add=` of a rule on "
+                        "the way out gives it one" % (at.text, short(line.text), shown(where)))
         return
     config.tell(at, "%s: `%s` gives it to %s, and an own route has preference 100, no MED and an empty path here; MED "
                 "and prepending can be set by a rule on the way out" % (

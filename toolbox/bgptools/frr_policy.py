@@ -4,6 +4,7 @@ from __future__ import annotations
 
 from typing import Iterator, List, NamedTuple, Optional, Set, Tuple, TypeVar, Union
 
+from .communities import shown
 from .language import contains, show_address
 
 MOST_RULES = 256
@@ -12,7 +13,7 @@ Value = TypeVar("Value")
 
 
 class Match(NamedTuple):
-    """What a rule is about: any, is or under a prefix, path or first with an AS."""
+    """What a rule is about: any, is or under a prefix, path or first with an AS, comm with a community."""
     kind: str
     of: Union[None, Prefix, int] = None
 
@@ -60,11 +61,18 @@ def both(one: Match, other: Match) -> Optional[Match]:
         return other
     if isinstance(one.of, tuple) and isinstance(other.of, tuple):
         return _both_prefixes(one, other)
+    if "comm" in (one.kind, other.kind):
+        raise Unsayable("%s and %s at once" % (_read(one), _read(other)))
     if one.of == other.of:
         return Match("first", one.of)
     if one.kind == other.kind == "first":
         return None
     raise Unsayable("%s and %s at once" % (one, other))
+
+
+def _read(match: Match) -> str:
+    """A match as it is read in what is told: a community in its halves."""
+    return "comm " + shown(match.of) if match.kind == "comm" and isinstance(match.of, int) else str(match)
 
 
 def _both_prefixes(one: Match, other: Match) -> Optional[Match]:

@@ -3,9 +3,10 @@ from __future__ import annotations
 
 from typing import Dict, NamedTuple, Optional, Tuple
 
+from .frr_communities import GIVES_NONE, Given, given, named_in, tell_heeded, unsaid
 from .frr_config import Config, Entry, Neighbour, short
 from .frr_lines import Line
-from .frr_lists import Place, World, permits, region_of
+from .frr_lists import Place, World, entries_of, permits, region_of
 from .frr_policy import (
     ALL, ANY, DENY, NOTHING, PERMIT, Action, Prefix, Region, Rules, Unsayable, chosen, of_both,
     shortened
@@ -14,9 +15,7 @@ from .frr_policy import (
 FILTERS = ("filter-list", "prefix-list", "distribute-list")
 # What a setting that reaches no neighbour is counted as.
 NO_NEIGHBOUR = "what goes to no neighbour"
-# Communities that FRR itself heeds.
-HEEDED = ("no-export", "no-advertise", "local-AS", "no-peer", "blackhole", "graceful-shutdown", "accept-own",
-          "llgr-stale", "no-llgr", "gshut", "65535:")
+INTERNAL = "a rule of an internal session sets nothing; preference, MED and communities stay as the border set them"
 
 
 def policy(config: Config, each: Neighbour, way: str, place: Place, world: World) -> Optional[Rules[Action]]:
@@ -66,7 +65,7 @@ def _with_entry(config: Config, entry: Entry, rules: Rules[Action], place: Place
         config.tell(entry.line, "%s: it has a line that cannot be said, so it is left out; %s" % (
             entry.line.text, left))
         return rules
-    action = Action(True, settings_of(config, entry, place)) if entry.is_permit else DENY
+    action = Action(True, settings_of(config, entry, place, world)) if entry.is_permit else DENY
     try:
         region = ALL
         for kind, (name, line) in entry.matches.items():
@@ -81,29 +80,54 @@ def _match_region(config: Config, kind: str, name: str, line: Line, place: Place
     region = region_of(config, kind, name, world, place)
     if region is None:
         config.tell(line, "%s: there is no such list; it matches nothing, as in FRR" % line.text, False)
+    elif kind == "community":
+        for item in entries_of(config, kind, name) or []:
+            tell_heeded(config, item.line, named_in(item))
     return NOTHING if region is None else region
 
 
-def settings_of(config: Config, entry: Entry, place: Place) -> Tuple[Tuple[str, str], ...]:
+def settings_of(config: Config, entry: Entry, place: Place, world: World) -> Tuple[Tuple[str, str], ...]:
     """The settings that a rule of this session has; what it cannot have is told, or counted where it decides
     nothing."""
     found: Dict[str, str] = {}
     for name, (said, line) in entry.settings.items():
-        comes = _unset(config, name, said, place)
-        if comes == "":
-            found[name] = str(len(said.split(" "))) if name == "prepend" else said
-        elif comes in ("communities", NO_NEIGHBOUR):
+        is_of_communities = name in ("community", "comm-list")
+        wanted = (given(said) if name == "community" else None) or GIVES_NONE
+        comes = (_unset_community(config, entry, wanted, place, world) if is_of_communities
+                 else _unset(config, name, said, place))
+        if comes == NO_NEIGHBOUR:
             config.count_line(comes, line)
-        else:
+        elif comes:
             config.tell(line, "%s: %s" % (line.text, comes))
-    return tuple((name, found[name]) for name in ("pref", "med", "prepend") if name in found)
+        elif is_of_communities:
+            tell_heeded(config, line, wanted.numbers)
+            found.update(("add", str(each)) for each in wanted.numbers)
+        else:
+            found[name] = str(len(said.split(" "))) if name == "prepend" else said
+    return tuple((name, found[name]) for name in ("pref", "med", "prepend", "add") if name in found)
+
+
+def _unset_community(config: Config, entry: Entry, wanted: Given, place: Place, world: World) -> str:
+    """Why what an entry does to communities is none of the rule, or nothing."""
+    if place.way == "out" and not place.is_sent:
+        return NO_NEIGHBOUR
+    is_bare = _is_about_own(config, entry) and world.is_own_bare(place.asn) or world.is_bare(place)
+    if not wanted.numbers:
+        return "" if is_bare else "FRR takes communities away from a route, and no rule does; it keeps them here"
+    return unsaid(wanted, is_bare) if place.is_external else INTERNAL
+
+
+def _is_about_own(config: Config, entry: Entry) -> bool:
+    """Whether an entry matches routes of the own AS alone, by a list that permits empty paths."""
+    if "as-path" not in entry.matches:
+        return False
+    permitted = [item.said for item in entries_of(config, "as-path", entry.matches["as-path"][0]) or []
+                 if item.is_permit]
+    return set(permitted) == {"^$"}
 
 
 def _unset(config: Config, name: str, said: str, place: Place) -> str:
     """Why a setting is none of the rule, or nothing."""
-    if name == "community":
-        is_heeded = any(each in said for each in HEEDED)
-        return "FRR heeds it, and tells the route to fewer or prefers it less" if is_heeded else "communities"
     if name == "weight":
         is_nothing = said == "0" or place.way == "out"
         return NO_NEIGHBOUR if is_nothing else "FRR prefers by weight before all; here preference decides first"
@@ -111,7 +135,7 @@ def _unset(config: Config, name: str, said: str, place: Place) -> str:
         is_same = said == "peer-address" and place.is_from_outside
         return NO_NEIGHBOUR if is_same else "the next hop is the session's, or the router with `self ROUTER PEER on`"
     if not place.is_external:
-        return "a rule of an internal session sets nothing; preference and MED stay as the border set them"
+        return INTERNAL
     if name == "pref" and place.way == "out":
         return NO_NEIGHBOUR
     numbers = said.split(" ")

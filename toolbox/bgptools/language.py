@@ -5,6 +5,8 @@ import re
 from dataclasses import dataclass
 from typing import Callable, Dict, List, Optional, Tuple
 
+from . import communities
+
 LONGEST = 4096
 # What a terminal obeys or hides: control characters, marks of the writing direction and others without a shape, halves of characters.
 UNSEEN = re.compile("[\x00-\x1f\x7f-\x9f\xad\u061c\u180e\u200b-\u200f\u2028-\u202e\u2060-\u206f\ufeff\ufff9-\ufffb\ud800-\udfff]")
@@ -24,6 +26,11 @@ class Form:
     def words(self) -> List[str]:
         return self.spelling.split()
 
+    @property
+    def least(self) -> int:
+        """How many of its words have to be there: one in brackets may be left out."""
+        return sum(not word.startswith("[") for word in self.words)
+
 
 FORMS = (
     Form("router A N", "a new router at address A in AS N", MAKES),
@@ -42,7 +49,7 @@ FORMS = (
     Form("start A B", "a session is enabled", CHANGES),
     Form("clear A B in|out", "A's policy for B is emptied", CHANGES),
     Form("noorigin A P", "A stops originating the prefix", CHANGES),
-    Form("feed V R update P PATH ORIGIN MED", "the virtual peer V tells R a route", TELLS),
+    Form("feed V R update P PATH ORIGIN MED [comm=N,..]", "the virtual peer V tells R a route", TELLS),
     Form("feed V R withdraw P", "the virtual peer takes it back", TELLS),
     Form("deliver A B", "B takes the next message from A", TELLS),
     Form("routes R", "the chosen routes of R", ASKS),
@@ -166,6 +173,15 @@ def neighbour(text: str) -> Optional[int]:
     return segments[0][1][0] if segments and not segments[0][0] else None
 
 
+def in_front(asn: int, times: int, text: str) -> str:
+    """The path with an AS put in front so often: into its first sequence, where that has room."""
+    segments = as_path(text) or []
+    for _ in range(times):
+        has_room = bool(segments) and not segments[0][0] and len(segments[0][1]) < 255
+        segments = [(False, [asn] + segments[0][1])] + segments[1:] if has_room else [(False, [asn])] + segments
+    return "_".join(("{%s}" if is_set else "%s") % ",".join(map(str, numbers)) for is_set, numbers in segments) or "-"
+
+
 # What is wrong with a line
 
 _Kind = Tuple[Callable[[str], bool], str]
@@ -179,8 +195,9 @@ KINDS: Dict[str, _Kind] = {
     "ORIGIN": (lambda text: text in ("igp", "egp", "inc"), "an origin: igp, egp or inc"),
     "MED": (lambda text: text == "-" or number(text) is not None, "a MED, 0 to 4294967295, or - for none"),
 }
-MATCHES = {"any": None, "is": "P", "under": "P", "path": "N", "first": "N"}
-SETTINGS = (("pref", 0, 2 ** 32 - 1), ("med", 0, 2 ** 32 - 1), ("prepend", 1, 16))
+COMMUNITY, COMMUNITIES = "COMMUNITY", "[comm=N,..]"
+MATCHES = {"any": None, "is": "P", "under": "P", "path": "N", "first": "N", "comm": COMMUNITY}
+SETTINGS = (("pref", 0, 2 ** 32 - 1), ("med", 0, 2 ** 32 - 1), ("prepend", 1, 16), ("add", 0, 2 ** 32 - 1))
 
 
 def fault(line: str) -> Optional[str]:
@@ -206,16 +223,41 @@ def _form_fault(words: List[str], form: Form) -> Optional[str]:
         text = _word_fault(word, want)
         if text:
             return text
-    if len(words) != len(wanted):
-        return "%s: the command is `%s`" % ("a word is missing" if len(words) < len(wanted) else "there is a word too many", form.spelling)
+    if not form.least <= len(words) <= len(wanted):
+        wrong = "a word is missing" if len(words) < form.least else "there is a word too many"
+        return "%s: the command is `%s`" % (wrong, form.spelling)
     return None
 
 
 def _word_fault(word: str, want: str) -> Optional[str]:
+    if want in (COMMUNITY, COMMUNITIES):
+        return _community_fault(word) if want == COMMUNITY else _communities_fault(word)
     if want in KINDS:
         fits, expected = KINDS[want]
         return None if fits(word) else "`%s` is not %s" % (word, expected)
     return None if word in want.split("|") else "`%s` where `%s` is expected" % (word, " or ".join(want.split("|")))
+
+
+def _community_fault(word: str) -> Optional[str]:
+    if number(word) is not None:
+        return None
+    found = communities.meant(word)
+    meant = "" if found is None else ": %s is %d" % (word, found)
+    return "`%s` is not a community, one number of 0 to 4294967295%s" % (word, meant)
+
+
+def _communities_fault(word: str) -> Optional[str]:
+    if not word.startswith("comm="):
+        return "`%s` where the command ends, or `comm=N,..` is expected" % word
+    last = -1
+    for each in word[len("comm="):].split(","):
+        text = _community_fault(each) if each else "`%s`: a number is missing" % word
+        if text:
+            return text
+        if int(each) <= last:
+            return "`%s`: %s after %d, where communities ascend and each stands once" % (word, each, last)
+        last = int(each)
+    return None
 
 
 def rule_fault(words: List[str]) -> Optional[str]:
@@ -228,7 +270,7 @@ def rule_fault(words: List[str]) -> Optional[str]:
         return "a word is missing: the command is `rule A B in|out MATCH ACT`, as `rule 5.0.0.1 7.0.0.1 in any permit pref=150`"
     match, rest = words[4], words[5:]
     if match not in MATCHES:
-        return "`%s` is no match: any, is P, under P, path N or first N" % match
+        return "`%s` is no match: any, is P, under P, path N, first N or comm N" % match
     kind = MATCHES[match]
     if kind:
         text = _word_fault(rest[0], kind)
@@ -245,8 +287,11 @@ def _action_fault(words: List[str]) -> Optional[str]:
     for name, low, high in SETTINGS if words[0] == "permit" else ():
         if rest and rest[0].startswith(name + "="):
             if number(rest[0][len(name) + 1:], low, high) is None:
-                return "`%s`: a number of %d to %d is expected" % (rest[0], low, high)
+                found = communities.meant(rest[0][len(name) + 1:]) if name == "add" else None
+                meant = "" if found is None else ", as add=%d" % found
+                return "`%s`: a number of %d to %d is expected%s" % (rest[0], low, high, meant)
             rest = rest[1:]
     if rest and words[0] == "deny":
         return "`%s` after `deny`, which has no settings" % rest[0]
-    return "`%s`: the settings are pref=K, med=K, prepend=K, in this order, each at most once" % rest[0] if rest else None
+    known = "the settings are pref=K, med=K, prepend=K, add=N, in this order, each at most once"
+    return "`%s`: %s" % (rest[0], known) if rest else None

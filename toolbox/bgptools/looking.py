@@ -5,14 +5,15 @@ from __future__ import annotations
 from dataclasses import dataclass, field
 from typing import Dict, List, Optional, Set, Tuple
 
+from . import communities
 from .explain import FILTERS, NAMES, Explained
 from .language import QUESTIONS, by_address
 from .network import Direction, Network, ends
-from .replies import Route, Trace, best, reasons, routes, trace
+from .replies import Attributes, Route, Trace, best, reasons, routes, trace
 from .run import Run
 from .scene import DOWN, EXTERNAL, FORWARDS, INTERNAL, LINK, WAY, Scene, Spot, Wire, readable
 
-LONGEST_PATH = 24
+LONGEST_PATH, MOST_COMMUNITIES = 24, 2
 SHORT = {**NAMES, "length": "length", "cost": "cost", "external": "external", "clusters": "clusters", "peer": "peer"}
 # After these commands costs are what they were, and sessions are up or down as before.
 KEEPING = QUESTIONS | {"deliver", "feed", "origin", "noorigin", "rule", "clear", "client", "self", "cluster"}
@@ -77,7 +78,7 @@ class Look:
         self.way = way
         self.chosen: Dict[str, Optional[Route]] = {}
         self.costs: Dict[str, List[str]] = {}
-        self.told: Dict[str, List[str]] = {}
+        self.told: Dict[str, List[Attributes]] = {}
         if view.prefix is not None:
             self._ask_of(view.prefix)
 
@@ -119,7 +120,8 @@ class Look:
 
     def _details(self, a: str, is_virtual: bool) -> List[str]:
         if is_virtual:
-            return ["told path " + shortened(path) for path in self.told.get(a, ())[:3]]
+            told = self.told.get(a, [])[:3]
+            return [line for each in told for line in ["told path " + shortened(each.path)] + carried(each)]
         if self.view.prefix is not None:
             return self._route_lines(a, self.chosen[a])
         own = sorted(self.network.origins.get(a, ()))
@@ -133,6 +135,8 @@ class Look:
         lines = ["its own"] if route.source == "self" else source
         by_preference = value is not None and value.startswith("by preference")
         lines += [] if text.pref == "100" or by_preference else ["pref " + text.pref]
+        reach = communities.reach(text.communities)
+        lines += carried(text) + ([reach] if reach else [])
         return lines + ([value] if value else [])
 
     def _deciding(self, a: str, route: Route) -> Optional[str]:
@@ -208,6 +212,13 @@ def shortened(path: str) -> str:
     return "%s,..,%s" % (path[:LONGEST_PATH - len(last) - 4].rsplit(",", 1)[0], last)
 
 
+def carried(attributes: Attributes) -> List[str]:
+    """The communities of a route for a picture, as a line where there are some; of many the first."""
+    first = attributes.communities[:MOST_COMMUNITIES]
+    left = len(attributes.communities) - len(first)
+    return ["comms " + communities.told(first) + (" and %d more" % left if left else "")] if first else []
+
+
 def _waiting(run: Run, view: View, known: Known) -> Dict[Direction, int]:
     """How many messages wait on each way where some do."""
     if run.ask(["quiet"]) == [["yes"]]:
@@ -220,15 +231,15 @@ def _waiting(run: Run, view: View, known: Known) -> Dict[Direction, int]:
     return {way: count for way, count in known.waiting.items() if count}
 
 
-def _told(run: Run, prefix: str, view: View) -> Dict[str, List[str]]:
-    """The paths that each virtual peer was told for the prefix."""
+def _told(run: Run, prefix: str, view: View) -> Dict[str, List[Attributes]]:
+    """The routes that each virtual peer was told for the prefix."""
     asked = [(v, r) for v in run.network.virtuals() if view.has(v)
              for r in sorted(run.network.peers.get(v, ()), key=by_address)]
-    found: Dict[str, List[str]] = {}
+    found: Dict[str, List[Attributes]] = {}
     for (v, _), reply in zip(asked, run.ask("in %s %s" % way for way in asked)):
         received = routes(reply)
         if prefix in received:
-            found.setdefault(v, []).append(received[prefix].attributes.path)
+            found.setdefault(v, []).append(received[prefix].attributes)
     return found
 
 

@@ -8,7 +8,7 @@ from typing import Callable, List, Optional
 
 from . import streams
 
-CHANGED, WRONG = 1, 2
+CHANGED, WRONG, DISAGREES = 1, 2, 3
 
 
 class Mistake(Exception):

@@ -49,6 +49,8 @@ class Network:
         self.rules: Dict[Tuple[str, str, str], List[str]] = {}
         self.origins: Dict[str, Set[str]] = {}
         self.prefixes: Set[str] = set()
+        # Those that were fed, that rules add and that they match.
+        self.communities: Set[int] = set()
         self.names = Names()
 
     def routers(self) -> List[str]:
@@ -127,6 +129,8 @@ def _policy(network: Network, words: List[str]) -> None:
         network.rules.pop(key, None)
     else:
         network.rules.setdefault(key, []).append(" ".join(words[4:]))
+        network.communities.update(int(word[len("add="):]) for word in words[5:] if word.startswith("add="))
+        network.communities.update([int(words[5])] if words[4] == "comm" else [])
 
 
 def _origin(network: Network, words: List[str]) -> None:
@@ -141,6 +145,7 @@ def _cluster(network: Network, words: List[str]) -> None:
 
 def _feed(network: Network, words: List[str]) -> None:
     network.prefixes.add(words[4])
+    network.communities.update(map(int, words[8][len("comm="):].split(",")) if len(words) > 8 else [])
 
 
 _TAKES: Dict[str, Callable[[Network, List[str]], None]] = {

@@ -8,13 +8,12 @@ from typing import List, Optional
 from .counted import check_length
 from .language import readable
 from .mistakes import CHANGED, Mistake
-from .names import Names
 from .prompt import prompt
 from .refusals import sentence
 from .replies import refusal
 from .run import Run
 from .script import Line, read
-from .telling import tell, tell_settling
+from .telling import kept_back, tell, tell_settling
 
 PAD = " " * 8
 
@@ -36,13 +35,13 @@ class Counts:
         return self.refused == self.expected and not self.missing
 
 
-def show(line: Line, reply: List[str], names: Names) -> None:
+def show(line: Line, reply: List[str], run: Run) -> None:
     """Prints a line of the script with its replies."""
     if not line.is_command:
         print((PAD[:6] + readable(line.text).strip(" ")).rstrip(" "))
         return
     print("%4d  %s" % (line.number, readable(line.text)))
-    tell(PAD, reply, names)
+    tell(PAD, reply + kept_back(run, line.words, reply), run.network.names)
 
 
 def count(line: Line, reply: List[str], run: Run, counts: Counts) -> None:
@@ -66,7 +65,7 @@ def play(lines: List[Line], does_settle: bool, most: Optional[int]) -> int:
     with Run(most=most, tries_others=True) as run:
         for line in lines:
             reply = run.say(line.text)
-            show(line, reply, run.network.names)
+            show(line, reply, run)
             count(line, reply, run, counts)
             if does_settle and is_settled:
                 done = run.settle()

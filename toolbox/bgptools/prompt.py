@@ -20,7 +20,7 @@ from .replies import refusal
 from .run import Run
 from .script import MARK as EXPECTED
 from .script import Line, read
-from .telling import tell, tell_settling
+from .telling import kept_back, tell, tell_settling
 
 PAD = "    "
 OWN = tuple(Form(spelling, meaning, "work at this prompt") for spelling, meaning in (
@@ -30,7 +30,7 @@ OWN = tuple(Form(spelling, meaning, "work at this prompt") for spelling, meaning
     ("undo", "play all again but the last edit or feed and what came after it"),
     ("name A N", "A has the name N: it is shown, and taken where a command wants an address"),
     ("load FILE", "play a script into this network"),
-    ("explain R P", "against which route each other one lost, by which value"),
+    ("explain R P [--to X]", "by which value each other route lost; or what R tells X, or why nothing"),
     ("draw FILE [--prefix P] [--trace R D]", "a picture of the network"),
     ("what-if FILE [--trace R D]", "what the commands of the file would do; they are tried on a copy"),
     ("save FILE", "write the script so far"),
@@ -130,7 +130,9 @@ class Prompt:
         """A line for the program."""
         line = self._with_addresses(line)
         reply = self._say(line)
-        tell(PAD, reply, self.run.network.names)
+        with self.keyboard.held():
+            more = kept_back(self.run, words_of(line), reply)
+        tell(PAD, reply + more, self.run.network.names)
         if refusal(reply):
             tell(PAD, ["-- " + sentence(line, refusal(reply), self.run.network)], self.run.network.names)
 
@@ -159,9 +161,13 @@ class Prompt:
             if form.group != group and not words[1:]:
                 group = form.group
                 print("To %s:" % group)
-            print("  %-38s %s" % (form.spelling, form.meaning))
+            print("  %-46s %s" % (form.spelling, form.meaning))
         if words[1:2] in ([], ["rule"]):
-            print("  MATCH is any, is P, under P, path N or first N; ACT is deny, or permit [pref=K] [med=K] [prepend=K]")
+            print("  MATCH is any, is P, under P, path N, first N or comm N; "
+                  "ACT is deny, or permit [pref=K] [med=K] [prepend=K] [add=N]")
+        if words[1:2] in ([], ["rule"], ["feed"]):
+            print("  N of comm=N,.., comm N and add=N is a community as one number: "
+                  "65000:1 is 65000 x 65536 + 1, 4259840001")
         elif not forms:
             print(PAD + "-- there is no command `%s`" % readable(words[1]))
 
@@ -235,9 +241,9 @@ class Prompt:
         return refused
 
     def explain(self, words: List[str]) -> None:
-        """Tells all routes of a router to a prefix, and why each was chosen or not."""
-        _expect(words, 3, 3, "explain R P")
-        self._on_a_copy(explain.main, [None, self._address(words[1]), words[2]])
+        """Tells all routes of a router to a prefix, and why each was chosen or not; or what it tells a peer."""
+        _expect(words, 3, 5, "explain R P [--to X]")
+        self._on_a_copy(explain.main, [None, self._address(words[1]), words[2], *self._options(words[3:])])
 
     def draw(self, words: List[str]) -> None:
         """Draws the network."""
@@ -252,7 +258,8 @@ class Prompt:
 
     def _options(self, words: List[str]) -> List[str]:
         """Options of a tool, with an address in the place of a name."""
-        return [self._address(word) if before == "--trace" else word for before, word in zip([""] + words, words)]
+        wanted = ("--trace", "--to")
+        return [self._address(word) if before in wanted else word for before, word in zip([""] + words, words)]
 
     def _on_a_copy(self, tool: Callable[[List[str]], int], words: List[Optional[str]]) -> None:
         """Runs a tool on the network as it stands: in the place of None it gets the script so far, and plays that for itself."""

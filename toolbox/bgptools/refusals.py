@@ -61,7 +61,7 @@ def _internal_only(words: List[str], network: Network) -> str:
 
 def _rule_not_allowed(words: List[str], network: Network) -> str:
     one, other, way = words[1:4]
-    settings = [word for word in words if word.split("=")[0] in ("pref", "med", "prepend") and "=" in word]
+    settings = [word for word in words if word.split("=")[0] in ("pref", "med", "prepend", "add") and "=" in word]
     if not network.is_external(one, other):
         return "%s on the session of %s and %s, which is internal: there a rule has no settings" % (" ".join(settings), one, other)
     wrong = next((word for word in settings if word.startswith("prepend" if way == "in" else "pref=")), settings[0])
@@ -69,7 +69,8 @@ def _rule_not_allowed(words: List[str], network: Network) -> str:
     return "%s on the way %s, on the session of %s and %s: %s" % (wrong, way, one, other, why)
 
 
-def _session_down(words: List[str], network: Network) -> str:
+def session_down(words: List[str], network: Network) -> str:
+    """Why the session of the two that stand behind a command is down, where it is."""
     one, other = words[1:3]
     key = pair(one, other)
     if not network.enabled[key]:
@@ -86,7 +87,9 @@ def _first_as(words: List[str], network: Network) -> str:
 def _limit(words: List[str], network: Network) -> str:
     if words[0] == "feed":
         count = sum(len(numbers) for _, numbers in as_path(words[5]) or [])
-        return "the path has %d AS numbers, and at most 255 are taken" % count
+        if count > 255:
+            return "the path has %d AS numbers, and at most 255 are taken" % count
+        return "the route has %d communities, and at most 32 are taken" % (words[8].count(",") + 1)
     return {"router": "there are 4,096 routers and peers", "virtual": "there are 4,096 routers and peers", "link": "there are 16,384 links",
             "join": "one of the two has 256 sessions", "rule": "the policy has 256 rules"}[words[0]] + ", and no more are taken"
 
@@ -106,7 +109,7 @@ _SENTENCES: Dict[int, Callable[[List[str], Network], str]] = {
     13: _rule_not_allowed,
     14: lambda words, _: "%s originates %s already" % (words[1], words[2]),
     15: lambda words, _: "%s does not originate %s" % (words[1], words[2]),
-    16: _session_down,
+    16: session_down,
     17: lambda words, _: "no message waits from %s to %s" % (words[1], words[2]),
     18: _first_as,
     19: _limit,

@@ -4,13 +4,14 @@ from __future__ import annotations
 from dataclasses import asdict, dataclass
 from typing import Dict, List, Optional, Tuple
 
+from . import communities
 from .language import path_length
 from .names import Names
 
 
 @dataclass(frozen=True)
 class Attributes:
-    """The attributes of a route, as the program prints them; `-` for what is absent."""
+    """The attributes of a route, as the program prints them; `-` for what is absent. Absent `comms` it leaves out."""
     path: str
     origin: str
     next: str
@@ -18,13 +19,18 @@ class Attributes:
     pref: str
     oid: str
     clusters: str
+    comms: str = "-"
 
     @property
     def length(self) -> int:
         return path_length(self.path)
 
+    @property
+    def communities(self) -> List[int]:
+        return [] if self.comms == "-" else [int(number) for number in self.comms.split(",")]
+
     def __str__(self) -> str:
-        return " ".join("%s=%s" % pair for pair in asdict(self).items())
+        return " ".join("%s=%s" % pair for pair in asdict(self).items() if pair != ("comms", "-"))
 
 
 @dataclass(frozen=True)
@@ -53,7 +59,8 @@ def route_text(route: Route, names: Names) -> str:
     """A route in few words, with the name of its source."""
     told = route.attributes
     words = "next %s, path %s, med %s" % (told.next, told.path, told.med)
-    return words if route.source is None else "from %s, %s, pref %s" % (names.shown(route.source), words, told.pref)
+    words = words if route.source is None else "from %s, %s, pref %s" % (names.shown(route.source), words, told.pref)
+    return words + (", comms " + communities.told(told.communities) if told.communities else "")
 
 
 def routes(reply: List[str]) -> Dict[str, Route]:

@@ -62,10 +62,11 @@ class Run:
         """The replies to questions, which change nothing."""
         return self.program.say_all(questions)
 
-    def sessions_up(self) -> Dict[Direction, bool]:
-        """Which sessions are up: an external one by its link, an internal one where each end has a cost to the other."""
+    def sessions_up(self, sessions: Optional[List[Direction]] = None) -> Dict[Direction, bool]:
+        """Which sessions, of all or of these, are up: an external one by its link, an internal one where each end has
+        a cost to the other."""
         found, asked = {}, []
-        for one, other in self.network.sessions():
+        for one, other in self.network.sessions() if sessions is None else sessions:
             key = pair(one, other)
             link = self.network.links.get(key)
             found[one, other] = self.network.enabled[key] and (not self.network.is_external(one, other) or link is not None and link.is_up)

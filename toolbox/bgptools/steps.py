@@ -5,6 +5,7 @@ import re
 from dataclasses import dataclass
 from typing import Dict, List, Optional, Tuple
 
+from . import communities
 from .language import QUESTIONS
 from .looking import Delivered, Known, View, look
 from .network import Direction
@@ -14,6 +15,7 @@ from .replies import refusal
 from .run import Run, told_of
 from .scene import Scene, readable
 from .script import MARK, Line
+from .telling import kept_back
 
 # So many deliveries are shown where they do not end.
 LAST = 20
@@ -137,7 +139,8 @@ class Steps:
         is_named = any(word in names for word in line.words)
         named = readable(" ".join(names.get(word, word) for word in line.words)) if is_named else ""
         command = "%d  %s" % (line.number, readable(line.text))
-        self.steps.append(Step("\n".join(self.says), command, named, reply + extra, bool(refusal(reply)), self.heading,
+        replies = list(map(communities.in_text, reply + kept_back(self.run, line.words, reply) + extra))
+        self.steps.append(Step("\n".join(self.says), command, named, replies, bool(refusal(reply)), self.heading,
                                len(self.scenes) - 1))
         self.says = []
 

@@ -4,6 +4,7 @@ from __future__ import annotations
 import textwrap
 from typing import Dict, Hashable, Iterable, List, Tuple, TypeVar
 
+from . import communities
 from .between import Sent, advice, message_text
 from .compare import Change, Difference, Way
 from .names import Names
@@ -88,6 +89,9 @@ def _change(change: Change, prefixes: List[str], names: Names, moved: str) -> Li
         lines.append("            was %s" % route_text(change.before, names))
     if change.after:
         lines.append("            now %s" % route_text(change.after, names))
+        # A virtual peer, which is told without a source, tells nothing on.
+        reach = communities.reach(change.after.attributes.communities) if change.after.source else ""
+        lines += ["                " + reach] if reach else []
     return lines + (["            the old one: " + change.reason] if change.reason else [])
 
 

@@ -45,6 +45,17 @@ class Told(Case):
         head = "rule %s " % ends
         return [line[len(head):] for line in made.stdout.split("\n") if line.startswith(head)]
 
+    def policy(self, *lines, filters=("route-map M in",), status=0, network=()):
+        """The rules of a border with these lists and maps, for what comes from AS 65002, and what was told."""
+        text = border("neighbor 10.0.0.2 next-hop-self", *("neighbor 10.9.0.2 " + each for each in filters),
+                      more=lines)
+        made = self.convert({"a.conf": text, "b.conf": inner(), "c.conf": OUTSIDE, **dict(network)}, status=status)
+        self.text = text
+        return made
+
+    def in_rules(self, *lines, **given):
+        return self.rules(self.policy(*lines, **given), "10.0.0.1 10.0.0.9 in")
+
 
 def at(text, line):
     """The number of the first line of a configuration that is this one."""

@@ -14,6 +14,7 @@ from bgptools.replies import refusal
 from bgptools.routing import routed
 from bgptools.run import Run
 from bgptools.script import read
+from bgptools.steps import Steps as Played
 from common import EXAMPLES, SCRIPTS, TOOLBOX, Case, inside, marked, tool
 
 DOT = shutil.which("neato")
@@ -123,6 +124,18 @@ class Drawn(Case):
             with self.subTest(prefix=prefix):
                 told = inside("draw", script, "--prefix", prefix).stdout
                 self.assertIn('"5.0.0.1" [label="5.0.0.1\\n%s"' % said, told)
+
+    def test_communities(self):
+        """Those of the chosen route, of what a virtual peer is told, and what the well-known ones keep back."""
+        lines = (TOOLBOX / "lessons" / "customers.bgp").read_text()
+        lines += "feed 7.0.0.1 5.0.0.1 update 203.0.113.0/24 7 igp - comm=1,2,4294967041\n"
+        script = self.file("customers.bgp", lines)
+        told = inside("draw", script, "--settle", "--prefix", "198.51.100.0/24").stdout
+        self.assertIn('"5.0.0.1" [label="west\\n5.0.0.1\\nfrom customer\\npath 7\\ncomms 327681 (5:1)"', told)
+        self.assertIn('"8.0.0.1" [label="peer\\n8.0.0.1\\ntold path 5,7\\ncomms 327681 (5:1)"', told)
+        told = inside("draw", script, "--settle", "--prefix", "203.0.113.0/24").stdout
+        self.assertIn('\\nfrom west\\npath 7\\ncomms 1,2 (0:1 0:2) and 2 more\\nNO_EXPORT: told to no other AS"', told)
+        self.assertIn('"8.0.0.1" [label="peer\\n8.0.0.1"', told)
 
     def test_what_waits_is_counted_at_its_sender(self):
         script = self.file("waiting.bgp", TWO + "origin 2.0.0.1 10.1.0.0/16\norigin 2.0.0.1 10.2.0.0/16\norigin 1.0.0.1 10.3.0.0/16\n")
@@ -413,3 +426,15 @@ class Looks(Case):
                     if reply and not refusal(reply):
                         known.after(line.words, run.network)
                         self.assertEqual(look(run, view, None, {}, known), look(run, view, None, {}, Known()), line)
+
+    def test_communities_in_the_replies_of_steps(self):
+        script = self.file("script.bgp", TWO + "virtual 7.0.0.1 7\nlink 1.0.0.1 7.0.0.1 1\njoin 1.0.0.1 7.0.0.1\n"
+                           "feed 7.0.0.1 1.0.0.1 update 10.0.0.0/8 7 igp - comm=5,4294967041\n"
+                           "deliver 7.0.0.1 1.0.0.1\nbest 1.0.0.1 10.0.0.0/8\nout 1.0.0.1 2.0.0.1\n")
+        with Run() as run:
+            played = Played(run, View(), False)
+            played.play(read(str(script)))
+        self.assertEqual([step.replies for step in played.steps][-2:], [
+            ["10.0.0.0/8 from 7.0.0.1 path=7 origin=igp next=7.0.0.1 med=- pref=100 oid=- clusters=- "
+             "comms=5,4294967041 (0:5 NO_EXPORT)"],
+            ["end 0", "-- not told to 2.0.0.1, since it carries 4294967041 (NO_EXPORT): 10.0.0.0/8"]])

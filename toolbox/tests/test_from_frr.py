@@ -29,6 +29,15 @@ def interfaces(real, net, router):
     return "\n".join(lines) + "\n"
 
 
+def fed(real, peer, router, prefix, attr):
+    """The feed by which a virtual peer tells a router a route."""
+    med = "-" if attr["med"] is None else attr["med"]
+    words = (real.show(peer), real.show(router), real.model.show_prefix(prefix), real.model.show_path(attr["path"]),
+             ("igp", "egp", "inc")[attr["origin"]], med)
+    comms = " comm=" + ",".join(map(str, attr["comms"])) if attr["comms"] else ""
+    return "feed %s %s update %s %s %s %s" % words + comms
+
+
 class FromFrr(Case):
     def test_six_configurations(self):
         told = tool("from-frr", "toolbox/tests/data/frr", status=1)
@@ -58,10 +67,8 @@ class FromFrr(Case):
             self.file("%s/%s.conf" % (name, real.show(each)), interfaces(real, net, each) + real.configuration(net, each))
         made = tool("from-frr", folder)
         self.assertNotIn("not taken over", ON_ITS_SUBNET.sub("", made.stderr))
-        feeds = ["feed %s %s update %s %s %s %s" % (real.show(v), real.show(r), real.model.show_prefix(p),
-                                                    real.model.show_path(a["path"]),
-                 ("igp", "egp", "inc")[a["origin"]], "-" if a["med"] is None else a["med"])
-                 for (r, p, v), a in sorted(net.received.items()) if net.nodes[v][1] and not net.nodes[r][1]]
+        feeds = [fed(real, v, r, p, a) for (r, p, v), a in sorted(net.received.items())
+                 if net.nodes[v][1] and not net.nodes[r][1]]
         self.assertEqual(self.tables(real, net, made.stdout.split("\n") + feeds),
                          self.tables(real, net, lines + deliveries))
 

@@ -157,17 +157,6 @@ class Origins(Told):
 
 
 class Policies(Told):
-    def policy(self, *lines, filters=("route-map M in",), status=0, network=()):
-        """The rules of a border with these lists and maps, for what comes from AS 65002, and what was told."""
-        text = border("neighbor 10.0.0.2 next-hop-self", *("neighbor 10.9.0.2 " + each for each in filters),
-                      more=lines)
-        made = self.convert({"a.conf": text, "b.conf": inner(), "c.conf": OUTSIDE, **dict(network)}, status=status)
-        self.text = text
-        return made
-
-    def in_rules(self, *lines, **given):
-        return self.rules(self.policy(*lines, **given), "10.0.0.1 10.0.0.9 in")
-
     def test_a_neighbours_lists(self):
         some = ["ip prefix-list SOME permit 10.1.0.0/16 le 32", "ip prefix-list SOME permit 10.2.0.0/16"]
         self.assertEqual(self.in_rules(*some, filters=["prefix-list SOME in"]),
@@ -315,13 +304,13 @@ class Policies(Told):
 
     def test_what_a_rule_cannot_set(self):
         for said, words in (("set weight 5", "weight"), ("set as-path prepend 65001", "path stays"),
-                            ("set community no-export", "FRR heeds"), ("set ip next-hop 10.9.9.9", "next hop"),
+                            ("set ip next-hop 10.9.9.9", "next hop"),
                             ("set local-preference +10", "reckoned"), ("set origin egp", "sets preference")):
             with self.subTest(said=said):
                 made = self.policy("route-map M permit 10", " " + said, status=1)
                 self.assert_told(made, "a.conf", at(self.text, said), words)
-        made = self.policy("route-map M permit 10", " set community 65001:1", " set weight 0")
-        self.assertIn("communities 1", made.stderr)
+        made = self.policy("route-map M permit 10", " set weight 0")
+        self.assertIn("what goes to no neighbour 1", made.stderr)
 
     def test_settings_inside_the_as(self):
         text = border("neighbor 10.0.0.2 next-hop-self", "neighbor 10.0.0.2 route-map M out",

@@ -15,6 +15,13 @@ from common import SCRIPTS, TOOLBOX, TOP, Case, inside, marked, program, tool
 
 OSCILLATION = TOP / "examples" / "lessons" / "med-oscillation.bgp"
 NETWORK = ("router 1.0.0.1 1", "router 2.0.0.1 2", "link 1.0.0.1 2.0.0.1 1", "join 1.0.0.1 2.0.0.1", "origin 1.0.0.1 10.0.0.0/8")
+# The worked example of communities: 8 is not told what 7 sends with NO_EXPORT, and the rest with another community.
+NINE = ("router 9.0.0.1 9", "virtual 7.0.0.1 7", "virtual 8.0.0.1 8", "link 9.0.0.1 7.0.0.1 1",
+        "link 9.0.0.1 8.0.0.1 1", "join 9.0.0.1 7.0.0.1", "join 9.0.0.1 8.0.0.1",
+        "feed 7.0.0.1 9.0.0.1 update 10.0.0.0/8 7 igp - comm=4294967041",
+        "deliver 7.0.0.1 9.0.0.1", "best 9.0.0.1 10.0.0.0/8", "feed 7.0.0.1 9.0.0.1 update 11.0.0.0/8 7 igp - comm=5",
+        "deliver 7.0.0.1 9.0.0.1", "rule 9.0.0.1 8.0.0.1 out any permit add=3", "queue 9.0.0.1 8.0.0.1",
+        "out 9.0.0.1 8.0.0.1")
 # Runs the program. Once, between the delivery of this number and its reply, it notes its session and that of play, and does this.
 BETWEEN = """#!%s
 import os, pathlib, sys, time
@@ -40,11 +47,14 @@ class Scripts(Case):
             with self.subTest(path=path):
                 told = inside("play", path)
                 content = path.read_bytes()
-                replies = [line[8:] for line in told.stdout.split("\n") if line.startswith(" " * 8) and not line.startswith(" " * 8 + "--")]
+                lines = [line[8:] for line in told.stdout.split("\n") if line.startswith(" " * 8)]
+                shown = re.compile(r"(comms=[0-9,]+) \([^)]*\)$")
+                replies = [shown.sub(r"\1", line) for line in lines if not line.startswith("--")]
                 self.assertEqual(replies, program(content))
                 refused = sum(line.startswith("refused") for line in replies)
                 self.assertEqual(told.returncode, 1 if marked(content)[1] else 0)
-                self.assertEqual(told.stdout.count("\n        -- "), refused)
+                said = [line for line in lines if line.startswith("-- ") and not line.startswith("-- not told to ")]
+                self.assertEqual(len(said), refused)
 
     def test_line_numbers(self):
         told = tool("play", "-", given=b"# one\n\nrouter 1.0.0.1 1\r\n  quiet", status=0).stdout
@@ -73,6 +83,48 @@ class Scripts(Case):
             with self.subTest(line=line):
                 self.assertIn("-- ", tool("play", "-", given=line, status=1).stdout)
                 self.assertIn(text, tool("play", "-", given=line, status=1).stdout)
+
+    def played(self, lines, status=0):
+        """What play tells of these lines."""
+        return tool("play", "-", given="\n".join(lines).encode(), status=status).stdout
+
+    def test_communities_are_shown_beside_their_numbers(self):
+        """The replies are those of the worked example of the language, and behind each set stands what it is."""
+        told = self.played(NINE)
+        self.assertEqual([line[8:] for line in told.split("\n") if "comms=" in line], [
+            "10.0.0.0/8 from 7.0.0.1 path=7 origin=igp next=7.0.0.1 med=- pref=100 oid=- clusters=- "
+            "comms=4294967041 (NO_EXPORT)",
+            "update 11.0.0.0/8 path=9,7 origin=igp next=9.0.0.1 med=- pref=- oid=- clusters=- comms=5 (0:5)",
+            "update 11.0.0.0/8 path=9,7 origin=igp next=9.0.0.1 med=- pref=- oid=- clusters=- comms=3,5 (0:3 0:5)",
+            "11.0.0.0/8 path=9,7 origin=igp next=9.0.0.1 med=- pref=- oid=- clusters=- comms=3,5 (0:3 0:5)"])
+        self.assertIn("  feed 7.0.0.1 9.0.0.1 update 10.0.0.0/8 7 igp - comm=4294967041\n", told)
+
+    def test_what_a_community_keeps_from_a_peer_is_told_after_out(self):
+        """But not where the session is down, the route is not chosen, or came from the peer itself."""
+        text = "        end 1\n        -- not told to 8.0.0.1, since it carries 4294967041 (NO_EXPORT): 10.0.0.0/8\n"
+        denied = "rule 9.0.0.1 7.0.0.1 in comm 4294967041 deny"
+        for more, count in (([], 1), (["stop 9.0.0.1 8.0.0.1"], 0), ([denied], 0)):
+            told = self.played([*NINE[:-1], *more, NINE[-1], "out 9.0.0.1 7.0.0.1"])
+            self.assertEqual((told.count(text), told.count("-- not told")), (count, count))
+
+    def test_of_many_prefixes_that_are_kept_back_the_first_are_told(self):
+        feed = "feed 7.0.0.1 9.0.0.1 update 20.%d.0.0/16 7 igp - comm=4294967042"
+        lines = [line for n in range(15) for line in (feed % n, "deliver 7.0.0.1 9.0.0.1")]
+        first = ", ".join("20.%d.0.0/16" % n for n in range(12))
+        wanted = "not told to 8.0.0.1, since it carries 4294967042 (NO_ADVERTISE): %s and 3 more" % first
+        self.assertIn("        end 0\n        -- %s\n" % wanted, self.played([*NINE[:7], *lines, NINE[-1]]))
+
+    def test_refusals_about_communities(self):
+        many = ",".join(map(str, range(33)))
+        told = self.played([
+            *NINE[:7], "router 9.0.0.2 9", "link 9.0.0.1 9.0.0.2 1", "join 9.0.0.1 9.0.0.2",
+            "rule 9.0.0.1 9.0.0.2 out any permit add=5", "feed 7.0.0.1 9.0.0.1 update 10.0.0.0/8 7 igp - comm=" + many,
+            "feed 7.0.0.1 9.0.0.1 update 10.0.0.0/8 7 igp - comm=5,5"], status=1)
+        inside = "add=5 on the session of 9.0.0.1 and 9.0.0.2, which is internal: there a rule has no settings"
+        for number, text in (("13 rule-not-allowed", inside),
+                             ("19 limit", "the route has 33 communities, and at most 32 are taken"),
+                             ("1 syntax", "`comm=5,5`: 5 after 5, where communities ascend and each stands once")):
+            self.assertIn("        refused %s\n        -- %s\n" % (number, text), told)
 
     def test_settle(self):
         told = tool("play", "--settle", "-", given=b"router 1.0.0.1 1\nrouter 2.0.0.1 2\nlink 1.0.0.1 2.0.0.1 1\njoin 1.0.0.1 2.0.0.1\norigin 1.0.0.1 10.0.0.0/8\nquiet\n")
@@ -181,7 +233,10 @@ class Prompt(AtPrompt):
         self.assertIn("    ok\n", self.typed.type("router 1.0.0.1 1\n"))
         self.assertIn("-- both ends are 1.0.0.1", self.typed.type("link 1.0.0.1 1.0.0.1 1\n"))
         self.assertIn("link A B M", self.typed.type("?\n"))
-        self.assertIn("prepend=K", self.typed.type("? rule\n"))
+        shown = self.typed.type("? rule\n")
+        for word in ("prepend=K", "add=N", "comm N", "65000:1 is 65000 x 65536 + 1, 4259840001"):
+            self.assertIn(word, shown)
+        self.assertIn("  feed V R update P PATH ORIGIN MED [comm=N,..] ", self.typed.type("? feed\n"))
 
     def test_settle_undo_and_save(self):
         self.network()
@@ -263,6 +318,21 @@ class Words(AtPrompt):
         self.assertIn("    -- bad.change:1: refused 11", self.typed.type("what-if bad.change\n"))
         self.assertIn("    -- nothing was done\n", self.typed.type("draw net.dot --odd\n"))
         self.assertIn("    yes\n", self.typed.type("quiet\n"))
+
+    def test_communities(self):
+        self.file("nine.bgp", "".join(line + "\n" for line in NINE[:-2]))
+        self.assertIn(" 0 refused", self.typed.type("load nine.bgp\n"))
+        kept = "-- not told to 8.0.0.1, since it carries 4294967041 (NO_EXPORT): 10.0.0.0/8"
+        told = self.typed.type("out 9.0.0.1 8.0.0.1\n")
+        self.assertIn(" comms=3,5 (0:3 0:5)\n    end 1\n    %s\n" % kept, told)
+        self.assertIn("    -- `65000:1` is not a community, one number of 0 to 4294967295: 65000:1 is 4259840001\n",
+                      self.typed.type("feed 7.0.0.1 9.0.0.1 update 12.0.0.0/8 7 igp - comm=65000:1\n"))
+        self.typed.type("name 8.0.0.1 peer\n")
+        told = self.typed.type("explain 9.0.0.1 10.0.0.0/8 --to peer\n")
+        self.assertIn("10.0.0.0/8 at 9.0.0.1: not advertised to peer (8.0.0.1)\n", told)
+        kept = "it carries 4294967041 (NO_EXPORT): such a route is told to no other AS (peer (8.0.0.1) is in AS 8)"
+        self.assertIn("  %s\n" % kept, told)
+        self.assertIn("    ok\n", self.typed.type("rule 9.0.0.1 8.0.0.1 in comm 5\tdeny\n"))
 
     def test_settle_that_does_not_end(self):
         typed = self.start("--most", "300")

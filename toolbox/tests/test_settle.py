@@ -109,6 +109,22 @@ class Settle(Case):
     def test_a_network_with_one_stable_state(self):
         self.assertEqual(tool("settle", DATA / "ring.bgp", "--states", "3", status=0).stdout, "1 stable state in 3 drawn orders\n")
 
+    def test_what_communities_keep_back_is_not_waited_for(self):
+        """Of five routes, two carry nothing well-known at 1: it tells 2 both, and by a rule 3 the first alone."""
+        one, two, three, fed = "1.0.0.1", "2.0.0.1", "3.0.0.1", "7.0.0.1"
+        given = ["router 1.0.0.1 1", "router 2.0.0.1 2", "router 3.0.0.1 3", "virtual 7.0.0.1 7"]
+        given += ["link 1.0.0.1 %s 1" % other for other in (two, three, fed)] + [
+            "join 1.0.0.1 %s" % other for other in (two, three, fed)]
+        given += ["rule 1.0.0.1 3.0.0.1 out comm 6 deny", "rule 1.0.0.1 7.0.0.1 in comm 9 permit add=4294967041"]
+        feeds = [("10.0.0.0/8", "5"), ("11.0.0.0/8", "6"), ("12.0.0.0/8", "5,4294967041"), ("14.0.0.0/8", "9"),
+                 ("13.0.0.0/8", "4294967042")]
+        given += ["feed 7.0.0.1 1.0.0.1 update %s 7 igp - comm=%s" % each for each in feeds]
+        for words in ((), ("--router",), ("--seed", "3")):
+            made = tool("settle", "--at-end", "-", *words, given="\n".join(given).encode(), status=0).stdout
+            ways = [tuple(line.split(" ")[1:]) for line in made.split("\n") if line.startswith("deliver")]
+            self.assertCountEqual(ways, [(fed, one)] * 5 + [(one, two)] * 2 + [(one, three)])
+            self.assertEqual(program(made + "quiet\n")[-1], "yes")
+
     def test_router_by_router(self):
         """Worked out by hand: 2 takes all that waits for it, from each in turn; then 3 does, and 1."""
         given = ("router 1.0.0.1 1\nrouter 2.0.0.1 2\nrouter 3.0.0.1 3\nlink 1.0.0.1 2.0.0.1 1\nlink 2.0.0.1 3.0.0.1 1\njoin 1.0.0.1 2.0.0.1\njoin 2.0.0.1 3.0.0.1\n"

@@ -186,7 +186,7 @@ TABLE_DUMP2|1700000000|B|192.0.2.2|8|20.0.0.0/8|9 21|IGP|192.0.2.2|0|0||NAG||
 class Rib(Case):
     def test_a_table(self):
         told = tool("from-rib", self.file("rib", RIB), status=0)
-        self.assertIn("feed 192.0.2.1 10.255.255.1 update 10.0.0.0/8 7,21_{22,23} igp 5\n", told.stdout)
+        self.assertIn("feed 192.0.2.1 10.255.255.1 update 10.0.0.0/8 7,21_{22,23} igp 5 comm=458753\n", told.stdout)
         self.assertIn("feed 192.0.2.2 10.255.255.1 update 10.0.0.0/8 8,21 inc 0\n", told.stdout)
         self.assertIn("rib:4: not taken over: the path does not begin with AS 8", told.stderr)
         self.assertIn("1 routes of IPv6 were left out", told.stderr)
@@ -205,3 +205,90 @@ class Rib(Case):
                            (RIB.replace("|INCOMPLETE", "|ODD"), ":2: the origin `ODD`"), (RIB.replace("7 21 {23,22}", "7 x"), ":1: `7 x` is no path"), ("", "no route that can be taken")):
             with self.subTest(said=said):
                 self.assertIn(said, tool("from-rib", self.file("rib", text), status=2).stderr)
+
+
+# As bgpdump 1.6.2 prints them with -m and with -m -l: well-known communities; large ones with others, and alone; none.
+DUMPED = """TABLE_DUMP2|1700000000|B|192.0.2.1|7|10.0.0.0/16|7 21|IGP|192.0.2.1|0|5|no-export no-advertise local-AS 65535:65284 65535:666 65535:0 0:0 7:1|NAG||
+TABLE_DUMP2|1700000000|B|192.0.2.1|7|10.1.0.0/16|7 21|IGP|192.0.2.1|0|5|7:300|NAG||
+TABLE_DUMP2|1700000000|B|192.0.2.1|7|10.2.0.0/16|7 21|IGP|192.0.2.1|0|5||NAG||
+TABLE_DUMP2|1700000000|B|192.0.2.1|7|10.3.0.0/16|7 21|IGP|192.0.2.1|0|5||AG|21 192.0.2.9|
+"""
+DUMPED_LARGE = """TABLE_DUMP2|1700000000|B|192.0.2.1|7|10.0.0.0/16|7 21|IGP|192.0.2.1|0|5|no-export no-advertise local-AS 65535:65284 65535:666 65535:0 0:0 7:1||NAG||
+TABLE_DUMP2|1700000000|B|192.0.2.1|7|10.1.0.0/16|7 21|IGP|192.0.2.1|0|5|7:300|4200000000:1:2 7:8:9|NAG||
+TABLE_DUMP2|1700000000|B|192.0.2.1|7|10.2.0.0/16|7 21|IGP|192.0.2.1|0|5||4200000000:1:2|NAG||
+TABLE_DUMP2|1700000000|B|192.0.2.1|7|10.3.0.0/16|7 21|IGP|192.0.2.1|0|5|||AG|21 192.0.2.9|
+"""
+
+
+class RibCommunities(Case):
+    """7:1 is 7 * 65536 + 1, 458753. The well-known ones are 0xFFFFFF01 to 0xFFFFFF03 (RFC 1997)."""
+
+    def table(self, *columns):
+        """A table of a peer that tells a route a line, with these in the column of communities."""
+        form = "TABLE_DUMP2|1700000000|B|192.0.2.1|7|10.%d.0.0/16|7 21|IGP|192.0.2.1|0|0|%s|NAG||\n"
+        return self.file("rib", "".join(form % (at, column) for at, column in enumerate(columns)))
+
+    def fed(self, made):
+        """What is fed behind the MED, by prefix."""
+        feeds = [line.split(" ") for line in made.stdout.split("\n") if line.startswith("feed ")]
+        return {words[4].split(".")[1]: words[8:] for words in feeds}
+
+    def test_what_bgpdump_prints(self):
+        fed = {"0": ["comm=0,458753,4294901760,4294902426,4294967041,4294967042,4294967043,4294967044"],
+               "1": ["comm=459052"], "2": [], "3": []}
+        for text, said in ((DUMPED, ""), (DUMPED_LARGE, ":2: `4200000000:1:2` was left out: large and extended communities "
+                                                        "are not modelled; routes that have any: 2\n")):
+            path = self.file("rib", text)
+            made = tool("from-rib", path, status=0)
+            self.assertEqual((made.stderr, self.fed(made)), (said and str(path) + said, fed))
+
+    def test_numbers_and_names(self):
+        path = self.table("", "7:1", "65535:666 7:300 0:0 7:1 7:300", "no-export", "NO_EXPORT", "7:1 no-advertise",
+                          "local-AS", "no-export-subconfed", "65535:65535")
+        made = tool("from-rib", path, status=0)
+        self.assertEqual(made.stderr, "")
+        self.assertEqual(self.fed(made), {
+            "0": [], "1": ["comm=458753"], "2": ["comm=0,458753,459052,4294902426"], "3": ["comm=4294967041"],
+            "4": ["comm=4294967041"], "5": ["comm=458753,4294967042"], "6": ["comm=4294967043"],
+            "7": ["comm=4294967043"], "8": ["comm=4294967295"]})
+        replies = program(made.stdout + "queue 192.0.2.1 10.255.255.1\n")
+        self.assertEqual(replies[-1], "end 9")
+        self.assertEqual([line.split(" comms=")[1:] for line in replies[-10:-1]],
+                         [[word[len("comm="):] for word in words] for words in self.fed(made).values()])
+
+    def test_more_than_a_route_is_fed_with(self):
+        """32 are taken, and 33 words where one stands twice."""
+        words = ["7:%d" % number for number in range(33)]
+        path = self.table(" ".join(words[:32]), " ".join(words), " ".join(words[:32] + words[:1]))
+        made = tool("from-rib", path, status=0)
+        self.assertEqual(made.stderr, "%s:2: not taken over: it has 33 communities, and a route is fed with 32 at "
+                                      "most; --no-communities takes it without\n" % path)
+        all_32 = ["comm=" + ",".join(str(7 * 65536 + number) for number in range(32))]
+        self.assertEqual(self.fed(made), {"0": all_32, "2": all_32})
+        self.assertEqual(set(program(made.stdout)), {"ok"})
+
+    def test_large_and_extended_ones_are_told(self):
+        path = self.table("7:1", "7:1 4200000000:1:2 7:2 rt:7:1", "4200000000:1:3", "RT:7:1 SoO:10.0.0.1:5", "7:2")
+        made = tool("from-rib", path, status=0)
+        self.assertEqual(made.stderr, "%s:2: `4200000000:1:2` was left out: large and extended communities are not "
+                                      "modelled; routes that have any: 3\n" % path)
+        self.assertEqual(self.fed(made), {
+            "0": ["comm=458753"], "1": ["comm=458753,458754"], "2": [], "3": [], "4": ["comm=458754"]})
+
+    def test_what_is_no_community(self):
+        for word in ("x", "7", "458753", "7:", ":1", "7:x", "65536:1", "7:65536", "7:01", "7:-1", "7;1", "1:2:3:4",
+                     "x:1"):
+            with self.subTest(word=word):
+                path = self.table("7:1", "7:2 %s 7:3" % word)
+                told, said = inside("from-rib", path), "is no community: --no-communities reads none"
+                self.assertEqual((told.returncode, told.stdout), (2, ""))
+                self.assertEqual(told.stderr, "%s:2: `%s` %s\n" % (path, word, said))
+
+    def test_without_communities(self):
+        path = self.table("7:1", "x", "4200000000:1:2", " ".join("7:%d" % number for number in range(33)))
+        made = tool("from-rib", "--no-communities", path, status=0)
+        self.assertEqual((made.stderr, self.fed(made)), ("", {"0": [], "1": [], "2": [], "3": []}))
+
+    def test_a_line_that_ends_with_its_med(self):
+        line = "TABLE_DUMP2|1700000000|B|192.0.2.1|7|10.0.0.0/16|7 21|IGP|192.0.2.1|0|5\n"
+        self.assertEqual(self.fed(tool("from-rib", self.file("rib", line), status=0)), {"0": []})

@@ -14,8 +14,9 @@ import unittest
 import unittest.mock
 
 from common import TOP, Case
-from simtools import (bench_tables, commands, logs, planted, programs, random_interiors, random_scripts,
-                      refuse_allocations, refusing, run_toolbox_tests, running, teams)
+from simtools import (bench_tables, commands, language, loads, logs, planted, programs, random_interiors,
+                      random_scripts, real_routers, refuse_allocations, refusing, run_toolbox_tests, running, speaker,
+                      teams)
 
 NOWHERE = "/nowhere/bgpsim"
 NOT_THERE = "there is no program %s: PROGRAM= names it\n" % NOWHERE
@@ -148,11 +149,64 @@ class RandomScripts(Case):
     def test_a_seed_gives_the_script_that_it_always_gave(self):
         ran = command("tools/random-scripts", 5, 300)
         self.assertEqual(ran.stdout, random_scripts.script(5, 300))
-        self.assertEqual(sha256(ran.stdout), "06f9cb9d1873a8e68e129323e94a54e63c3b77079ed3516d5a0707ada30d50c9")
+        self.assertEqual(sha256(ran.stdout), "1daa902f2aed94d20a0e6c58da58344bf29943648bbaa4bdc69b2e30f2de8f73")
 
     def test_a_seed_gives_the_changes_of_an_interior_that_it_always_gave(self):
-        text = "".join(random_interiors.script(seed, 17) for seed in (3, 4))
-        self.assertEqual(sha256(text), "f57db0e0647b68423fcccfb8f1ea3d415ca98f8be71599b601d4ef7dbc8b9a73")
+        text = "".join(random_interiors.script(seed, 17) for seed in (3, 5))
+        self.assertEqual(sha256(text), "f0022450e899da5d7d71f67a5a03f138c0cde00e41a3c2a3b44b595ab32b27e6")
+
+
+    def test_forms_of_communities(self):
+        """All stand in few scripts."""
+        lines = "".join(map(random_scripts.script, range(1, 21))).split("\n")
+        feeds = [line for line in lines if line.startswith("feed ")]
+        for form in ("comm=", *language.WELL_KNOWN):
+            self.assertGreater(sum(form in line for line in feeds), 10)
+        self.assertTrue(any(line.count(",") > 31 and "comm=" in line for line in feeds))
+        for form in (r"rule \S+ \S+ in comm [0-9]+ ", r"rule \S+ \S+ out comm [0-9]+ ", r"rule .* in .* add=[0-9]+",
+                     r"rule .* out .* add=[0-9]+", r"rule .* pref=.* add=", r"rule .* prepend=.* add="):
+            self.assertTrue(any(re.match(form, line) for line in lines), form)
+
+
+class Logs(Case):
+    FED = "router 9.0.0.1 9\nfeed 7.0.0.1 9.0.0.1 update 10.0.0.0/8 7 igp - comm=5\nquiet\n"
+
+    def test_those_of_the_cases_are_found_to_be_what_they_are(self):
+        found = sorted((TOP / "cases" / "logs").glob("*.log"))
+        self.assertGreater(len(found), 70)
+        for path in found:
+            with self.subTest(log=path.name):
+                said = logs.verdict(path.read_bytes().decode("latin-1"))
+                self.assertEqual(said + "\n", path.with_suffix(".out").read_text())
+
+    def test_versions(self):
+        newest, first = logs.log_of(self.FED), logs.log_of(self.FED, version=1)
+        self.assertEqual(newest.split("\n")[:4], [
+            "bgpsim log 2", "@0 router 9.0.0.1 9", "= ok", "@0 feed 7.0.0.1 9.0.0.1 update 10.0.0.0/8 7 igp - comm=5"])
+        self.assertEqual(first, "bgpsim log 1\n@0 router 9.0.0.1 9\n= ok\n@0 quiet\n= yes\nend 2\n")
+        for log, said in ((newest, "ok 3"), (first, "ok 2"), (logs.under(newest, 1), "bad line 4"),
+                          (logs.under(first, 2), "ok 2"), (newest.replace("log 2", "log 3"), "bad line 1")):
+            self.assertEqual(logs.verdict(log), said)
+
+
+class RealRouters(Case):
+    """The forms are those of FRR's documentation of route maps and community lists, and of RFC 1997."""
+
+    def test_policies(self):
+        self.assertEqual(real_routers.match("in-1", "comm", 4259840001), (
+            ["bgp community-list standard in-1 permit 65000:1"], [" match community in-1"]))
+        self.assertEqual(real_routers.settings(9, {"med": 3, "add": 4294967041}), [
+            " set metric 3", " set community 65535:65281 additive"])
+
+    def test_attributes(self):
+        route = {"prefix": "10.0.0.0/8", "path": [("seq", [7])], "origin": 0, "med": None, "comms": [5, 4294967041]}
+        self.assertIn(bytes.fromhex("c0080800000005ffffff01"), speaker.update("7.0.0.1", route))
+        self.assertNotIn(b"\xc0\x08", speaker.update("7.0.0.1", {**route, "comms": []}))
+        told = {"community": {"list": ["65000:1", "noExport", "0:5"]}}
+        self.assertEqual(real_routers.show_communities(told), " comms=5,4259840001,4294967041")
+        self.assertEqual(real_routers.show_communities({}), "")
+        with self.assertRaises(ValueError):
+            real_routers.show_communities({"community": {"list": ["blackhole"]}})
 
 
 class Other(Case):
@@ -176,7 +230,7 @@ class Comparing(Other):
         ran = command("tools/logs", "agree", "--scripts", 1, PROGRAM=self.other("cat > /dev/null\necho ok 0"))
         self.assertEqual(ran.returncode, 1)
         self.assertRegex(ran.stdout, (r"\Aseed 1: ok 0, and by the model ok [1-9][0-9]*\n"
-                                      r"(?:seed 1: ok 0, and by the model .*\n){12}13 logs, 13 differ\n\Z"))
+                                      r"(?:seed 1: ok 0, and by the model .*\n){14}15 logs, 15 differ\n\Z"))
 
     @unittest.skipUnless(shutil.which("cc"), "cc is not installed")
     def test_a_program_that_refuses_no_line(self):
@@ -206,7 +260,7 @@ class Refusing(Case):
             char one;
             const char *reply = "ok\n";
             if (!allocates()) return say(2, "memory\n"), 5;
-            if (!strcmp(words[1], "team")) return allocates(), say(1, "bgpsim log 1\nend 0\n");
+            if (!strcmp(words[1], "team")) return allocates(), say(1, "bgpsim log 2\nend 0\n");
             if (!strcmp(words[1], "replay")) return say(1, allocates() || WELL ? "ok 0\n" : "ok 1\n");
             while (read(0, &one, 1) == 1)
                 if (one == '\n') {
@@ -289,6 +343,7 @@ class Teams(Case):
         for found, said in (
                 (self.wrong(other_reply), "its log: differs at line 5, and by the model differs at line 5"),
                 (self.wrong(other_order), "the calls of seat 0 are not the commands of its file"),
+                (self.wrong(logs.under(log, 1)), "its header: 'bgpsim log 1'"),
                 (self.wrong(other_seat, text="router 1.0.0.1 1\n"), "seats [1] made other calls than deliveries"),
                 (self.wrong(log, text=self.SCRIPT + "router\n"), "of file 1 it told the lines [], and not [3]"),
                 (self.wrong(log, b"file 1 line 3: refused 1 syntax\n"), "of file 1 it told the lines [3], and not []"),
@@ -362,6 +417,13 @@ class Bench(Other):
         # chosen: it is told to the three others, and but for the first one withdrawn from who told it.
         self.assertTrue(ran.stdout.startswith("table 3: 82 lines, 57 deliveries, 0 refused\n"), ran)
         self.assertEqual((ran.returncode, ran.stdout.count("\n")), (0, 3))
+
+    def test_a_load_of_communities(self):
+        lines = loads.lines("tagged", 3)
+        # As that of table, and two rules for each peer.
+        self.assertEqual((len(lines), sum(line.startswith("deliver ") for line in lines)), (82 + 8, 57))
+        feeds = [line for line in lines if line.startswith("feed ")]
+        self.assertEqual([line.split("comm=")[1].count(",") for line in feeds], [7] * 12)
 
     def test_edits(self):
         ran = command("bench/edits", "--runs", 1, "origins", 5, "rules", 2)

@@ -176,6 +176,31 @@ Router east (5.0.0.2)
             self.assertRegex(told, "(?m)^%sin the fair order the same state comes back every [0-9]+ deliveries; .*; it settles router by router; of 9 .* in 2 stable states[.]$" % begin)
         self.assertNotIn("in the fair order", tool("what-if", TOOLBOX / "lessons/disagree.bgp", "-", "--router", given=b"origin 3.0.0.1 20.0.0.0/8\n", status=1).stdout)
 
+    def test_a_community_that_keeps_a_route_from_a_router(self):
+        """By NO_ADVERTISE the first router's two routes go no further; by NO_EXPORT to the second, and not to 8."""
+        base = TOOLBOX / "lessons/customers.bgp"
+        lost = ("            the old one: west (5.0.0.1) does not tell it any more: it chose a route that carries "
+                "4294967042 (NO_ADVERTISE)\n")
+        for number, now, chosen, count in (
+                (4294967042, "4294967042 (NO_ADVERTISE)\n                NO_ADVERTISE: told to no peer\n", 2, 2),
+                (4294967041, "4294967041 (NO_EXPORT)\n                NO_EXPORT: told to no other AS\n", 4, 0)):
+            change = ("rule 5.0.0.1 7.0.0.1 in any permit add=%d\n" % number).encode()
+            told = tool("what-if", base, "-", given=b"clear 5.0.0.1 7.0.0.1 in\n" + change, status=1).stdout
+            self.assertEqual((told.count(", comms " + now), told.count(lost)), (chosen, count))
+
+    def test_communities_as_json_and_on_the_way(self):
+        """8 is told a route anew, as its community alone changes."""
+        change = (b"clear 5.0.0.2 8.0.0.1 out\nrule 5.0.0.2 8.0.0.1 out is 203.0.113.0/24 permit add=65536\n"
+                  b"rule 5.0.0.2 8.0.0.1 out any deny\n")
+        words = ("what-if", TOOLBOX / "lessons/customers.bgp", "-")
+        told = json.loads(tool(*words, "--json", given=change, status=1).stdout)["told"][0]["changes"]
+        found = [(each["prefix"], each["before"]["comms"], (each["after"] or {}).get("comms")) for each in told]
+        self.assertEqual(found, [("198.51.100.0/24", "327681", None), ("203.0.113.0/24", "327681", "65536,327681")])
+        sent = "east (5.0.0.2) to peer (8.0.0.1): update 203.0.113.0/24 path 5,7 comms 65536,327681 (1:0 5:1)\n"
+        self.assertIn(sent, tool(*words, given=change, status=1).stdout)
+        whole = json.loads(tool(*words, "--json", given=b"origin 5.0.0.1 10.0.0.0/8\n", status=1).stdout)
+        self.assertEqual(whole["routers"]["5.0.0.1"][0]["after"]["comms"], "-")
+
     def test_each_settles_between_the_commands(self):
         change = b"clear 5.0.0.1 8.0.0.1 out\nrule 5.0.0.1 8.0.0.1 out any deny\n"
         whole, each = (json.loads(tool("what-if", "examples/lessons/leaking-policy.bgp", "-", "--json", *words, given=change, status=1).stdout)
