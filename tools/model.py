@@ -99,18 +99,34 @@ def length(segments):
 
 ORIGINS = {"igp": 0, "egp": 1, "inc": 2}
 
+# The well-known communities of RFC 1997 that keep a route from being advertised.
+NO_EXPORT, NO_ADVERTISE, NO_EXPORT_SUBCONFED = 0xFFFFFF01, 0xFFFFFF02, 0xFFFFFF03
+
+
+def communities(text):
+    ns = tuple(number(n) for n in text.split(","))
+    if any(a >= b for a, b in zip(ns, ns[1:])):
+        raise Bad
+    return ns
+
+
+def tagged(comms, act):
+    """The communities with what a rule's action adds."""
+    return tuple(sorted(set(comms) | ({act["add"]} if "add" in act else set())))
+
 
 def attr(**over):
-    base = dict(path=(), origin=0, next=0, med=None, pref=None, oid=None, clusters=())
+    base = dict(path=(), origin=0, next=0, med=None, pref=None, oid=None, clusters=(), comms=())
     base.update(over)
     return base
 
 
 def show_attr(a):
     maybe = lambda v: "-" if v is None else str(v)
-    return "path=%s origin=%s next=%s med=%s pref=%s oid=%s clusters=%s" % (
+    text = "path=%s origin=%s next=%s med=%s pref=%s oid=%s clusters=%s" % (
         show_path(a["path"]), ["igp", "egp", "inc"][a["origin"]], show(a["next"]), maybe(a["med"]), maybe(a["pref"]),
         "-" if a["oid"] is None else show(a["oid"]), ",".join(map(show, a["clusters"])) or "-")
+    return text + " comms=" + ",".join(map(str, a["comms"])) if a["comms"] else text
 
 
 class Net:
@@ -176,7 +192,8 @@ class Net:
                    "is": lambda: p == value,
                    "under": lambda: p[1] >= value[1] and contains(value, p[0]),
                    "path": lambda: any(value in ns for _, ns in a["path"]),
-                   "first": lambda: neighbour(a["path"]) == value}[kind]()
+                   "first": lambda: neighbour(a["path"]) == value,
+                   "comm": lambda: value in a["comms"]}[kind]()
             if hit:
                 return act
         return {}
@@ -209,7 +226,7 @@ class Net:
                 continue
             external = self.external(r, u)
             pref = act.get("pref", 100) if external else (100 if a["pref"] is None else a["pref"])
-            b = dict(a, pref=pref, med=act.get("med", a["med"]))
+            b = dict(a, pref=pref, med=act.get("med", a["med"]), comms=tagged(a["comms"], act))
             out.append((u, None, dict(source=u, attr=b, pref=pref, external=external, cost=self.costs(r)[a["next"]][0],
                                       ident=u if a["oid"] is None else a["oid"], peer=u)))
         return out
@@ -249,11 +266,15 @@ class Net:
     def prefixes(self, r):
         return sorted({p for o, p in self.origins if o == r} | {p for to, p, _ in self.received if to == r})
 
+    def is_kept(self, s, t, comms):
+        """Whether a well-known community keeps the route from the peer."""
+        return NO_ADVERTISE in comms or self.external(s, t) and (NO_EXPORT in comms or NO_EXPORT_SUBCONFED in comms)
+
     def out(self, s, t, p):
         if not self.up(s, t):
             return None
         b = self.best(s, p)
-        if b is None or b["source"] == t:
+        if b is None or b["source"] == t or self.is_kept(s, t, b["attr"]["comms"]):
             return None
         act = self.judge(s, t, "out", p, b["attr"])
         if act is None:
@@ -263,9 +284,10 @@ class Net:
             longer = a["path"]
             for _ in range(1 + act.get("prepend", 0)):
                 longer = in_front(asn, longer)
-            return attr(path=longer, origin=a["origin"], next=s, med=act.get("med"))
+            return attr(path=longer, origin=a["origin"], next=s, med=act.get("med"), comms=tagged(a["comms"], act))
         if b["external"]:
-            return attr(path=a["path"], origin=a["origin"], next=s if (s, t) in self.own else a["next"], med=a["med"], pref=b["pref"])
+            hop = s if (s, t) in self.own else a["next"]
+            return attr(path=a["path"], origin=a["origin"], next=hop, med=a["med"], pref=b["pref"], comms=a["comms"])
         if (s, b["source"]) in self.clients or (s, t) in self.clients:
             return dict(a, oid=b["source"] if a["oid"] is None else a["oid"], clusters=(self.cluster_id(s),) + a["clusters"])
         return None
@@ -308,6 +330,14 @@ def held(p, b):
     return "%s from %s %s" % (show_prefix(p), "self" if b["source"] == "self" else show(b["source"]), show_attr(b["attr"]))
 
 
+def route(segments, origin, med, comms=None):
+    """What a feed tells of a route: its path, origin, MED and communities."""
+    if origin not in ORIGINS or comms is not None and not comms.startswith("comm="):
+        wrong()
+    return (path(segments), ORIGINS[origin], None if med == "-" else number(med),
+            () if comms is None else communities(comms[len("comm="):]))
+
+
 def parse(words):
     """A command's words as typed values, or Bad."""
     w = words[0]
@@ -335,11 +365,8 @@ def parse(words):
     if w == "feed":
         if len(words) < 4:
             wrong()
-        if words[3] == "update" and len(words) == 8:
-            med = None if words[7] == "-" else number(words[7])
-            if words[6] not in ORIGINS:
-                wrong()
-            return [addr(words[1]), addr(words[2]), prefix(words[4]), (path(words[5]), ORIGINS[words[6]], med)]
+        if words[3] == "update" and len(words) in (8, 9):
+            return [addr(words[1]), addr(words[2]), prefix(words[4]), route(*words[5:])]
         if words[3] == "withdraw" and len(words) == 5:
             return [addr(words[1]), addr(words[2]), prefix(words[4]), None]
         wrong()
@@ -348,7 +375,7 @@ def parse(words):
             wrong()
         head = [addr(words[1]), addr(words[2]), way(words[3])]
         rest = words[4:]
-        kinds = {"any": None, "is": prefix, "under": prefix, "path": asn, "first": asn}
+        kinds = {"any": None, "is": prefix, "under": prefix, "path": asn, "first": asn, "comm": number}
         if rest[0] not in kinds:
             wrong()
         if kinds[rest[0]] is None:
@@ -362,7 +389,8 @@ def parse(words):
         if not rest or rest[0] != "permit":
             wrong()
         act, rest = {}, rest[1:]
-        for name, low, high in (("pref", 0, 2 ** 32 - 1), ("med", 0, 2 ** 32 - 1), ("prepend", 1, 16)):
+        most = 2 ** 32 - 1
+        for name, low, high in (("pref", 0, most), ("med", 0, most), ("prepend", 1, 16), ("add", 0, most)):
             if rest and rest[0].startswith(name + "="):
                 act[name] = number(rest[0][len(name) + 1:], low, high)
                 rest = rest[1:]
@@ -423,7 +451,7 @@ def tests(net, w, v):
         raise Refused(17)
     if w == "feed" and v[3] and neighbour(v[3][0]) != net.nodes[v[0]][0]:
         raise Refused(18)
-    if w == "feed" and v[3] and sum(len(ns) for _, ns in v[3][0]) > 255:
+    if w == "feed" and v[3] and (sum(len(ns) for _, ns in v[3][0]) > 255 or len(v[3][3]) > 32):
         raise Refused(19)
     if w in ("router", "virtual") and len(net.nodes) >= 4096 or w == "link" and len(net.links) >= 16384:
         raise Refused(19)
@@ -483,7 +511,7 @@ def run(net, w, v):
     elif w == "noorigin":
         net.edit(lambda: net.origins.discard((v[0], v[1])))
     elif w == "feed":
-        a = None if v[3] is None else attr(path=v[3][0], origin=v[3][1], next=v[0], med=v[3][2])
+        a = None if v[3] is None else attr(path=v[3][0], origin=v[3][1], next=v[0], med=v[3][2], comms=v[3][3])
         net.queues.setdefault((v[0], v[1]), []).append((v[2], a))
     elif w == "deliver":
         p, a = net.queues[v[0], v[1]][0]

@@ -1,6 +1,6 @@
 """Runs the program on a load, and prints what it took.
 
-    bench/loads table|reflector|ring|net N        tools/loads says what each load is
+    bench/loads table|reflector|ring|net|tagged N        tools/loads says what each load is
 
 It builds the program first; PROGRAM= is another one. The processor time and the memory are those of the program
 alone; they are taken by /usr/bin/time. After that the script is given once more, line by line, and the time until

@@ -6,6 +6,8 @@ it.
     tools/loads ring N         a ring of N routers of one AS with one reflector and 20 prefixes heard at two borders;
                                50 metric changes
     tools/loads net N          20 routers in four ASes, 40 sessions, N prefixes; changes and questions
+    tools/loads tagged N       the router of table, and each route has eight communities; it prefers the routes of half
+                               of the prefixes by one of these, and adds another one to the rest
 
 After each change everything is delivered until all queues are empty. Prefixes do not meddle with each other, so
 tools/model.py plays each kind of prefix once, and its deliveries are written as often as there are prefixes of the
@@ -75,6 +77,11 @@ def delivered(net: Net, ends: Tuple[int, int], line: str) -> int:
     return waiting
 
 
+def community(asn: int, number: int) -> int:
+    """A community that an AS defines (RFC 1997): the AS in its upper half."""
+    return asn << 16 | number
+
+
 def table(count: int) -> Load:
     load = Load([count])
     load.do("router 9.0.0.1 9")
@@ -82,6 +89,21 @@ def table(count: int) -> Load:
         load.do(*virtual_peer("9.0.0.1", "%d.0.0.1" % peer, peer, 10 - peer))
     for peer in range(1, 5):
         load.tell(0, "feed %d.0.0.1 9.0.0.1 update %%s %d,100 igp -" % (peer, peer))
+        load.settle()
+    return load
+
+
+def tagged(count: int) -> Load:
+    load = Load([count // 2, count - count // 2])
+    load.do("router 9.0.0.1 9")
+    for peer in range(1, 5):
+        load.do(*virtual_peer("9.0.0.1", "%d.0.0.1" % peer, peer, 10 - peer))
+        load.do("rule 9.0.0.1 %d.0.0.1 in comm %d permit pref=110" % (peer, community(100, 8)),
+                "rule 9.0.0.1 %d.0.0.1 in any permit add=%d" % (peer, community(9, peer)))
+    for peer in range(1, 5):
+        for kind, asn in enumerate((100, 101)):
+            told = ",".join(str(community(asn, n)) for n in range(1, 9))
+            load.tell(kind, "feed %d.0.0.1 9.0.0.1 update %%s %d,100 igp - comm=%s" % (peer, peer, told))
         load.settle()
     return load
 
@@ -156,7 +178,8 @@ def net(count: int) -> Load:
     return load
 
 
-LOADS: Dict[str, Callable[[int], Load]] = {"table": table, "reflector": reflector, "ring": ring, "net": net}
+LOADS: Dict[str, Callable[[int], Load]] = {
+    "table": table, "reflector": reflector, "ring": ring, "net": net, "tagged": tagged}
 
 
 def lines(kind: str, count: int) -> List[str]:

@@ -1,16 +1,18 @@
 """Logs by the model: writes them, tells what one is found to be, and compares `bgpsim replay` with that.
 
     tools/logs write [--seats N]                the log of the script on standard input, its calls spread over N
-                                                seats (1)
-    tools/logs check                            what the log on standard input is found to be
-    tools/logs agree [--scripts N] [--seed S]   N random scripts (100), of the seeds from S (1) on: their logs, and
-                                                each a dozen times with one byte changed, added or left out or the
-                                                rest cut off, are replayed by the program
+                                                seats (1): of version 2, as teams write it
+    tools/logs check                            what the log on standard input, of version 1 or 2, is found to be
+    tools/logs agree [--scripts N] [--seed S]   N random scripts (100), of the seeds from S (1) on: their logs of
+                                                version 2, the same under the header of version 1, their logs of
+                                                version 1, and these a dozen times with one byte changed, added or
+                                                left out or the rest cut off, are replayed by the program
     tools/logs refuse                           the log on standard input is replayed with each of its allocations
                                                 refused in turn: each run has to end with `memory` and status 5, or as
                                                 ever; it needs cc
 
-A line of a script that spells no command is no call, and is left out. `agree` ends with `N logs, K differ`, and
+A line of a script that spells no command is no call, and is left out; so is, of a log of version 1, a command that
+speaks of communities. `agree` ends with `N logs, K differ`, and
 with exit 1 where one differs; `refuse` with how many runs ended how, and with exit 1 where one ended otherwise.
 PROGRAM= is another program than crates/bgpsim/out/bgpsim.
 """
@@ -20,7 +22,7 @@ import collections
 import random
 import re
 import sys
-from typing import Iterator, List, Sequence, Tuple
+from typing import Any, Iterator, List, Sequence, Tuple
 
 import model
 
@@ -29,36 +31,50 @@ from .language import LONGEST_COMMAND
 from .refusing import allocations, refuser
 from .running import Ran, run, side_by_side
 
-HEADER = "bgpsim log 1"
+# The headers of the versions, in order; teams write the newest.
+HEADERS = ("bgpsim log 1", "bgpsim log 2")
+NEWEST = len(HEADERS)
 MOST_BYTES = 1_048_576
 MOST_LINES = 16_000_000
 CHANGES = 12
 CALL = re.compile(r"@(0|[1-9][0-9]{0,2}) ([!-~]+(?: [!-~]+)*)")
 
 
-def is_command(line: str) -> bool:
-    """Whether the line, its words one space apart, spells a command."""
+def has_communities(command: str, values: List[Any]) -> bool:
+    """Whether a command, of these values, speaks of communities, as logs of version 1 do not."""
+    if command == "feed":
+        route = values[3]
+        return bool(route and route[3])
+    if command == "rule":
+        (match, _), action = values[3]
+        return match == "comm" or "add" in (action or {})
+    return False
+
+
+def is_command(line: str, version: int = NEWEST) -> bool:
+    """Whether the line, its words one space apart, spells a command that logs of the version know."""
     if len(line) > LONGEST_COMMAND or line.startswith("#"):
         return False
+    words = line.split(" ")
     try:
-        model.parse(line.split(" "))
-        return True
+        values = model.parse(words)
     except model.Bad:
         return False
+    return version > 1 or not has_communities(words[0], values)
 
 
-def calls_of(script: str) -> Iterator[str]:
-    """The commands of the script, their words one space apart."""
+def calls_of(script: str, version: int = NEWEST) -> Iterator[str]:
+    """The commands of the script that logs of the version know, their words one space apart."""
     for line in script.split("\n"):
         words = [word for word in line.rstrip("\r").split(" ") if word]
-        if words and len(line) <= LONGEST_COMMAND and is_command(" ".join(words)):
+        if words and len(line) <= LONGEST_COMMAND and is_command(" ".join(words), version):
             yield " ".join(words)
 
 
-def log_of(script: str, seats: int = 1) -> str:
+def log_of(script: str, seats: int = 1, version: int = NEWEST) -> str:
     """The log of the script's commands."""
-    net, lines, calls = model.Net(), [HEADER], 0
-    for command in calls_of(script):
+    net, lines, calls = model.Net(), [HEADERS[version - 1]], 0
+    for command in calls_of(script, version):
         lines.append("@%d %s" % (calls * 7 % seats, command))
         lines += ["= " + reply for reply in model.answer(net, command)]
         calls += 1
@@ -66,19 +82,18 @@ def log_of(script: str, seats: int = 1) -> str:
 
 
 class Reading:
-    """A log that is read line by line: which replies are due, and how many calls there were."""
+    """A log that is read line by line: its version, which replies are due, and how many calls there were."""
 
     def __init__(self) -> None:
         self.net = model.Net()
         self.due: List[str] = []
-        self.calls = 0
+        self.calls = self.version = 0
         self.state = "begins"
 
     def fault(self, line: str) -> str:
         """What is wrong with the next line: nothing, or `bad` or `differs`."""
         if self.state == "begins":
-            self.state = "within"
-            return "" if line == HEADER else "bad"
+            return "" if self.is_header(line) else "bad"
         if self.due:
             return "" if line == "= " + self.due.pop(0) else "differs"
         if self.state == "within" and line == "end %d" % self.calls:
@@ -86,10 +101,16 @@ class Reading:
             return ""
         return "" if self.state == "within" and self.is_call(line) else "bad"
 
+    def is_header(self, line: str) -> bool:
+        """Takes the version of a line, where it is the header of one."""
+        self.state = "within"
+        self.version = HEADERS.index(line) + 1 if line in HEADERS else 0
+        return self.version > 0
+
     def is_call(self, line: str) -> bool:
         """Makes the call of a line, where it is one."""
         call = CALL.fullmatch(line)
-        if not call or int(call[1]) >= 256 or not is_command(call[2]):
+        if not call or int(call[1]) >= 256 or not is_command(call[2], self.version):
             return False
         self.calls += 1
         self.due = model.answer(self.net, call[2])
@@ -121,17 +142,24 @@ def replayed(log: str) -> str:
     return said if is_so else "status %d: %s" % (ran.status, said)
 
 
+def under(log: str, version: int) -> str:
+    """The log under the header of a version."""
+    return "\n".join([HEADERS[version - 1]] + log.split("\n")[1:])
+
+
 def changed(log: str, draw: random.Random) -> str:
-    """The log with a byte changed, added or left out, or without its end."""
-    at, byte = draw.randrange(len(log)), draw.choice("\n =@#019 \x00\xff.abc")
+    """The log with a byte changed, added or left out, or without its end; now and then near its header."""
+    near = draw.choice((len(log), len(log), len(log), 2 * len(HEADERS[0])))
+    at, byte = draw.randrange(min(near, len(log))), draw.choice("\n =@#0129 \x00\xff.abc")
     return draw.choice((log[:at] + byte + log[at + 1:], log[:at] + byte + log[at:], log[:at] + log[at + 1:], log[:at]))
 
 
 def compare(seed: int) -> Tuple[int, List[str]]:
     """How many logs the seed has, and what is told of each that the program finds to be something else."""
     draw = random.Random(seed)
-    log = log_of(random_scripts.script(seed), draw.choice((1, 3, 256)))
-    logs = [log] + [changed(log, draw) for _ in range(CHANGES)]
+    script, seats = random_scripts.script(seed), draw.choice((1, 3, 256))
+    logs = [log_of(script, seats), under(log_of(script, seats), 1), log_of(script, seats, 1)]
+    logs += [changed(draw.choice(logs[:3]), draw) for _ in range(CHANGES)]
     found = [(replayed(one), verdict(one)) for one in logs]
     return len(logs), ["seed %d: %s, and by the model %s" % (seed, got, want) for got, want in found if got != want]
 

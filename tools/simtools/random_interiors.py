@@ -1,5 +1,6 @@
-"""Writes a random script of changes of the interior: a network of several ASes with sessions and routes, then links
-that fail, are mended, get another metric or come anew, with questions for costs and choices after each.
+"""Writes a random script of changes of the interior: a network of several ASes with sessions, policies that add
+communities, and routes, then links that fail, are mended, get another metric or come anew, with questions for costs
+and choices after each.
 
     tools/random-interiors SEED [CHANGES]        the same seed and number of changes (100) give the same script
 
@@ -13,6 +14,15 @@ import sys
 from typing import Dict, Iterable, List, Sequence, Tuple
 
 from . import commands
+from .language import WELL_KNOWN
+
+# What policies of external sessions add: a community that means nothing by itself more often than one that keeps a
+# route from being advertised.
+ADDED = ("5", "7", "4294967295") * 3 + WELL_KNOWN
+
+
+def is_internal(one: str, other: str) -> bool:
+    return one.split(".")[0] == other.split(".")[0]
 
 
 class Interior:
@@ -55,14 +65,21 @@ class Interior:
 
     def join(self) -> None:
         pairs = [(routers[0], router) for routers in self.inside for router in routers[1:]]
-        pairs += [ends for ends in self.links if ends[0].split(".")[0] != ends[1].split(".")[0]]
+        pairs += [ends for ends in self.links if not is_internal(*ends)]
         self.sessions += [(one, other) for one, other in pairs]
         self.lines += ["join %s %s" % pair for pair in self.sessions]
         for routers in self.inside:
             self.lines += ["client %s %s on" % (routers[0], router) for router in routers[1:]]
+        self.lines += [self.policy(*ends) for ends in self.sessions if not is_internal(*ends) for _ in range(2)]
         for n, router in enumerate(self.random.sample(self.routers, 3)):
             self.lines.append("origin %s 10.%d.0.0/16" % (router, n % 2))
         self.deliver(4)
+
+    def policy(self, *ends: str) -> str:
+        """A rule of one of the ends, which adds a community."""
+        one, other = self.random.sample(ends, 2)
+        way, match = self.random.choice(["in", "out"]), self.random.choice(["any", "comm 5", "is 10.1.0.0/16"])
+        return "rule %s %s %s %s permit add=%s" % (one, other, way, match, self.random.choice(ADDED))
 
     def deliver(self, rounds: int) -> None:
         for one, other in self.sessions * rounds:

@@ -17,12 +17,15 @@ import sys
 from typing import Collection, Dict, Iterable, List, Sequence, Set, Tuple, TypeVar
 
 from . import commands
+from .language import MOST_COMMUNITIES, WELL_KNOWN
 
 PREFIXES = ["0.0.0.0/0", "10.0.0.0/8", "10.0.0.0/16", "10.1.0.0/16", "192.0.2.0/24", "192.0.2.1/32"]
 TARGETS = ["10.0.0.1", "10.1.2.3", "10.200.0.1", "192.0.2.1", "192.0.2.7", "8.8.8.8"]
 WORDS = ["router", "link", "join", "rule", "feed", "deliver", "quiet", "on", "in", "any", "permit", "deny", "pref=5",
          "-", "0", "7", "4294967296", "1.0.0.1", "1.0.0.256", "10.0.0.1/8", "10.0.0.0/33", "{3,2}", "prepend=17",
-         "igp", "#", "x"]
+         "igp", "#", "x", "comm", "comm=", "comm=5", "comm=6,5", "add=", "add=5", "add=4294967296"]
+# Communities that mean nothing by themselves; the first few are drawn often, and so met again by rules.
+COMMUNITIES = ["1", "2", "3", "65001", "4259840100", "0", "4294967040", "4294967044", "4294967295"]
 One = TypeVar("One")
 Ends = Tuple[str, ...]
 
@@ -109,10 +112,28 @@ class Script:
             segments = self.some([["-"], ["{1,2}"], segments[1:] or ["-"], [long]])
         return "_".join(segments)
 
+    def community(self) -> str:
+        if self.chance(0.25):
+            return self.some(WELL_KNOWN)
+        return self.some(COMMUNITIES[:3] if self.chance(0.8) else COMMUNITIES)
+
+    def communities(self) -> str:
+        """The last word of a feed, where it has one; now and then one that spells nothing, or many numbers."""
+        if self.chance(0.4):
+            return ""
+        drawn = {self.community() for _ in range(self.random.choice([1, 1, 1, 2, 2, 3, 5]))}
+        numbers = sorted(drawn, key=int)
+        if self.chance(0.06):
+            many = [str(n) for n in range(MOST_COMMUNITIES + self.random.randint(-1, 2))]
+            numbers = self.some([numbers[::-1], numbers + numbers[-1:], many, many, [], ["4294967296"], ["07"]])
+        return " comm=" + ",".join(numbers)
+
     def match(self) -> str:
-        kind = self.some(["any", "is", "under", "path", "first"])
+        kind = self.some(["any", "is", "under", "path", "first", "comm", "comm"])
         if kind in ("is", "under"):
             return kind + " " + self.some(PREFIXES)
+        if kind == "comm":
+            return kind + " " + self.community()
         return kind if kind == "any" else kind + " " + self.number(1, 9)
 
     def action(self, internal: bool, way: str) -> str:
@@ -126,6 +147,8 @@ class Script:
             words.append("med=" + self.number(0, 3))
         if (wild or not internal and way == "out") and self.chance(0.5):
             words.append("prepend=" + self.number(1, 16))
+        if (wild or not internal) and self.chance(0.5):
+            words.append("add=" + self.community())
         return " ".join(words)
 
     # commands
@@ -172,7 +195,10 @@ class Script:
         return "cluster %s %s" % (self.router(), self.address())
 
     def add_rule(self) -> str:
-        one, other = self.pair(self.sessions)
+        external = {ends for ends in self.sessions if not self.is_internal(*ends)}
+        one, other = self.pair(external if self.chance(0.7) else self.sessions)
+        if self.nodes.get(one, (5, False))[1] and self.chance(0.8):
+            one, other = other, one
         way = self.some(["in", "out"])
         return "rule %s %s %s %s %s" % (one, other, way, self.match(), self.action(self.is_internal(one, other), way))
 
@@ -196,7 +222,7 @@ class Script:
         if self.chance(0.2):
             return "feed %s %s withdraw %s" % (one, other, self.prefix())
         route = (self.prefix(), self.path(first), self.some(["igp", "igp", "igp", "egp", "inc"]), self.med())
-        return "feed %s %s update %s %s %s %s" % (one, other, *route)
+        return "feed %s %s update %s %s %s %s" % (one, other, *route) + self.communities()
 
     def deliver(self) -> str:
         return "deliver %s %s" % tuple(self.pair(self.sessions))
@@ -277,7 +303,7 @@ class Script:
 
     def go_on(self, count: int) -> None:
         kinds = [self.deliver] * 5 + [self.feed] * 9 + [self.question] * 5 + [self.change_link] * 4
-        kinds += [self.change_origin] * 3 + [self.mark] * 4 + [self.add_rule] * 3 + [self.change_session] * 2
+        kinds += [self.change_origin] * 3 + [self.mark] * 4 + [self.add_rule] * 5 + [self.change_session] * 2
         kinds += [self.malformed] * 2 + [self.clear_rules, self.set_cluster]
         kinds += [self.add_node, self.add_link, self.add_session]
         while len(self.lines) < count:

@@ -10,7 +10,8 @@ is compared with all its attributes, and so is from whom each router has a route
 
 Two things are set so that both mean the same. FRR's routers prefer their own prefixes by a weight, which is set to
 0 here; and they announce them with a MED of 0, where ours have none, so a MED of 0 and none are printed alike here:
-the decision takes them as equal.
+the decision takes them as equal. FRR gives a meaning to some communities that have none here (0:0, and others of
+65535:N): a script that uses them is another network there.
 """
 from __future__ import annotations
 
@@ -27,10 +28,13 @@ from typing import Any, Collection, Dict, List, Optional, Sequence, Tuple
 import model
 
 from . import commands, programs
+from .language import WELL_KNOWN
 from .programs import TOP
 
 WORK = "/tmp/real-routers"
 SOCKETS = "/var/run/frr"
+# The well-known communities (RFC 1997) as FRR's routers name them.
+NAMED = dict(zip(("noExport", "noAdvertise", "localAs"), map(int, WELL_KNOWN)))
 EXCLUSIONS = ("loop", "originator", "cluster", "denied", "unresolved")
 SILENT = {"stdout": subprocess.DEVNULL, "stderr": subprocess.DEVNULL}
 show = model.show
@@ -102,6 +106,11 @@ def ours(net: Net, lines: List[str], prefixes: List[Prefix]) -> Tables:
 
 # the configuration of a real router
 
+def halves(community: int) -> str:
+    """A community as FRR's configurations have it."""
+    return "%d:%d" % (community >> 16, community & 0xffff)
+
+
 def match(name: str, kind: str, value: Any) -> Tuple[List[str], List[str]]:
     """The list that a rule's condition stands in, and the line of the route map that names it; none for any route."""
     if kind in ("is", "under"):
@@ -111,6 +120,8 @@ def match(name: str, kind: str, value: Any) -> Tuple[List[str], List[str]]:
     if kind in ("path", "first"):
         permitted = "bgp as-path access-list %s permit %s%d_" % (name, "_" if kind == "path" else "^", value)
         return [permitted], [" match as-path " + name]
+    if kind == "comm":
+        return ["bgp community-list standard %s permit %s" % (name, halves(value))], [" match community " + name]
     return [], []
 
 
@@ -118,7 +129,8 @@ def settings(asn: int, act: Dict[str, int]) -> List[str]:
     """The lines of the route map for what a rule sets."""
     words = (("pref", "local-preference"), ("med", "metric"))
     lines = [" set %s %d" % (word, act[key]) for key, word in words if act.get(key) is not None]
-    return lines + ([" set as-path prepend" + " %d" % asn * act["prepend"]] if act.get("prepend") else [])
+    lines += [" set as-path prepend" + " %d" % asn * act["prepend"]] if act.get("prepend") else []
+    return lines + ([" set community %s additive" % halves(act["add"])] if "add" in act else [])
 
 
 def route_map(net: Net, r: int, u: int, way: str) -> Tuple[str, List[str]]:
@@ -223,7 +235,7 @@ def build(net: Net) -> None:
 
 def fed(net: Net, v: int, r: int) -> List[Dict[str, Any]]:
     """What a virtual peer has told a router, as tools/speaker takes it."""
-    return [dict(prefix=model.show_prefix(p), path=a["path"], origin=a["origin"], med=a["med"])
+    return [dict(prefix=model.show_prefix(p), path=a["path"], origin=a["origin"], med=a["med"], comms=a["comms"])
             for (to, p, u), a in sorted(net.received.items()) if (to, u) == (r, v)]
 
 
@@ -266,6 +278,19 @@ def show_segment(segment: Dict[str, Any]) -> str:
     return ("{%s}" if is_set else "%s") % ",".join(map(str, sorted(segment["list"]) if is_set else segment["list"]))
 
 
+def community(word: str) -> int:
+    """The number of a community that a real router tells. ValueError where it has a name that is not known here."""
+    if word in NAMED:
+        return NAMED[word]
+    high, low = map(int, word.split(":"))
+    return high << 16 | low
+
+
+def show_communities(route: Dict[str, Any]) -> str:
+    told = sorted(map(community, route.get("community", {}).get("list", [])))
+    return " comms=" + ",".join(map(str, told)) if told else ""
+
+
 def show_route(r: int, p: Prefix, route: Dict[str, Any]) -> str:
     """The route as the program would print it."""
     path = "_".join(map(show_segment, route["aspath"].get("segments", [])))
@@ -273,7 +298,7 @@ def show_route(r: int, p: Prefix, route: Dict[str, Any]) -> str:
     return "%s from %s path=%s origin=%s next=%s med=%s pref=%s oid=%s clusters=%s" % (
         model.show_prefix(p), source(route), path or "-", {"IGP": "igp", "EGP": "egp"}.get(route["origin"], "inc"), hop,
         route.get("metric", "-"), route.get("locPrf", 100), route.get("originatorId", "-"),
-        ",".join(route.get("clusterList", {}).get("list", [])) or "-")
+        ",".join(route.get("clusterList", {}).get("list", [])) or "-") + show_communities(route)
 
 
 def table(r: int, prefixes: List[Prefix]) -> List[str]:

@@ -63,8 +63,10 @@ def told(result: unittest.TestResult) -> int:
 def run_tests(words: List[str]) -> int:
     """Runs the tests whose name has one of the words. Missing where the program is not there."""
     os.environ["PROGRAM"] = programs.bgpsim()
-    # What a shell runs in the background ignores Ctrl-C, and so would the tools that the tests start.
+    # What a shell runs in the background ignores Ctrl-C, under nohup the end of the session too, and so would the tools
+    # that the tests start.
     signal.signal(signal.SIGINT, signal.default_int_handler)
+    signal.signal(signal.SIGHUP, signal.SIG_DFL)
     sys.path[:0] = [str(TESTS), str(TESTS.parent)]
     loaded = list(tests_in(unittest.TestLoader().discover(str(TESTS))))
     result = Telling()

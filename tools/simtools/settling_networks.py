@@ -3,8 +3,8 @@
     tools/settling-networks SEED        the same seed gives the same script
 
 Some ASes of some routers each, with a full mesh of sessions or one or two reflectors; virtual peers; policies on
-external sessions; then failures, repairs, metrics, sessions stopped and prefixes withdrawn, with deliveries between
-them.
+external sessions; communities; then failures, repairs, metrics, sessions stopped and prefixes withdrawn, with
+deliveries between them.
 """
 from __future__ import annotations
 
@@ -14,8 +14,11 @@ from typing import Dict, Iterable, List, Sequence, Tuple, TypeVar
 import model
 
 from . import commands
+from .language import WELL_KNOWN
 
 PREFIXES = ["10.%d.0.0/16" % n for n in range(1, 7)]
+# Tags, and those that keep a route from being advertised.
+COMMUNITIES = ("1", "65001", "4259840100") * 4 + WELL_KNOWN
 One = TypeVar("One")
 
 
@@ -101,13 +104,16 @@ class Script:
     def policy(self, router: str, peer: str) -> str:
         asn = self.some(sorted(self.routers) + [20, 21, 22])
         one, under = "is " + self.some(PREFIXES), "under 10.0.0.0/%d" % self.some([8, 13])
-        match = self.some(["any", one, under, "path %d" % asn, "first %d" % asn])
+        match = self.some(["any", one, under, "path %d" % asn, "first %d" % asn, "comm " + self.some(COMMUNITIES)])
         settings = " med=%d" % self.random.randint(0, 3) if self.chance(0.5) else ""
+        adds = " add=" + self.some(COMMUNITIES) if self.chance(0.3) else ""
         if self.chance(0.5):
             prefers = " pref=%d" % self.some([90, 110]) if self.prefers and self.chance(0.5) else ""
-            return "rule %s %s in %s %s" % (router, peer, match, self.some(["deny", "permit" + prefers + settings]))
+            action = self.some(["deny", "permit" + prefers + settings + adds])
+            return "rule %s %s in %s %s" % (router, peer, match, action)
         prepends = " prepend=%d" % self.random.randint(1, 3) if self.chance(0.5) else ""
-        return "rule %s %s out %s %s" % (router, peer, match, self.some(["deny", "permit" + settings + prepends]))
+        action = self.some(["deny", "permit" + settings + prepends + adds])
+        return "rule %s %s out %s %s" % (router, peer, match, action)
 
     def feed(self, peer: str, router: str, asn: int) -> None:
         own = [self.some(self.routers)] if self.chance(0.1) else []
@@ -116,7 +122,9 @@ class Script:
         if self.chance(0.15):
             path += "_{%d,%d}" % tuple(sorted(self.random.sample(range(40, 50), 2)))
         prefix, origin, med = self.some(PREFIXES), self.some(["igp", "igp", "egp", "inc"]), self.some("-0125")
-        self.say("feed %s %s update %s %s %s %s" % (peer, router, prefix, path, origin, med))
+        drawn = {self.some(COMMUNITIES) for _ in range(self.some([0, 0, 1, 1, 2, 3]))}
+        comms = " comm=" + ",".join(sorted(drawn, key=int)) if drawn else ""
+        self.say("feed %s %s update %s %s %s %s" % (peer, router, prefix, path, origin, med) + comms)
 
     def build(self) -> None:
         asns = self.random.sample(range(1, 9), self.some([1, 2, 2, 3]))

@@ -30,7 +30,8 @@ from .running import Ran, run, side_by_side
 
 TOLD = re.compile(r"file ([0-9]+) line ([0-9]+): refused (1 syntax|20 memory)")
 CALL = re.compile(r"@([0-9]+) (.*)")
-MISTAKES = ("", "# nothing", "router", "routes 1.0.0.300", "quiet now", "  quiet ", "quiet\r")
+MISTAKES = ("", "# nothing", "router", "routes 1.0.0.300", "quiet now", "  quiet ", "quiet\r",
+            "feed 7.0.0.1 9.0.0.1 update 10.0.0.0/8 7 igp - comm=6,5")
 # A user of whom no other process is.
 NOBODY = 61_234
 Numbers = Dict[int, List[int]]
@@ -130,6 +131,8 @@ def wrong(texts: List[str], workers: int, ran: Ran) -> Optional[str]:
     log = ran.out.decode("latin-1")
     if ran.status != 0:
         return "status %d: %s" % (ran.status, ran.err.decode("latin-1"))
+    if not log.startswith(logs.HEADERS[-1] + "\n"):
+        return "its header: %r" % log.split("\n", 1)[0]
     by_model, by_program = logs.verdict(log), logs.replayed(log)
     if not by_model.startswith("ok ") or by_model != by_program:
         return "its log: %s, and by the model %s" % (by_program, by_model)
