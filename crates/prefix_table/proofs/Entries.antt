@@ -94,7 +94,7 @@ module _ {V : Type 0} where
     key = λ x h. is.key x h;
   }
 
-  find_below : (q : Prefix) (es : List (Prefix × V)) → T (below_all prefix_cmp q es) → find prefix_cmp q es ≡ None
+  pub find_below : (q : Prefix) (es : List (Prefix × V)) → T (below_all prefix_cmp q es) → find prefix_cmp q es ≡ None
   find_below q [] h = refl
   find_below q (e ∷ es) h = ap (λ r. cond (is_eq r) (Some e.1) (find prefix_cmp q es)) (less_of _ (first _ _ h)) ∙ find_below q es (second _ _ h)
 

@@ -12,7 +12,7 @@ use Rattle.prefix_table.proofs.Lengths.{prefix_around_matches}
 back : (p q : Prefix) → Covers p q → q.len ≤ p.len → Covers q p
 back p q h le = comparable q p q (covers_itself q) h le
 
-module _ {V : Type 0} (ns : List (Node V)) (t : IsTrie ns) (at : ℕ) (q : Prefix) (block : MakePrefix q.addr q.len) (near : IsClosest ns q at) (lt : (prefix_at ns at).len < q.len) where
+module _ (ns : List Node) (t : IsTrie ns) (at : ℕ) (q : Prefix) (block : MakePrefix q.addr q.len) (near : IsClosest ns q at) (lt : (prefix_at ns at).len < q.len) where
   leaf_under : IsUnder (prefix_at ns at) (bit_at q.addr (prefix_at ns at).len) q
   leaf_under = record { longer = lt; covers = near.covers; half = refl }
 

@@ -8,3 +8,4 @@ pub mod Linking
 pub mod Paths
 pub mod Splicing
 pub mod Halves
+pub mod Values

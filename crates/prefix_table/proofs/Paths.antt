@@ -8,7 +8,7 @@ use Rattle.std.proofs.lemmas.List.{get_or-map}
 use Rattle.net_prefix.specs.Prefix.{Prefix, Covers, prefix_cmp}
 use Rattle.prefix_table.specs.declared.node.Node.{Node}
 use Rattle.prefix_table.specs.declared.node.NodeId.{NodeId}
-use Rattle.prefix_table.specs.Trie.{bit_at, IsUnder, prefix_at, value_at, child_at, IsTrie, IsNearer, IsLast, IsCover, IsDeepest, IsLater, IsFirstLater}
+use Rattle.prefix_table.specs.Trie.{bit_at, IsUnder, prefix_at, place_at, child_at, IsTrie, IsNearer, IsLast, IsCover, IsDeepest, IsLater, IsFirstLater}
 use Rattle.prefix_table.proofs.Prefixes.{covers_itself, covers_trans, comparable, same_bit, under_further, one_prefix, covered_not_before, upper_not_before}
 
 -- a field of the node that is read at an index
@@ -19,7 +19,7 @@ pub IfNone_then : {X : Type 0} (o : Option X) {P Q : Type 0} → IfNone o P → 
 IfNone_then None p f = f p
 IfNone_then (Some x) p f = tt
 
-module _ {V : Type 0} (ns : List (Node V)) (t : IsTrie ns) (at : ℕ) (here : at < length ns) (q : Prefix) (covers : Covers (prefix_at ns at) q) where
+module _ (ns : List Node) (t : IsTrie ns) (at : ℕ) (here : at < length ns) (q : Prefix) (covers : Covers (prefix_at ns at) q) where
   -- a longer prefix that covers q lies in q's half
   longer_under : (j : ℕ) → Covers (prefix_at ns j) q → (prefix_at ns at).len < (prefix_at ns j).len → IsUnder (prefix_at ns at) (bit_at q.addr (prefix_at ns at).len) (prefix_at ns j)
   longer_under j h lt = record {
@@ -71,23 +71,23 @@ module _ {V : Type 0} (ns : List (Node V)) (t : IsTrie ns) (at : ℕ) (here : at
   pub none_deeper_last : IsLast ns q at → NoneIsDeeper
   none_deeper_last last j h = last j h.in_range h.covers
 
-  pub deepest_here : IsTrue (is_some (value_at ns at)) → NoneIsDeeper → IsDeepest ns (prefix_at ns at).len q at
+  pub deepest_here : IsTrue (is_some (place_at ns at)) → NoneIsDeeper → IsDeepest ns (prefix_at ns at).len q at
   deepest_here valued none = record {
     cover = record { in_range = here; valued = valued; covers = covers; long = omega arith };
     longest = none;
   }
 
-  pub none_here : is_some (value_at ns at) ≡ false → NoneIsDeeper → (j : ℕ) → IsCover ns (prefix_at ns at).len q j → ⊥
+  pub none_here : is_some (place_at ns at) ≡ false → NoneIsDeeper → (j : ℕ) → IsCover ns (prefix_at ns at).len q j → ⊥
   none_here empty none j h =
       let over : Covers (prefix_at ns at) (prefix_at ns j) = comparable (prefix_at ns at) (prefix_at ns j) q covers h.covers h.long in
       let same : at ≡ j = t.unique at j here h.in_range (one_prefix (prefix_at ns at) (prefix_at ns j) (t.blocks at here) (t.blocks j h.in_range) over (none j h)) in
-      false≢true (sym empty ∙ ap (λ i. is_some (value_at ns i)) same ∙ h.valued)
+      false≢true (sym empty ∙ ap (λ i. is_some (place_at ns i)) same ∙ h.valued)
 
-module _ {V : Type 0} (ns : List (Node V)) (t : IsTrie ns) (at : ℕ) (here : at < length ns) (after : Option Prefix) where
+module _ (ns : List Node) (t : IsTrie ns) (at : ℕ) (here : at < length ns) (after : Option Prefix) where
   abbrev pub NoneIn : Bool → Type 0
   NoneIn upper = (j : ℕ) → IsLater ns (prefix_at ns at) after j → IsUnder (prefix_at ns at) upper (prefix_at ns j) → ⊥
 
-  pub first_here : IsTrue (is_some (value_at ns at)) → is_after after (prefix_at ns at) ≡ true → IsFirstLater ns (prefix_at ns at) after at
+  pub first_here : IsTrue (is_some (place_at ns at)) → is_after after (prefix_at ns at) ≡ true → IsFirstLater ns (prefix_at ns at) after at
   first_here valued later = record {
     is = record { in_range = here; valued = valued; covers = covers_itself (prefix_at ns at); later = later };
     first = λ j h. covered_not_before (prefix_at ns at) (prefix_at ns j) (t.blocks at here) h.covers;

@@ -7,7 +7,7 @@ use Rattle.prefix_table.specs.declared.node.NodeId.{NodeId}
 use Rattle.prefix_table.specs.Trie.{whole, bit_at, IsUnder, prefix_at, child_at, IsBelow, IsTrie, IsGap}
 use Rattle.prefix_table.proofs.Prefixes.{covers_itself, covers_trans, comparable, under_further, under_back, one_prefix}
 
-pub record IsSpliced {V : Type 0} (ns new : List (Node V)) (i : ℕ) (b : Bool) (c : Prefix) : Type 0 where
+pub record IsSpliced (ns new : List Node) (i : ℕ) (b : Bool) (c : Prefix) : Type 0 where
   pub long : length new ≡ length ns + 1
   pub old : (j : ℕ) → j < length ns → prefix_at new j ≡ prefix_at ns j
   pub added : prefix_at new (length ns) ≡ c
@@ -25,7 +25,7 @@ bool_cases true false = inr (λ e. false≢true (sym e))
 bool_cases false true = inr (λ e. false≢true e)
 bool_cases false false = inl refl
 
-module _ {V : Type 0} (ns new : List (Node V)) (i : ℕ) (b : Bool) (c : Prefix) (t : IsTrie ns) (here : i < length ns) (gap : IsGap ns (prefix_at ns i) b c) (s : IsSpliced ns new i b c) where
+module _ (ns new : List Node) (i : ℕ) (b : Bool) (c : Prefix) (t : IsTrie ns) (here : i < length ns) (gap : IsGap ns (prefix_at ns i) b c) (s : IsSpliced ns new i b c) where
   -- another half that has c has the node of i
   outer : (k : ℕ) (u : Bool) → k < length ns → (k ≡ i → u ≡ b → ⊥) → IsUnder (prefix_at ns k) u c → IsUnder (prefix_at ns k) u (prefix_at ns i)
   outer k u in_range other h =

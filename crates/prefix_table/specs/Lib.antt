@@ -1,3 +1,5 @@
+pub mod Numbers
 pub mod Places
 pub mod Tables
 pub mod Trie
+pub mod Values

@@ -4,14 +4,14 @@ ghost use Rattle.std.specs.Prelude.{◌≡◌, ◌↔◌, ◌<◌, ◌≤◌, �
 ghost use Rattle.std.specs.Option.{IfSome, IfNone};
 ghost use Rattle.net_prefix.specs.Prefix.{Prefix, Covers};
 ghost use Rattle.prefix_table.specs.Tables.{is_after};
-ghost use Rattle.prefix_table.specs.Trie.{IsTrie, HasPrefix, IsNearer, IsLast, IsClosest, IsCover, IsDeepest, IsLater, IsFirstLater, prefix_at, value_at};
+ghost use Rattle.prefix_table.specs.Trie.{IsTrie, IsNearer, IsLast, IsClosest, IsCover, IsDeepest, IsLater, IsFirstLater, prefix_at};
 
 use crate::cut::comes_after;
 use crate::node::{Node, NodeId, bit, child_below, has_value, prefix_of};
 use net_prefix::{MAX_LEN, Prefix};
 
 /// The next node on the way to the prefix.
-fn nearer<V>(nodes: &[Node<V>], at: NodeId, prefix: Prefix) -> Option<NodeId>
+fn nearer(nodes: &[Node], at: NodeId, prefix: Prefix) -> Option<NodeId>
     requires trie { IsTrie nodes.now }
     requires here { at.0 < length nodes.now }
     requires covers { Covers (prefix_at nodes.now at.0) prefix }
@@ -35,7 +35,7 @@ fn nearer<V>(nodes: &[Node<V>], at: NodeId, prefix: Prefix) -> Option<NodeId>
 }
 
 /// The node with the longest prefix that covers this one, from a node on the way to it.
-pub(crate) fn closest<V>(nodes: &[Node<V>], at: NodeId, prefix: Prefix) -> NodeId
+pub(crate) fn closest(nodes: &[Node], at: NodeId, prefix: Prefix) -> NodeId
     requires trie { IsTrie nodes.now }
     requires here { at.0 < length nodes.now }
     requires covers { Covers (prefix_at nodes.now at.0) prefix }
@@ -47,25 +47,8 @@ pub(crate) fn closest<V>(nodes: &[Node<V>], at: NodeId, prefix: Prefix) -> NodeI
     }
 }
 
-/// The node of this prefix.
-pub(crate) fn find_node<V>(nodes: &[Node<V>], prefix: Prefix) -> Option<NodeId>
-    requires { IsTrie nodes.now }
-    ensures found { IfSome result (λ at. HasPrefix nodes.now at.0 prefix) }
-    ensures none { IfNone result ((j : ℕ) → j < length nodes.now → prefix_at nodes.now j ≡ prefix → ⊥) }
-{
-    if nodes.is_empty() {
-        return None;
-    }
-    let at = closest(nodes, NodeId(0), prefix);
-    if prefix_of(nodes, at).len() == prefix.len() {
-        Some(at)
-    } else {
-        None
-    }
-}
-
 /// The node with the longest prefix that has a value and covers this one, from a node on the way to it.
-pub(crate) fn deepest<V>(nodes: &[Node<V>], at: NodeId, prefix: Prefix) -> Option<NodeId>
+pub(crate) fn deepest(nodes: &[Node], at: NodeId, prefix: Prefix) -> Option<NodeId>
     requires trie { IsTrie nodes.now }
     requires here { at.0 < length nodes.now }
     requires covers { Covers (prefix_at nodes.now at.0) prefix }
@@ -94,7 +77,7 @@ fn is_past(prefix: Prefix, after: Option<Prefix>) -> bool
 }
 
 /// The first node with a value that comes after the prefix, of those that a node covers.
-pub(crate) fn first_later<V>(nodes: &[Node<V>], at: NodeId, after: Option<Prefix>) -> Option<NodeId>
+pub(crate) fn first_later(nodes: &[Node], at: NodeId, after: Option<Prefix>) -> Option<NodeId>
     requires trie { IsTrie nodes.now }
     requires here { at.0 < length nodes.now }
     ensures found { IfSome result (λ found. IsFirstLater nodes.now (prefix_at nodes.now at.0) after found.0) }
@@ -114,14 +97,14 @@ pub(crate) fn first_later<V>(nodes: &[Node<V>], at: NodeId, after: Option<Prefix
     first_later(nodes, child_below(nodes, at, true)?, after)
 }
 
-fn skips<V>(nodes: &[Node<V>], at: NodeId, after: Option<Prefix>) -> bool
+fn skips(nodes: &[Node], at: NodeId, after: Option<Prefix>) -> bool
     requires { at.0 < length nodes.now }
     ensures { IsTrue result → (q : Prefix) → Covers (prefix_at nodes.now at.0) q → is_after after q ≡ false }
 {
     is_past(prefix_of(nodes, at), after)
 }
 
-fn is_later<V>(nodes: &[Node<V>], at: NodeId, after: Option<Prefix>) -> bool
+fn is_later(nodes: &[Node], at: NodeId, after: Option<Prefix>) -> bool
     requires { at.0 < length nodes.now }
     ensures { IsTrue result ↔ IsLater nodes.now (prefix_at nodes.now at.0) after at.0 }
 {

@@ -6,6 +6,8 @@ mod cut;
 mod descent;
 mod gather;
 mod growth;
+mod index;
+mod link;
 mod node;
 mod sorted;
 mod table;

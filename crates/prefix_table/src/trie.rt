@@ -1,169 +1,188 @@
-//! The fast table: a binary trie in an arena. Ways down it have at most 33 steps.
+//! The fast table: a binary trie in an arena, whose values stand beside it. Ways down it have at most 33 steps.
 
-ghost use Rattle.std.specs.Prelude.{◌≡◌, ◌<◌, length, is_some, Some, None, IfOk, IfErr, OnOk, OnErr};
-ghost use Rattle.std.specs.Option.{IfSome, IfNone, option_copied, option_map};
+ghost use Rattle.std.specs.Prelude.{◌≡◌, ◌<◌, length, is_some, slice_get, slice_set, Some, None, IfOk, IfErr, OnOk, OnErr};
+ghost use Rattle.std.specs.Option.{IfSome, IfNone, option_copied};
 ghost use Rattle.std.specs.FinMap as map;
-ghost use Rattle.std.specs.FinMap.Entries.{find};
-ghost use Rattle.net_prefix.specs.Prefix.{prefix_cmp};
+ghost use Rattle.prefix_table.specs.declared.growth.TheConstants.{NEW_NODES};
+ghost use Rattle.prefix_table.specs.Numbers.{HasRoom};
 ghost use Rattle.prefix_table.specs.Tables.{seen, IsLongestMatch, HasNoMatch, first_after, adjusted};
-ghost use Rattle.prefix_table.specs.Trie.{IsTrie, IsStored, HasPrefix, valued, revalued, prefix_at, value_at, node_entries};
+ghost use Rattle.prefix_table.specs.Trie.{IsClosest, places_in};
+ghost use Rattle.prefix_table.specs.Values.{IsIndex, table_in};
 
 use crate::adjust::Adjust;
-use crate::cut::cut;
-use crate::descent::{deepest, find_node, first_later};
-use crate::growth::node_for;
-use crate::node::{Node, NodeId, has_value};
+use crate::descent::closest;
+use crate::gather::make_room;
+use crate::growth::{NEW_NODES, plant, put_place};
+use crate::index::{find_place, longest_place, next_place, place_near};
+use crate::node::{Node, NodeId};
 use crate::table::PrefixTable;
-use crate::walk::{entry_in, refer_to};
-use net_prefix::{Addr, MAX_LEN, Prefix};
+use crate::walk::refer_to;
+use net_prefix::{Addr, Prefix};
 use std::alloc::{AllocError, Global};
 use std::marker::Model;
 
-/// A table in a binary trie. Nodes are made only at prefixes with a value and where two of them part.
+/// A table in a binary trie. Nodes are made only at prefixes with a value and where two of them part. A node has the
+/// place of its prefix's value among the values. There are at most 4,294,967,295 nodes: a table that is full is as one
+/// for which there is no memory.
 #[derive(Drop)]
 pub struct TrieTable<V> {
-    nodes: Vec<Node<V>>,
+    nodes: Vec<Node>,
+    values: Vec<V>,
 }
 
 impl<V> Model for TrieTable<V> {
     ghost use Rattle.std.specs.FinMap as map;
     ghost use Rattle.prefix_table.specs.Tables.{Table, coded_prefix};
-    ghost use Rattle.prefix_table.specs.Trie.{IsTrie, node_entries};
+    ghost use Rattle.prefix_table.specs.Values.{IsIndex, table_in};
 
     ghost Value = { Table V };
 
     ghost coded = { map.code coded_prefix V.code };
 
-    ghost view = { λ s. map.from_entries (node_entries s.nodes.items) };
+    ghost view = { λ s. table_in s.nodes.items s.values.items };
 
-    ghost invariant = { λ s. IsTrie s.nodes.items };
-}
-
-/// The value of a node.
-fn value_in<V>(nodes: &[Node<V>], at: NodeId) -> Option<&V>
-    requires { at.0 < length nodes.now }
-    ensures { option_copied result ≡ value_at nodes.now at.0 }
-{
-    let node = &nodes[at.0];
-    node.value.as_ref()
-}
-
-/// Gives a node this value, and hands back the one that it had.
-fn set_value<V: Drop>(nodes: &mut Vec<Node<V>>, at: NodeId, value: V) -> Option<V>
-    requires { at.0 < length nodes.old.items }
-    ensures before { result ≡ value_at nodes.old.items at.0 }
-    ensures written { nodes.new.items ≡ valued nodes.old.items at.0 value }
-{
-    let node = &mut nodes[at.0];
-    std::mem::replace(&mut node.value, Some(value))
+    ghost invariant = { λ s. IsIndex s.nodes.items s.values.items };
 }
 
 /// The prefix's value.
-fn find_in<V>(nodes: &[Node<V>], prefix: Prefix) -> Option<&V>
-    requires { IsTrie nodes.now }
-    ensures { option_copied result ≡ find prefix_cmp prefix (node_entries nodes.now) }
+fn find_in<'a, V>(nodes: &[Node], values: &'a [V], prefix: Prefix) -> Option<&'a V>
+    requires { IsIndex nodes.now values.now }
+    ensures { option_copied result ≡ map.get (table_in nodes.now values.now) prefix }
 {
-    match find_node(nodes, prefix) {
-        Some(at) => value_in(nodes, at),
+    match find_place(nodes, prefix) {
+        Some(place) => Some(&values[place]),
         None => None,
     }
 }
 
-/// Gives the prefix this value.
-fn put_in<V: Drop>(nodes: &mut Vec<Node<V>>, prefix: Prefix, value: V) -> Result<Option<V>, V>
-    requires { IsTrie nodes.old.items }
-    ensures trie { IsTrie nodes.new.items }
-    ensures before { IfOk result (λ before. before ≡ find prefix_cmp prefix (node_entries nodes.old.items)) }
-    ensures inserted { OnOk result (IsStored nodes.old.items nodes.new.items prefix value) }
-    ensures absent { OnErr result (find prefix_cmp prefix (node_entries nodes.old.items) ≡ None) }
-    ensures back { IfErr result (λ back. back ≡ value) }
-    ensures same { OnErr result (node_entries nodes.new.items ≡ node_entries nodes.old.items) }
+/// Writes the value to its place, and hands back the one before.
+fn write<V>(values: &mut Vec<V>, place: usize, value: V) -> V
+    requires { place < length values.old.items }
+    ensures before { slice_get values.old.items place ≡ Some result }
+    ensures written { values.new.items ≡ slice_set values.old.items place value }
 {
-    match node_for(nodes, prefix) {
-        Ok(at) => Ok(set_value(nodes, at, value)),
-        Err(_) => Err(value),
+    let there = &mut values[place];
+    std::mem::replace(there, value)
+}
+
+/// Gives a prefix that has none this value. The node that comes closest to it is known, and all room is made.
+fn add_in<V>(
+    nodes: &mut Vec<Node>,
+    values: &mut Vec<V>,
+    near: NodeId,
+    prefix: Prefix,
+    value: V,
+)
+    requires index { IsIndex nodes.old.items values.old.items }
+    requires near { IsClosest nodes.old.items prefix near.0 }
+    requires node_room { HasRoom nodes.old NEW_NODES }
+    requires value_room { HasRoom values.old 1 }
+    ensures index { IsIndex nodes.new.items values.new.items }
+    ensures inserted { table_in nodes.new.items values.new.items ≡ map.insert
+        (table_in nodes.old.items values.old.items) prefix value }
+{
+    put_place(nodes, near, prefix, values.len());
+    values.push_reserved(value);
+}
+
+/// Gives the prefix this value. All room is made before a node is linked.
+fn put_in<V: Drop>(
+    nodes: &mut Vec<Node>,
+    values: &mut Vec<V>,
+    prefix: Prefix,
+    value: V,
+) -> Result<Option<V>, V>
+    requires { IsIndex nodes.old.items values.old.items }
+    ensures index { IsIndex nodes.new.items values.new.items }
+    ensures before { IfOk result (λ before. before ≡ map.get (table_in nodes.old.items values.old.items) prefix) }
+    ensures inserted { OnOk result (table_in nodes.new.items values.new.items ≡ map.insert
+        (table_in nodes.old.items values.old.items) prefix value) }
+    ensures absent { OnErr result (map.get (table_in nodes.old.items values.old.items) prefix ≡ None) }
+    ensures back { IfErr result (λ back. back ≡ value) }
+    ensures same { OnErr result
+        (table_in nodes.new.items values.new.items ≡ table_in nodes.old.items values.old.items) }
+{
+    let Ok(()) = plant(nodes) else {
+        return Err(value);
+    };
+    let near = closest(nodes, NodeId(0), prefix);
+    if let Some(place) = place_near(nodes, near, prefix) {
+        return Ok(Some(write(values, place, value)));
     }
+    let (Ok(()), Ok(())) = (make_room(nodes, NEW_NODES), make_room(values, 1)) else {
+        return Err(value);
+    };
+    add_in(nodes, values, near, prefix, value);
+    Ok(None)
 }
 
 /// Gives a prefix that has a value this one.
-fn replace_in<V: Drop>(nodes: &mut Vec<Node<V>>, prefix: Prefix, value: V) -> Result<V, V>
-    requires { IsTrie nodes.old.items }
-    ensures trie { IsTrie nodes.new.items }
-    ensures before { IfOk result (λ before. find prefix_cmp prefix (node_entries nodes.old.items) ≡ Some before) }
-    ensures replaced { OnOk result (IsStored nodes.old.items nodes.new.items prefix value) }
+fn replace_in<V>(nodes: &[Node], values: &mut Vec<V>, prefix: Prefix, value: V) -> Result<V, V>
+    requires { IsIndex nodes.now values.old.items }
+    ensures index { IsIndex nodes.now values.new.items }
+    ensures before { IfOk result (λ before. map.get (table_in nodes.now values.old.items) prefix ≡ Some before) }
+    ensures replaced { OnOk result
+        (table_in nodes.now values.new.items ≡ map.insert (table_in nodes.now values.old.items) prefix value) }
     ensures back { IfErr result (λ back. back ≡ value) }
-    ensures absent { OnErr result (find prefix_cmp prefix (node_entries nodes.old.items) ≡ None) }
-    ensures same { OnErr result (node_entries nodes.new.items ≡ node_entries nodes.old.items) }
+    ensures absent { OnErr result (map.get (table_in nodes.now values.old.items) prefix ≡ None) }
+    ensures same { OnErr result (values.new.items ≡ values.old.items) }
 {
-    let Some(at) = find_node(nodes, prefix) else {
-        return Err(value);
-    };
-    if !has_value(nodes, at) {
-        return Err(value);
-    }
-    match set_value(nodes, at, value) {
-        Some(before) => Ok(before),
-        None => unreachable!(),
+    match find_place(nodes, prefix) {
+        Some(place) => Ok(write(values, place, value)),
+        None => Err(value),
     }
 }
 
-/// Changes the value of a node where it stands, and says whether it has one.
-fn adjust_at<V, A: Adjust<V>>(nodes: &mut Vec<Node<V>>, at: NodeId, change: &A) -> bool
-    requires { at.0 < length nodes.old.items }
-    ensures there { result ≡ is_some (value_at nodes.old.items at.0) }
-    ensures revalued { nodes.new.items ≡ revalued (A.after change.now) nodes.old.items at.0
-        (value_at nodes.old.items at.0) }
+/// Changes the prefix's value where it stands, and says whether it has one.
+fn adjust_in<V, A: Adjust<V>>(
+    nodes: &[Node],
+    values: &mut Vec<V>,
+    prefix: Prefix,
+    change: &A,
+) -> bool
+    requires { IsIndex nodes.now values.old.items }
+    ensures index { IsIndex nodes.now values.new.items }
+    ensures there { result ≡ is_some (map.get (table_in nodes.now values.old.items) prefix) }
+    ensures adjusted { table_in nodes.now values.new.items ≡ adjusted (A.after change.now) prefix
+        (table_in nodes.now values.old.items) }
 {
-    let node = &mut nodes[at.0];
-    match &mut node.value {
-        Some(value) => {
-            change.adjust(value);
+    match find_place(nodes, prefix) {
+        Some(place) => {
+            change.adjust(&mut values[place]);
             true
         }
         None => false,
     }
 }
 
-/// Changes the prefix's value where it stands, and says whether it has one.
-fn adjust_in<V, A: Adjust<V>>(nodes: &mut Vec<Node<V>>, prefix: Prefix, change: &A) -> bool
-    requires { IsTrie nodes.old.items }
-    ensures trie { IsTrie nodes.new.items }
-    ensures there { result ≡ is_some (find prefix_cmp prefix (node_entries nodes.old.items)) }
-    ensures adjusted { map.from_entries (node_entries nodes.new.items) ≡ adjusted (A.after change.now) prefix
-        (map.from_entries (node_entries nodes.old.items)) }
-{
-    match find_node(nodes, prefix) {
-        Some(at) => adjust_at(nodes, at, change),
-        None => false,
-    }
-}
-
 /// The longest key of at most this length that contains the address.
-fn longest_in<V>(nodes: &[Node<V>], addr: Addr, most: u8) -> Option<(Prefix, &V)>
-    requires { IsTrie nodes.now }
-    ensures found { IfSome result (λ e.
-        IsLongestMatch (map.from_entries (node_entries nodes.now)) addr most e.0 e.1.now) }
-    ensures none { IfNone result (HasNoMatch (map.from_entries (node_entries nodes.now)) addr most) }
+fn longest_in<'a, V>(
+    nodes: &[Node],
+    values: &'a [V],
+    addr: Addr,
+    most: u8,
+) -> Option<(Prefix, &'a V)>
+    requires { IsIndex nodes.now values.now }
+    ensures found { IfSome result (λ e. IsLongestMatch (table_in nodes.now values.now) addr most e.0 e.1.now) }
+    ensures none { IfNone result (HasNoMatch (table_in nodes.now values.now) addr most) }
 {
-    if nodes.is_empty() {
-        return None;
-    }
-    match deepest(nodes, NodeId(0), cut(addr, most.min(MAX_LEN))) {
-        Some(at) => entry_in(nodes, at),
+    match longest_place(nodes, addr, most) {
+        Some(key) => Some((key.0, &values[key.1])),
         None => None,
     }
 }
 
 /// The first key after this prefix, or the first of all.
-fn next_in<V>(nodes: &[Node<V>], after: Option<Prefix>) -> Option<(Prefix, &V)>
-    requires { IsTrie nodes.now }
-    ensures { seen result ≡ first_after (map.from_entries (node_entries nodes.now)) after }
+fn next_in<'a, V>(
+    nodes: &[Node],
+    values: &'a [V],
+    after: Option<Prefix>,
+) -> Option<(Prefix, &'a V)>
+    requires { IsIndex nodes.now values.now }
+    ensures { seen result ≡ first_after (table_in nodes.now values.now) after }
 {
-    if nodes.is_empty() {
-        return None;
-    }
-    match first_later(nodes, NodeId(0), after) {
-        Some(at) => entry_in(nodes, at),
+    match next_place(nodes, after) {
+        Some(key) => Some((key.0, &values[key.1])),
         None => None,
     }
 }
@@ -174,34 +193,35 @@ impl<V: Drop> PrefixTable<V> for TrieTable<V> {
     fn new(alloc: Global) -> Self {
         TrieTable {
             nodes: Vec::new(alloc),
+            values: Vec::new(alloc),
         }
     }
 
     fn get(&self, prefix: Prefix) -> Option<&V> {
-        find_in(&self.nodes, prefix)
+        find_in(&self.nodes, &self.values, prefix)
     }
 
     fn insert(&mut self, prefix: Prefix, value: V) -> Result<Option<V>, V> {
-        put_in(&mut self.nodes, prefix, value)
+        put_in(&mut self.nodes, &mut self.values, prefix, value)
     }
 
     fn replace(&mut self, prefix: Prefix, value: V) -> Result<V, V> {
-        replace_in(&mut self.nodes, prefix, value)
+        replace_in(&self.nodes, &mut self.values, prefix, value)
     }
 
     fn adjust<A: Adjust<V>>(&mut self, prefix: Prefix, change: &A) -> bool {
-        adjust_in(&mut self.nodes, prefix, change)
+        adjust_in(&self.nodes, &mut self.values, prefix, change)
     }
 
     fn longest(&self, addr: Addr, most: u8) -> Option<(Prefix, &V)> {
-        longest_in(&self.nodes, addr, most)
+        longest_in(&self.nodes, &self.values, addr, most)
     }
 
     fn next_after(&self, after: Option<Prefix>) -> Option<(Prefix, &V)> {
-        next_in(&self.nodes, after)
+        next_in(&self.nodes, &self.values, after)
     }
 
     fn entries(&self, alloc: Global) -> Result<Vec<(Prefix, &V)>, AllocError> {
-        refer_to(alloc, &self.nodes)
+        refer_to(alloc, &self.nodes, &self.values)
     }
 }

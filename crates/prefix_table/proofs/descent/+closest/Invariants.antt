@@ -4,4 +4,4 @@ use Rattle.prefix_table.proofs.descent.+closest.Given as goal
 
 -- how many bits are left to the prefix
 abbrev pub decreases-closest : goal.decreases-closest
-decreases-closest g l = l.prefix.len - (prefix_at l.nodes.now l.at.0).len
+decreases-closest l = l.prefix.len - (prefix_at l.nodes.now l.at.0).len

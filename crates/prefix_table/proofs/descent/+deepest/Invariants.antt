@@ -4,4 +4,4 @@ use Rattle.prefix_table.proofs.descent.+deepest.Given as goal
 
 -- how many bits are left to the prefix
 abbrev pub decreases-deepest : goal.decreases-deepest
-decreases-deepest g l = l.prefix.len - (prefix_at l.nodes.now l.at.0).len
+decreases-deepest l = l.prefix.len - (prefix_at l.nodes.now l.at.0).len

@@ -1,17 +1,20 @@
-use Rattle.std.proofs.Common.{◌≡◌, ℕ, length, sym, subst, ◌∙◌, arith, rules}
-use Rattle.prefix_table.specs.Trie.{IsLater, IsFirstLater}
-use Rattle.prefix_table.proofs.Contents.{entry_first, no_first}
+use Rattle.std.proofs.Common.{length, refl, sym, ap, ◌∙◌}
+use Rattle.std.proofs.lemmas.Option.{slice_get_read}
+use Rattle.std.specs.Option.{option_map, option_and_then}
+use Rattle.prefix_table.specs.Trie.{places_in}
+use Rattle.prefix_table.specs.Values.{with_value}
+use Rattle.prefix_table.proofs.Values.{first_of_places}
 use Rattle.prefix_table.proofs.trie.next_in.Goals as goal
-
-pub returns-then-is_empty : goal.returns-then-is_empty
-returns-then-is_empty g c =
-    let none : length c.args.nodes.now ≡ 0 = search rules in
-    sym (no_first c.args.nodes.now c.requires c.args.after (λ j h. omega (arith, h.in_range)))
 
 pub returns-in-Some : goal.returns-in-Some
 returns-in-Some g c =
-    c.entry_in.ensures ∙ entry_first c.args.nodes.now c.requires c.args.after c.in-Some.at.0 (subst (λ p. IsFirstLater c.args.nodes.now p c.args.after c.in-Some.at.0) c.requires.root c.in-Some.ensures.found)
+    let vs = c.args.values.now in
+    let there = slice_get_read vs (length vs) c.in-Some.key.1 c.index-values-key.result refl (c.requires.placed.in_range c.in-Some.key.0 c.in-Some.key.1 c.in-Some.ensures.key) c.index-values-key.is in
+    ap (option_map (λ v. (c.in-Some.key.0, v))) (sym there)
+    ∙ ap (option_and_then (with_value vs)) c.in-Some.ensures.first
+    ∙ first_of_places vs (places_in c.args.nodes.now) c.requires.placed c.args.after
 
 pub returns-in-None : goal.returns-in-None
 returns-in-None g c =
-    sym (no_first c.args.nodes.now c.requires c.args.after (subst (λ p. (j : ℕ) → IsLater c.args.nodes.now p c.args.after j → ⊥) c.requires.root c.in-None.ensures.none))
+    ap (option_and_then (with_value c.args.values.now)) c.in-None.ensures.first
+    ∙ first_of_places c.args.values.now (places_in c.args.nodes.now) c.requires.placed c.args.after

@@ -1,24 +1,38 @@
-use Rattle.std.proofs.Common.{Some, cond, sym, ap, subst, ◌∙◌}
-use Rattle.std.specs.Ordering.{eq_by_cmp}
-use Rattle.std.specs.FinMap.Entries.{find}
+use Rattle.std.proofs.Common.{◌≡◌, None, Some, length, sym, ap, ◌∙◌}
+use Rattle.std.specs.FinMap as map
 use Rattle.net_prefix.specs.Prefix.{prefix_cmp}
-use Rattle.prefix_table.specs.Trie.{IsTrie, node_entries}
-use Rattle.prefix_table.proofs.Contents.{find_missing, find_at_node, stored, valued_trie}
+use Rattle.prefix_table.specs.Trie.{places_in}
+use Rattle.prefix_table.specs.Values.{values_of}
+use Rattle.prefix_table.proofs.Contents.{none_in_empty}
+use Rattle.prefix_table.proofs.Values.{value_of_place, none_of_places, written_map}
 use Rattle.prefix_table.proofs.trie.put_in.Goals as goal
 
-pub returns-in-Ok-clause-trie : goal.returns-in-Ok-clause-trie
-returns-in-Ok-clause-trie g c = subst IsTrie (sym c.set_value.ensures.written) (valued_trie c.node_for.new.nodes.items c.node_for.ensures.trie c.in-Ok.at.0 c.args.value)
+pub returns-in_default-clause-absent : goal.returns-in_default-clause-absent
+returns-in_default-clause-absent g c =
+    none_of_places c.args.values.now.items (places_in c.args.nodes.now.items) c.requires.placed c.args.prefix (none_in_empty c.args.nodes.now.items c.args.prefix (ap length c.in_default.ensures.empty))
 
-pub returns-in-Ok-clause-before : goal.returns-in-Ok-clause-before
-returns-in-Ok-clause-before g c =
-    c.set_value.ensures.before ∙ sym (find_at_node c.node_for.new.nodes.items c.node_for.ensures.trie c.args.prefix c.in-Ok.at.0 c.in-Ok.ensures.found)
-    ∙ ap (find prefix_cmp c.args.prefix) c.node_for.ensures.entries
+pub returns-in-Some-clause-before : goal.returns-in-Some-clause-before
+returns-in-Some-clause-before g c =
+    let is : map.get (places_in c.args.nodes.now.items) c.args.prefix ≡ Some c.in-Some.place =
+    sym (c.in-Some.ensures ∙ ap (λ ns. map.get {R = prefix_cmp} (places_in ns) c.args.prefix) c.deref-2.ensures.value ∙ ap (λ t. map.get {R = prefix_cmp} t c.args.prefix) c.in-Ok.ensures.places) in
+    sym (value_of_place c.args.values.now.items (places_in c.args.nodes.now.items) c.requires.placed c.args.prefix c.in-Some.place c.write.result is c.write.ensures.before)
 
-pub returns-in-Ok-clause-inserted : goal.returns-in-Ok-clause-inserted
-returns-in-Ok-clause-inserted g c p =
-    ap (λ ns. find prefix_cmp p (node_entries ns)) c.set_value.ensures.written
-    ∙ stored c.node_for.new.nodes.items c.node_for.ensures.trie c.in-Ok.at.0 c.args.value c.args.prefix c.in-Ok.ensures.found p
-    ∙ ap (λ es. cond (eq_by_cmp prefix_cmp p c.args.prefix) (Some c.args.value) (find prefix_cmp p es)) c.node_for.ensures.entries
+pub returns-in-Some-clause-inserted : goal.returns-in-Some-clause-inserted
+returns-in-Some-clause-inserted g c =
+    let is : map.get (places_in c.args.nodes.now.items) c.args.prefix ≡ Some c.in-Some.place =
+    sym (c.in-Some.ensures ∙ ap (λ ns. map.get {R = prefix_cmp} (places_in ns) c.args.prefix) c.deref-2.ensures.value ∙ ap (λ t. map.get {R = prefix_cmp} t c.args.prefix) c.in-Ok.ensures.places) in
+    ap (values_of c.write.new.values.items) c.in-Ok.ensures.places
+    ∙ ap (λ vs. values_of vs (places_in c.args.nodes.now.items)) c.write.ensures.written
+    ∙ written_map c.args.values.now.items (places_in c.args.nodes.now.items) c.requires.placed c.args.prefix c.in-Some.place c.args.value is
 
-pub returns-in-Err-clause-absent : goal.returns-in-Err-clause-absent
-returns-in-Err-clause-absent g c = find_missing c.args.nodes.now.items c.args.prefix c.in-Err.ensures.missing
+pub returns-in_default-2-clause-absent : goal.returns-in_default-2-clause-absent
+returns-in_default-2-clause-absent g c =
+    let none : map.get (places_in c.args.nodes.now.items) c.args.prefix ≡ None =
+    sym (c.in_default-place_near.ensures ∙ ap (λ ns. map.get {R = prefix_cmp} (places_in ns) c.args.prefix) c.deref-2.ensures.value ∙ ap (λ t. map.get {R = prefix_cmp} t c.args.prefix) c.in-Ok.ensures.places) in
+    none_of_places c.args.values.now.items (places_in c.args.nodes.now.items) c.requires.placed c.args.prefix none
+
+pub returns-clause-before : goal.returns-clause-before
+returns-clause-before g c =
+    let none : map.get (places_in c.args.nodes.now.items) c.args.prefix ≡ None =
+    sym (c.in_default-place_near.ensures ∙ ap (λ ns. map.get {R = prefix_cmp} (places_in ns) c.args.prefix) c.deref-2.ensures.value ∙ ap (λ t. map.get {R = prefix_cmp} t c.args.prefix) c.in-Ok.ensures.places) in
+    sym (none_of_places c.args.values.now.items (places_in c.args.nodes.now.items) c.requires.placed c.args.prefix none)
