@@ -59,3 +59,25 @@ fn sites(rt: HostRuntime) {
     has_site(&rt, alloc, &conf);
     drop(conf);
 }
+
+/// Whether the router's site says that it compares MULTI_EXIT_DISC over all neighbours.
+fn compares_all_meds(rt: &impl Abort, alloc: Global, conf: &Conf) -> bool {
+    let site = conf.site(alloc, ROUTER).expect(rt, "a router has a site");
+    site.med_always
+}
+
+#[test]
+fn med_over_all_neighbours(rt: HostRuntime) {
+    let alloc = rt.alloc();
+    let mut conf = peered(&rt, alloc);
+    assert!(rt; !compares_all_meds(&rt, alloc, &conf));
+    for always in [true, true, false] {
+        let edit = Edit::MedAlways(ROUTER, always);
+        conf.edit(&rt, alloc, &edit)
+            .expect(&rt, "a setting may repeat");
+        assert_eq!(rt; compares_all_meds(&rt, alloc, &conf), always);
+    }
+    let edit = Edit::MedAlways(PEER, true);
+    assert_eq!(rt; conf.check(&edit), Err(Refusal::BadEnd));
+    drop(conf);
+}

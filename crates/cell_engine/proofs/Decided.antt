@@ -2,7 +2,6 @@
 use Rattle.std.proofs.Common.{◌≡◌, Bool, true, false, cond, ◌&&◌, ◌||◌, ◌==◌, List, [], ◌∷◌, ◌++◌, map, filter, Option, Some, None, option_map, option_and_then, is_some, IfSome, IsTrue, unwrap_or, refl, sym, ap, subst, ◌∙◌}
 use Rattle.std.proofs.lemmas.Bool.{true≢false}
 use Rattle.std.proofs.lemmas.Cmp.{nat_eq_equiv}
-use Rattle.std.proofs.lemmas.List.{nil_from_length}
 use Rattle.std.proofs.lemmas.Map.Lookups.{CmpEqualImpliesEq}
 use Rattle.std.specs.declared.cmp.Ordering.{Ordering}
 use Rattle.std.specs.declared.cmp.Ordering.TheVariants.{Less, Equal, Greater}
@@ -20,40 +19,41 @@ use Rattle.net_prefix.specs.Prefix.{Prefix, prefix_cmp, same_prefix}
 use Rattle.net_prefix.specs.Orders.{addr_total, addr_exact, prefix_total, prefix_exact}
 use Rattle.path_attr.specs.declared.attr.Attr.{Attr}
 use Rattle.prefix_table.specs.Tables.{Table}
-use Rattle.net_conf.specs.Configuration.{Configuration, node_at, is_virtual, is_reflector, cluster_id, originates, origins_of, origination_cmp}
-use Rattle.net_conf.specs.Costs.{costs_of}
+use Rattle.net_conf.specs.Configuration.{Configuration, node_at, is_virtual, originates, origins_of, origination_cmp}
 use Rattle.net_conf.specs.RouterSites.{router_site}
-use Rattle.net_conf.specs.Sites.{sessions_of, site_of}
+use Rattle.net_conf.specs.Sites.{site_at, site_of}
 use Rattle.net_conf.specs.declared.tables.Node.{Node}
 use Rattle.net_conf.specs.declared.tables.Origination.{Origination}
 use Rattle.net_conf.specs.declared.site.SiteConf.{SiteConf}
 use Rattle.net_conf.specs.declared.site.SiteSession.{SiteSession}
-use Rattle.route_select.specs.declared.candidate.Source.{Source}
 use Rattle.route_select.specs.declared.candidate.Source.TheVariants.{Own}
-use Rattle.route_select.specs.declared.candidate.Standing.{Standing}
 use Rattle.route_select.specs.declared.candidate.Standing.TheVariants.{Considered}
-use Rattle.route_select.specs.Selection.{best_of, best_among, considered_in, source_cmp}
+use Rattle.route_select.specs.Selection.{no_standings, best_of, best_among, considered_in}
 use Rattle.reference_machine.specs.Decision.{own_candidate, own_standings, is_originated, standing_over, added, standings, best}
 use Rattle.cell_engine.specs.RouterTables.{table_at, value_at, with_value}
-use Rattle.cell_engine.specs.Cells.{Cell, new_cell, standing_of, standings_of, decided}
+use Rattle.cell_engine.specs.Cells.{Cell, new_cell, effective, standing_of, standings_of, decided}
 use Rattle.cell_engine.specs.State.{State, cell_at, all_entries, queue_of, network, IsCell, IsTable, IsConsistent}
 use Rattle.cell_engine.proofs.Chunks.{T_of, of_T}
+use Rattle.cell_engine.proofs.Effective.{no_entries, effective_none, effective_best}
 use Rattle.cell_engine.proofs.Flat.{no_cells}
 use Rattle.cell_engine.proofs.Received.{route_in_cell, entries_with_empty_cell}
 
 -- STANDINGS
 
 -- how routes stand in the network is how the routes of the cell stand
-pub standings_at_cell : (site : SiteConf) (p : Prefix) (ts : List (Addr × Table Cell)) → IsTrue (entries.is_sorted addr_cmp ts) → standings site p (all_entries ts) ≡ standings_of site p (cell_at site.me p ts).received
-standings_at_cell site p ts sorted = λ i. added finite.empty (own_standings site p ++ filter_map (λ from. standing_over site p from (route_in_cell ts sorted site.me p from.peer i)) site.sessions)
+pub standings_at_cell : (site : SiteConf) (p : Prefix) (ts : List (Addr × Table Cell)) → IsTrue (entries.is_sorted addr_cmp ts) → effective (standings site p (all_entries ts)) ≡ standings_of site p (cell_at site.me p ts).received
+standings_at_cell site p ts sorted =
+    λ i. effective (added (no_standings site.med_always) (own_standings site p ++ filter_map (λ from. standing_over site p from (route_in_cell ts sorted site.me p from.peer i)) site.sessions))
 
 -- nothing stands where nothing was received and nothing is originated
 none_stand : (site : SiteConf) (p : Prefix) (xs : List SiteSession) → filter_map (standing_of site p []) xs ≡ []
 none_stand site p [] = refl
 none_stand site p (x ∷ xs) = none_stand site p xs
 
-nothing_stands : (site : SiteConf) (p : Prefix) → is_originated site p ≡ false → standings_of site p [] ≡ finite.empty
-nothing_stands site p own = λ i. added finite.empty (cond (own i) ((Own, Considered (own_candidate site.me)) ∷ []) [] ++ none_stand site p site.sessions i)
+pub nothing_stands : (site : SiteConf) (p : Prefix) → is_originated site p ≡ false → standings_of site p [] ≡ no_standings false
+nothing_stands site p own =
+    (λ i. effective (added (no_standings site.med_always) (cond (own i) ((Own, Considered (own_candidate site.me)) ∷ []) [] ++ none_stand site p site.sessions i)))
+    ∙ effective_none site.med_always
 
 -- ORIGINS
 
@@ -76,10 +76,6 @@ pub originated_is : (c : Configuration) (r : Addr) (p : Prefix) → list_any (sa
 originated_is c r p = among r p c.origins
 
 -- CELLS
-
--- the router's part of the configuration, where this node stands at its address
-abbrev pub site_at : Configuration → Addr → Node → SiteConf
-site_at c r n = record { me = r; asn = n.asn; cluster = cluster_id c r; reflector = is_reflector c r; origins = origins_of c r; sessions = sessions_of c r; costs = costs_of c r }
 
 nothing_decided_at : (c : Configuration) (r : Addr) (p : Prefix) → originates c r p ≡ false → (n : Option Node) → new_cell ≡ decided (option_map (site_at c r) n) p []
 nothing_decided_at c r p own None = refl
@@ -183,18 +179,15 @@ cell_decided e sound r p =
       | Some h ↦ λ is. (is_cell e sound r p h is).decided
     ] refl
 
-pub no_standings : finite.entries (finite.empty {K = Source} {X = Standing} {R = source_cmp}) ≡ []
-no_standings = nil_from_length _ (sym (finite.len-entries (finite.empty {K = Source} {X = Standing} {R = source_cmp})) ∙ finite.len-empty source_cmp Standing)
-
 -- nothing is chosen where nothing stands
-pub none_best : best_of finite.empty ≡ None
+pub none_best : best_of (no_standings false) ≡ None
 unfolding best_among
-none_best = ap (λ es. best_among (considered_in es)) no_standings
+none_best = ap (λ es. best_among false (considered_in es)) no_entries
 
 best_at : (c : Configuration) (r : Addr) (p : Prefix) (ts : List (Addr × Table Cell)) → IsTrue (entries.is_sorted addr_cmp ts) → (n : Option Node)
     → option_and_then (λ site. best_of (standings site p (all_entries ts))) (option_map (site_at c r) n) ≡ best_of (decided (option_map (site_at c r) n) p (cell_at r p ts).received).standings
 best_at c r p ts sorted None = sym none_best
-best_at c r p ts sorted (Some n) = ap best_of (standings_at_cell (site_at c r n) p ts sorted)
+best_at c r p ts sorted (Some n) = sym (effective_best (standings (site_at c r n) p (all_entries ts))) ∙ ap best_of (standings_at_cell (site_at c r n) p ts sorted)
 
 -- the route that a router chooses is the best that stands in its cell
 pub best_in_cell : (e : State) → IsConsistent e → (r : Addr) (p : Prefix) → is_virtual e.conf r ≡ false → best (network e) r p ≡ best_of (cell_at r p e.tables).standings

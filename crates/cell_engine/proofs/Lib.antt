@@ -16,6 +16,7 @@ pub mod Widening
 pub mod Ascending
 pub mod Chunks
 pub mod Decided
+pub mod Effective
 pub mod Decisions
 pub mod Directions
 pub mod AfterEdit

@@ -1,5 +1,6 @@
 -- What is said of the keys of a finite map, in order, is what is said of its entries.
-use Rattle.std.proofs.Common.{◌≡◌, false, cond, T, List, [], ◌∷◌, map, Option, Some, None, refl, ap, ◌∙◌}
+use Rattle.std.proofs.Common.{◌≡◌, false, cond, T, List, [], ◌∷◌, map, Option, Some, None, is_some, refl, sym, ap, ◌∙◌}
+use Rattle.std.proofs.lemmas.Bool.{false≢true}
 use Rattle.std.specs.List.{AllByRecursion, filter_map, cons_option, list_any}
 use Rattle.std.specs.List.Sorted.{IsStrictlySortedBy}
 use Rattle.std.specs.declared.cmp.Ordering.{Ordering}
@@ -9,9 +10,12 @@ use Rattle.std.specs.Cmp.{IsTotalOrder, tied_itself}
 use Rattle.std.specs.FinMap as finite
 use Rattle.std.specs.FinMap.{FinMap, IsAntisymmetric}
 use Rattle.std.specs.FinMap.Entries.{find, below_all, is_sorted}
-use Rattle.prefix_table.proofs.Contents.{none_from}
 use Rattle.prefix_table.proofs.Entries.{less_of, first, second}
 use Rattle.cell_engine.proofs.Picks.{LeavesNoneOut, same_picks}
+
+pub none_from : {V : Type 0} (o : Option V) → is_some o ≡ false → o ≡ None
+none_from None e = refl
+none_from (Some v) e = absurd (false≢true (sym e))
 
 module _ {K X : Type 0} {R : K → K → Ordering} (o : IsTotalOrder R) where
   below_keys : (k : K) (es : List (K × X)) → T (below_all R k es) → AllByRecursion (λ y. R k y ≡ Less) (map (λ e. e.0) es)

@@ -7,7 +7,6 @@ use Rattle.std.specs.Cmp.{unsigned_Decides}
 use Rattle.std.specs.Option.{option_map_or}
 use Rattle.std.specs.List.{AllByRecursion, list_any, filter_map, cons_option}
 use Rattle.std.specs.BTreeMap.{is_at}
-use Rattle.std.specs.FinMap as finite
 use Rattle.net_prefix.specs.declared.addr.Addr.{Addr}
 use Rattle.net_prefix.specs.Address.{addr_cmp}
 use Rattle.net_prefix.specs.Prefix.{Prefix}
@@ -28,7 +27,7 @@ use Rattle.net_conf.specs.Sites.{session_with}
 use Rattle.net_conf.specs.declared.site.SiteConf.{SiteConf}
 use Rattle.net_conf.specs.declared.site.SiteSession.{SiteSession}
 use Rattle.net_conf.proofs.RouterLaws.{site_sessions_in_order}
-use Rattle.route_select.specs.Selection.{best_of}
+use Rattle.route_select.specs.Selection.{no_standings, best_of}
 use Rattle.route_select.specs.declared.candidate.Source.{Source}
 use Rattle.route_select.specs.declared.candidate.Source.TheVariants.{Own, Peer as FromPeer}
 use Rattle.route_select.specs.declared.candidate.Candidate.{Candidate}
@@ -39,8 +38,8 @@ use Rattle.route_select.specs.declared.candidate.Standing.TheVariants.{Considere
 use Rattle.reflect_out.specs.Advertising.{advert}
 use Rattle.reference_machine.specs.Decision.{own_candidate, is_originated, has_cluster_loop, is_denial, exclusion, imported, preference, peer_candidate, standing_by, peer_standing, standing_over, added}
 use Rattle.reference_machine.specs.Advertising.{advert_of, change_of}
-use Rattle.cell_engine.specs.Cells.{Cell, new_cell, route_of, standing_of, decided, is_up_in, send_to, send_over, sends_of, refreshed}
-use Rattle.cell_engine.specs.SiteMoves.{SitePair, is_about_cost, is_cost_moved, is_route_moved, is_own_moved, is_any, has_route}
+use Rattle.cell_engine.specs.Cells.{Cell, new_cell, is_any, effective, route_of, standing_of, decided, is_up_in, send_to, send_over, sends_of, refreshed}
+use Rattle.cell_engine.specs.SiteMoves.{SitePair, is_about_cost, is_cost_moved, is_route_moved, is_own_moved, has_route}
 use Rattle.cell_engine.proofs.Outcomes.{decided_nothing}
 use Rattle.cell_engine.proofs.StandingsAfter.{one_addr}
 use Rattle.cell_engine.proofs.Unchanged.{each_found}
@@ -166,7 +165,7 @@ module _ (s : SiteConf) (os : List Prefix) (k : Reached) (p : Prefix) where
     decides_alike : AllByRecursion (λ x. session_with s x.peer ≡ Some x) s.sessions → is_own_moved pair p ≡ false → decided (Some new) p routes ≡ decided (Some s) p routes
     decides_alike found own =
         let same = bool_true (is_originated s p) (is_originated new p) own in
-        λ i. record { received = routes; standings = added finite.empty (cond (same i) ((Own, Considered (own_candidate s.me)) ∷ []) [] ++ each s.sessions found i) }
+        λ i. record { received = routes; standings = effective (added (no_standings s.med_always) (cond (same i) ((Own, Considered (own_candidate s.me)) ∷ []) [] ++ each s.sessions found i)) }
 
   sends_alike : (had has : Option Candidate) → sends_of s new p had has ≡ sends_of s s p had has
   unfolding advert

@@ -5,7 +5,6 @@ use Rattle.std.specs.Option.{option_to_list}
 use Rattle.std.specs.List.{list_any, filter_map, cons_option}
 use Rattle.std.specs.List.Sorted.{IsStrictlySortedBy}
 use Rattle.std.specs.Ordering.{is_eq, eq_by_cmp}
-use Rattle.std.specs.FinMap as finite
 use Rattle.std.specs.Cmp.{both_tied, unsigned_ties, unsigned_Decides}
 use Rattle.net_prefix.specs.declared.addr.Addr.{Addr}
 use Rattle.net_prefix.specs.Address.{same_addr}
@@ -15,12 +14,11 @@ use Rattle.path_attr.specs.declared.attr.Attr.{Attr}
 use Rattle.path_attr.specs.Sameness.{attrs_exact}
 use Rattle.session_queue.specs.declared.message.Message.{Message}
 use Rattle.session_queue.specs.declared.message.Message.TheVariants.{Update}
-use Rattle.net_conf.specs.Configuration.{Configuration, node_at, is_reflector, cluster_id, origins_of}
-use Rattle.net_conf.specs.Costs.{costs_of, is_up}
-use Rattle.net_conf.specs.Sites.{sessions_of, site_of}
+use Rattle.net_conf.specs.Configuration.{node_at}
+use Rattle.net_conf.specs.Costs.{is_up}
+use Rattle.net_conf.specs.Sites.{sessions_of, site_at, site_of}
 use Rattle.net_conf.specs.declared.tables.Node.{Node}
-use Rattle.net_conf.specs.declared.site.SiteConf.{SiteConf}
-use Rattle.route_select.specs.Selection.{best_of}
+use Rattle.route_select.specs.Selection.{no_standings, best_of}
 use Rattle.reference_machine.specs.Network.{Network}
 use Rattle.reference_machine.specs.Decision.{route_from, own_standings, standing_over, added, standings, best}
 use Rattle.reference_machine.specs.Advertising.{advert_of, advertised, change_of, prefixes_at, in_order, sends, changes, sent}
@@ -48,10 +46,6 @@ change_none p (Some a) = ap (λ b. if b then None else Some (Update p a)) ((attr
 pub none_if : {A : Type 0} (b : Bool) → ◌≡◌ {A = Option A} (if b then None else None) None
 none_if true = refl
 none_if false = refl
-
--- the router's part of the configuration, where this node stands at its address
-abbrev site_at : Configuration → Addr → Node → SiteConf
-site_at c r n = record { me = r; asn = n.asn; cluster = cluster_id c r; reflector = is_reflector c r; origins = origins_of c r; sessions = sessions_of c r; costs = costs_of c r }
 
 unknown : (p : Prefix) (ps : List Prefix) → list_any (eq_by_cmp prefix_cmp p) ps ≡ false → list_any (same_prefix p) ps ≡ false
 unknown p ps h = (λ i. list_any (λ q. prefix_tied p q i) ps) ∙ h
@@ -89,7 +83,7 @@ best_stays s s' conf r p same =
     ∙ at_node (node_at s.conf r) where
       at_node : (n : Option Node) → option_and_then (λ site. best_of (standings site p s'.received)) (option_map (site_at s.conf r) n) ≡ option_and_then (λ site. best_of (standings site p s.received)) (option_map (site_at s.conf r) n)
       at_node None = refl
-      at_node (Some n) = λ i. best_of (added finite.empty (own_standings (site_at s.conf r n) p ++ filter_map (λ x. standing_over (site_at s.conf r n) p x (same x.peer i)) (sessions_of s.conf r)))
+      at_node (Some n) = λ i. best_of (added (no_standings (site_at s.conf r n).med_always) (own_standings (site_at s.conf r n) p ++ filter_map (λ x. standing_over (site_at s.conf r n) p x (same x.peer i)) (sessions_of s.conf r)))
 
 head_only : (b c : Bool) → b ≡ c → (c || false) ≡ false → b ≡ false
 head_only b true is h = is ∙ h

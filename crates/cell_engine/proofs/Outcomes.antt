@@ -1,18 +1,14 @@
 -- What holds of a cell after a message or an edit: its senders are in order, and the router's site decided it.
-use Rattle.std.proofs.Common.{◌≡◌, false, cond, List, [], ◌∷◌, ◌++◌, Some, None, refl, sym}
-use Rattle.std.specs.List.{filter_map}
-use Rattle.std.specs.FinMap as finite
+use Rattle.std.proofs.Common.{◌≡◌, false, [], Some, None, refl, sym, ap}
 use Rattle.net_prefix.specs.declared.addr.Addr.{Addr}
 use Rattle.net_prefix.specs.Prefix.{Prefix}
 use Rattle.net_conf.specs.declared.site.SiteConf.{SiteConf}
-use Rattle.net_conf.specs.declared.site.SiteSession.{SiteSession}
-use Rattle.route_select.specs.declared.candidate.Source.TheVariants.{Own}
-use Rattle.route_select.specs.declared.candidate.Standing.TheVariants.{Considered}
 use Rattle.session_queue.specs.declared.message.Message.{Message}
 use Rattle.session_queue.specs.Telling.{prefix_of}
-use Rattle.reference_machine.specs.Decision.{own_candidate, is_originated, added}
-use Rattle.cell_engine.specs.Cells.{Cell, new_cell, standing_of, IsDecided, delivered, stored, refreshed}
+use Rattle.reference_machine.specs.Decision.{is_originated}
+use Rattle.cell_engine.specs.Cells.{Cell, new_cell, IsDecided, delivered, stored, refreshed}
 use Rattle.cell_engine.specs.Senders.{AreInOrder}
+use Rattle.cell_engine.proofs.Decided.{nothing_stands}
 use Rattle.cell_engine.proofs.SendersInOrder.{order_with_news, order_kept}
 
 -- IN ORDER
@@ -43,13 +39,6 @@ pub decided_refreshed : (old new : SiteConf) (p : Prefix) (h : Cell) → IsDecid
 unfolding refreshed
 decided_refreshed old new p h = refl
 
-none_stand : (site : SiteConf) (p : Prefix) (xs : List SiteSession) → filter_map (standing_of site p []) xs ≡ []
-none_stand site p [] = refl
-none_stand site p (x ∷ xs) = none_stand site p xs
-
 -- where nothing was received, and the router does not originate the prefix, nothing stands
 pub decided_nothing : (site : SiteConf) (p : Prefix) → is_originated site p ≡ false → IsDecided (Some site) p new_cell
-decided_nothing site p other = λ i. record {
-  received = [];
-  standings = added finite.empty (cond (sym other i) ((Own, Considered (own_candidate site.me)) ∷ []) [] ++ sym (none_stand site p site.sessions) i);
-}
+decided_nothing site p other = ap (λ s. record { received = []; standings = s }) (sym (nothing_stands site p other))

@@ -15,22 +15,24 @@ use Rattle.path_attr.specs.declared.attr.Attr.{Attr}
 use Rattle.prefix_table.specs.Tables.{Table}
 use Rattle.net_conf.specs.Configuration.{Configuration, node_at, is_virtual}
 use Rattle.net_conf.specs.RouterSites.{router_site}
-use Rattle.net_conf.specs.Sites.{site_of}
+use Rattle.net_conf.specs.Sites.{site_at, site_of}
 use Rattle.net_conf.specs.declared.tables.Node.{Node}
 use Rattle.net_conf.specs.declared.site.SiteConf.{SiteConf}
 use Rattle.net_conf.specs.declared.site.SiteSession.{SiteSession}
 use Rattle.route_select.specs.declared.candidate.Source.{Source}
+use Rattle.route_select.specs.declared.candidate.Reason.{Reason}
 use Rattle.route_select.specs.declared.candidate.Source.TheVariants.{Own, Peer as FromPeer}
 use Rattle.route_select.specs.declared.candidate.Standing.{Standing}
-use Rattle.route_select.specs.Selection.{Standings, source_cmp, considered, reason_for}
+use Rattle.route_select.specs.Selection.{Standings, source_cmp, no_standings, with_standing, standing_from, considered, reason_for}
 use Rattle.route_select.proofs.EntryLemmas.{same_source, source_total}
-use Rattle.reference_machine.specs.Decision.{own_standings, is_originated, standing_over, added}
+use Rattle.reference_machine.specs.Decision.{own_standings, is_originated, standing_over, added, standings}
 use Rattle.reference_machine.specs.Reports.{why, reasons_of, reasons_at, reasons}
 use Rattle.cell_engine.specs.RouterTables.{value_at}
 use Rattle.cell_engine.specs.Cells.{Cell, new_cell, route_of, standing_of, standings_of, decided}
 use Rattle.cell_engine.specs.State.{State, IsConsistent, cell_at, all_entries, network}
 use Rattle.cell_engine.specs.Reporting.{sources_in, reason_at, reasons_in}
-use Rattle.cell_engine.proofs.Decided.{site_at, is_cell, cell_decided, standings_at_cell, no_standings}
+use Rattle.cell_engine.proofs.Decided.{is_cell, cell_decided, standings_at_cell}
+use Rattle.cell_engine.proofs.Effective.{no_entries, effective_reasons}
 use Rattle.cell_engine.proofs.Listed.{listed}
 use Rattle.cell_engine.proofs.Picks.{is_equal}
 use Rattle.cell_engine.proofs.Reports.{not_true}
@@ -46,10 +48,10 @@ module _ (q : Source) where
   both_of_others [] ys a b = b
   both_of_others (x ∷ xs) ys a b = (a.0, both_of_others xs ys a.1 b)
 
-  none_added : (es : List (Source × Standing)) (m : Standings) → AreOfOthers es → finite.get m q ≡ None → finite.get (added m es) q ≡ None
+  none_added : (es : List (Source × Standing)) (m : Standings) → AreOfOthers es → standing_from m q ≡ None → standing_from (added m es) q ≡ None
   none_added [] m others none = none
   none_added (e ∷ es) m others none =
-      none_added es (finite.insert m e.0 e.1) others.1 (finite.get-insert source_total m e.0 e.1 q ∙ ap (λ b. cond b (Some e.1) (finite.get m q)) others.0 ∙ none)
+      none_added es (with_standing e.0 e.1 m) others.1 (finite.get-insert source_total m.known e.0 e.1 q ∙ ap (λ b. cond b (Some e.1) (standing_from m q)) others.0 ∙ none)
 
   own_by : (here : Bool) (v : Standing) → eq_by_cmp source_cmp q Own ≡ false → AreOfOthers (if here then (Own, v) ∷ [] else [])
   own_by true v off = (off, tt)
@@ -69,9 +71,9 @@ module _ (q : Source) where
       over_all [] = tt
       over_all (x ∷ xs) = over_one x (route_of routes x.peer) (filter_map (standing_of site p routes) xs) (others x.peer) (over_all xs)
 
-      none_stands : eq_by_cmp source_cmp q Own ≡ false → finite.get (standings_of site p routes) q ≡ None
+      none_stands : eq_by_cmp source_cmp q Own ≡ false → standing_from (standings_of site p routes) q ≡ None
       none_stands off =
-          none_added (own_standings site p ++ filter_map (standing_of site p routes) site.sessions) finite.empty
+          none_added (own_standings site p ++ filter_map (standing_of site p routes) site.sessions) (no_standings site.med_always)
           (both_of_others (own_standings site p) (filter_map (standing_of site p routes) site.sessions) (own_by (is_originated site p) _ off) (over_all site.sessions))
           (finite.get-empty source_cmp q)
 
@@ -92,7 +94,7 @@ module _ (q : Source) (routes : List (Addr × Attr)) (off : list_any (eq_by_cmp 
       true≢false (sym (is_sender u routes ∙ there) ∙ ap (λ s. list_any (eq_by_cmp source_cmp s) (map (λ e. FromPeer e.0) routes)) (sym is) ∙ (or_parts (eq_by_cmp source_cmp q Own) _ off).1))
 
   -- a source that neither is the router nor has sent a route has no standing
-  no_standing : (site : Option SiteConf) (p : Prefix) → finite.get (decided site p routes).standings q ≡ None
+  no_standing : (site : Option SiteConf) (p : Prefix) → standing_from (decided site p routes).standings q ≡ None
   no_standing None p = finite.get-empty source_cmp q
   no_standing (Some site) p = none_stands q site p routes no_sender not_own
 
@@ -115,27 +117,28 @@ sources_sorted : (h : Cell) → IsStrictlySortedBy addr_cmp (keys_of h.received)
 unfolding IsStrictlySortedBy
 sources_sorted h sorted = (all_above h.received, senders_sorted h.received sorted)
 
-all_said : (routes : List (Source × Standing)) (m : Standings) → filter_map (λ e. Some (why (considered m) e)) routes ≡ map (why (considered m)) routes
+all_said : (routes : List (Source × Standing)) (m : Standings) → filter_map (λ e. Some (why m e)) routes ≡ map (why m) routes
 all_said [] m = refl
-all_said (e ∷ es) m = ap (λ l. why (considered m) e ∷ l) (all_said es m)
+all_said (e ∷ es) m = ap (λ l. why m e ∷ l) (all_said es m)
 
 -- what is said of each source of a cell is what is said of each standing
 by_sources : (site : Option SiteConf) (p : Prefix) (h : Cell) → h ≡ decided site p h.received → IsStrictlySortedBy addr_cmp (keys_of h.received) → reasons_in h ≡ reasons_of h.standings
 by_sources site p h is sorted =
-    let said = reason_at h.standings in
-    listed source_total same_source h.standings said (λ e. Some (why (considered h.standings) e))
-    (λ s v at. ap (λ o. option_map (λ reason. (s, reason)) (option_map (reason_for (considered h.standings)) o)) at)
-    (λ s none. ap (λ o. option_map (λ reason. (s, reason)) (option_map (reason_for (considered h.standings)) o)) none)
+    let m : Standings = h.standings in
+    let said : Source → Option Standing → Option (Source × Reason) = λ s o. option_map (λ reason. (s, reason)) (option_map (reason_for m.med_always (considered m)) o) in
+    listed source_total same_source m.known (reason_at m) (λ e. Some (why m e))
+    (λ s v at. ap (said s) at)
+    (λ s none. ap (said s) none)
     (sources_in h) (sources_sorted h sorted)
-    (λ s off. ap (λ o. option_map (λ reason. (s, reason)) (option_map (reason_for (considered h.standings)) o)) (ap (λ (x : Cell). finite.get x.standings s) is ∙ no_standing s h.received off site p))
-    ∙ all_said (finite.entries h.standings) h.standings
+    (λ s off. ap (said s) (ap (λ (x : Cell). standing_from x.standings s) is ∙ no_standing s h.received off site p))
+    ∙ all_said (finite.entries m.known) m
 
 -- THE ROUTER
 
 at_node : (c : Configuration) (r : Addr) (p : Prefix) (ts : List (Addr × Table Cell)) → IsTrue (is_sorted addr_cmp ts) → (n : Option Node)
     → reasons_at p (all_entries ts) (option_map (site_at c r) n) ≡ reasons_of (decided (option_map (site_at c r) n) p (cell_at r p ts).received).standings
-at_node c r p ts sorted None = sym (ap (map (why (considered finite.empty))) no_standings)
-at_node c r p ts sorted (Some n) = ap reasons_of (standings_at_cell (site_at c r n) p ts sorted)
+at_node c r p ts sorted None = sym (ap (map (why (no_standings false))) no_entries)
+at_node c r p ts sorted (Some n) = sym (effective_reasons (standings (site_at c r n) p (all_entries ts))) ∙ ap reasons_of (standings_at_cell (site_at c r n) p ts sorted)
 
 -- the routes that were heard are by sender
 cell_in_order : (e : State) → IsConsistent e → (r : Addr) (p : Prefix) → IsStrictlySortedBy addr_cmp (keys_of (cell_at r p e.tables).received)

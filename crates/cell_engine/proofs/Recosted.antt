@@ -30,22 +30,23 @@ use Rattle.route_select.specs.declared.candidate.Source.{Source}
 use Rattle.route_select.specs.declared.candidate.Source.TheVariants.{Own, Peer as FromPeer}
 use Rattle.route_select.specs.declared.candidate.Standing.{Standing}
 use Rattle.route_select.specs.declared.candidate.Standing.TheVariants.{Considered}
-use Rattle.route_select.specs.Selection.{source_cmp, Standings, considered_in, best_among, best_of}
-use Rattle.route_select.proofs.EntryLemmas.{source_total, same_source, map_of_none}
+use Rattle.route_select.specs.Selection.{source_cmp, Standings, no_standings, with_standing, standing_from, considered_in, best_among, best_of}
+use Rattle.route_select.proofs.EntryLemmas.{source_total, map_of_none}
 use Rattle.reference_machine.specs.Decision.{own_candidate, is_originated, exclusion, peer_candidate, peer_standing, standing_by, added, has_cluster_loop, is_denial}
-use Rattle.cell_engine.specs.Cells.{Cell, IsDecided, route_of, standings_of, kept_routes, decision, refreshed}
+use Rattle.cell_engine.specs.Cells.{Cell, IsDecided, effective, route_of, standings_by, standings_of, kept_routes, decision, refreshed}
 use Rattle.cell_engine.specs.SiteMoves.{SitePair, is_about_cost, counts_cost, is_route_moved, is_cost_moved, has_route, is_moved}
 use Rattle.cell_engine.specs.Recosting.{recosted, lone_cost, is_own, recost}
 use Rattle.cell_engine.specs.Updates.{costless}
 use Rattle.cell_engine.proofs.Costless.{costs_are_silent}
+use Rattle.cell_engine.proofs.Effective.{effective_with, same_standings}
 use Rattle.cell_engine.proofs.LoneBest.{best_alone}
-use Rattle.cell_engine.proofs.StandingsAfter.{ArePeersInOrder, tied, one_addr, peer_found, stood, stood_or, own_stands, peer_stands}
+use Rattle.cell_engine.proofs.StandingsAfter.{ArePeersInOrder, compares_as, tied, one_addr, peer_found, stood, stood_or, own_stands, peer_stands}
 
 -- ONE ROUTE STANDS
 
 module _ (site : SiteConf) (p : Prefix) (e : Addr × Attr) (x : SiteSession) (found : session_with site e.0 ≡ Some x) (up : x.up ≡ true) where
   abbrev alone : Standings
-  alone = finite.insert finite.empty (FromPeer e.0) (peer_standing site p x e.1)
+  alone = with_standing (FromPeer e.0) (peer_standing site p x e.1) (no_standings site.med_always)
 
   at_itself : (u : Addr) → is_eq (addr_cmp u u) ≡ true
   at_itself u = sym (tied u u) ∙ (unsigned_Decides u.0 u.0).1 refl
@@ -70,10 +71,10 @@ module _ (site : SiteConf) (p : Prefix) (e : Addr × Attr) (x : SiteSession) (fo
   peers_alone false v is = others_stand (session_with site v) v refl is
 
   module _ (peers : ArePeersInOrder site.sessions) (other : is_originated site p ≡ false) where
-    stands_at : (q : Source) → finite.get (standings_of site p (e ∷ [])) q ≡ finite.get alone q
+    stands_at : (q : Source) → standing_from (standings_of site p (e ∷ [])) q ≡ standing_from alone q
     stands_at Own =
         own_stands site p (e ∷ [])
-        ∙ ap (λ b. finite.get (added finite.empty (cond b ((Own, Considered (own_candidate site.me)) ∷ []) [])) Own) other
+        ∙ ap (λ b. standing_from (added (no_standings site.med_always) (cond b ((Own, Considered (own_candidate site.me)) ∷ []) [])) Own) other
         ∙ sym (finite.get-insert source_total finite.empty (FromPeer e.0) (peer_standing site p x e.1) Own)
     stands_at (FromPeer v) =
         peer_stands site p (e ∷ []) peers v
@@ -83,34 +84,37 @@ module _ (site : SiteConf) (p : Prefix) (e : Addr × Attr) (x : SiteSession) (fo
 
     -- what stands where one route was received, over a session that is up
     stands_alone : standings_of site p (e ∷ []) ≡ alone
-    stands_alone = finite.same_map source_total same_source _ _ stands_at
+    stands_alone =
+        ap effective (same_standings (standings_by site p (e ∷ [])) alone stands_at (compares_as site p (e ∷ [])))
+        ∙ effective_with (FromPeer e.0) (peer_standing site p x e.1) (no_standings site.med_always)
 
 -- AT A COST
 
-abbrev lone : Addr → Candidate → Standings
-lone u c = finite.insert finite.empty (FromPeer u) (Considered c)
+abbrev lone : Bool → Addr → Candidate → Standings
+lone always u c = with_standing (FromPeer u) (Considered c) (no_standings always)
 
-entries_of_lone : (u : Addr) (c : Candidate) → finite.entries (lone u c) ≡ (FromPeer u, Considered c) ∷ []
-entries_of_lone u c =
+entries_of_lone : (always : Bool) (u : Addr) (c : Candidate) → finite.entries (lone always u c).known ≡ (FromPeer u, Considered c) ∷ []
+entries_of_lone always u c =
     finite.entries-insert source_total finite.empty (FromPeer u) (Considered c)
     ∙ ap (put source_cmp (FromPeer u) (Considered c)) (ap finite.entries (sym map_of_none) ∙ finite.entries-from_sorted source_cmp [] tt)
 
-best_of_lone : (u : Addr) (c : Candidate) → best_of (lone u c) ≡ Some c
-best_of_lone u c = ap (λ es. best_among (considered_in es)) (entries_of_lone u c) ∙ best_alone c
+best_of_lone : (always : Bool) (u : Addr) (c : Candidate) → best_of (lone always u c) ≡ Some c
+best_of_lone always u c = ap (λ es. best_among always (considered_in es)) (entries_of_lone always u c) ∙ best_alone always c
 
-put_again : (u : Addr) (c d : Candidate) → finite.insert (lone u c) (FromPeer u) (Considered d) ≡ lone u d
-put_again u c d = finite.same_map source_total same_source _ _ (λ q.
-    finite.get-insert source_total (lone u c) (FromPeer u) (Considered d) q
+put_again : (always : Bool) (u : Addr) (c d : Candidate) → with_standing (FromPeer u) (Considered d) (lone always u c) ≡ lone always u d
+put_again always u c d = same_standings (with_standing (FromPeer u) (Considered d) (lone always u c)) (lone always u d) (λ q.
+    finite.get-insert source_total (lone always u c).known (FromPeer u) (Considered d) q
     ∙ ap (cond (eq_by_cmp source_cmp q (FromPeer u)) (Some (Considered d))) (finite.get-insert source_total finite.empty (FromPeer u) (Considered c) q)
     ∙ shadowed (eq_by_cmp source_cmp q (FromPeer u)) (Some (Considered d)) (Some (Considered c)) (finite.get finite.empty q)
-    ∙ sym (finite.get-insert source_total finite.empty (FromPeer u) (Considered d) q))
+    ∙ sym (finite.get-insert source_total finite.empty (FromPeer u) (Considered d) q)) refl
   where
     shadowed : (b : Bool) (v w z : Option Standing) → cond b v (cond b w z) ≡ cond b v z
     shadowed true v w z = refl
     shadowed false v w z = refl
 
-lone_costs : (k : ℕ) (u : Addr) (c : Candidate) → at_cost k (lone u c) ≡ lone u (record c { cost = k })
-lone_costs k u c = ap (lone_at_cost k (lone u c)) (entries_of_lone u c) ∙ put_again u c (record c { cost = k })
+lone_costs : (k : ℕ) (always : Bool) (u : Addr) (c : Candidate) → at_cost k (lone always u c) ≡ lone always u (record c { cost = k })
+lone_costs k always u c =
+    (λ i. record { known = lone_at_cost k (lone always u c).known (entries_of_lone always u c i); med_always = always }) ∙ put_again always u c (record c { cost = k })
 
 -- THE COST ALONE DECIDES
 
@@ -168,20 +172,20 @@ module _ (s : SiteConf) (os : List Prefix) (n : Reached) (p : Prefix) (peers : A
     with_cost_known : is_about_cost (tested s p x e.1 (Some m)) ≡ true
     with_cost_known = ap (λ o. is_about_cost (tested s p x e.1 o)) (sym was) ∙ about
 
-    stood_then : standings_of s p (e ∷ []) ≡ lone e.0 (at s p x e.1 m)
-    stood_then = stands_alone s p e x found up peers before ∙ ap (finite.insert finite.empty (FromPeer e.0)) (is_considered s p x e.1 m was with_cost_known)
+    stood_then : standings_of s p (e ∷ []) ≡ lone s.med_always e.0 (at s p x e.1 m)
+    stood_then = stands_alone s p e x found up peers before ∙ ap (λ v. with_standing (FromPeer e.0) v (no_standings s.med_always)) (is_considered s p x e.1 m was with_cost_known)
 
-    stand_now : standings_of t p (e ∷ []) ≡ lone e.0 (at s p x e.1 k)
-    stand_now = stands_alone t p e x found up peers after ∙ ap (finite.insert finite.empty (FromPeer e.0)) (is_considered t p x e.1 k is with_cost_known)
+    stand_now : standings_of t p (e ∷ []) ≡ lone s.med_always e.0 (at s p x e.1 k)
+    stand_now = stands_alone t p e x found up peers after ∙ ap (λ v. with_standing (FromPeer e.0) v (no_standings s.med_always)) (is_considered t p x e.1 k is with_cost_known)
 
     costs_k : standings_of t p (e ∷ []) ≡ at_cost k (standings_of s p (e ∷ []))
-    costs_k = stand_now ∙ sym (lone_costs k e.0 (at s p x e.1 m)) ∙ ap (at_cost k) (sym stood_then)
+    costs_k = stand_now ∙ sym (lone_costs k s.med_always e.0 (at s p x e.1 m)) ∙ ap (at_cost k) (sym stood_then)
 
     same_best : costless (best_of (standings_of s p (e ∷ []))) ≡ costless (best_of (standings_of t p (e ∷ [])))
     same_best =
         ap (λ w. costless (best_of w)) stood_then
-        ∙ ap costless (best_of_lone e.0 (at s p x e.1 m))
-        ∙ sym (ap (λ w. costless (best_of w)) stand_now ∙ ap costless (best_of_lone e.0 (at s p x e.1 k)))
+        ∙ ap costless (best_of_lone s.med_always e.0 (at s p x e.1 m))
+        ∙ sym (ap (λ w. costless (best_of w)) stand_now ∙ ap costless (best_of_lone s.med_always e.0 (at s p x e.1 k)))
 
     is_kept : kept_routes t (e ∷ []) ≡ e ∷ []
     is_kept = ap (λ o. cond (option_map_or (λ y. y.up) o false) (e ∷ []) []) found ∙ ap (λ b. cond b (e ∷ []) []) up

@@ -6,7 +6,6 @@ use Rattle.std.specs.declared.cmp.Ordering.TheVariants.{Less, Equal, Greater}
 use Rattle.std.specs.Ordering.{is_eq, ordering_then}
 use Rattle.std.specs.Option.{option_map_or}
 use Rattle.std.specs.List.{AllByRecursion, list_any}
-use Rattle.std.specs.FinMap as finite
 use Rattle.net_prefix.specs.declared.addr.Addr.{Addr}
 use Rattle.net_prefix.specs.Address.{addr_cmp}
 use Rattle.net_prefix.specs.Orders.{addr_exact}
@@ -22,10 +21,11 @@ use Rattle.net_conf.specs.Edits.{edited, refusal_of}
 use Rattle.net_conf.specs.RouterSites.{router_site}
 use Rattle.net_conf.specs.declared.site.SiteConf.{SiteConf}
 use Rattle.net_conf.specs.Scopes.{scope}
+use Rattle.route_select.specs.Selection.{no_standings}
 use Rattle.reference_machine.specs.Decision.{standings}
 use Rattle.reference_machine.specs.Machine.{after_edit, with_sent, reconfigured}
 use Rattle.reference_machine.specs.Network.{Network}
-use Rattle.cell_engine.specs.Cells.{Cell, new_cell}
+use Rattle.cell_engine.specs.Cells.{Cell, new_cell, effective}
 use Rattle.cell_engine.specs.Changes.{Change, AreOverSessionsUp, changes_in}
 use Rattle.cell_engine.specs.Decisions.{standings_at, HasStanding, AreFactsMoved, IsTouched, is_cell_of, IsRefreshed}
 use Rattle.cell_engine.specs.Editing.{with_origin, edited_engine}
@@ -120,7 +120,7 @@ module _ (e : State) (sound : IsConsistent e) (configured : IsConfigured e.conf)
 
   same_network : (r : Addr) (p : Prefix) → standings_at next r p ≡ standings_at (network later) r p
   unfolding with_sent reconfigured network
-  same_network r p = ap (λ es. option_map_or (λ site. standings site p es) (router_site new r) finite.empty) (sym (received_edited e sound edit allowed))
+  same_network r p = ap (λ es. option_map_or (λ site. effective (standings site p es)) (router_site new r) (no_standings false)) (sym (received_edited e sound edit allowed))
 
   stood_before : (r : Addr) (p : Prefix) → standings_at (network e) r p ≡ (cell_at r p e.tables).standings
   stood_before r p = standings_in_cell e sound r p
@@ -131,23 +131,23 @@ module _ (e : State) (sound : IsConsistent e) (configured : IsConfigured e.conf)
       ∙ standings_in_cell later later_sound r p
       ∙ ap (λ ts. (cell_at r p (kept_tables new ts)).standings) origin
 
-  empty_before : (r : Addr) (p : Prefix) → router_site e.conf r ≡ None → standings_at (network e) r p ≡ finite.empty
+  empty_before : (r : Addr) (p : Prefix) → router_site e.conf r ≡ None → standings_at (network e) r p ≡ no_standings false
   unfolding network
-  empty_before r p at = ap (λ o. option_map_or (λ site. standings site p (network e).received) o finite.empty) at
+  empty_before r p at = ap (λ o. option_map_or (λ site. effective (standings site p (network e).received)) o (no_standings false)) at
 
-  empty_later : (r : Addr) (p : Prefix) → router_site new r ≡ None → standings_at (network later) r p ≡ finite.empty
+  empty_later : (r : Addr) (p : Prefix) → router_site new r ≡ None → standings_at (network later) r p ≡ no_standings false
   unfolding network
-  empty_later r p at = ap (λ o. option_map_or (λ site. standings site p (network later).received) o finite.empty) at
+  empty_later r p at = ap (λ o. option_map_or (λ site. effective (standings site p (network later).received)) o (no_standings false)) at
 
-  no_standings : (r : Addr) (p : Prefix) → router_site new r ≡ None → standings_at (network e) r p ≡ standings_at next r p
-  no_standings r p at = empty_before r p (no_router_before e.conf edit allowed r at) ∙ sym (same_network r p ∙ empty_later r p at)
+  none_stands : (r : Addr) (p : Prefix) → router_site new r ≡ None → standings_at (network e) r p ≡ standings_at next r p
+  none_stands r p at = empty_before r p (no_router_before e.conf edit allowed r at) ∙ sym (same_network r p ∙ empty_later r p at)
 
   -- where a cell is not decided anew, each route stands as before
   complete : (r : Addr) (p : Prefix) → list_any (is_cell_of r p) (refreshed_of (planned e edit)) ≡ false → standings_at (network e) r p ≡ standings_at next r p
   complete r p none = by (router_site new r) refl
     where
       by : (o : Option SiteConf) → router_site new r ≡ o → standings_at (network e) r p ≡ standings_at next r p
-      by None at = no_standings r p at
+      by None at = none_stands r p at
       by (Some site) at =
           stood_before r p
           ∙ ap (λ (o : Option Cell). (unwrap_or o new_cell).standings) (sym (value_unchanged (moves e.conf new) (scope edit) e.conf new e.tables sound.by_address (settled e sound configured up edit) (unmoved e sound configured up edit) r p (not_among new r p (ap is_some at) changes none)))
@@ -182,7 +182,7 @@ module _ (e : State) (sound : IsConsistent e) (configured : IsConfigured e.conf)
         (λ at. new_router_has_no_cell e.conf edit allowed configured r at router h.received kept)
         (λ gone. true≢false (sym router ∙ ap is_some gone))
 
-    standing_by : (h.standings ≡ finite.empty → ⊥) ⊎ ((kept_cell new r p h).standings ≡ finite.empty → ⊥) → HasStanding (network e) r p ⊎ HasStanding next r p
+    standing_by : (h.standings ≡ no_standings false → ⊥) ⊎ ((kept_cell new r p h).standings ≡ no_standings false → ⊥) → HasStanding (network e) r p ⊎ HasStanding next r p
     standing_by (inl before) = inl (λ none. before (sym before_is ∙ none))
     standing_by (inr after) = inr (λ none. after (sym after_is ∙ none))
 
@@ -190,7 +190,7 @@ module _ (e : State) (sound : IsConsistent e) (configured : IsConfigured e.conf)
     unfolding with_sent reconfigured network
     is_touched = by touches
       where
-        by : (h.standings ≡ (kept_cell new r p h).standings → ⊥) ⊎ (AreFactsMoved (router_site e.conf r) (router_site new r) × ((h.standings ≡ finite.empty → ⊥) ⊎ ((kept_cell new r p h).standings ≡ finite.empty → ⊥))) → IsTouched (network e) next r p
+        by : (h.standings ≡ (kept_cell new r p h).standings → ⊥) ⊎ (AreFactsMoved (router_site e.conf r) (router_site new r) × ((h.standings ≡ no_standings false → ⊥) ⊎ ((kept_cell new r p h).standings ≡ no_standings false → ⊥))) → IsTouched (network e) next r p
         by (inl apart) = inl (λ same. apart (sym before_is ∙ same ∙ after_is))
         by (inr facts) = inr (facts.0, standing_by facts.1)
 

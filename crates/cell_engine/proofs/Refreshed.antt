@@ -26,7 +26,7 @@ use Rattle.net_conf.specs.Configured.{IsConfigured}
 use Rattle.net_conf.specs.Costs.{is_up}
 use Rattle.net_conf.specs.Edits.{edited, refusal_of}
 use Rattle.net_conf.specs.RouterSites.{router_site}
-use Rattle.net_conf.specs.Sites.{site_of}
+use Rattle.net_conf.specs.Sites.{site_at, site_of}
 use Rattle.net_conf.specs.declared.edit.Edit.{Edit}
 use Rattle.net_conf.specs.declared.tables.Node.{Node}
 use Rattle.net_conf.specs.declared.site.SiteConf.{SiteConf}
@@ -44,7 +44,7 @@ use Rattle.cell_engine.specs.Sending.{told}
 use Rattle.cell_engine.specs.Editing.{left_at, with_origin, sends_between, cell_sends, router_sends, all_sends, told_by_all, edited_engine}
 use Rattle.cell_engine.proofs.Chunks.{of_T}
 use Rattle.cell_engine.proofs.Flat.{no_cells}
-use Rattle.cell_engine.proofs.Decided.{site_at, none_best, best_in_cell}
+use Rattle.cell_engine.proofs.Decided.{none_best, best_in_cell}
 use Rattle.cell_engine.proofs.Sites.{up_in_site, refreshed_is_kept, site_of_router}
 use Rattle.cell_engine.proofs.Kept.{value_kept}
 use Rattle.cell_engine.proofs.Offers.{same_addr_true, turn, changes_from}

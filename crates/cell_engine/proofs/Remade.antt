@@ -1,13 +1,13 @@
 -- Cells that can change, one after another.
-use Rattle.std.proofs.Common.{◌≡◌, List, [], ◌++◌, Option, Some, None, unwrap_or, refl, sym, ap, ◌∙◌, append_assoc}
+use Rattle.std.proofs.Common.{◌≡◌, false, List, [], ◌++◌, Option, Some, None, unwrap_or, refl, sym, ap, ◌∙◌, append_assoc}
 use Rattle.std.proofs.lemmas.List.{append-nil}
 use Rattle.std.proofs.lemmas.Option.{none-some, same_Some}
-use Rattle.std.specs.FinMap as finite
 use Rattle.net_prefix.specs.declared.addr.Addr.{Addr}
 use Rattle.net_prefix.specs.Prefix.{Prefix}
 use Rattle.net_conf.specs.Configuration.{Configuration}
 use Rattle.net_conf.specs.RouterSites.{router_site}
 use Rattle.net_conf.specs.declared.site.SiteConf.{SiteConf}
+use Rattle.route_select.specs.Selection.{no_standings}
 use Rattle.cell_engine.specs.Cells.{Cell, Outcome, decided, refreshed}
 use Rattle.cell_engine.specs.SiteMoves.{SitePair}
 use Rattle.cell_engine.specs.Keeping.{kept_from, kept_cell}
@@ -40,7 +40,7 @@ pair_none None new is = refl
 pair_none (Some a) new is = absurd (none-some (record { old = a; new = new }) is)
 
 -- at a virtual peer, or where nobody is
-pub remade_by_peer : (c : Configuration) (r : Addr) (p : Prefix) (h : Cell) → router_site c r ≡ None → ◌≡◌ {A = Cell} (record { received = kept_from c r h.received; standings = finite.empty }) (kept_cell c r p h)
+pub remade_by_peer : (c : Configuration) (r : Addr) (p : Prefix) (h : Cell) → router_site c r ≡ None → ◌≡◌ {A = Cell} (record { received = kept_from c r h.received; standings = no_standings false }) (kept_cell c r p h)
 remade_by_peer c r p h is = ap (λ site. decided site p (kept_from c r h.received)) (sym is)
 
 -- IN A WALK

@@ -14,7 +14,6 @@ use Rattle.net_conf.specs.Costs.{is_up}
 use Rattle.net_conf.specs.Sites.{site_of}
 use Rattle.route_select.specs.declared.candidate.Candidate.{Candidate}
 use Rattle.route_select.specs.Selection.{best_of}
-use Rattle.prefix_table.proofs.Contents.{none_from}
 use Rattle.reference_machine.specs.Network.{Network}
 use Rattle.reference_machine.specs.Decision.{best}
 use Rattle.reference_machine.specs.Advertising.{advert_of, advertised, prefixes_at, in_order}
@@ -25,7 +24,7 @@ use Rattle.cell_engine.specs.Cells.{new_cell}
 use Rattle.cell_engine.specs.State.{State, IsConsistent, cell_at, network}
 use Rattle.cell_engine.specs.Reporting.{cells_of, routes_chosen, adverts_to, queue_in}
 use Rattle.cell_engine.proofs.Decided.{best_in_cell, none_best}
-use Rattle.cell_engine.proofs.Listed.{listed}
+use Rattle.cell_engine.proofs.Listed.{listed, none_from}
 use Rattle.cell_engine.proofs.Offers.{prefix_tied, none_if}
 use Rattle.cell_engine.proofs.Picks.{sorted_gathered}
 use Rattle.cell_engine.proofs.Queues.{messages_of_network, quiet_network, quiet_queues}

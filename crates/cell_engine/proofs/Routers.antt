@@ -10,9 +10,8 @@ use Rattle.net_conf.specs.Configured.{IsConfigured}
 use Rattle.net_conf.specs.Costs.{is_up}
 use Rattle.net_conf.specs.Edits.{edited, refusal_of}
 use Rattle.net_conf.specs.RouterSites.{router_site}
-use Rattle.net_conf.specs.Sites.{site_of}
+use Rattle.net_conf.specs.Sites.{site_at, site_of}
 use Rattle.cell_engine.specs.Keeping.{kept_from}
-use Rattle.cell_engine.proofs.Decided.{site_at}
 use Rattle.cell_engine.proofs.Directions.{session_if_up}
 use Rattle.net_conf.proofs.KeptTrees.{session_turned}
 use Rattle.cell_engine.proofs.AcceptedEdits.{passes, node_kept, session_placed}

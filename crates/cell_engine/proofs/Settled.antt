@@ -4,7 +4,6 @@ use Rattle.std.proofs.lemmas.Bool.{true≢false}
 use Rattle.std.specs.Option.{option_to_list}
 use Rattle.std.specs.List.{list_any, filter_map}
 use Rattle.std.specs.List.Sorted.{IsStrictlySortedBy}
-use Rattle.std.specs.FinMap as finite
 use Rattle.net_prefix.specs.declared.addr.Addr.{Addr}
 use Rattle.net_prefix.specs.Address.{same_addr, addr_cmp}
 use Rattle.net_prefix.specs.Prefix.{Prefix, same_prefix}
@@ -17,17 +16,17 @@ use Rattle.net_conf.specs.Configuration.{Configuration, node_at, origins_of}
 use Rattle.net_conf.specs.Configured.{IsConfigured}
 use Rattle.net_conf.specs.Edits.{edited}
 use Rattle.net_conf.specs.RouterSites.{router_site}
-use Rattle.net_conf.specs.Sites.{site_of}
+use Rattle.net_conf.specs.Sites.{site_at, site_of}
 use Rattle.net_conf.proofs.RouterLaws.{site_sessions_in_order}
 use Rattle.route_select.specs.declared.candidate.Candidate.{Candidate}
 use Rattle.route_select.specs.declared.candidate.Source.TheVariants.{Own}
 use Rattle.route_select.specs.declared.candidate.Standing.TheVariants.{Considered}
-use Rattle.route_select.specs.Selection.{best_of}
+use Rattle.route_select.specs.Selection.{no_standings, best_of}
 use Rattle.reflect_out.specs.Advertising.{advert}
 use Rattle.reference_machine.specs.Decision.{own_candidate, added}
 use Rattle.reference_machine.specs.Advertising.{advert_of, change_of}
 use Rattle.cell_engine.specs.RouterTables.{value_at}
-use Rattle.cell_engine.specs.Cells.{Cell, new_cell, standing_of, decided, is_up_in, sends_of, refreshed}
+use Rattle.cell_engine.specs.Cells.{Cell, new_cell, effective, standing_of, decided, is_up_in, sends_of, refreshed}
 use Rattle.cell_engine.specs.Changes.{AreOverSessionsUp}
 use Rattle.cell_engine.specs.Editing.{sends_between}
 use Rattle.cell_engine.specs.State.{State, IsConsistent}
@@ -37,7 +36,7 @@ use Rattle.net_conf.specs.declared.edit.Scope.TheVariants.{Network, Site, Route}
 use Rattle.net_conf.specs.Scopes.{scope, router_in, SitesOfOthersStay, SessionsStay, OriginsAloneChange, OtherOriginsStay}
 use Rattle.cell_engine.specs.Sending.{told}
 use Rattle.cell_engine.specs.Settled.{IsSettled, AreSettledOutside}
-use Rattle.cell_engine.proofs.Decided.{site_at, is_cell}
+use Rattle.cell_engine.proofs.Decided.{is_cell}
 use Rattle.cell_engine.proofs.Offers.{same_addr_true, same_addr_itself, change_none}
 use Rattle.cell_engine.proofs.Sites.{refreshed_is_kept, site_of_router}
 use Rattle.cell_engine.proofs.Told.{told_one}
@@ -72,7 +71,7 @@ module _ (os : List Prefix) (p : Prefix) where
   -- it decides alike of a prefix that it originates as before, or did not and does not originate
   decided_alike : (site : SiteConf) (routes : List (Addr × Attr)) → list_any (same_prefix p) os ≡ list_any (same_prefix p) site.origins → decided (Some (originating os site)) p routes ≡ decided (Some site) p routes
   decided_alike site routes alike =
-      λ i. record { received = routes; standings = added finite.empty (cond (alike i) ((Own, Considered (own_candidate site.me)) ∷ []) [] ++ filter_map (standing_of site p routes) site.sessions) }
+      λ i. record { received = routes; standings = effective (added (no_standings site.med_always) (cond (alike i) ((Own, Considered (own_candidate site.me)) ∷ []) [] ++ filter_map (standing_of site p routes) site.sessions)) }
 
   -- and sends alike
   sent_alike : (site : SiteConf) (had has : Option Candidate) → sends_of site (originating os site) p had has ≡ sends_of site site p had has

@@ -18,14 +18,13 @@ use Rattle.path_attr.specs.declared.attr.Attr.{Attr}
 use Rattle.path_attr.specs.Number.{same_number}
 use Rattle.net_conf.specs.Configuration.{Configuration, node_at, as_of, is_virtual, is_end, session_between, ends_of, ends_cmp}
 use Rattle.net_conf.specs.Costs.{cost, is_connected, session_up, is_up}
-use Rattle.net_conf.specs.Sites.{peer_in, session_of, peers_of, sessions_of, site_of}
+use Rattle.net_conf.specs.Sites.{peer_in, session_of, peers_of, sessions_of, site_at, site_of}
 use Rattle.net_conf.specs.declared.tables.Ends.{Ends}
 use Rattle.net_conf.specs.declared.tables.Node.{Node}
 use Rattle.net_conf.specs.declared.site.SiteConf.{SiteConf}
 use Rattle.cell_engine.specs.Cells.{Cell, decided, is_up_in, kept_routes, refreshed}
 use Rattle.net_conf.specs.RouterSites.{router_site}
 use Rattle.cell_engine.specs.Keeping.{kept_from, kept_cell}
-use Rattle.cell_engine.proofs.Decided.{site_at}
 
 -- BOTH ENDS SEE ONE SESSION
 

@@ -1,5 +1,5 @@
 -- The standings of routes of which one has changed are those of before, with the one source put or dropped.
-use Rattle.std.proofs.Common.{◌≡◌, Bool, true, false, cond, List, [], ◌∷◌, map, find, Option, Some, None, ◌==◌, refl, sym, ap, subst, ◌∙◌}
+use Rattle.std.proofs.Common.{◌≡◌, Bool, true, false, cond, List, [], ◌∷◌, ◌++◌, map, find, Option, Some, None, ◌==◌, refl, sym, ap, subst, ◌∙◌}
 use Rattle.std.specs.List.{AllByRecursion, filter_map, cons_option}
 use Rattle.std.specs.List.Sorted.{IsStrictlySortedBy}
 use Rattle.std.specs.Option.{option_map, option_map_or, option_or, option_to_list}
@@ -21,15 +21,16 @@ use Rattle.route_select.specs.declared.candidate.Source.{Source}
 use Rattle.route_select.specs.declared.candidate.Source.TheVariants.{Own, Peer as FromPeer}
 use Rattle.route_select.specs.declared.candidate.Standing.{Standing}
 use Rattle.route_select.specs.declared.candidate.Standing.TheVariants.{Considered}
-use Rattle.route_select.specs.Selection.{source_cmp, Standings}
-use Rattle.route_select.proofs.EntryLemmas.{source_total, same_source}
+use Rattle.route_select.specs.Selection.{source_cmp, Standings, no_standings, with_standing, standing_from}
+use Rattle.route_select.proofs.EntryLemmas.{source_total}
 use Rattle.session_queue.specs.declared.message.Message.{Message}
 use Rattle.session_queue.specs.declared.message.Message.TheVariants.{Update, Withdraw}
 use Rattle.session_queue.specs.Telling.{prefix_of}
 use Rattle.reference_machine.specs.Decision.{own_candidate, own_standings, is_originated, standing_over, peer_standing, added}
-use Rattle.cell_engine.specs.Cells.{route_of, standing_of, standings_of, with_news}
+use Rattle.cell_engine.specs.Cells.{route_of, standing_of, standings_by, standings_of, with_news}
 use Rattle.cell_engine.specs.Senders.{AreInOrder}
 use Rattle.cell_engine.specs.Updates.{standings_after}
+use Rattle.cell_engine.proofs.Effective.{same_standings, added_always}
 use Rattle.cell_engine.proofs.Entries.{equal_from}
 use Rattle.cell_engine.proofs.SendersInOrder.{told, route_with_news}
 
@@ -78,13 +79,13 @@ module _ (site : SiteConf) (p : Prefix) where
   abbrev pub stood : SiteSession → Option Attr → Option Standing
   stood x a = option_map (λ (e : Source × Standing). e.1) (standing_over site p x a)
 
-  put_by_up : (up : Bool) (u : Addr) (v : Standing) (m : Standings) (q : Source) → finite.get (added m (option_to_list (cond up (Some (FromPeer u, v)) None))) q ≡ cond (eq_by_cmp source_cmp q (FromPeer u)) (option_or (option_map (λ (e : Source × Standing). e.1) (cond up (Some (FromPeer u, v)) None)) (finite.get m q)) (finite.get m q)
-  put_by_up true u v m q = finite.get-insert source_total m (FromPeer u) v q
-  put_by_up false u v m q = sym (same_either_way (eq_by_cmp source_cmp q (FromPeer u)) (finite.get m q))
+  put_by_up : (up : Bool) (u : Addr) (v : Standing) (m : Standings) (q : Source) → standing_from (added m (option_to_list (cond up (Some (FromPeer u, v)) None))) q ≡ cond (eq_by_cmp source_cmp q (FromPeer u)) (option_or (option_map (λ (e : Source × Standing). e.1) (cond up (Some (FromPeer u, v)) None)) (standing_from m q)) (standing_from m q)
+  put_by_up true u v m q = finite.get-insert source_total m.known (FromPeer u) v q
+  put_by_up false u v m q = sym (same_either_way (eq_by_cmp source_cmp q (FromPeer u)) (standing_from m q))
 
   -- a standing over the session is its peer's
-  put_one : (x : SiteSession) (a : Option Attr) (m : Standings) (q : Source) → finite.get (added m (option_to_list (standing_over site p x a))) q ≡ cond (eq_by_cmp source_cmp q (FromPeer x.peer)) (option_or (stood x a) (finite.get m q)) (finite.get m q)
-  put_one x None m q = sym (same_either_way (eq_by_cmp source_cmp q (FromPeer x.peer)) (finite.get m q))
+  put_one : (x : SiteSession) (a : Option Attr) (m : Standings) (q : Source) → standing_from (added m (option_to_list (standing_over site p x a))) q ≡ cond (eq_by_cmp source_cmp q (FromPeer x.peer)) (option_or (stood x a) (standing_from m q)) (standing_from m q)
+  put_one x None m q = sym (same_either_way (eq_by_cmp source_cmp q (FromPeer x.peer)) (standing_from m q))
   put_one x (Some attr) m q = put_by_up x.up x.peer (peer_standing site p x attr) m q
 
   restood_by_up : (up : Bool) (u : Addr) (v w : Standing) → option_or (option_map (λ (e : Source × Standing). e.1) (cond up (Some (FromPeer u, v)) None)) (option_or (option_map (λ (e : Source × Standing). e.1) (cond up (Some (FromPeer u, w)) None)) None) ≡ option_or (option_map (λ (e : Source × Standing). e.1) (cond up (Some (FromPeer u, v)) None)) None
@@ -102,50 +103,50 @@ module _ (site : SiteConf) (p : Prefix) where
   stood_or (Some x) route was = option_or (stood x (route x.peer)) was
 
   module _ (routes : List (Addr × Attr)) where
-    own_kept : (xs : List SiteSession) (m : Standings) → finite.get (added m (filter_map (standing_of site p routes) xs)) Own ≡ finite.get m Own
+    own_kept : (xs : List SiteSession) (m : Standings) → standing_from (added m (filter_map (standing_of site p routes) xs)) Own ≡ standing_from m Own
     own_kept [] m = refl
     own_kept (x ∷ xs) m =
-        ap (λ n. finite.get n Own) (added_first m (standing_of site p routes x) (filter_map (standing_of site p routes) xs))
+        ap (λ n. standing_from n Own) (added_first m (standing_of site p routes x) (filter_map (standing_of site p routes) xs))
         ∙ own_kept xs (added m (option_to_list (standing_of site p routes x)))
         ∙ put_one x (route_of routes x.peer) m Own
 
     peers_by : (b : Bool) (x : SiteSession) (xs : List SiteSession) (m : Standings) (u : Addr) → (x.peer.0 == u.0) ≡ b → AllByRecursion (λ a. addr_cmp x.peer a ≡ Less) (map (λ x. x.peer) xs) →
-        stood_or (session_in xs u) (route_of routes) (cond b (option_or (stood x (route_of routes x.peer)) (finite.get m (FromPeer u))) (finite.get m (FromPeer u))) ≡ stood_or (cond b (Some x) (session_in xs u)) (route_of routes) (finite.get m (FromPeer u))
+        stood_or (session_in xs u) (route_of routes) (cond b (option_or (stood x (route_of routes x.peer)) (standing_from m (FromPeer u))) (standing_from m (FromPeer u))) ≡ stood_or (cond b (Some x) (session_in xs u)) (route_of routes) (standing_from m (FromPeer u))
     peers_by true x xs m u is later =
         let same : u ≡ x.peer = one_addr u x.peer (sym (tied x.peer u) ∙ is) in
         let none : session_in xs u ≡ None = none_later u xs (subst (λ v. AllByRecursion (λ a. addr_cmp v a ≡ Less) (map (λ x. x.peer) xs)) (sym same) later) in
-        ap (λ o. stood_or o (route_of routes) (option_or (stood x (route_of routes x.peer)) (finite.get m (FromPeer u)))) none
+        ap (λ o. stood_or o (route_of routes) (option_or (stood x (route_of routes x.peer)) (standing_from m (FromPeer u)))) none
     peers_by false x xs m u is later = refl
 
     -- each peer's route stands as over its session
-    peers_stand : (xs : List SiteSession) → ArePeersInOrder xs → (m : Standings) (u : Addr) → finite.get (added m (filter_map (standing_of site p routes) xs)) (FromPeer u) ≡ stood_or (session_in xs u) (route_of routes) (finite.get m (FromPeer u))
+    peers_stand : (xs : List SiteSession) → ArePeersInOrder xs → (m : Standings) (u : Addr) → standing_from (added m (filter_map (standing_of site p routes) xs)) (FromPeer u) ≡ stood_or (session_in xs u) (route_of routes) (standing_from m (FromPeer u))
     unfolding IsStrictlySortedBy
     peers_stand [] h m u = refl
     peers_stand (x ∷ xs) h m u =
         let more : Standings = added m (option_to_list (standing_of site p routes x)) in
-        ap (λ n. finite.get n (FromPeer u)) (added_first m (standing_of site p routes x) (filter_map (standing_of site p routes) xs))
+        ap (λ n. standing_from n (FromPeer u)) (added_first m (standing_of site p routes x) (filter_map (standing_of site p routes) xs))
         ∙ peers_stand xs h.1 more u
         ∙ ap (stood_or (session_in xs u) (route_of routes)) (
         put_one x (route_of routes x.peer) m (FromPeer u)
-        ∙ ap (λ b. cond b (option_or (stood x (route_of routes x.peer)) (finite.get m (FromPeer u))) (finite.get m (FromPeer u))) (sym (tied x.peer u)))
+        ∙ ap (λ b. cond b (option_or (stood x (route_of routes x.peer)) (standing_from m (FromPeer u))) (standing_from m (FromPeer u))) (sym (tied x.peer u)))
         ∙ peers_by (x.peer.0 == u.0) x xs m u refl h.0
 
     abbrev own : Standings
-    own = added finite.empty (own_standings site p)
+    own = added (no_standings site.med_always) (own_standings site p)
 
-    no_peer_by : (b : Bool) (u : Addr) → finite.get (added finite.empty (cond b ((Own, Considered (own_candidate site.me)) ∷ []) [])) (FromPeer u) ≡ None
+    no_peer_by : (b : Bool) (u : Addr) → standing_from (added (no_standings site.med_always) (cond b ((Own, Considered (own_candidate site.me)) ∷ []) [])) (FromPeer u) ≡ None
     no_peer_by true u = finite.get-insert source_total finite.empty Own (Considered (own_candidate site.me)) (FromPeer u) ∙ finite.get-empty source_cmp (FromPeer u)
     no_peer_by false u = finite.get-empty source_cmp (FromPeer u)
 
-    own_first : standings_of site p routes ≡ added own (filter_map (standing_of site p routes) site.sessions)
-    own_first = fold-append (λ n (e : Source × Standing). finite.insert n e.0 e.1) finite.empty (own_standings site p) (filter_map (standing_of site p routes) site.sessions)
+    own_first : standings_by site p routes ≡ added own (filter_map (standing_of site p routes) site.sessions)
+    own_first = fold-append (λ n (e : Source × Standing). with_standing e.0 e.1 n) (no_standings site.med_always) (own_standings site p) (filter_map (standing_of site p routes) site.sessions)
 
-    pub own_stands : finite.get (standings_of site p routes) Own ≡ finite.get own Own
-    own_stands = ap (λ n. finite.get n Own) own_first ∙ own_kept site.sessions own
+    pub own_stands : standing_from (standings_of site p routes) Own ≡ standing_from own Own
+    own_stands = ap (λ n. standing_from n Own) own_first ∙ own_kept site.sessions own
 
-    pub peer_stands : ArePeersInOrder site.sessions → (u : Addr) → finite.get (standings_of site p routes) (FromPeer u) ≡ stood_or (session_with site u) (route_of routes) None
+    pub peer_stands : ArePeersInOrder site.sessions → (u : Addr) → standing_from (standings_of site p routes) (FromPeer u) ≡ stood_or (session_with site u) (route_of routes) None
     peer_stands h u =
-        ap (λ n. finite.get n (FromPeer u)) own_first
+        ap (λ n. standing_from n (FromPeer u)) own_first
         ∙ peers_stand site.sessions h own u
         ∙ ap (stood_or (session_with site u) (route_of routes)) (no_peer_by (is_originated site p) u)
 
@@ -171,7 +172,7 @@ module _ (site : SiteConf) (u : Addr) (m : Message) (routes : List (Addr × Attr
 
 module _ (site : SiteConf) (u : Addr) (p : Prefix) (routes : List (Addr × Attr)) (peers : ArePeersInOrder site.sessions) (order : AreInOrder routes) where
   abbrev old : Standings
-  old = standings_of site p routes
+  old = standings_by site p routes
 
   abbrev stood_before : Addr → Option Standing
   stood_before v = stood_or site p (session_with site v) (route_of routes) None
@@ -183,7 +184,7 @@ module _ (site : SiteConf) (u : Addr) (p : Prefix) (routes : List (Addr × Attr)
     abbrev put_over : Option SiteSession → Standings
     put_over o = option_map_or (λ x. added old (option_to_list (standing_over site p x (Some attr)))) o old
 
-    own_put : (o : Option SiteSession) → finite.get (put_over o) Own ≡ finite.get old Own
+    own_put : (o : Option SiteSession) → standing_from (put_over o) Own ≡ standing_from old Own
     own_put None = refl
     own_put (Some x) = put_one site p x (Some attr) old Own
 
@@ -201,16 +202,16 @@ module _ (site : SiteConf) (u : Addr) (p : Prefix) (routes : List (Addr × Attr)
         ∙ sym (ap (λ o. stood_or site p o (λ _. Some attr) None) here)
     some_by false x v other is = refl
 
-    put_at : (o : Option SiteSession) (v : Addr) → session_with site u ≡ o → finite.get (put_over o) (FromPeer v) ≡ cond (is_eq (addr_cmp v u)) (stood_now v) (stood_before v)
+    put_at : (o : Option SiteSession) (v : Addr) → session_with site u ≡ o → standing_from (put_over o) (FromPeer v) ≡ cond (is_eq (addr_cmp v u)) (stood_now v) (stood_before v)
     put_at None v is = peer_stands site p routes peers v ∙ none_by (is_eq (addr_cmp v u)) v refl is
     put_at (Some x) v is =
         let with_sender = peer_found site.sessions u x is in
         put_one site p x (Some attr) old (FromPeer v)
-        ∙ ap (λ w. cond (is_eq (addr_cmp v w)) (option_or (stood site p x (Some attr)) (finite.get old (FromPeer v))) (finite.get old (FromPeer v))) with_sender
+        ∙ ap (λ w. cond (is_eq (addr_cmp v w)) (option_or (stood site p x (Some attr)) (standing_from old (FromPeer v))) (standing_from old (FromPeer v))) with_sender
         ∙ ap (λ (w : Option Standing). cond (is_eq (addr_cmp v u)) (option_or (stood site p x (Some attr)) w) w) (peer_stands site p routes peers v)
         ∙ some_by (is_eq (addr_cmp v u)) x v refl is
 
-    pub updated_at : (q : Source) → finite.get (standings_after site u (Update p attr) old) q ≡ finite.get (standings_of site p (with_news u (Update p attr) routes)) q
+    pub updated_at : (q : Source) → standing_from (standings_after site u (Update p attr) old) q ≡ standing_from (standings_by site p (with_news u (Update p attr) routes)) q
     updated_at Own = own_put (session_with site u) ∙ own_stands site p routes ∙ sym (own_stands site p (with_news u (Update p attr) routes))
     updated_at (FromPeer v) =
         put_at (session_with site u) v refl
@@ -221,19 +222,42 @@ module _ (site : SiteConf) (u : Addr) (p : Prefix) (routes : List (Addr × Attr)
   none_told None = refl
   none_told (Some x) = refl
 
-  pub withdrawn_at : (q : Source) → finite.get (standings_after site u (Withdraw p) old) q ≡ finite.get (standings_of site p (with_news u (Withdraw p) routes)) q
+  pub withdrawn_at : (q : Source) → standing_from (standings_after site u (Withdraw p) old) q ≡ standing_from (standings_by site p (with_news u (Withdraw p) routes)) q
   withdrawn_at Own =
-      finite.get-remove source_total old (FromPeer u) Own
+      finite.get-remove source_total old.known (FromPeer u) Own
       ∙ own_stands site p routes
       ∙ sym (own_stands site p (with_news u (Withdraw p) routes))
   withdrawn_at (FromPeer v) =
-      finite.get-remove source_total old (FromPeer u) (FromPeer v)
+      finite.get-remove source_total old.known (FromPeer u) (FromPeer v)
       ∙ ap (λ (w : Option Standing). cond (is_eq (addr_cmp v u)) None w) (peer_stands site p routes peers v)
       ∙ ap (λ (w : Option Standing). cond (is_eq (addr_cmp v u)) w (stood_before v)) (none_told (session_with site v))
       ∙ sym (restands site u (Withdraw p) routes peers order (session_with site v) v refl)
       ∙ sym (peer_stands site p (with_news u (Withdraw p) routes) peers v)
 
+-- HOW THEY ARE COMPARED
+
+-- as the site says
+pub compares_as : (site : SiteConf) (p : Prefix) (routes : List (Addr × Attr)) → (standings_by site p routes).med_always ≡ site.med_always
+compares_as site p routes = added_always (no_standings site.med_always) (own_standings site p ++ filter_map (standing_of site p routes) site.sessions)
+
+-- a message leaves that
+compares_after : (site : SiteConf) (u : Addr) (m : Message) (standings : Standings) → (standings_after site u m standings).med_always ≡ standings.med_always
+compares_after site u (Withdraw p) standings = refl
+compares_after site u (Update p attr) standings = by (session_with site u)
+  where
+    by : (o : Option SiteSession) → (option_map_or (λ x. added standings (option_to_list (standing_over site p x (Some attr)))) o standings).med_always ≡ standings.med_always
+    by None = refl
+    by (Some x) = added_always standings (option_to_list (standing_over site p x (Some attr)))
+
+-- TAKEN
+
+stands_then : (site : SiteConf) (u : Addr) (m : Message) (routes : List (Addr × Attr)) → ArePeersInOrder site.sessions → AreInOrder routes → (q : Source)
+    → standing_from (standings_after site u m (standings_by site (prefix_of m) routes)) q ≡ standing_from (standings_by site (prefix_of m) (with_news u m routes)) q
+stands_then site u (Update p attr) routes peers order = updated_at site u p routes peers order attr
+stands_then site u (Withdraw p) routes peers order = withdrawn_at site u p routes peers order
+
 -- a message taken into the standings makes them those of what has been received then
-pub taken : (site : SiteConf) (u : Addr) (m : Message) (routes : List (Addr × Attr)) → ArePeersInOrder site.sessions → AreInOrder routes → standings_after site u m (standings_of site (prefix_of m) routes) ≡ standings_of site (prefix_of m) (with_news u m routes)
-taken site u (Update p attr) routes peers order = finite.same_map source_total same_source _ _ (updated_at site u p routes peers order attr)
-taken site u (Withdraw p) routes peers order = finite.same_map source_total same_source _ _ (withdrawn_at site u p routes peers order)
+pub taken : (site : SiteConf) (u : Addr) (m : Message) (routes : List (Addr × Attr)) → ArePeersInOrder site.sessions → AreInOrder routes → standings_after site u m (standings_by site (prefix_of m) routes) ≡ standings_by site (prefix_of m) (with_news u m routes)
+taken site u m routes peers order =
+    same_standings (standings_after site u m (standings_by site (prefix_of m) routes)) (standings_by site (prefix_of m) (with_news u m routes)) (stands_then site u m routes peers order)
+    (compares_after site u m (standings_by site (prefix_of m) routes) ∙ compares_as site (prefix_of m) routes ∙ sym (compares_as site (prefix_of m) (with_news u m routes)))

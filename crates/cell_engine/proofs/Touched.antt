@@ -32,14 +32,14 @@ use Rattle.net_conf.specs.Sites.{session_with}
 use Rattle.net_conf.specs.declared.site.SiteConf.{SiteConf}
 use Rattle.net_conf.specs.declared.site.SiteSession.{SiteSession}
 use Rattle.net_conf.proofs.RouterLaws.{site_sessions_in_order}
-use Rattle.route_select.specs.Selection.{Standings, source_cmp}
+use Rattle.route_select.specs.Selection.{Standings, source_cmp, no_standings, standing_from}
 use Rattle.route_select.specs.declared.candidate.Candidate.{Candidate}
 use Rattle.route_select.specs.declared.candidate.Source.TheVariants.{Own, Peer as FromPeer}
 use Rattle.route_select.specs.declared.candidate.Standing.{Standing}
 use Rattle.route_select.specs.declared.candidate.Standing.TheVariants.{Excluded, Considered}
 use Rattle.reference_machine.specs.Decision.{own_candidate, is_originated, has_cluster_loop, is_denial, standing_by, exclusion, peer_standing}
-use Rattle.cell_engine.specs.Cells.{Cell, route_of, standings_of, decided, is_up_in}
-use Rattle.cell_engine.specs.SiteMoves.{is_about_cost, counts_cost, is_cost_moved, is_route_moved, is_own_moved, is_any, has_route}
+use Rattle.cell_engine.specs.Cells.{Cell, is_any, route_of, standings_of, decided, is_up_in}
+use Rattle.cell_engine.specs.SiteMoves.{is_about_cost, counts_cost, is_cost_moved, is_route_moved, is_own_moved, has_route}
 use Rattle.cell_engine.proofs.StandingsAfter.{ArePeersInOrder, one_addr, peer_found}
 use Rattle.cell_engine.specs.Decisions.{AreFactsMoved}
 use Rattle.cell_engine.specs.Keeping.{kept_from, kept_cell}
@@ -121,7 +121,7 @@ module _ (c d : Configuration) (configured : IsConfigured c) (r : Addr) (p : Pre
 
   -- a route stands otherwise, or one stands before or after, and the router's settings or sessions become other
   abbrev pub Touches : Type 0
-  Touches = (h.standings ≡ after → ⊥) ⊎ (AreFactsMoved (router_site c r) (router_site d r) × ((h.standings ≡ finite.empty → ⊥) ⊎ (after ≡ finite.empty → ⊥)))
+  Touches = (h.standings ≡ after → ⊥) ⊎ (AreFactsMoved (router_site c r) (router_site d r) × ((h.standings ≡ no_standings false → ⊥) ⊎ (after ≡ no_standings false → ⊥)))
 
   stood_at : (s : SiteConf) → router_site c r ≡ Some s → h.standings ≡ standings_of s p h.received
   stood_at s at = ap (λ (x : Cell). x.standings) (was ∙ ap (λ o. decided o p h.received) at)
@@ -129,11 +129,11 @@ module _ (c d : Configuration) (configured : IsConfigured c) (r : Addr) (p : Pre
   stands_at : (t : SiteConf) → router_site d r ≡ Some t → after ≡ standings_of t p (kept_from d r h.received)
   stands_at t at' = ap (λ o. (decided o p (kept_from d r h.received)).standings) at'
 
-  own_before : (s : SiteConf) → router_site c r ≡ Some s → finite.get h.standings Own ≡ cond (is_originated s p) (Some (Considered (own_candidate s.me))) None
-  own_before s at = ap (λ m. finite.get m Own) (stood_at s at) ∙ own_standing s p h.received
+  own_before : (s : SiteConf) → router_site c r ≡ Some s → standing_from h.standings Own ≡ cond (is_originated s p) (Some (Considered (own_candidate s.me))) None
+  own_before s at = ap (λ m. standing_from m Own) (stood_at s at) ∙ own_standing s p h.received
 
-  own_after : (t : SiteConf) → router_site d r ≡ Some t → finite.get after Own ≡ cond (is_originated t p) (Some (Considered (own_candidate t.me))) None
-  own_after t at' = ap (λ m. finite.get m Own) (stands_at t at') ∙ own_standing t p (kept_from d r h.received)
+  own_after : (t : SiteConf) → router_site d r ≡ Some t → standing_from after Own ≡ cond (is_originated t p) (Some (Considered (own_candidate t.me))) None
+  own_after t at' = ap (λ m. standing_from m Own) (stands_at t at') ∙ own_standing t p (kept_from d r h.received)
 
   -- the session of a site with a peer with which it is up
   record UpWith (s : SiteConf) (u : Addr) : Type 0 where
@@ -152,24 +152,24 @@ module _ (c d : Configuration) (configured : IsConfigured c) (r : Addr) (p : Pre
   peers_of_site s at = site_sessions_in_order c r s configured (site_of_router c r s at)
 
   -- a route that was received stands
-  received_stands : (s : SiteConf) → router_site c r ≡ Some s → is_any h.received ≡ true → h.standings ≡ finite.empty → ⊥
+  received_stands : (s : SiteConf) → router_site c r ≡ Some s → is_any h.received ≡ true → h.standings ≡ no_standings false → ⊥
   received_stands s at any = by h.received refl any
     where
-      by : (es : List (Addr × Attr)) → h.received ≡ es → is_any es ≡ true → h.standings ≡ finite.empty → ⊥
+      by : (es : List (Addr × Attr)) → h.received ≡ es → is_any es ≡ true → h.standings ≡ no_standings false → ⊥
       by [] is none = absurd (true≢false (sym none))
       by (e ∷ es) is some =
           let up : is_up c e.0 r ≡ true = (all_pass (λ u. is_up c u r) (e ∷ es) (subst (λ l. kept_from c r l ≡ l) is kept)).0 in
           let with_ = up_with s e.0 (up_in_site c r s (site_of_router c r s at) e.0 ∙ up_either c r e.0 ∙ up) in
           let route : route_of h.received e.0 ≡ Some e.1 = ap (λ l. route_of l e.0) is ∙ ap (λ o. cond (is_eq o) (Some e.1) (route_of es e.0)) (tied_itself addr_total e.0) in
           some_stands h.standings (FromPeer e.0) (peer_standing s p with_.session e.1)
-          (ap (λ m. finite.get m (FromPeer e.0)) (stood_at s at)
+          (ap (λ m. standing_from m (FromPeer e.0)) (stood_at s at)
           ∙ peer_has_standing s p h.received (peers_of_site s at) e.0 with_.session e.1 with_.found (peer_found s.sessions e.0 with_.session with_.found) route with_.up)
 
   -- where settings and sessions become other
   reset : (s t : SiteConf) → router_site c r ≡ Some s → router_site d r ≡ Some t → same_facts s t ≡ false → (has_route s p h.received || is_originated t p) ≡ true → Touches
   reset s t at at' apart some = inr (subst (λ o. AreFactsMoved o (router_site d r)) (sym at) (subst (AreFactsMoved (Some s)) (sym at') apart), by (is_any h.received) (is_originated s p) refl refl some)
     where
-      by : (any own : Bool) → is_any h.received ≡ any → is_originated s p ≡ own → ((any || own) || is_originated t p) ≡ true → (h.standings ≡ finite.empty → ⊥) ⊎ (after ≡ finite.empty → ⊥)
+      by : (any own : Bool) → is_any h.received ≡ any → is_originated s p ≡ own → ((any || own) || is_originated t p) ≡ true → (h.standings ≡ no_standings false → ⊥) ⊎ (after ≡ no_standings false → ⊥)
       by true own is has it = inl (received_stands s at is)
       by false true is has it = inl (some_stands h.standings Own (Considered (own_candidate s.me)) (own_before s at ∙ ap (λ b. cond b (Some (Considered (own_candidate s.me))) None) has))
       by false false is has it = inr (some_stands after Own (Considered (own_candidate t.me)) (own_after t at' ∙ ap (λ b. cond b (Some (Considered (own_candidate t.me))) None) it))
@@ -200,10 +200,10 @@ module _ (c d : Configuration) (configured : IsConfigured c) (r : Addr) (p : Pre
       by u attr route stays cost (Some x) found counts =
           let parts = and_parts x.up (is_about_cost (exclusion s (judged x.policy_in p attr) attr)) counts in
           let peer = peer_found s.sessions u x found in
-          let before : finite.get h.standings (FromPeer u) ≡ Some (peer_standing s p x attr) =
-          ap (λ m. finite.get m (FromPeer u)) (stood_at s at) ∙ peer_has_standing s p h.received (peers_of_site s at) u x attr found peer route parts.0 in
-          let later : finite.get after (FromPeer u) ≡ Some (peer_standing (new s os k p) p x attr) =
-          ap (λ m. finite.get m (FromPeer u)) (stands_at (new s os k p) at' ∙ ap (standings_of (new s os k p) p) stays)
+          let before : standing_from h.standings (FromPeer u) ≡ Some (peer_standing s p x attr) =
+          ap (λ m. standing_from m (FromPeer u)) (stood_at s at) ∙ peer_has_standing s p h.received (peers_of_site s at) u x attr found peer route parts.0 in
+          let later : standing_from after (FromPeer u) ≡ Some (peer_standing (new s os k p) p x attr) =
+          ap (λ m. standing_from m (FromPeer u)) (stands_at (new s os k p) at' ∙ ap (standings_of (new s os k p) p) stays)
           ∙ peer_has_standing (new s os k p) p h.received (peers_of_site s at) u x attr found peer route parts.0 in
           differ_at h.standings after (FromPeer u) (λ same. restood s os k p x attr parts.1 cost (same_Some _ _ (sym before ∙ same ∙ later)))
 
@@ -228,7 +228,7 @@ module _ (c d : Configuration) (configured : IsConfigured c) (r : Addr) (p : Pre
       new_by : (t : SiteConf) → router_site c r ≡ None → router_site d r ≡ Some t → is_originated t p ≡ true → h.standings ≡ after → ⊥
       new_by t at at' own =
           differ_at h.standings after Own (λ same. none-some (Considered (own_candidate t.me))
-          (sym (ap (λ (x : Cell). finite.get x.standings Own) (was ∙ ap (λ o. decided o p h.received) at) ∙ finite.get-empty source_cmp Own)
+          (sym (ap (λ (x : Cell). standing_from x.standings Own) (was ∙ ap (λ o. decided o p h.received) at) ∙ finite.get-empty source_cmp Own)
           ∙ same ∙ own_after t at' ∙ ap (λ b. cond b (Some (Considered (own_candidate t.me))) None) own))
 
       by : (x y : Option SiteConf) → router_site c r ≡ x → router_site d r ≡ y → is_moved_by x y d r p h ≡ true → Touches

@@ -15,7 +15,7 @@ use Rattle.net_conf.specs.Configuration.{Configuration, node_at, ends_session}
 use Rattle.net_conf.specs.Costs.{costs_of, is_up}
 use Rattle.net_conf.specs.FactLaws.{facts_itself}
 use Rattle.net_conf.specs.RouterSites.{router_site}
-use Rattle.net_conf.specs.Sites.{session_with, site_of}
+use Rattle.net_conf.specs.Sites.{session_with, site_at, site_of}
 use Rattle.reference_machine.specs.Decision.{is_originated}
 use Rattle.net_conf.specs.declared.site.SiteConf.{SiteConf}
 use Rattle.net_conf.specs.declared.tables.Node.{Node}
@@ -27,7 +27,6 @@ use Rattle.cell_engine.specs.SiteMoves.{SitePair, is_cost_moved, is_route_moved,
 use Rattle.cell_engine.specs.Changes.{AreOverSessionsUp, cell_change, router_changes}
 use Rattle.cell_engine.specs.Keeping.{kept_from}
 use Rattle.cell_engine.specs.Moves.{is_moved_by, moves}
-use Rattle.cell_engine.proofs.Decided.{site_at}
 use Rattle.cell_engine.proofs.Directions.{session_if_up}
 use Rattle.cell_engine.proofs.OverSessions.{all_pass}
 use Rattle.cell_engine.proofs.Placed.{cells_found}

@@ -1,6 +1,6 @@
 -- What one router has received for one prefix, how each route to it stands there, and what the router sends when that changes
 -- (RFC 4271, 9; RFC 4456, 8 to 10).
-use Rattle.std.specs.Prelude.{◌≡◌, Bool, false, List, [], ◌++◌, filter, Option, Some, None, option_map}
+use Rattle.std.specs.Prelude.{◌≡◌, Bool, true, false, ◌&&◌, List, [], ◌∷◌, ◌++◌, filter, Option, Some, None, option_map}
 use Rattle.std.specs.Option.{option_map_or}
 use Rattle.std.specs.List.{filter_map}
 use Rattle.std.specs.Map.{lookup, remove_entry}
@@ -16,7 +16,7 @@ use Rattle.net_conf.specs.Sites.{session_with}
 use Rattle.route_select.specs.declared.candidate.Source.{Source}
 use Rattle.route_select.specs.declared.candidate.Candidate.{Candidate}
 use Rattle.route_select.specs.declared.candidate.Standing.{Standing}
-use Rattle.route_select.specs.Selection.{Standings, best_of}
+use Rattle.route_select.specs.Selection.{Standings, no_standings, best_of}
 use Rattle.session_queue.specs.declared.message.Message.{Message}
 use Rattle.session_queue.specs.declared.message.Message.TheVariants.{Update, Withdraw}
 use Rattle.session_queue.specs.Telling.{prefix_of}
@@ -24,13 +24,13 @@ use Rattle.reference_machine.specs.Decision.{own_standings, standing_over, added
 use Rattle.reference_machine.specs.Advertising.{advert_of, change_of}
 
 -- received: the routes to the prefix in the router's Adj-RIBs-In, as received, by sender (RFC 4271, 3.2);
--- standings: how each source's route stands
+-- standings: how each source's route stands, and how their MULTI_EXIT_DISCs are compared
 pub record Cell : Type 0 where
   pub received : List (Addr × Attr)
   pub standings : Standings
 
 abbrev pub new_cell : Cell
-new_cell = record { received = []; standings = finite.empty }
+new_cell = record { received = []; standings = no_standings false }
 
 -- DECISIONS
 
@@ -41,13 +41,29 @@ route_of routes u = lookup (is_at (addr_cmp u)) routes
 abbrev pub standing_of : SiteConf → Prefix → List (Addr × Attr) → SiteSession → Option (Source × Standing)
 standing_of site p routes from = standing_over site p from (route_of routes from.peer)
 
--- how each source's route to the prefix stands at the router of the site, by what it has received
+-- how each source's route to the prefix stands at the router of the site, by what it has received, and how it compares them
+abbrev pub standings_by : SiteConf → Prefix → List (Addr × Attr) → Standings
+standings_by site p routes = added (no_standings site.med_always) (own_standings site p ++ filter_map (standing_of site p routes) site.sessions)
+
+abbrev pub is_any : {A : Type 0} → List A → Bool
+is_any [] = false
+is_any (x ∷ xs) = true
+
+-- a route stands
+abbrev pub has_any : Standings → Bool
+has_any standings = is_any (finite.entries standings.known)
+
+-- what counts of them: where no route stands, none is compared, and how does not count
+abbrev pub effective : Standings → Standings
+effective standings = record standings { med_always = has_any standings && standings.med_always }
+
+-- what counts of how the routes stand at the router of the site
 abbrev pub standings_of : SiteConf → Prefix → List (Addr × Attr) → Standings
-standings_of site p routes = added finite.empty (own_standings site p ++ filter_map (standing_of site p routes) site.sessions)
+standings_of site p routes = effective (standings_by site p routes)
 
 -- a router decides by its site; a virtual peer has none, and decides nothing
 abbrev pub decided : Option SiteConf → Prefix → List (Addr × Attr) → Cell
-decided None p routes = record { received = routes; standings = finite.empty }
+decided None p routes = record { received = routes; standings = no_standings false }
 decided (Some site) p routes = record { received = routes; standings = standings_of site p routes }
 
 -- what the cell holds was decided by this site

@@ -3,7 +3,6 @@ use Rattle.std.specs.Prelude.{◌≡◌, ◌⊎◌, false, Bool, List, Option, S
 use Rattle.std.specs.Option.{option_map_or}
 use Rattle.std.specs.List.{list_any, AllByRecursion}
 use Rattle.std.specs.List.Sorted.{IsStrictlySortedBy}
-use Rattle.std.specs.FinMap as finite
 use Rattle.std.specs.declared.cmp.Ordering.{Ordering}
 use Rattle.std.specs.Ordering.{ordering_then, is_eq}
 use Rattle.net_prefix.specs.declared.addr.Addr.{Addr}
@@ -12,17 +11,19 @@ use Rattle.net_prefix.specs.Prefix.{Prefix, prefix_cmp}
 use Rattle.net_conf.specs.Facts.{same_facts}
 use Rattle.net_conf.specs.RouterSites.{router_site}
 use Rattle.net_conf.specs.declared.site.SiteConf.{SiteConf}
-use Rattle.route_select.specs.Selection.{Standings}
+use Rattle.route_select.specs.Selection.{Standings, no_standings}
 use Rattle.reference_machine.specs.Network.{Network}
 use Rattle.reference_machine.specs.Decision.{standings}
+use Rattle.cell_engine.specs.Cells.{effective}
 
--- how each route to the prefix stands at a router: none stands at a virtual peer, or where nobody is
+-- how each route to the prefix stands at a router, and how it compares them, where one stands: none stands at a virtual peer, or where
+-- nobody is
 abbrev pub standings_at : Network → Addr → Prefix → Standings
-standings_at s r p = option_map_or (λ site. standings site p s.received) (router_site s.conf r) finite.empty
+standings_at s r p = option_map_or (λ site. effective (standings site p s.received)) (router_site s.conf r) (no_standings false)
 
 -- a route to the prefix stands there
 abbrev pub HasStanding : Network → Addr → Prefix → Type 0
-HasStanding s r p = standings_at s r p ≡ finite.empty → ⊥
+HasStanding s r p = standings_at s r p ≡ no_standings false → ⊥
 
 -- what is set for the router becomes other, or a session of it comes up or goes down
 abbrev pub AreFactsMoved : Option SiteConf → Option SiteConf → Type 0

@@ -1,6 +1,6 @@
 -- Which cells an edit can change: those where the standing of a route can become another, or what is advertised of it. All others stay
 -- as they are, and nothing is sent for them.
-use Rattle.std.specs.Prelude.{◌≡◌, Bool, true, false, not, ◌&&◌, ◌||◌, List, [], ◌∷◌, Option, Some, None, if◌then◌else◌}
+use Rattle.std.specs.Prelude.{◌≡◌, Bool, true, false, not, ◌&&◌, ◌||◌, List, Option, Some, None, if◌then◌else◌}
 use Rattle.std.specs.Option.{option_map_or}
 use Rattle.std.specs.List.{list_any}
 use Rattle.std.proofs.Math.Bool.{beq}
@@ -17,6 +17,7 @@ use Rattle.net_conf.specs.Facts.{same_facts}
 use Rattle.route_select.specs.declared.candidate.Reason.{Reason}
 use Rattle.route_select.specs.declared.candidate.Reason.TheVariants.{Unresolved}
 use Rattle.reference_machine.specs.Decision.{is_originated, exclusion}
+use Rattle.cell_engine.specs.Cells.{is_any}
 
 -- a router's part of the configuration before an edit and after it
 pub record SitePair : Type 0 where
@@ -48,10 +49,6 @@ is_route_moved s p e = is_cost_moved s e.1 && option_map_or (counts_cost s.old p
 -- the router comes to originate the prefix, or ceases to
 abbrev pub is_own_moved : SitePair → Prefix → Bool
 is_own_moved s p = not (beq (is_originated s.old p) (is_originated s.new p))
-
-abbrev pub is_any : {A : Type 0} → List A → Bool
-is_any [] = false
-is_any (x ∷ xs) = true
 
 -- the router has a route to the prefix, its own or a peer's
 abbrev pub has_route : SiteConf → Prefix → List (Addr × Attr) → Bool

@@ -35,7 +35,7 @@ fn add_cell<S: Selector + Drop, T: PrefixTable<Cell<S>> + Drop>(
     ensures ok { OnOk result (tables.new ≡ with_value router prefix new_cell tables.old) }
     ensures err { OnErr result (tables.new ≡ tables.old) }
 {
-    match tables.insert(alloc, router, prefix, Cell::new(alloc)) {
+    match tables.insert(alloc, router, prefix, Cell::new(alloc, false)) {
         Ok(()) => Ok(()),
         Err(_) => Err(AllocError),
     }
@@ -75,7 +75,7 @@ impl<S: Selector + Drop, T: PrefixTable<Cell<S>> + Drop> State<S, T> {
     {
         self.facts();
         let made = self.made_site(direction.to)?;
-        let nothing = Cell::new(self.alloc);
+        let nothing = Cell::new(self.alloc, false);
         let found = self.cell(direction.to, message.prefix());
         let has_cell = found.is_some();
         let cell = found.unwrap_or(&nothing);

@@ -8,7 +8,8 @@ ghost use Rattle.net_conf.specs.Edits.{refusal_of};
 ghost use Rattle.reference_machine.specs.Machine.{with_sent, after_edit};
 ghost use Rattle.cell_engine.specs.State.{network};
 ghost use Rattle.cell_engine.specs.Changes.{changes_in};
-ghost use Rattle.cell_engine.specs.Editing.{with_origin};
+ghost use Rattle.net_conf.specs.Scopes.{scope};
+ghost use Rattle.cell_engine.specs.Editing.{with_origin, with_directions};
 ghost use Rattle.cell_engine.specs.Deliveries.{KeepsSame};
 ghost use Rattle.cell_engine.specs.CellEdits.{whole_changes};
 ghost use Rattle.cell_engine.specs.Edits.{planned, made_in, IsPlanned, IsOfEdit, HasPlaces, refreshed_by};
@@ -132,16 +133,34 @@ impl<S: Selector + Send + Sync + Drop, T: PrefixTable<Cell<S>> + Drop> State<S, 
         let Ok(made) = self.conf().edited(rt, self.alloc, edit) else {
             return Err(AllocError);
         };
-        let Ok(edits) = self.edits_by(rt, edit.scope(), &made) else {
+        let Ok((directions, edits)) = self.moves_by(rt, edit, &made) else {
             drop(made);
             return Err(AllocError);
         };
-        let directions = directions_after(self.alloc, self.directions.as_slice(), edit);
-        let Ok(directions) = directions else {
-            drop((made, edits));
-            return Err(AllocError);
-        };
         boxed(self.alloc, made, directions, edits)
+    }
+
+    /// The directions once the edit is made, and what is done to the cells that can change.
+    fn moves_by<R: Threads + Sync>(
+        &self,
+        rt: &R,
+        edit: &Edit,
+        made: &EditedConf,
+    ) -> Result<(Seq<Direction>, Seq<CellEdit<S>>), AllocError>
+        requires { ConcernsAlone self.now.conf made.now.conf made.now.concerned.keys }
+        ensures directions { IfOk result (λ moves. moves.0 ≡ with_directions edit.now self.now.directions) }
+        ensures edits { IfOk result (λ moves.
+            whole_changes self.now.tables moves.1 ≡ changes_in (scope edit.now) self.now.conf made.now.conf
+            self.now.tables) }
+    {
+        let edits = self.edits_by(rt, edit.scope(), made)?;
+        match directions_after(self.alloc, self.directions.as_slice(), edit) {
+            Ok(directions) => Ok((directions, edits)),
+            Err(_) => {
+                drop(edits);
+                Err(AllocError)
+            }
+        }
     }
 
     /// The cells that can change, with what is done to each when the configuration becomes the one that was made.

@@ -5,7 +5,7 @@ use Rattle.std.specs.Str.{bytes_eq}
 use Rattle.std.proofs.lemmas.Bool.{both_ways}
 use Rattle.std.proofs.lemmas.Slice.Eq.{bytes_eq-Decides}
 use Rattle.net_prefix.specs.Address.{addr_text}
-use Rattle.net_conf.specs.declared.edit.Edit.TheVariants.{Router, Virtual, Link, Metric, Fail, Mend, Join, Stop, Start, Client, OwnNext, Cluster, Rule as AddRule, Clear, Origin, NoOrigin}
+use Rattle.net_conf.specs.declared.edit.Edit.TheVariants.{Router, Virtual, Link, Metric, Fail, Mend, Join, Stop, Start, Client, OwnNext, Cluster, MedAlways, Rule as AddRule, Clear, Origin, NoOrigin}
 use Rattle.sim_event.specs.declared.event.Event.{Event}
 use Rattle.sim_event.specs.declared.event.Event.TheVariants.{Edit as AnEdit, Feed as AFeed, Deliver, Ask as AnAsk}
 use Rattle.sim_event.specs.declared.event.Ask.TheVariants.{Routes, Best, Why, In, Out, Queue, Quiet, Cost, Trace}
@@ -25,7 +25,7 @@ use Rattle.command_text.specs.declared.verb.PrefixVerb.{PrefixVerb}
 use Rattle.command_text.specs.declared.verb.PrefixVerb.TheVariants as prefix
 use Rattle.command_text.specs.Words.{words_of, news_words}
 use Rattle.command_text.specs.Verbs.{verb_word, node_word, link_word, pair_word, setting_word, prefix_word}
-use Rattle.command_text.specs.Arguments.{AreAddresses, addresses_words, IsNumberedAddress, numbered_words, AreEndsAndMetric, metric_words, IsAddressAndPrefix, prefix_words, AreEnds, switch_words, side_words, IsAddedRule, added_words}
+use Rattle.command_text.specs.Arguments.{AreAddresses, addresses_words, IsNumberedAddress, numbered_words, AreEndsAndMetric, metric_words, IsAddressAndPrefix, prefix_words, AreEnds, switch_words, side_words, IsAddressAndComparison, comparison_words, IsAddedRule, added_words}
 
 -- two words that a test tells apart
 pub differ : (a b : List ℕ) → bytes_eq a b ≡ false → a ≡ b → ⊥
@@ -59,6 +59,7 @@ data Shape : Type 0 where
   prefixes : Shape
   rules : Shape
   clears : Shape
+  comparisons : Shape
   feeds : Shape
   others : Shape
 
@@ -71,6 +72,7 @@ Follows switches words = Shaped AreEnds switch_words words
 Follows prefixes words = Shaped IsAddressAndPrefix prefix_words words
 Follows rules words = Shaped IsAddedRule added_words words
 Follows clears words = Shaped AreEnds side_words words
+Follows comparisons words = Shaped IsAddressAndComparison comparison_words words
 Follows feeds words = Shaped IsFeed feed_words words
 Follows others words = Unit {0}
 
@@ -85,8 +87,9 @@ shape_of word =
     (cond (is_one (codes "origin" ∷ codes "noorigin" ∷ codes "best" ∷ codes "why" ∷ []) word) prefixes
     (cond (is_one (codes "rule" ∷ []) word) rules
     (cond (is_one (codes "clear" ∷ []) word) clears
+    (cond (is_one (codes "med" ∷ []) word) comparisons
     (cond (is_one (codes "feed" ∷ []) word) feeds
-    (cond (is_one (codes "routes" ∷ codes "quiet" ∷ []) word) others pairs)))))))
+    (cond (is_one (codes "routes" ∷ codes "quiet" ∷ []) word) others pairs))))))))
 
 -- the words of an event
 event_follows : (e : Event) → IsEvent e → Follows (shape_of (head_word (words_of e))) (more_words (words_of e))
@@ -103,6 +106,7 @@ event_follows (AnEdit (Start a b)) h = ((a, b), h, refl)
 event_follows (AnEdit (Client a b on)) h = ((a, b, on), h, refl)
 event_follows (AnEdit (OwnNext a b on)) h = ((a, b, on), h, refl)
 event_follows (AnEdit (Cluster a id)) h = ((a, id), h, refl)
+event_follows (AnEdit (MedAlways a always)) h = ((a, always), h, refl)
 event_follows (AnEdit (AddRule a b side rule)) h = ((a, b, side, rule), (h.0, h.1, (h.2, h.3)), refl)
 event_follows (AnEdit (Clear a b side)) h = ((a, b, side), h, refl)
 event_follows (AnEdit (Origin a p)) h = ((a, p), h, refl)
@@ -155,6 +159,10 @@ pub clear_follows : (words : List (List ℕ)) (e : Event) → IsEvent e → code
 unfolding Follows shape_of is_one
 clear_follows = follows (codes "clear")
 
+pub med_follows : (words : List (List ℕ)) (e : Event) → IsEvent e → codes "med" ∷ words ≡ words_of e → Shaped IsAddressAndComparison comparison_words words
+unfolding Follows shape_of is_one
+med_follows = follows (codes "med")
+
 pub feed_follows : (words : List (List ℕ)) (e : Event) → IsEvent e → codes "feed" ∷ words ≡ words_of e → Shaped IsFeed feed_words words
 unfolding Follows shape_of is_one
 feed_follows = follows (codes "feed")
@@ -173,6 +181,7 @@ event_verb (AnEdit (Start a b)) other = (verb.Pair pair.Start, refl)
 event_verb (AnEdit (Client a b on)) other = (verb.Switch switch.Client, refl)
 event_verb (AnEdit (OwnNext a b on)) other = (verb.Switch switch.OwnNext, refl)
 event_verb (AnEdit (Cluster a id)) other = (verb.Pair pair.Cluster, refl)
+event_verb (AnEdit (MedAlways a always)) other = (verb.Med, refl)
 event_verb (AnEdit (AddRule a b side rule)) other = (verb.Rule, refl)
 event_verb (AnEdit (Clear a b side)) other = (verb.Clear, refl)
 event_verb (AnEdit (Origin a p)) other = (verb.Prefix prefix.Origin, refl)

@@ -25,7 +25,7 @@ use Rattle.net_conf.specs.declared.tables.PolicySide.{PolicySide}
 use Rattle.net_conf.specs.declared.tables.PolicySide.TheVariants.{Import, Export}
 use Rattle.sim_event.specs.Events.{IsAddress, IsAsNumber, IsPrefix, IsMatch, AreSettings, IsAction}
 use Rattle.sim_event.specs.Wording.{none_text, numbers_text, segment_text, path_text, maybe_number_text, origin_text}
-use Rattle.command_text.specs.Words.{switch_word, side_word, match_words, settings_words, action_words}
+use Rattle.command_text.specs.Words.{switch_word, comparison_word, side_word, match_words, settings_words, action_words}
 use Rattle.command_text.specs.Rules.{IsRule, rule_words, IsMaybeNumber}
 use Rattle.command_text.specs.Paths.{IsAsPath, IsPart, AreParts}
 use Rattle.command_text.proofs.FirstWords.{differ}
@@ -48,6 +48,17 @@ unfolding switch_of
 switch_exact a b e = sym (back a) ∙ ap switch_of e ∙ back b
   where
     back : (a : Bool) → switch_of (switch_word a) ≡ a
+    back true = refl
+    back false = refl
+
+is_always : List ℕ → Bool
+is_always word = bytes_eq word (codes "always")
+
+pub comparison_exact : (a b : Bool) → comparison_word a ≡ comparison_word b → a ≡ b
+unfolding is_always
+comparison_exact a b e = sym (back a) ∙ ap is_always e ∙ back b
+  where
+    back : (a : Bool) → is_always (comparison_word a) ≡ a
     back true = refl
     back false = refl
 

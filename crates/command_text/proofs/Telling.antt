@@ -5,7 +5,7 @@ use Rattle.net_prefix.specs.declared.addr.Addr.{Addr}
 use Rattle.net_prefix.specs.Prefix.{Prefix}
 use Rattle.route_policy.specs.declared.rule.Rule.{Rule}
 use Rattle.net_conf.specs.declared.tables.PolicySide.{PolicySide}
-use Rattle.net_conf.specs.declared.edit.Edit.TheVariants.{Router, Virtual, Link, Metric, Fail, Mend, Join, Stop, Start, Client, OwnNext, Cluster, Rule as AddRule, Clear, Origin, NoOrigin}
+use Rattle.net_conf.specs.declared.edit.Edit.TheVariants.{Router, Virtual, Link, Metric, Fail, Mend, Join, Stop, Start, Client, OwnNext, Cluster, MedAlways, Rule as AddRule, Clear, Origin, NoOrigin}
 use Rattle.sim_event.specs.declared.event.Event.{Event}
 use Rattle.sim_event.specs.declared.event.Event.TheVariants.{Edit as AnEdit, Feed as AFeed, Deliver, Ask as AnAsk}
 use Rattle.sim_event.specs.declared.event.Feed.{Feed}
@@ -23,12 +23,12 @@ use Rattle.command_text.specs.declared.verb.SwitchVerb.TheVariants as switch
 use Rattle.command_text.specs.declared.verb.PrefixVerb.TheVariants as prefix
 use Rattle.command_text.specs.Words.{words_of, fed_words, news_words}
 use Rattle.command_text.specs.Verbs.{verb_word}
-use Rattle.command_text.specs.Arguments.{AreAddresses, addresses_words, IsNumberedAddress, numbered_words, AreEndsAndMetric, metric_words, IsAddressAndPrefix, prefix_words, AreEnds, switch_words, side_words, IsAddedRule, added_words, address_words}
+use Rattle.command_text.specs.Arguments.{AreAddresses, addresses_words, IsNumberedAddress, numbered_words, AreEndsAndMetric, metric_words, IsAddressAndPrefix, prefix_words, AreEnds, switch_words, side_words, IsAddressAndComparison, comparison_words, IsAddedRule, added_words, address_words}
 use Rattle.command_text.specs.Spelling.{WordsTell, OneMeaning}
 use Rattle.command_text.proofs.FirstWords.{IsFeed, feed_words}
 use Rattle.command_text.proofs.Numbers.{small_exact}
 use Rattle.command_text.proofs.CommunityWords.{communities_exact}
-use Rattle.command_text.proofs.Spelled.{address_exact, prefix_exact, switch_exact, side_exact, origin_exact, maybe_exact, path_exact, rule_exact, apart}
+use Rattle.command_text.proofs.Spelled.{address_exact, prefix_exact, switch_exact, comparison_exact, side_exact, origin_exact, maybe_exact, path_exact, rule_exact, apart}
 
 -- the verb that a word spells; none for `feed`
 verb_of : List ℕ → Option Verb
@@ -57,9 +57,10 @@ verb_of word =
     cond (bytes_eq word (codes "why")) (Some (verb.Prefix prefix.Why)) (
     cond (bytes_eq word (codes "rule")) (Some verb.Rule) (
     cond (bytes_eq word (codes "clear")) (Some verb.Clear) (
+    cond (bytes_eq word (codes "med")) (Some verb.Med) (
     cond (bytes_eq word (codes "routes")) (Some verb.Routes) (
     cond (bytes_eq word (codes "quiet")) (Some verb.Quiet) (
-    None))))))))))))))))))))))))))
+    None)))))))))))))))))))))))))))
 
 verb_back : (v : Verb) → verb_of (verb_word v) ≡ Some v
 unfolding verb_of
@@ -87,6 +88,7 @@ verb_back (verb.Prefix prefix.Best) = refl
 verb_back (verb.Prefix prefix.Why) = refl
 verb_back verb.Rule = refl
 verb_back verb.Clear = refl
+verb_back verb.Med = refl
 verb_back verb.Routes = refl
 verb_back verb.Quiet = refl
 
@@ -99,6 +101,7 @@ Follows (verb.Switch v) = Addr × Addr × Bool
 Follows (verb.Prefix v) = Addr × Prefix
 Follows verb.Rule = Addr × Addr × PolicySide × Rule
 Follows verb.Clear = Addr × Addr × PolicySide
+Follows verb.Med = Addr × Bool
 Follows verb.Routes = Addr
 Follows verb.Quiet = Unit {0}
 
@@ -111,6 +114,7 @@ IsIn (verb.Switch v) x = AreEnds x
 IsIn (verb.Prefix v) x = IsAddressAndPrefix x
 IsIn verb.Rule x = IsAddedRule x
 IsIn verb.Clear x = AreEnds x
+IsIn verb.Med x = IsAddressAndComparison x
 IsIn verb.Routes x = IsAddress x
 IsIn verb.Quiet x = Unit {0}
 
@@ -123,6 +127,7 @@ more_words (verb.Switch v) x = switch_words x
 more_words (verb.Prefix v) x = prefix_words x
 more_words verb.Rule x = added_words x
 more_words verb.Clear x = side_words x
+more_words verb.Med x = comparison_words x
 more_words verb.Routes x = address_words x
 more_words verb.Quiet x = []
 
@@ -152,6 +157,7 @@ event_of (verb.Prefix prefix.Best) x = AnAsk (Best x.0 x.1)
 event_of (verb.Prefix prefix.Why) x = AnAsk (Why x.0 x.1)
 event_of verb.Rule x = AnEdit (AddRule x.0 x.1 x.2 x.3)
 event_of verb.Clear x = AnEdit (Clear x.0 x.1 x.2)
+event_of verb.Med x = AnEdit (MedAlways x.0 x.1)
 event_of verb.Routes x = AnAsk (Routes x)
 event_of verb.Quiet x = AnAsk Quiet
 
@@ -194,6 +200,7 @@ kind_of (AnAsk (Best a p)) h = by_verb (record { made_verb = verb.Prefix prefix.
 kind_of (AnAsk (Why a p)) h = by_verb (record { made_verb = verb.Prefix prefix.Why; more = (a, p); is_in = h; made = refl; spelled = refl })
 kind_of (AnEdit (AddRule a b side rule)) h = by_verb (record { made_verb = verb.Rule; more = (a, b, side, rule); is_in = (h.0, h.1, (h.2, h.3)); made = refl; spelled = refl })
 kind_of (AnEdit (Clear a b side)) h = by_verb (record { made_verb = verb.Clear; more = (a, b, side); is_in = h; made = refl; spelled = refl })
+kind_of (AnEdit (MedAlways a always)) h = by_verb (record { made_verb = verb.Med; more = (a, always); is_in = h; made = refl; spelled = refl })
 kind_of (AnAsk (Routes r)) h = by_verb (record { made_verb = verb.Routes; more = r; is_in = h; made = refl; spelled = refl })
 kind_of (AnAsk Quiet) h = by_verb (record { made_verb = verb.Quiet; more = tt; is_in = tt; made = refl; spelled = refl })
 kind_of (AFeed f) h = by_feed f h refl refl
@@ -234,6 +241,10 @@ more_exact verb.Clear x y h g e =
     let b = address_exact x.1 y.1 h.1 g.1 (cc) in
     let side = side_exact x.2 y.2 (cc) in
     λ i. (a i, b i, side i)
+more_exact verb.Med x y h g e =
+    let a = address_exact x.0 y.0 h g (cc) in
+    let always = comparison_exact x.1 y.1 (cc) in
+    λ i. (a i, always i)
 more_exact verb.Routes x y h g e = address_exact x y h g (cc)
 more_exact verb.Quiet x y h g e = refl
 

@@ -8,7 +8,7 @@ use Rattle.net_prefix.specs.Prefix.{Prefix, prefix_text}
 use Rattle.route_policy.specs.declared.rule.Rule.{Rule}
 use Rattle.net_conf.specs.declared.tables.PolicySide.{PolicySide}
 use Rattle.sim_event.specs.Events.{IsAddress, IsAsNumber, IsPrefix}
-use Rattle.command_text.specs.Words.{switch_word, side_word}
+use Rattle.command_text.specs.Words.{switch_word, comparison_word, side_word}
 use Rattle.command_text.specs.Rules.{IsRule, rule_words}
 
 abbrev pub address_words : Addr → List (List ℕ)
@@ -46,6 +46,12 @@ switch_words v = addr_text v.0 ∷ addr_text v.1 ∷ switch_word v.2 ∷ []
 
 abbrev pub side_words : Addr × Addr × PolicySide → List (List ℕ)
 side_words v = addr_text v.0 ∷ addr_text v.1 ∷ side_word v.2 ∷ []
+
+abbrev pub IsAddressAndComparison : Addr × Bool → Type 0
+IsAddressAndComparison v = IsAddress v.0
+
+abbrev pub comparison_words : Addr × Bool → List (List ℕ)
+comparison_words v = addr_text v.0 ∷ comparison_word v.1 ∷ []
 
 abbrev pub IsAddedRule : Addr × Addr × PolicySide × Rule → Type 0
 IsAddedRule v = IsAddress v.0 × IsAddress v.1 × IsRule v.3

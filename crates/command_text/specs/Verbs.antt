@@ -1,7 +1,7 @@
 -- No public contract cites this file. The first words of the commands that take no memory, by what follows them.
 use Rattle.std.specs.Prelude.{ℕ, List, codes}
 use Rattle.command_text.specs.declared.verb.Verb.{Verb}
-use Rattle.command_text.specs.declared.verb.Verb.TheVariants.{Node, Link as LinkOf, Pair, Switch, Prefix, Rule, Clear, Routes, Quiet}
+use Rattle.command_text.specs.declared.verb.Verb.TheVariants.{Node, Link as LinkOf, Pair, Switch, Prefix, Rule, Clear, Med, Routes, Quiet}
 use Rattle.command_text.specs.declared.verb.NodeVerb.{NodeVerb}
 use Rattle.command_text.specs.declared.verb.NodeVerb.TheVariants.{Router, Virtual}
 use Rattle.command_text.specs.declared.verb.LinkVerb.{LinkVerb}
@@ -53,5 +53,6 @@ verb_word (Switch v) = setting_word v
 verb_word (Prefix v) = prefix_word v
 verb_word Rule = codes "rule"
 verb_word Clear = codes "clear"
+verb_word Med = codes "med"
 verb_word Routes = codes "routes"
 verb_word Quiet = codes "quiet"

@@ -11,7 +11,7 @@ use Rattle.route_policy.specs.declared.rule.Action.TheVariants.{Deny, Permit}
 use Rattle.net_conf.specs.declared.tables.PolicySide.{PolicySide}
 use Rattle.net_conf.specs.declared.tables.PolicySide.TheVariants.{Import, Export}
 use Rattle.net_conf.specs.declared.edit.Edit.{Edit}
-use Rattle.net_conf.specs.declared.edit.Edit.TheVariants.{Router, Virtual, Link, Metric, Fail, Mend, Join, Stop, Start, Client, OwnNext, Cluster, Rule as AddRule, Clear, Origin, NoOrigin}
+use Rattle.net_conf.specs.declared.edit.Edit.TheVariants.{Router, Virtual, Link, Metric, Fail, Mend, Join, Stop, Start, Client, OwnNext, Cluster, MedAlways, Rule as AddRule, Clear, Origin, NoOrigin}
 use Rattle.sim_event.specs.declared.event.Event.{Event}
 use Rattle.sim_event.specs.declared.event.Event.TheVariants.{Edit as AnEdit, Feed as AFeed, Deliver, Ask as AnAsk}
 use Rattle.sim_event.specs.declared.event.FedRoute.{FedRoute}
@@ -24,6 +24,11 @@ use Rattle.sim_event.specs.Wording.{numbers_text, maybe_number_text, origin_text
 abbrev pub switch_word : Bool → List ℕ
 switch_word true = codes "on"
 switch_word false = codes "off"
+
+-- how a router compares MULTI_EXIT_DISC: always, or among the routes of one neighbouring AS
+abbrev pub comparison_word : Bool → List ℕ
+comparison_word true = codes "always"
+comparison_word false = codes "as"
 
 abbrev pub side_word : PolicySide → List ℕ
 side_word Import = codes "in"
@@ -64,6 +69,7 @@ edit_words (Start a b) = codes "start" ∷ addr_text a ∷ addr_text b ∷ []
 edit_words (Client a b on) = codes "client" ∷ addr_text a ∷ addr_text b ∷ switch_word on ∷ []
 edit_words (OwnNext a b on) = codes "self" ∷ addr_text a ∷ addr_text b ∷ switch_word on ∷ []
 edit_words (Cluster a id) = codes "cluster" ∷ addr_text a ∷ addr_text id ∷ []
+edit_words (MedAlways a always) = codes "med" ∷ addr_text a ∷ comparison_word always ∷ []
 edit_words (AddRule a b side rule) = codes "rule" ∷ addr_text a ∷ addr_text b ∷ side_word side ∷ match_words rule.cond ++ action_words rule.act
 edit_words (Clear a b side) = codes "clear" ∷ addr_text a ∷ addr_text b ∷ side_word side ∷ []
 edit_words (Origin a p) = codes "origin" ∷ addr_text a ∷ prefix_text p ∷ []

@@ -6,10 +6,10 @@ ghost use Rattle.net_prefix.specs.Address.{addr_text};
 ghost use Rattle.sim_event.specs.Events.{IsAddress};
 ghost use Rattle.command_text.specs.Lines.{tokens};
 ghost use Rattle.command_text.specs.Reading.{Reads};
-ghost use Rattle.command_text.specs.Arguments.{address_words, AreAddresses, addresses_words, IsNumberedAddress, numbered_words, AreEndsAndMetric, metric_words, IsAddressAndPrefix, prefix_words, AreEnds, switch_words, side_words, IsAddedRule, added_words};
+ghost use Rattle.command_text.specs.Arguments.{address_words, AreAddresses, addresses_words, IsNumberedAddress, numbered_words, AreEndsAndMetric, metric_words, IsAddressAndPrefix, prefix_words, AreEnds, switch_words, side_words, IsAddressAndComparison, comparison_words, IsAddedRule, added_words};
 
 use crate::rule::rule_of;
-use crate::values::{addr_of, asn_of, metric_of, prefix_of, side_of, switch_of};
+use crate::values::{addr_of, asn_of, comparison_of, metric_of, prefix_of, side_of, switch_of};
 use crate::words::{next_word, one_word, three_words, two_words};
 use net_conf::{Metric, PolicySide};
 use net_prefix::{Addr, Prefix};
@@ -69,6 +69,14 @@ pub(crate) fn ends_and_side(words: &[u8]) -> Option<(Addr, Addr, PolicySide)>
 {
     let (first, second, side) = three_words(words)?;
     Some((addr_of(first)?, addr_of(second)?, side_of(side)?))
+}
+
+/// `A as|always`
+pub(crate) fn address_and_comparison(words: &[u8]) -> Option<(Addr, bool)>
+    ensures { Reads IsAddressAndComparison comparison_words (tokens words.now) result }
+{
+    let (addr, comparison) = two_words(words)?;
+    Some((addr_of(addr)?, comparison_of(comparison)?))
 }
 
 /// `A B in|out MATCH ACT`

@@ -9,8 +9,8 @@ ghost use Rattle.command_text.specs.Lines.{tokens, feeds_route};
 ghost use Rattle.command_text.specs.Reading.{Reads, Makes};
 
 use crate::arguments::{
-    added_rule, address, address_and_prefix, ends_and_metric, ends_and_side, ends_and_switch,
-    numbered_address, two_addresses,
+    added_rule, address, address_and_comparison, address_and_prefix, ends_and_metric,
+    ends_and_side, ends_and_switch, numbered_address, two_addresses,
 };
 use crate::feed::read_feed;
 use crate::verb::{LinkVerb, NodeVerb, PairVerb, PrefixVerb, SwitchVerb, Verb, verb_of};
@@ -45,6 +45,7 @@ fn read_verb(verb: Verb, words: &[u8]) -> Option<Event>
         Verb::Prefix(verb) => read_prefix(verb, words),
         Verb::Rule => read_rule(words),
         Verb::Clear => read_clear(words),
+        Verb::Med => read_med(words),
         Verb::Routes => read_routes(words),
         Verb::Quiet => read_quiet(words),
     }
@@ -104,6 +105,14 @@ fn read_clear(words: &[u8]) -> Option<Event>
 {
     let (first, second, side) = ends_and_side(words)?;
     Some(Event::Edit(Edit::Clear(first, second, side)))
+}
+
+/// `med A as|always`
+fn read_med(words: &[u8]) -> Option<Event>
+    ensures { Reads IsEvent words_of (codes "med" ∷ tokens words.now) result }
+{
+    let (addr, always) = address_and_comparison(words)?;
+    Some(Event::Edit(Edit::MedAlways(addr, always)))
 }
 
 /// `routes R`

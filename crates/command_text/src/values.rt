@@ -7,7 +7,7 @@ ghost use Rattle.net_prefix.specs.Address.{addr_text};
 ghost use Rattle.net_prefix.specs.Prefix.{prefix_text};
 ghost use Rattle.sim_event.specs.Events.{IsAddress, IsAsNumber, IsPrefix};
 ghost use Rattle.sim_event.specs.Wording.{none_text, maybe_number_text, origin_text};
-ghost use Rattle.command_text.specs.Words.{switch_word, side_word};
+ghost use Rattle.command_text.specs.Words.{switch_word, comparison_word, side_word};
 ghost use Rattle.command_text.specs.Reading.{Reads};
 
 use decimal::read_decimal;
@@ -79,6 +79,17 @@ pub(crate) fn switch_of(word: &[u8]) -> Option<bool>
     match word {
         b"on" => Some(true),
         b"off" => Some(false),
+        _ => None,
+    }
+}
+
+/// How a router compares MULTI_EXIT_DISC: `always`, or `as`, among the routes of one neighbouring AS.
+pub(crate) fn comparison_of(word: &[u8]) -> Option<bool>
+    ensures { Reads (λ _. ⊤) comparison_word word.now result }
+{
+    match word {
+        b"always" => Some(true),
+        b"as" => Some(false),
         _ => None,
     }
 }

@@ -32,6 +32,8 @@ pub(crate) enum Verb {
     Rule,
     /// Two addresses follow, and `in` or `out`.
     Clear,
+    /// An address follows, and `as` or `always`.
+    Med,
     /// An address follows.
     Routes,
     /// Nothing follows.
@@ -114,6 +116,7 @@ pub(crate) fn verb_of(word: &[u8]) -> Option<Verb>
         b"why" => Some(Verb::Prefix(PrefixVerb::Why)),
         b"rule" => Some(Verb::Rule),
         b"clear" => Some(Verb::Clear),
+        b"med" => Some(Verb::Med),
         b"routes" => Some(Verb::Routes),
         b"quiet" => Some(Verb::Quiet),
         _ => None,

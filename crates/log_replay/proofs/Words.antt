@@ -24,7 +24,7 @@ use Rattle.route_policy.specs.declared.rule.Action.TheVariants.{Deny, Permit}
 use Rattle.net_conf.specs.declared.tables.PolicySide.{PolicySide}
 use Rattle.net_conf.specs.declared.tables.PolicySide.TheVariants.{Import, Export}
 use Rattle.net_conf.specs.declared.edit.Edit.{Edit}
-use Rattle.net_conf.specs.declared.edit.Edit.TheVariants.{Router, Virtual, Link, Metric, Fail, Mend, Join, Stop, Start, Client, OwnNext, Cluster, Rule as AddRule, Clear, Origin as Originate, NoOrigin}
+use Rattle.net_conf.specs.declared.edit.Edit.TheVariants.{Router, Virtual, Link, Metric, Fail, Mend, Join, Stop, Start, Client, OwnNext, Cluster, MedAlways, Rule as AddRule, Clear, Origin as Originate, NoOrigin}
 use Rattle.sim_event.specs.declared.event.Event.{Event}
 use Rattle.sim_event.specs.declared.event.Event.TheVariants.{Edit as AnEdit, Feed as AFeed, Deliver, Ask as AnAsk}
 use Rattle.sim_event.specs.declared.event.News.{News}
@@ -33,7 +33,7 @@ use Rattle.sim_event.specs.declared.event.Ask.{Ask}
 use Rattle.sim_event.specs.declared.event.Ask.TheVariants.{Routes, Best, Why, In, Out, Queue, Quiet, Cost, Trace}
 use Rattle.sim_event.specs.Wording.{numbers_text, maybe_number_text, origin_text, path_text, segment_text}
 use Rattle.sim_event.specs.Events.{IsEvent, IsNews}
-use Rattle.command_text.specs.Words.{words_of, edit_words, news_words, ask_words, match_words, action_words, setting_words, settings_words, communities_words, switch_word, side_word}
+use Rattle.command_text.specs.Words.{words_of, edit_words, news_words, ask_words, match_words, action_words, setting_words, settings_words, communities_words, switch_word, comparison_word, side_word}
 use Rattle.command_text.specs.Lines.{are_silent}
 use Rattle.reply_text.specs.Visible.{AreVisible, are_visible, visible_word, visible_both, visible_decimal, visible_addr, visible_prefix, visible_numbers, visible_path}
 
@@ -60,6 +60,10 @@ block p = (prefix_text_some p, visible_prefix p)
 switch : (on : Bool) → IsSolid (switch_word on)
 switch true = literal (switch_word true) refl refl
 switch false = literal (switch_word false) refl refl
+
+comparison : (always : Bool) → IsSolid (comparison_word always)
+comparison true = literal (comparison_word true) refl refl
+comparison false = literal (comparison_word false) refl refl
 
 side : (s : PolicySide) → IsSolid (side_word s)
 side Import = literal (side_word Import) refl refl
@@ -141,6 +145,7 @@ edit (Start a b) = record { solid = (literal (codes "start") refl refl, two a b)
 edit (Client a b on) = record { solid = (literal (codes "client") refl refl, (address a, (address b, (switch on, tt)))); loud = refl }
 edit (OwnNext a b on) = record { solid = (literal (codes "self") refl refl, (address a, (address b, (switch on, tt)))); loud = refl }
 edit (Cluster a id) = record { solid = (literal (codes "cluster") refl refl, two a id); loud = refl }
+edit (MedAlways a always) = record { solid = (literal (codes "med") refl refl, (address a, (comparison always, tt))); loud = refl }
 edit (AddRule a b s rule) = record {
   solid = (literal (codes "rule") refl refl, (address a, (address b, (side s, append (match_words rule.cond) (action_words rule.act) (matches rule.cond) (action rule.act)))));
   loud = refl;

@@ -5,7 +5,7 @@ ghost use Rattle.std.specs.Fmt.{decimal};
 ghost use Rattle.std.specs.List.{join_with_byte};
 ghost use Rattle.net_prefix.specs.Address.{addr_text};
 ghost use Rattle.net_prefix.specs.Prefix.{prefix_text};
-ghost use Rattle.command_text.specs.Words.{ask_words, communities_words, edit_words, news_words, side_word, switch_word};
+ghost use Rattle.command_text.specs.Words.{ask_words, communities_words, comparison_word, edit_words, news_words, side_word, switch_word};
 ghost use Rattle.sim_event.specs.Wording.{maybe_number_text, origin_text, path_text};
 ghost use Rattle.log_text.specs.Logs.{command_text};
 ghost use Rattle.log_text.specs.Rules.{spaced};
@@ -49,6 +49,7 @@ fn write_edit<W: Write>(edit: &Edit, output: &mut Output<W>) -> Result<(), Write
         Edit::Client(a, b, on) => write_switch(b"client", *a, *b, *on, output),
         Edit::OwnNext(a, b, on) => write_switch(b"self", *a, *b, *on, output),
         Edit::Cluster(a, id) => write_pair(b"cluster", *a, *id, output),
+        Edit::MedAlways(a, always) => write_comparison(*a, *always, output),
         Edit::Rule(a, b, side, rule) => write_rule(*a, *b, *side, rule, output),
         Edit::Clear(a, b, side) => write_clear(*a, *b, *side, output),
         Edit::Origin(a, prefix) => write_prefixed(b"origin", *a, *prefix, output),
@@ -223,6 +224,24 @@ fn write_switch<W: Write>(
         Part::Addr(first),
         Part::Addr(second),
         Part::Bytes(switch.as_bytes()),
+    ];
+    write_joined(b' ', &words, output)
+}
+
+/// Writes the words by which a router is told how to compare MULTI_EXIT_DISC.
+fn write_comparison<W: Write>(
+    router: Addr,
+    always: bool,
+    output: &mut Output<W>,
+) -> Result<(), WriterFailed>
+    ensures { Writes output.old (join_with_byte 32 (codes "med" ∷ addr_text router ∷ comparison_word always ∷ []))
+        result output.new }
+{
+    let comparison = if always { "always" } else { "as" };
+    let words = [
+        Part::Bytes(b"med"),
+        Part::Addr(router),
+        Part::Bytes(comparison.as_bytes()),
     ];
     write_joined(b' ', &words, output)
 }

@@ -1,7 +1,7 @@
 //! The versions of a log's form.
 
 ghost use Rattle.std.specs.Prelude.{◌≡◌};
-ghost use Rattle.log_text.specs.Versions.{matches_community, adds_community, tells_communities, names_communities, has_form};
+ghost use Rattle.log_text.specs.Versions.{matches_community, adds_community, tells_communities, edit_needs_second, needs_second, has_form};
 
 use net_conf::Edit;
 use route_policy::{Action, Match};
@@ -10,9 +10,9 @@ use sim_event::{Event, News};
 /// A version of a log's form.
 #[derive(Clone, Copy, Debug, PartialEq, Eq)]
 pub enum Version {
-    /// Without communities.
+    /// Without communities, and without a word for how a router compares MULTI_EXIT_DISC.
     One,
-    /// With communities. It is the one that is written.
+    /// With both. It is the one that is written.
     Two,
 }
 
@@ -22,31 +22,36 @@ impl Version {
         ensures { result ≡ has_form self event.now }
     {
         match self {
-            Version::One => !names_communities(event),
+            Version::One => !needs_second(event),
             Version::Two => true,
         }
     }
 }
 
-/// Whether it is a rule that asks for a community or adds one, or a feed with communities.
-fn names_communities(event: &Event) -> bool
-    ensures { result ≡ names_communities event.now }
+/// Whether its command came with the second version.
+fn needs_second(event: &Event) -> bool
+    ensures { result ≡ needs_second event.now }
 {
     match event {
-        Event::Edit(edit) => is_rule_on_communities(edit),
+        Event::Edit(edit) => edit_needs_second(edit),
         Event::Feed(feed) => tells_communities(&feed.news),
         Event::Deliver(_, _) => false,
         Event::Ask(_) => false,
     }
 }
 
-/// Whether it adds a rule that asks for a community or adds one.
-fn is_rule_on_communities(edit: &Edit) -> bool
-    ensures { result ≡ names_communities (Event.Edit edit.now) }
+/// Whether it adds a rule that asks for a community or adds one, or says how a router compares MULTI_EXIT_DISC.
+fn edit_needs_second(edit: &Edit) -> bool
+    ensures { result ≡ edit_needs_second edit.now }
 {
     match edit {
         Edit::Rule(_, _, _, rule) => matches_community(rule.cond) || adds_community(rule.act),
-        _ => false,
+        Edit::MedAlways(_, _) => true,
+        Edit::Router(_, _) | Edit::Virtual(_, _) => false,
+        Edit::Link(_, _, _) | Edit::Metric(_, _, _) | Edit::Fail(_, _) | Edit::Mend(_, _) => false,
+        Edit::Join(_, _) | Edit::Stop(_, _) | Edit::Start(_, _) => false,
+        Edit::Client(_, _, _) | Edit::OwnNext(_, _, _) | Edit::Cluster(_, _) => false,
+        Edit::Clear(_, _, _) | Edit::Origin(_, _) | Edit::NoOrigin(_, _) => false,
     }
 }
 

@@ -13,9 +13,9 @@ use Rattle.net_conf.specs.declared.site.SiteConf.{SiteConf}
 use Rattle.net_conf.specs.declared.site.SiteSession.{SiteSession}
 use Rattle.net_conf.specs.declared.tables.Node.{Node}
 use Rattle.net_conf.specs.declared.edit.Edit.{Edit}
-use Rattle.net_conf.specs.declared.edit.Edit.TheVariants.{Client, OwnNext, Cluster, Rule as AddRule, Clear, Origin, NoOrigin}
+use Rattle.net_conf.specs.declared.edit.Edit.TheVariants.{Client, OwnNext, Cluster, MedAlways, Rule as AddRule, Clear, Origin, NoOrigin}
 use Rattle.net_conf.specs.declared.tables.PolicySide.TheVariants.{Import, Export}
-use Rattle.net_conf.specs.Configuration.{Configuration, node_at, is_kind_virtual, is_external, as_of, has_link_up, session_between, ends_cmp, is_reflector, cluster_id, origins_of}
+use Rattle.net_conf.specs.Configuration.{Configuration, node_at, is_kind_virtual, is_external, as_of, has_link_up, session_between, ends_cmp, is_reflector, cluster_id, compares_all_meds, origins_of}
 use Rattle.net_conf.specs.Costs.{costs_of, cost, session_up, is_up, is_connected}
 use Rattle.net_conf.specs.Sites.{site_of, sessions_of}
 use Rattle.net_conf.specs.RouterSites.{router_site}
@@ -27,26 +27,38 @@ use Rattle.net_conf.proofs.OthersStay.{sites_of_others, sessions_stay}
 use Rattle.std.proofs.lemmas.Option.{none-some}
 
 -- the site of the parts
-site_with : Addr → Option Node → Addr → Bool → List Prefix → List SiteSession → Reached → Option SiteConf
-site_with r n cluster reflector originated sessions costs =
+abbrev site_of_parts : Addr → Addr → Bool → Bool → List Prefix → List SiteSession → Reached → Node → SiteConf
+site_of_parts r cluster reflector med_always originated sessions costs n = record {
+  me = r;
+  asn = n.asn;
+  cluster = cluster;
+  reflector = reflector;
+  med_always = med_always;
+  origins = originated;
+  sessions = sessions;
+  costs = costs;
+}
+
+site_with : Addr → Option Node → Addr → Bool → Bool → List Prefix → List SiteSession → Reached → Option SiteConf
+site_with r n cluster reflector med_always originated sessions costs =
     if unwrap_or (option_map (λ x. is_kind_virtual x.kind) n) false then None
-    else option_map (λ x. record { me = r; asn = x.asn; cluster = cluster; reflector = reflector; origins = originated; sessions = sessions; costs = costs }) n
+    else option_map (site_of_parts r cluster reflector med_always originated sessions costs) n
 
 abbrev site_in : Configuration → Addr → Reached → Option SiteConf
-site_in c r costs = site_with r (node_at c r) (cluster_id c r) (is_reflector c r) (origins_of c r) (sessions_of c r) costs
+site_in c r costs = site_with r (node_at c r) (cluster_id c r) (is_reflector c r) (compares_all_meds c r) (origins_of c r) (sessions_of c r) costs
 
 is_site_in : (c : Configuration) (r : Addr) → router_site c r ≡ site_in c r (costs_of c r)
 unfolding site_of site_with
 is_site_in c r = refl
 
 -- other costs
-with_costs : (r : Addr) (n : Option Node) (cluster : Addr) (reflector : Bool) (originated : List Prefix) (sessions : List SiteSession) (old new : Reached) → site_with r n cluster reflector originated sessions new ≡ option_map (λ (s : SiteConf). record s { costs = new }) (site_with r n cluster reflector originated sessions old)
+with_costs : (r : Addr) (n : Option Node) (cluster : Addr) (reflector med_always : Bool) (originated : List Prefix) (sessions : List SiteSession) (old new : Reached) → site_with r n cluster reflector med_always originated sessions new ≡ option_map (λ (s : SiteConf). record s { costs = new }) (site_with r n cluster reflector med_always originated sessions old)
 unfolding site_with
-with_costs r None cluster reflector originated sessions old new = refl
-with_costs r (Some n) cluster reflector originated sessions old new = by (is_kind_virtual n.kind)
+with_costs r None cluster reflector med_always originated sessions old new = refl
+with_costs r (Some n) cluster reflector med_always originated sessions old new = by (is_kind_virtual n.kind)
   where
     site : Reached → SiteConf
-    site costs = record { me = r; asn = n.asn; cluster = cluster; reflector = reflector; origins = originated; sessions = sessions; costs = costs }
+    site costs = site_of_parts r cluster reflector med_always originated sessions costs n
 
     by : (virtual : Bool) → (if virtual then None else Some (site new)) ≡ option_map (λ (s : SiteConf). record s { costs = new }) (if virtual then None else Some (site old))
     by true = refl
@@ -57,23 +69,29 @@ pub record AreAlike (c d : Configuration) (r : Addr) : Type 0 where
   pub node : node_at d r ≡ node_at c r
   pub cluster : cluster_id d r ≡ cluster_id c r
   pub reflector : is_reflector d r ≡ is_reflector c r
+  pub med_always : compares_all_meds d r ≡ compares_all_meds c r
   pub origins : origins_of d r ≡ origins_of c r
   pub sessions : sessions_of d r ≡ sessions_of c r
 
 pub facts_alike : (c d : Configuration) (r : Addr) → AreAlike c d r → router_site d r ≡ option_map (λ (s : SiteConf). record s { costs = costs_of d r }) (router_site c r)
 facts_alike c d r alike =
     is_site_in d r
-    ∙ ap (λ x. site_with r x (cluster_id d r) (is_reflector d r) (origins_of d r) (sessions_of d r) (costs_of d r)) alike.node
-    ∙ ap (λ x. site_with r (node_at c r) x (is_reflector d r) (origins_of d r) (sessions_of d r) (costs_of d r)) alike.cluster
-    ∙ ap (λ x. site_with r (node_at c r) (cluster_id c r) x (origins_of d r) (sessions_of d r) (costs_of d r)) alike.reflector
-    ∙ ap (λ x. site_with r (node_at c r) (cluster_id c r) (is_reflector c r) x (sessions_of d r) (costs_of d r)) alike.origins
-    ∙ ap (λ x. site_with r (node_at c r) (cluster_id c r) (is_reflector c r) (origins_of c r) x (costs_of d r)) alike.sessions
-    ∙ with_costs r (node_at c r) (cluster_id c r) (is_reflector c r) (origins_of c r) (sessions_of c r) (costs_of c r) (costs_of d r)
+    ∙ ap (λ x. site_with r x (cluster_id d r) (is_reflector d r) (compares_all_meds d r) (origins_of d r) (sessions_of d r) (costs_of d r)) alike.node
+    ∙ ap (λ x. site_with r (node_at c r) x (is_reflector d r) (compares_all_meds d r) (origins_of d r) (sessions_of d r) (costs_of d r)) alike.cluster
+    ∙ ap (λ x. site_with r (node_at c r) (cluster_id c r) x (compares_all_meds d r) (origins_of d r) (sessions_of d r) (costs_of d r)) alike.reflector
+    ∙ ap (λ x. site_with r (node_at c r) (cluster_id c r) (is_reflector c r) x (origins_of d r) (sessions_of d r) (costs_of d r)) alike.med_always
+    ∙ ap (λ x. site_with r (node_at c r) (cluster_id c r) (is_reflector c r) (compares_all_meds c r) x (sessions_of d r) (costs_of d r)) alike.origins
+    ∙ ap (λ x. site_with r (node_at c r) (cluster_id c r) (is_reflector c r) (compares_all_meds c r) (origins_of c r) x (costs_of d r)) alike.sessions
+    ∙ with_costs r (node_at c r) (cluster_id c r) (is_reflector c r) (compares_all_meds c r) (origins_of c r) (sessions_of c r) (costs_of c r) (costs_of d r)
     ∙ ap (option_map (λ (s : SiteConf). record s { costs = costs_of d r })) (sym (is_site_in c r))
 
 -- a site with the costs that it has
 pub own_costs : (c : Configuration) (r : Addr) → option_map (λ (s : SiteConf). record s { costs = costs_of c r }) (router_site c r) ≡ router_site c r
-own_costs c r = sym (facts_alike c c r (record { node = refl; cluster = refl; reflector = refl; origins = refl; sessions = refl }))
+own_costs c r = sym (facts_alike c c r (record { node = refl; cluster = refl; reflector = refl; med_always = refl; origins = refl; sessions = refl }))
+
+-- a router keeps all where nothing changes
+pub stays_itself : (c : Configuration) (r : Addr) → StaysAt c c r
+stays_itself c r = record { facts = sym (own_costs c r); costs = λ ends. refl; up = λ u. refl }
 
 -- SETTINGS
 
@@ -81,6 +99,7 @@ settings_costs : (c : Configuration) (e : Edit) (a r : Addr) → router_in (scop
 settings_costs c (Client x y on) a r is = refl
 settings_costs c (OwnNext x y on) a r is = refl
 settings_costs c (Cluster x id) a r is = refl
+settings_costs c (MedAlways x on) a r is = refl
 settings_costs c (AddRule x y Import rule) a r is = refl
 settings_costs c (AddRule x y Export rule) a r is = refl
 settings_costs c (Clear x y Import) a r is = refl

@@ -19,14 +19,14 @@ use Rattle.net_conf.specs.declared.site.SiteConf.{SiteConf}
 use Rattle.net_conf.specs.declared.tables.Link.{Link}
 use Rattle.net_conf.specs.declared.tables.Ends.{Ends}
 use Rattle.net_conf.specs.declared.tables.Node.{Node}
-use Rattle.net_conf.specs.Configuration.{Configuration, node_at, is_kind_virtual, ends_session, cluster_id, is_reflector, origins_of}
+use Rattle.net_conf.specs.Configuration.{Configuration, node_at, is_kind_virtual, ends_session}
 use Rattle.net_conf.specs.Concerned.{is_among, StaysAt}
-use Rattle.net_conf.specs.Costs.{costs_of, is_up}
+use Rattle.net_conf.specs.Costs.{is_up}
 use Rattle.net_conf.specs.declared.edit.Edit.{Edit}
 use Rattle.net_conf.specs.Edits.{edited, refusal_of}
 use Rattle.net_conf.specs.Kept.{IsLinked, IsRelinked, link_in, asked, relinked}
 use Rattle.net_conf.specs.RouterSites.{router_site, site_kept, site_made}
-use Rattle.net_conf.specs.Sites.{session_of, sessions_of, peers_of, site_of}
+use Rattle.net_conf.specs.Sites.{session_of, peers_of, site_at, site_of}
 use Rattle.net_conf.proofs.Carry.{one_address}
 use Rattle.net_conf.proofs.Inserted.{found_in}
 use Rattle.net_conf.proofs.KeptTrees.{equal_when}
@@ -84,20 +84,14 @@ module _ (c : Configuration) (links : List (Ends × Link)) (r : Addr) where
   unfolding site_of
   site_with_links = by (node_at c r)
     where
-      made : Node → SiteConf
-      made n = record { me = r; asn = n.asn; cluster = cluster_id c r; reflector = is_reflector c r; origins = origins_of c r; sessions = sessions_of c r; costs = costs_of c r }
+      one : (n : Node) → site_at with_links r n ≡ relinked with_links r (site_at c r n)
+      one n = ap (λ xs. record (site_at with_links r n) { sessions = xs }) (each_asked (peers_of c r))
 
-      after : Node → SiteConf
-      after n = record { me = r; asn = n.asn; cluster = cluster_id c r; reflector = is_reflector c r; origins = origins_of c r; sessions = sessions_of with_links r; costs = costs_of with_links r }
-
-      one : (n : Node) → after n ≡ relinked with_links r (made n)
-      one n = ap (λ xs. record (after n) { sessions = xs }) (each_asked (peers_of c r))
-
-      by : (o : Option Node) → (if unwrap_or (option_map (λ n. is_kind_virtual n.kind) o) false then None else option_map after o) ≡ option_map (relinked with_links r) (if unwrap_or (option_map (λ n. is_kind_virtual n.kind) o) false then None else option_map made o)
+      by : (o : Option Node) → (if unwrap_or (option_map (λ n. is_kind_virtual n.kind) o) false then None else option_map (site_at with_links r) o) ≡ option_map (relinked with_links r) (if unwrap_or (option_map (λ n. is_kind_virtual n.kind) o) false then None else option_map (site_at c r) o)
       by None = refl
       by (Some n) = at (is_kind_virtual n.kind)
         where
-          at : (virtual : Bool) → (if virtual then None else Some (after n)) ≡ option_map (relinked with_links r) (if virtual then None else Some (made n))
+          at : (virtual : Bool) → (if virtual then None else Some (site_at with_links r n)) ≡ option_map (relinked with_links r) (if virtual then None else Some (site_at c r n))
           at true = refl
           at false = ap Some (one n)
 
@@ -120,16 +114,13 @@ module _ (c d : Configuration) (r : Addr) (same : (u : Addr) → is_up d u r ≡
   unfolding site_of
   sessions_stay_in site is = by (node_at c r) is
     where
-      made : Node → SiteConf
-      made n = record { me = r; asn = n.asn; cluster = cluster_id c r; reflector = is_reflector c r; origins = origins_of c r; sessions = sessions_of c r; costs = costs_of c r }
-
-      by : (o : Option Node) → (if unwrap_or (option_map (λ n. is_kind_virtual n.kind) o) false then None else option_map made o) ≡ Some site → map (asked d r) site.sessions ≡ site.sessions
+      by : (o : Option Node) → (if unwrap_or (option_map (λ n. is_kind_virtual n.kind) o) false then None else option_map (site_at c r) o) ≡ Some site → map (asked d r) site.sessions ≡ site.sessions
       by None it = absurd (none-some site it)
       by (Some n) it = at (is_kind_virtual n.kind) it
         where
-          at : (virtual : Bool) → (if virtual then None else Some (made n)) ≡ Some site → map (asked d r) site.sessions ≡ site.sessions
+          at : (virtual : Bool) → (if virtual then None else Some (site_at c r n)) ≡ Some site → map (asked d r) site.sessions ≡ site.sessions
           at true it = absurd (none-some site it)
-          at false it = subst (λ (s : SiteConf). map (asked d r) s.sessions ≡ s.sessions) (same_Some (made n) site it) (all_asked (peers_of c r))
+          at false it = subst (λ (s : SiteConf). map (asked d r) s.sessions ≡ s.sessions) (same_Some (site_at c r n) site it) (all_asked (peers_of c r))
 
 -- ONE SITE MORE
 

@@ -26,3 +26,4 @@ pub mod Pieces
 pub mod SiteSettings
 pub mod SiteJoins
 pub mod SiteEffects
+pub mod Unchanged

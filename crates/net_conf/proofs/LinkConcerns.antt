@@ -64,7 +64,7 @@ module _ (c : Configuration) (a b : Addr) (link : TheLink) (r : Addr) where
 
   link_concerns : ((u : Addr) → is_up d u r ≡ is_up c u r) → (ends_session c r ≡ true → costs_of d r ≡ costs_of c r) → StaysAt c d r
   link_concerns same costs = record {
-    facts = facts_alike c d r (record { node = refl; cluster = refl; reflector = refl; origins = refl; sessions = each_session same (peers_of c r) });
+    facts = facts_alike c d r (record { node = refl; cluster = refl; reflector = refl; med_always = refl; origins = refl; sessions = each_session same (peers_of c r) });
     costs = costs;
     up = same;
   }

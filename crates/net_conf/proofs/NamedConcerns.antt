@@ -9,7 +9,7 @@ use Rattle.net_prefix.specs.declared.addr.Addr.{Addr}
 use Rattle.net_prefix.specs.Address.{addr_cmp}
 use Rattle.igp_cost.specs.Laws.{LoneNodeMovesNoTree}
 use Rattle.net_conf.specs.declared.edit.Edit.{Edit}
-use Rattle.net_conf.specs.declared.edit.Edit.TheVariants.{Router, Virtual, Link, Metric, Fail, Mend, Join, Stop, Start, Client, OwnNext, Cluster, Rule as AddRule, Clear, Origin, NoOrigin}
+use Rattle.net_conf.specs.declared.edit.Edit.TheVariants.{Router, Virtual, Link, Metric, Fail, Mend, Join, Stop, Start, Client, OwnNext, Cluster, MedAlways, Rule as AddRule, Clear, Origin, NoOrigin}
 use Rattle.net_conf.specs.declared.tables.PolicySide.TheVariants.{Import, Export}
 use Rattle.net_conf.specs.Configuration.{Configuration, ends_session}
 use Rattle.net_conf.specs.Costs.{is_up, down_sessions}
@@ -44,6 +44,7 @@ sessions_as_before c (Start a b) link own = absurd (none-some _ (sym own))
 sessions_as_before c (Client a b on) link own = refl
 sessions_as_before c (OwnNext a b on) link own = refl
 sessions_as_before c (Cluster a id) link own = refl
+sessions_as_before c (MedAlways a on) link own = refl
 sessions_as_before c (AddRule a b Import rule) link own = refl
 sessions_as_before c (AddRule a b Export rule) link own = refl
 sessions_as_before c (Clear a b Import) link own = refl
@@ -68,6 +69,7 @@ module _ (law : LoneNodeMovesNoTree) (c : Configuration) (sound : IsSound c) (so
   named_concerns (Client a b on) none link out = settings (Client a b on) a refl out
   named_concerns (OwnNext a b on) none link out = settings (OwnNext a b on) a refl out
   named_concerns (Cluster a id) none link out = settings (Cluster a id) a refl out
+  named_concerns (MedAlways a on) none link out = settings (MedAlways a on) a refl out
   named_concerns (AddRule a b side rule) none link out = settings (AddRule a b side rule) a refl out
   named_concerns (Clear a b side) none link out = settings (Clear a b side) a refl out
   named_concerns (Origin a p) none link out = settings (Origin a p) a refl out
@@ -98,6 +100,7 @@ module _ (law : LoneNodeMovesNoTree) (c : Configuration) (sound : IsSound c) (so
   up_as_before (Client a b on) none link own u v = sessions_stay c (Client a b on) a u v refl
   up_as_before (OwnNext a b on) none link own u v = sessions_stay c (OwnNext a b on) a u v refl
   up_as_before (Cluster a id) none link own u v = sessions_stay c (Cluster a id) a u v refl
+  up_as_before (MedAlways a on) none link own u v = sessions_stay c (MedAlways a on) a u v refl
   up_as_before (AddRule a b side rule) none link own u v = sessions_stay c (AddRule a b side rule) a u v refl
   up_as_before (Clear a b side) none link own u v = sessions_stay c (Clear a b side) a u v refl
   up_as_before (Origin a p) none link own u v = sessions_stay c (Origin a p) a u v refl

@@ -99,7 +99,7 @@ module _ (law : LoneNodeMovesNoTree) (c : Configuration) (a : Addr) (n : Node) (
 
     pub node_concerns : StaysAt c d r
     node_concerns = record {
-      facts = facts_alike c d r (record { node = same_node r other; cluster = refl; reflector = refl; origins = refl; sessions = each_session c.sessions sound.sessions });
+      facts = facts_alike c d r (record { node = same_node r other; cluster = refl; reflector = refl; med_always = refl; origins = refl; sessions = each_session c.sessions sound.sessions });
       costs = λ ends. costs_with_node law c a n sound sorted new r (end_node c r sound ends);
       up = λ u. same_up u r;
     }

@@ -19,12 +19,11 @@ use Rattle.net_conf.specs.declared.edit.Edit.TheVariants.{Origin, NoOrigin}
 use Rattle.net_conf.specs.declared.site.SiteConf.{SiteConf}
 use Rattle.net_conf.specs.declared.tables.Node.{Node}
 use Rattle.net_conf.specs.declared.tables.Origination.{Origination}
-use Rattle.net_conf.specs.Configuration.{Configuration, node_at, is_virtual, cluster_id, is_reflector, origins_of, origination_cmp}
-use Rattle.net_conf.specs.Costs.{costs_of}
+use Rattle.net_conf.specs.Configuration.{Configuration, node_at, is_virtual, origins_of, origination_cmp}
 use Rattle.net_conf.specs.Edits.{edited}
 use Rattle.net_conf.specs.Kept.{origins_after, reoriginated}
 use Rattle.net_conf.specs.RouterSites.{router_site}
-use Rattle.net_conf.specs.Sites.{site_of, sessions_of}
+use Rattle.net_conf.specs.Sites.{site_at, site_of}
 use Rattle.net_conf.proofs.KeptTrees.{same_address, equal_when}
 use Rattle.net_conf.proofs.OthersStay.{origination, origination_exact, origins_alone}
 
@@ -134,15 +133,12 @@ module _ (r : Addr) where
 -- THE SITE
 
 module _ (c : Configuration) (r : Addr) where
-  abbrev made : Node → SiteConf
-  made n = record { me = r; asn = n.asn; cluster = cluster_id c r; reflector = is_reflector c r; origins = origins_of c r; sessions = sessions_of c r; costs = costs_of c r }
-
   -- a site has what its router originates
   has_origins : (f : List Prefix → List Prefix) → option_map (λ (s : SiteConf). record s { origins = f (origins_of c r) }) (router_site c r) ≡ option_map (λ (s : SiteConf). record s { origins = f s.origins }) (router_site c r)
   unfolding site_of
   has_origins f = by (is_virtual c r) (node_at c r)
     where
-      by : (virtual : Bool) (o : Option Node) → option_map (λ (s : SiteConf). record s { origins = f (origins_of c r) }) (if virtual then None else option_map made o) ≡ option_map (λ (s : SiteConf). record s { origins = f s.origins }) (if virtual then None else option_map made o)
+      by : (virtual : Bool) (o : Option Node) → option_map (λ (s : SiteConf). record s { origins = f (origins_of c r) }) (if virtual then None else option_map (site_at c r) o) ≡ option_map (λ (s : SiteConf). record s { origins = f s.origins }) (if virtual then None else option_map (site_at c r) o)
       by true o = refl
       by false None = refl
       by false (Some n) = refl

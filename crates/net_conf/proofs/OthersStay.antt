@@ -17,16 +17,16 @@ use Rattle.net_conf.specs.declared.tables.End.{End}
 use Rattle.net_conf.specs.declared.tables.Origination.{Origination}
 use Rattle.net_conf.specs.declared.tables.PolicySide.TheVariants.{Import, Export}
 use Rattle.net_conf.specs.declared.edit.Edit.{Edit}
-use Rattle.net_conf.specs.declared.edit.Edit.TheVariants.{Client, OwnNext, Cluster, Rule as AddRule, Clear, Origin, NoOrigin}
+use Rattle.net_conf.specs.declared.edit.Edit.TheVariants.{Client, OwnNext, Cluster, MedAlways, Rule as AddRule, Clear, Origin, NoOrigin}
 use Rattle.net_conf.specs.declared.edit.Scope.{Scope}
 use Rattle.net_conf.specs.declared.edit.Scope.TheVariants.{Route}
 use Rattle.net_conf.specs.declared.site.SiteConf.{SiteConf}
 use Rattle.net_conf.specs.declared.site.SiteSession.{SiteSession}
-use Rattle.net_conf.specs.Configuration.{Configuration, end_of, end_cmp, origination_cmp, node_at, has_node, is_virtual, as_of, is_external, is_client, is_reflector, cluster_id, puts_itself, rules_at, import_rules, export_rules, originates, origins_of}
-use Rattle.net_conf.specs.Costs.{costs_of, session_up, is_up}
-use Rattle.net_conf.specs.Sites.{session_of, sessions_of, peers_of, site_of}
+use Rattle.net_conf.specs.Configuration.{Configuration, end_of, end_cmp, origination_cmp, node_at, has_node, is_virtual, as_of, is_external, is_client, is_reflector, cluster_id, compares_all_meds, puts_itself, rules_at, import_rules, export_rules, originates, origins_of}
+use Rattle.net_conf.specs.Costs.{session_up, is_up}
+use Rattle.net_conf.specs.Sites.{session_of, sessions_of, peers_of, site_at, site_of}
 use Rattle.net_conf.specs.RouterSites.{router_site}
-use Rattle.net_conf.specs.Edits.{edited, refusal_of, tests_of, lacks_node, lacks_either, has_bad_end, switched, with_rule, without_rules}
+use Rattle.net_conf.specs.Edits.{edited, refusal_of, tests_of, lacks_node, lacks_either, has_bad_end, switched, router_switched, with_rule, without_rules}
 use Rattle.net_conf.specs.Scopes.{scope, router_in, SitesOfOthersStay, SessionsStay, AreRoutersBefore, AreRoutersAfter, OriginsAloneChange, OtherOriginsStay}
 use Rattle.net_conf.proofs.Nodes.{some_mapped}
 use Rattle.net_conf.proofs.Unseen.{any_with, any_without, filter_with, filter_without, lookup_with, lookup_without}
@@ -56,6 +56,7 @@ record SeesSame (c d : Configuration) (r : Addr) : Type 0 where
   policy_out : (u : Addr) → export_rules d r u ≡ export_rules c r u
   cluster : cluster_id d r ≡ cluster_id c r
   reflector : is_reflector d r ≡ is_reflector c r
+  med_always : compares_all_meds d r ≡ compares_all_meds c r
   origins : origins_of d r ≡ origins_of c r
 
 each_same : {X Y : Type 0} (f g : X → Y) → ((x : X) → f x ≡ g x) → (xs : List X) → map f xs ≡ map g xs
@@ -68,10 +69,10 @@ mapped f g h same true o = refl
 mapped f g h same false None = refl
 mapped f g h same false (Some x) = ap Some (same x)
 
-module _ (c : Configuration) (clients own_next : List End) (imports exports : List (End × List Rule)) (clusters : List (Addr × Addr)) (origins : List Origination) where
+module _ (c : Configuration) (clients own_next : List End) (imports exports : List (End × List Rule)) (clusters : List (Addr × Addr)) (med_always : List Addr) (origins : List Origination) where
   -- with other settings, and other originations
   abbrev with_settings : Configuration
-  with_settings = record c { clients = clients; own_next = own_next; imports = imports; exports = exports; clusters = clusters; origins = origins }
+  with_settings = record c { clients = clients; own_next = own_next; imports = imports; exports = exports; clusters = clusters; med_always = med_always; origins = origins }
 
   module _ (r : Addr) (seen : SeesSame c with_settings r) where
     abbrev session_with : Addr → Bool → Bool → List Rule → List Rule → SiteSession
@@ -97,16 +98,19 @@ module _ (c : Configuration) (clients own_next : List End) (imports exports : Li
     same_sessions : sessions_of with_settings r ≡ sessions_of c r
     same_sessions = each_same (session_of with_settings r) (session_of c r) same_session (peers_of c r)
 
-    abbrev site_with : Addr → Bool → List Prefix → List SiteSession → Option SiteConf
-    site_with cluster reflector originated sessions = if is_virtual c r then None else option_map (λ n. record { me = r; asn = n.asn; cluster = cluster; reflector = reflector; origins = originated; sessions = sessions; costs = costs_of c r }) (node_at c r)
+    abbrev site_with : Addr → Bool → Bool → List Prefix → List SiteSession → Option SiteConf
+    site_with cluster reflector med_always originated sessions =
+        if is_virtual c r then None
+        else option_map (λ n. record (site_at c r n) { cluster = cluster; reflector = reflector; med_always = med_always; origins = originated; sessions = sessions }) (node_at c r)
 
     same_site : router_site with_settings r ≡ router_site c r
     unfolding site_of
     same_site =
-        ap (λ x. site_with x (is_reflector with_settings r) (origins_of with_settings r) (sessions_of with_settings r)) seen.cluster
-        ∙ ap (λ x. site_with (cluster_id c r) x (origins_of with_settings r) (sessions_of with_settings r)) seen.reflector
-        ∙ ap (λ x. site_with (cluster_id c r) (is_reflector c r) x (sessions_of with_settings r)) seen.origins
-        ∙ ap (site_with (cluster_id c r) (is_reflector c r) (origins_of c r)) same_sessions
+        ap (λ x. site_with x (is_reflector with_settings r) (compares_all_meds with_settings r) (origins_of with_settings r) (sessions_of with_settings r)) seen.cluster
+        ∙ ap (λ x. site_with (cluster_id c r) x (compares_all_meds with_settings r) (origins_of with_settings r) (sessions_of with_settings r)) seen.reflector
+        ∙ ap (λ x. site_with (cluster_id c r) (is_reflector c r) x (origins_of with_settings r) (sessions_of with_settings r)) seen.med_always
+        ∙ ap (λ x. site_with (cluster_id c r) (is_reflector c r) (compares_all_meds c r) x (sessions_of with_settings r)) seen.origins
+        ∙ ap (site_with (cluster_id c r) (is_reflector c r) (compares_all_meds c r) (origins_of c r)) same_sessions
 
 -- ANOTHER ROUTER
 
@@ -125,6 +129,10 @@ module _ (c : Configuration) (a r : Addr) (apart : same_addr r a ≡ false) wher
   switched_apart true b test fails es = any_with end_cmp end_exact test (end_of a b) fails es
   switched_apart false b test fails es = any_without end_cmp end_exact test (end_of a b) fails es
 
+  router_switched_apart : (on : Bool) (rs : List Addr) → list_any (is_at (addr_cmp r)) (router_switched on a rs) ≡ list_any (is_at (addr_cmp r)) rs
+  router_switched_apart true rs = any_with addr_cmp addr_exact (is_at (addr_cmp r)) a addr_apart rs
+  router_switched_apart false rs = any_without addr_cmp addr_exact (is_at (addr_cmp r)) a addr_apart rs
+
   rules_with : (b u : Addr) (rule : Rule) (policies : List (End × List Rule)) → rules_at (with_rule (end_of a b) rule policies) (end_of r u) ≡ rules_at policies (end_of r u)
   rules_with b u rule policies = ap (λ rules. unwrap_or rules []) (lookup_with end_cmp end_exact (is_at (end_cmp (end_of r u))) (end_of a b) (end_apart u b) (rules_at policies (end_of a b) ++ rule ∷ []) policies)
 
@@ -132,68 +140,86 @@ module _ (c : Configuration) (a r : Addr) (apart : same_addr r a ≡ false) wher
   rules_without b u policies = ap (λ rules. unwrap_or rules []) (lookup_without end_cmp end_exact (is_at (end_cmp (end_of r u))) (end_of a b) (end_apart u b) policies)
 
   site_by_client : (b : Addr) (on : Bool) → router_site (edited c (Client a b on)) r ≡ router_site c r
-  site_by_client b on = same_site c (switched on (end_of a b) c.clients) c.own_next c.imports c.exports c.clusters c.origins r (record {
+  site_by_client b on = same_site c (switched on (end_of a b) c.clients) c.own_next c.imports c.exports c.clusters c.med_always c.origins r (record {
     client = λ u. switched_apart on b (is_at (end_cmp (end_of r u))) (end_apart u b) c.clients;
     own_next = λ u. refl;
     policy_in = λ u. refl;
     policy_out = λ u. refl;
     cluster = refl;
     reflector = switched_apart on b (λ e. e.router.0 == r.0) turned c.clients;
+    med_always = refl;
     origins = refl;
   })
 
   site_by_own_next : (b : Addr) (on : Bool) → router_site (edited c (OwnNext a b on)) r ≡ router_site c r
-  site_by_own_next b on = same_site c c.clients (switched on (end_of a b) c.own_next) c.imports c.exports c.clusters c.origins r (record {
+  site_by_own_next b on = same_site c c.clients (switched on (end_of a b) c.own_next) c.imports c.exports c.clusters c.med_always c.origins r (record {
     client = λ u. refl;
     own_next = λ u. switched_apart on b (is_at (end_cmp (end_of r u))) (end_apart u b) c.own_next;
     policy_in = λ u. refl;
     policy_out = λ u. refl;
     cluster = refl;
     reflector = refl;
+    med_always = refl;
     origins = refl;
   })
 
   site_by_imports : (imports : List (End × List Rule)) → ((u : Addr) → rules_at imports (end_of r u) ≡ import_rules c r u) → router_site (record c { imports = imports }) r ≡ router_site c r
-  site_by_imports imports same = same_site c c.clients c.own_next imports c.exports c.clusters c.origins r (record {
+  site_by_imports imports same = same_site c c.clients c.own_next imports c.exports c.clusters c.med_always c.origins r (record {
     client = λ u. refl;
     own_next = λ u. refl;
     policy_in = same;
     policy_out = λ u. refl;
     cluster = refl;
     reflector = refl;
+    med_always = refl;
     origins = refl;
   })
 
   site_by_exports : (exports : List (End × List Rule)) → ((u : Addr) → rules_at exports (end_of r u) ≡ export_rules c r u) → router_site (record c { exports = exports }) r ≡ router_site c r
-  site_by_exports exports same = same_site c c.clients c.own_next c.imports exports c.clusters c.origins r (record {
+  site_by_exports exports same = same_site c c.clients c.own_next c.imports exports c.clusters c.med_always c.origins r (record {
     client = λ u. refl;
     own_next = λ u. refl;
     policy_in = λ u. refl;
     policy_out = same;
     cluster = refl;
     reflector = refl;
+    med_always = refl;
     origins = refl;
   })
 
   site_by_cluster : (id : Addr) → router_site (edited c (Cluster a id)) r ≡ router_site c r
-  site_by_cluster id = same_site c c.clients c.own_next c.imports c.exports (insert_entry addr_cmp c.clusters a id) c.origins r (record {
+  site_by_cluster id = same_site c c.clients c.own_next c.imports c.exports (insert_entry addr_cmp c.clusters a id) c.med_always c.origins r (record {
     client = λ u. refl;
     own_next = λ u. refl;
     policy_in = λ u. refl;
     policy_out = λ u. refl;
     cluster = ap (λ set. unwrap_or set r) (lookup_with addr_cmp addr_exact (is_at (addr_cmp r)) a addr_apart id c.clusters);
     reflector = refl;
+    med_always = refl;
     origins = refl;
   })
 
-  site_by_origins : (origins : List Origination) → filter (λ o. o.router.0 == r.0) origins ≡ filter (λ o. o.router.0 == r.0) c.origins → router_site (record c { origins = origins }) r ≡ router_site c r
-  site_by_origins origins same = same_site c c.clients c.own_next c.imports c.exports c.clusters origins r (record {
+  site_by_comparison : (on : Bool) → router_site (edited c (MedAlways a on)) r ≡ router_site c r
+  site_by_comparison on = same_site c c.clients c.own_next c.imports c.exports c.clusters (router_switched on a c.med_always) c.origins r (record {
     client = λ u. refl;
     own_next = λ u. refl;
     policy_in = λ u. refl;
     policy_out = λ u. refl;
     cluster = refl;
     reflector = refl;
+    med_always = router_switched_apart on c.med_always;
+    origins = refl;
+  })
+
+  site_by_origins : (origins : List Origination) → filter (λ o. o.router.0 == r.0) origins ≡ filter (λ o. o.router.0 == r.0) c.origins → router_site (record c { origins = origins }) r ≡ router_site c r
+  site_by_origins origins same = same_site c c.clients c.own_next c.imports c.exports c.clusters c.med_always origins r (record {
+    client = λ u. refl;
+    own_next = λ u. refl;
+    policy_in = λ u. refl;
+    policy_out = λ u. refl;
+    cluster = refl;
+    reflector = refl;
+    med_always = refl;
     origins = ap (map (λ (o : Origination). o.prefix)) same;
   })
 
@@ -204,6 +230,7 @@ pub sites_of_others : SitesOfOthersStay
 sites_of_others c (Client a b on) one r is other = site_by_client c a r (apart_from a one r is other) b on
 sites_of_others c (OwnNext a b on) one r is other = site_by_own_next c a r (apart_from a one r is other) b on
 sites_of_others c (Cluster a id) one r is other = site_by_cluster c a r (apart_from a one r is other) id
+sites_of_others c (MedAlways a on) one r is other = site_by_comparison c a r (apart_from a one r is other) on
 sites_of_others c (AddRule a b Import rule) one r is other = let apart = apart_from a one r is other in site_by_imports c a r apart _ (λ u. rules_with c a r apart b u rule c.imports)
 sites_of_others c (AddRule a b Export rule) one r is other = let apart = apart_from a one r is other in site_by_exports c a r apart _ (λ u. rules_with c a r apart b u rule c.exports)
 sites_of_others c (Clear a b Import) one r is other = let apart = apart_from a one r is other in site_by_imports c a r apart _ (λ u. rules_without c a r apart b u c.imports)
@@ -221,6 +248,7 @@ unfolding session_up
 sessions_stay c (Client a b on) one r t is = refl
 sessions_stay c (OwnNext a b on) one r t is = refl
 sessions_stay c (Cluster a id) one r t is = refl
+sessions_stay c (MedAlways a on) one r t is = refl
 sessions_stay c (AddRule a b Import rule) one r t is = refl
 sessions_stay c (AddRule a b Export rule) one r t is = refl
 sessions_stay c (Clear a b Import) one r t is = refl
@@ -251,6 +279,7 @@ stands : (c : Configuration) (e : Edit) (one : Addr) → router_in (scope e) ≡
 stands c (Client a b on) one is lacks bad = subst (StandsAt c) (same_Some a one is) (one_there c a b lacks, bad)
 stands c (OwnNext a b on) one is lacks bad = subst (StandsAt c) (same_Some a one is) (one_there c a b lacks, bad)
 stands c (Cluster a id) one is lacks bad = subst (StandsAt c) (same_Some a one is) (not-false (has_node c a) lacks, bad)
+stands c (MedAlways a on) one is lacks bad = subst (StandsAt c) (same_Some a one is) (not-false (has_node c a) lacks, bad)
 stands c (AddRule a b side rule) one is lacks bad = subst (StandsAt c) (same_Some a one is) (one_there c a b lacks, bad)
 stands c (Clear a b side) one is lacks bad = subst (StandsAt c) (same_Some a one is) (one_there c a b lacks, bad)
 stands c (Origin a p) one is lacks bad = subst (StandsAt c) (same_Some a one is) (not-false (has_node c a) lacks, bad)
@@ -262,6 +291,7 @@ stands_after : (c : Configuration) (e : Edit) (one : Addr) → router_in (scope 
 stands_after c (Client a b on) one is there = there
 stands_after c (OwnNext a b on) one is there = there
 stands_after c (Cluster a id) one is there = there
+stands_after c (MedAlways a on) one is there = there
 stands_after c (AddRule a b Import rule) one is there = there
 stands_after c (AddRule a b Export rule) one is there = there
 stands_after c (Clear a b Import) one is there = there

@@ -15,9 +15,9 @@ use Rattle.net_conf.specs.declared.tables.Node.{Node}
 use Rattle.net_conf.specs.declared.tables.Origination.{Origination}
 use Rattle.net_conf.specs.declared.site.SiteConf.{SiteConf}
 use Rattle.net_conf.specs.declared.site.SiteSession.{SiteSession}
-use Rattle.net_conf.specs.Configuration.{Configuration, node_at, is_virtual, cluster_id, is_reflector, session_between, originates, origins_of, origination_cmp}
-use Rattle.net_conf.specs.Costs.{costs_of, session_up, is_up}
-use Rattle.net_conf.specs.Sites.{session_of, sessions_of, peers_of, site_of, session_with}
+use Rattle.net_conf.specs.Configuration.{Configuration, node_at, is_virtual, session_between, originates, origins_of, origination_cmp}
+use Rattle.net_conf.specs.Costs.{session_up, is_up}
+use Rattle.net_conf.specs.Sites.{session_of, sessions_of, peers_of, site_at, site_of, session_with}
 use Rattle.net_conf.specs.RouterSites.{router_site}
 use Rattle.net_conf.specs.Configured.{IsConfigured}
 use Rattle.net_conf.specs.Laws.{session_if_any}
@@ -38,13 +38,10 @@ origin_listed c r p = any_made (λ o. o.router.0 == r.0) (λ o. o.prefix) (same_
 -- ONE SITE
 
 module _ (c : Configuration) (r : Addr) where
-  abbrev site_at : Node → SiteConf
-  site_at n = record { me = r; asn = n.asn; cluster = cluster_id c r; reflector = is_reflector c r; origins = origins_of c r; sessions = sessions_of c r; costs = costs_of c r }
-
-  at_node : (n : Option Node) (site : SiteConf) → option_map site_at n ≡ Some site → (site.me ≡ r) × (site.sessions ≡ sessions_of c r)
+  at_node : (n : Option Node) (site : SiteConf) → option_map (site_at c r) n ≡ Some site → (site.me ≡ r) × (site.sessions ≡ sessions_of c r)
   at_node None site is = absurd (none-some site is)
   at_node (Some n) site is =
-      let same : site_at n ≡ site = same_Some _ _ is in
+      let same : site_at c r n ≡ site = same_Some _ _ is in
       (sym (ap (λ (s : SiteConf). s.me) same), sym (ap (λ (s : SiteConf). s.sessions) same))
 
   of_node : (site : SiteConf) → site_of c r ≡ Some site → (site.me ≡ r) × (site.sessions ≡ sessions_of c r)

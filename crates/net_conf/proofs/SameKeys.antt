@@ -28,7 +28,7 @@ module _ {K : Type 0} (cmp : K → K → Ordering) (total : IsTotalOrder cmp) (e
   all_past k x [] is all = tt
   all_past k x (y ∷ ks) is all = (total.trans k x y is all.0, all_past k x ks is all.1)
 
-  below_first : (k x : K) (ks : List K) → cmp k x ≡ Less → IsStrictlySortedBy cmp (x ∷ ks) → has (x ∷ ks) k ≡ false
+  pub below_first : (k x : K) (ks : List K) → cmp k x ≡ Less → IsStrictlySortedBy cmp (x ∷ ks) → has (x ∷ ks) k ≡ false
   unfolding IsStrictlySortedBy
   below_first k x ks is sorted = below_all k (x ∷ ks) (is, all_past k x ks is sorted.0)
 

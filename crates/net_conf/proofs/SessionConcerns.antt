@@ -71,7 +71,7 @@ module _ (c : Configuration) (a b r : Addr) (on : Bool) (first : is_at (addr_cmp
 
   pub session_concerns : StaysAt c d r
   session_concerns = record {
-    facts = facts_alike c d r (record { node = refl; cluster = refl; reflector = refl; origins = refl; sessions = each_session (peers_of d r) ∙ ap (map (session_of c r)) same_peers });
+    facts = facts_alike c d r (record { node = refl; cluster = refl; reflector = refl; med_always = refl; origins = refl; sessions = each_session (peers_of d r) ∙ ap (map (session_of c r)) same_peers });
     costs = λ ends. refl;
     up = λ u. up_turned d u r ∙ same_up u ∙ up_turned c r u;
   }

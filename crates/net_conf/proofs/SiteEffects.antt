@@ -2,20 +2,20 @@
 use Rattle.std.proofs.Common.{◌≡◌, Bool, true, false, ◌==◌, Some, None, option_map, is_some, if◌then◌else◌, refl, sym, ap, ◌∙◌}
 use Rattle.net_prefix.specs.declared.addr.Addr.{Addr}
 use Rattle.net_conf.specs.declared.edit.Edit.{Edit}
-use Rattle.net_conf.specs.declared.edit.Edit.TheVariants.{Router, Virtual, Link, Metric, Fail, Mend, Join, Stop, Start, Client, OwnNext, Cluster, Rule, Clear, Origin, NoOrigin}
+use Rattle.net_conf.specs.declared.edit.Edit.TheVariants.{Router, Virtual, Link, Metric, Fail, Mend, Join, Stop, Start, Client, OwnNext, Cluster, MedAlways, Rule, Clear, Origin, NoOrigin}
 use Rattle.net_conf.specs.declared.edit.SiteEffect.{SiteEffect}
-use Rattle.net_conf.specs.declared.edit.SiteEffect.TheVariants.{Costs, Origins, Session, NewSession, ClusterId, Other}
+use Rattle.net_conf.specs.declared.edit.SiteEffect.TheVariants.{Costs, Origins, Session, NewSession, ClusterId, MedComparison, Other}
 use Rattle.net_conf.specs.declared.site.SiteConf.{SiteConf}
 use Rattle.net_conf.specs.Configuration.{Configuration, ends_of}
 use Rattle.net_conf.specs.Configured.{IsConfigured}
 use Rattle.net_conf.specs.Edits.{edited, refusal_of}
-use Rattle.net_conf.specs.Kept.{IsResettled, IsExtended, relinked, reoriginated, resettled, extended, reclustered, sets_client, link_in, effect_at, effect_on, site_from}
+use Rattle.net_conf.specs.Kept.{IsResettled, IsExtended, relinked, reoriginated, resettled, extended, reclustered, recompared, sets_client, link_in, effect_at, effect_on, site_from}
 use Rattle.net_conf.specs.RouterSites.{router_site}
 use Rattle.net_conf.proofs.KeptTrees.{ends_turned, same_address}
 use Rattle.net_conf.proofs.KeepsSites.{relinked_after, site_after_link}
 use Rattle.net_conf.proofs.Originated.{site_with_origin, site_without_origin}
 use Rattle.net_conf.proofs.SiteJoins.{extended_after}
-use Rattle.net_conf.proofs.SiteSettings.{by_client, by_own_next, stopped_after, started_after, ruled_after, cleared_after, reclustered_after}
+use Rattle.net_conf.proofs.SiteSettings.{by_client, by_own_next, stopped_after, started_after, ruled_after, cleared_after, reclustered_after, recompared_after}
 
 -- what holds of the effect where the router is the one at the address, and of no other effect, holds of what there is
 at_one : (P : SiteEffect → Type 0) (r a : Addr) (x : SiteEffect) → (r ≡ a → P x) → P Other → P (effect_at r a x)
@@ -57,6 +57,9 @@ module _ (c : Configuration) (before : IsConfigured c) (r : Addr) (s : SiteConf)
   by_cluster : (a id : Addr) → HasEffect (Cluster a id) ClusterId
   by_cluster a id = (reclustered_after c a id r).site ∙ ap (option_map (reclustered (edited c (Cluster a id)) r)) was
 
+  by_comparison : (a : Addr) (on : Bool) → HasEffect (MedAlways a on) MedComparison
+  by_comparison a on = (recompared_after c a on r).site ∙ ap (option_map (recompared (edited c (MedAlways a on)) r)) was
+
   -- the site after an edit that is not refused
   pub site_after : (e : Edit) → IsConfigured (edited c e) → refusal_of c e ≡ None → HasEffect e (effect_on e r)
   site_after (Router a n) after none = refl
@@ -83,6 +86,7 @@ module _ (c : Configuration) (before : IsConfigured c) (r : Addr) (s : SiteConf)
   site_after (Client a b on) after none = at_one (HasEffect (Client a b on)) r a (Session b) (λ is. by_session (Client a b on) b (by_client c a b r on)) refl
   site_after (OwnNext a b on) after none = at_one (HasEffect (OwnNext a b on)) r a (Session b) (λ is. by_session (OwnNext a b on) b (by_own_next c a b r on)) refl
   site_after (Cluster a id) after none = at_one (HasEffect (Cluster a id)) r a ClusterId (λ is. by_cluster a id) refl
+  site_after (MedAlways a on) after none = at_one (HasEffect (MedAlways a on)) r a MedComparison (λ is. by_comparison a on) refl
   site_after (Rule a b side rule) after none = at_one (HasEffect (Rule a b side rule)) r a (Session b) (λ is. by_session (Rule a b side rule) b (ruled_after c a b r side rule)) refl
   site_after (Clear a b side) after none = at_one (HasEffect (Clear a b side)) r a (Session b) (λ is. by_session (Clear a b side) b (cleared_after c a b r side)) refl
   site_after (Origin a p) after none =

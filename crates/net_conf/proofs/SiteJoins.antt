@@ -15,12 +15,10 @@ use Rattle.net_conf.specs.declared.tables.Ends.{Ends}
 use Rattle.net_conf.specs.declared.tables.Node.{Node}
 use Rattle.net_conf.specs.declared.edit.Edit.{Edit}
 use Rattle.net_conf.specs.declared.edit.Edit.TheVariants.{Join}
-use Rattle.net_conf.specs.declared.site.SiteConf.{SiteConf}
 use Rattle.net_conf.specs.declared.site.SiteSession.{SiteSession}
-use Rattle.net_conf.specs.Configuration.{Configuration, node_at, is_virtual, ends_of, ends_cmp, is_end, session_between, is_reflector, cluster_id, origins_of}
+use Rattle.net_conf.specs.Configuration.{Configuration, node_at, is_virtual, ends_of, ends_cmp, is_end, session_between}
 use Rattle.net_conf.specs.Configured.{IsConfigured}
-use Rattle.net_conf.specs.Costs.{costs_of}
-use Rattle.net_conf.specs.Sites.{peer_in, session_of, sessions_of, peers_of, site_of}
+use Rattle.net_conf.specs.Sites.{peer_in, session_of, sessions_of, peers_of, site_at, site_of}
 use Rattle.net_conf.specs.Edits.{edited, refusal_of, tests_of, repeats_session, with_session}
 use Rattle.net_conf.specs.Kept.{IsExtended, extended, is_below, is_above}
 use Rattle.net_conf.proofs.Inserted.{IsSplit, split}
@@ -136,16 +134,10 @@ module _ (c : Configuration) (r u : Addr) (on : Bool) (new : session_between c r
 
   extended_site : IsExtended c d r u
   unfolding site_of
-  extended_site = mapped old (extended d r u) now one (is_virtual c r) (node_at c r)
+  extended_site = mapped (site_at c r) (extended d r u) (site_at d r) one (is_virtual c r) (node_at c r)
     where
-      old : Node → SiteConf
-      old n = record { me = r; asn = n.asn; cluster = cluster_id c r; reflector = is_reflector c r; origins = origins_of c r; sessions = sessions_of c r; costs = costs_of c r }
-
-      now : Node → SiteConf
-      now n = record { me = r; asn = n.asn; cluster = cluster_id c r; reflector = is_reflector c r; origins = origins_of c r; sessions = sessions_of d r; costs = costs_of c r }
-
-      one : (n : Node) → now n ≡ extended d r u (old n)
-      one n = ap (λ (xs : List SiteSession). record (now n) { sessions = xs }) sessions_with
+      one : (n : Node) → site_at d r n ≡ extended d r u (site_at c r n)
+      one n = ap (λ (xs : List SiteSession). record (site_at c r n) { sessions = xs }) sessions_with
 
 -- EDITS
 

@@ -1,4 +1,4 @@
--- The site of a router, after an edit of one of its sessions, or of its CLUSTER_ID.
+-- The site of a router, after an edit of one of its sessions, of its CLUSTER_ID, or of how it compares MULTI_EXIT_DISC.
 use Rattle.std.proofs.Common.{◌≡◌, Bool, true, false, cond, ◌==◌, ◌&&◌, nat_le, List, [], ◌∷◌, ◌++◌, map, filter, Option, Some, None, option_map, is_some, if◌then◌else◌, refl, sym, ap, subst, ◌∙◌}
 use Rattle.std.specs.Option.{unwrap_or}
 use Rattle.std.specs.Cmp.{both_tied, unsigned_ties, unsigned_Decides}
@@ -15,14 +15,13 @@ use Rattle.net_conf.specs.declared.tables.Node.{Node}
 use Rattle.net_conf.specs.declared.tables.PolicySide.{PolicySide}
 use Rattle.net_conf.specs.declared.tables.PolicySide.TheVariants.{Import, Export}
 use Rattle.net_conf.specs.declared.edit.Edit.{Edit}
-use Rattle.net_conf.specs.declared.edit.Edit.TheVariants.{Stop, Start, Client, OwnNext, Cluster, Rule as AddRule, Clear}
-use Rattle.net_conf.specs.declared.site.SiteConf.{SiteConf}
-use Rattle.net_conf.specs.Configuration.{Configuration, node_at, is_virtual, ends_of, ends_cmp, end_of, end_cmp, is_end, session_between, has_session, rules_at, is_reflector, cluster_id, origins_of}
-use Rattle.net_conf.specs.Costs.{costs_of, session_up, is_connected}
-use Rattle.net_conf.specs.Sites.{peer_in, session_of, sessions_of, peers_of, site_of}
+use Rattle.net_conf.specs.declared.edit.Edit.TheVariants.{Stop, Start, Client, OwnNext, Cluster, MedAlways, Rule as AddRule, Clear}
+use Rattle.net_conf.specs.Configuration.{Configuration, node_at, is_virtual, ends_of, ends_cmp, end_of, end_cmp, is_end, session_between, has_session, rules_at, is_reflector}
+use Rattle.net_conf.specs.Costs.{session_up, is_connected}
+use Rattle.net_conf.specs.Sites.{peer_in, session_of, sessions_of, peers_of, site_at, site_of}
 use Rattle.net_conf.specs.RouterSites.{router_site}
 use Rattle.net_conf.specs.Edits.{edited, refusal_of, tests_of, lacks_session, switched, with_rule, without_rules, with_session}
-use Rattle.net_conf.specs.Kept.{IsResettled, IsReclustered, settled, resettled, reclustered}
+use Rattle.net_conf.specs.Kept.{IsResettled, IsReclustered, IsRecompared, settled, resettled, reclustered, recompared}
 use Rattle.net_conf.proofs.Inserted.{IsSplit, split}
 use Rattle.net_conf.proofs.KeptTrees.{ends_exact, ends_total, same_ends, same_address}
 use Rattle.net_conf.proofs.OthersStay.{end_exact, mapped}
@@ -58,16 +57,10 @@ module _ (c : Configuration) (sessions : List (Ends × Bool)) (clients own_next 
 
     settled_site : (by_client : Bool) → is_reflector with_sessions r ≡ (if by_client then is_reflector with_sessions r else is_reflector c r) → router_site with_sessions r ≡ option_map (resettled with_sessions r u by_client) (router_site c r)
     unfolding site_of
-    settled_site by_client same = mapped before (resettled with_sessions r u by_client) after one (is_virtual c r) (node_at c r)
+    settled_site by_client same = mapped (site_at c r) (resettled with_sessions r u by_client) (site_at with_sessions r) one (is_virtual c r) (node_at c r)
       where
-        before : Node → SiteConf
-        before n = record { me = r; asn = n.asn; cluster = cluster_id c r; reflector = is_reflector c r; origins = origins_of c r; sessions = sessions_of c r; costs = costs_of c r }
-
-        after : Node → SiteConf
-        after n = record { me = r; asn = n.asn; cluster = cluster_id c r; reflector = is_reflector with_sessions r; origins = origins_of c r; sessions = sessions_of with_sessions r; costs = costs_of c r }
-
-        one : (n : Node) → after n ≡ resettled with_sessions r u by_client (before n)
-        one n = λ i. record { me = r; asn = n.asn; cluster = cluster_id c r; reflector = same i; origins = origins_of c r; sessions = all_settled i; costs = costs_of c r }
+        one : (n : Node) → site_at with_sessions r n ≡ resettled with_sessions r u by_client (site_at c r n)
+        one n = λ i. record (site_at c r n) { reflector = same i; sessions = all_settled i }
 
 -- SETTINGS
 
@@ -216,3 +209,12 @@ other_cluster c clusters r = record { site = mapped _ (reclustered (record c { c
 
 pub reclustered_after : (c : Configuration) (a id r : Addr) → IsReclustered c (edited c (Cluster a id)) r
 reclustered_after c a id r = other_cluster c _ r
+
+-- HOW IT COMPARES MULTI_EXIT_DISC
+
+other_comparison : (c : Configuration) (med_always : List Addr) (r : Addr) → IsRecompared c (record c { med_always = med_always }) r
+unfolding site_of session_up
+other_comparison c med_always r = record { site = mapped _ (recompared (record c { med_always = med_always }) r) _ (λ n. refl) (is_virtual c r) (node_at c r) }
+
+pub recompared_after : (c : Configuration) (a : Addr) (on : Bool) (r : Addr) → IsRecompared c (edited c (MedAlways a on)) r
+recompared_after c a on r = other_comparison c _ r

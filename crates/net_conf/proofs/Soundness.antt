@@ -18,7 +18,7 @@ use Rattle.net_conf.specs.declared.tables.Ends.{Ends}
 use Rattle.net_conf.specs.declared.tables.Link.{Link as TheLink}
 use Rattle.net_conf.specs.declared.tables.Node.{Node}
 use Rattle.net_conf.specs.declared.edit.Edit.{Edit}
-use Rattle.net_conf.specs.declared.edit.Edit.TheVariants.{Router, Virtual, Link, Metric, Fail, Mend, Join, Stop, Start, Client, OwnNext, Cluster, Rule as AddRule, Clear, Origin, NoOrigin}
+use Rattle.net_conf.specs.declared.edit.Edit.TheVariants.{Router, Virtual, Link, Metric, Fail, Mend, Join, Stop, Start, Client, OwnNext, Cluster, MedAlways, Rule as AddRule, Clear, Origin, NoOrigin}
 use Rattle.net_conf.specs.declared.tables.PolicySide.TheVariants.{Import, Export}
 use Rattle.net_conf.specs.declared.refusal.Refusal.{Refusal}
 use Rattle.net_conf.specs.Configuration.{Configuration, has_node, ends_of, ends_cmp, link_between, has_session}
@@ -174,6 +174,7 @@ module _ (c : Configuration) (sound : IsSound c) where
   sound_edited (Client a b on) metric there two session room = same_tables _ refl refl refl
   sound_edited (OwnNext a b on) metric there two session room = same_tables _ refl refl refl
   sound_edited (Cluster a id) metric there two session room = same_tables _ refl refl refl
+  sound_edited (MedAlways a on) metric there two session room = same_tables _ refl refl refl
   sound_edited (AddRule a b Import rule) metric there two session room = same_tables _ refl refl refl
   sound_edited (AddRule a b Export rule) metric there two session room = same_tables _ refl refl refl
   sound_edited (Clear a b Import) metric there two session room = same_tables _ refl refl refl

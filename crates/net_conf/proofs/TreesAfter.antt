@@ -15,7 +15,7 @@ use Rattle.igp_cost.specs.Topology.{is_node, IsTopology}
 use Rattle.igp_cost.specs.Trees.{Reached, tree_of}
 use Rattle.igp_cost.specs.Walks.{Nodes, asn_of}
 use Rattle.net_conf.specs.declared.edit.Edit.{Edit}
-use Rattle.net_conf.specs.declared.edit.Edit.TheVariants.{Router, Virtual, Link, Metric, Fail, Mend, Join, Stop, Start, Client, OwnNext, Cluster, Rule as AddRule, Clear, Origin, NoOrigin}
+use Rattle.net_conf.specs.declared.edit.Edit.TheVariants.{Router, Virtual, Link, Metric, Fail, Mend, Join, Stop, Start, Client, OwnNext, Cluster, MedAlways, Rule as AddRule, Clear, Origin, NoOrigin}
 use Rattle.net_conf.specs.declared.tables.PolicySide.TheVariants.{Import, Export}
 use Rattle.net_conf.specs.declared.tables.Node.{Node}
 use Rattle.net_conf.specs.Configuration.{Configuration, node_at, has_node, ends_of, ends_cmp, is_end, ends_session, link_between}
@@ -103,6 +103,7 @@ others_stay law c (Start a b) sound sorted new link session = absurd (none-some 
 others_stay law c (Client a b on) sound sorted new link session = record { ends = λ r. refl; costs = λ r is. refl }
 others_stay law c (OwnNext a b on) sound sorted new link session = record { ends = λ r. refl; costs = λ r is. refl }
 others_stay law c (Cluster a id) sound sorted new link session = record { ends = λ r. refl; costs = λ r is. refl }
+others_stay law c (MedAlways a on) sound sorted new link session = record { ends = λ r. refl; costs = λ r is. refl }
 others_stay law c (AddRule a b Import rule) sound sorted new link session = record { ends = λ r. refl; costs = λ r is. refl }
 others_stay law c (AddRule a b Export rule) sound sorted new link session = record { ends = λ r. refl; costs = λ r is. refl }
 others_stay law c (Clear a b Import) sound sorted new link session = record { ends = λ r. refl; costs = λ r is. refl }

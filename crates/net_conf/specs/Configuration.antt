@@ -22,7 +22,8 @@ use Rattle.net_conf.specs.declared.tables.Origination.{Origination}
 -- routers and virtual peers by address: a router's address is its BGP Identifier, that of its sessions and its own
 -- NEXT_HOP (own), and a virtual peer is an external neighbour that decides nothing (own); links, and whether each session
 -- is enabled, by their ends, so one of each for two addresses (own); the settings of the ends of sessions: which peers are
--- clients, where a router puts itself as NEXT_HOP, and both policies; the CLUSTER_IDs that were set; and who originates what
+-- clients, where a router puts itself as NEXT_HOP, and both policies; the CLUSTER_IDs that were set; the routers that
+-- compare MULTI_EXIT_DISC whatever the neighbouring AS; and who originates what
 pub record Configuration : Type 0 where
   pub nodes : List (Addr × Node)
   pub links : List (Ends × Link)
@@ -32,10 +33,11 @@ pub record Configuration : Type 0 where
   pub imports : List (End × List Rule)
   pub exports : List (End × List Rule)
   pub clusters : List (Addr × Addr)
+  pub med_always : List Addr
   pub origins : List Origination
 
 abbrev pub unconfigured : Configuration
-unconfigured = record { nodes = []; links = []; sessions = []; clients = []; own_next = []; imports = []; exports = []; clusters = []; origins = [] }
+unconfigured = record { nodes = []; links = []; sessions = []; clients = []; own_next = []; imports = []; exports = []; clusters = []; med_always = []; origins = [] }
 
 -- the two ends of a link or a session, the lower first: the same in both orders
 abbrev pub ends_of : Addr → Addr → Ends
@@ -128,6 +130,11 @@ is_reflector c r = list_any (λ e. e.router.0 == r.0) c.clients
 -- only reflector)
 abbrev pub cluster_id : Configuration → Addr → Addr
 cluster_id c r = unwrap_or (lookup (is_at (addr_cmp r)) c.clusters) r
+
+-- the router compares MULTI_EXIT_DISC of all routes, whatever the neighbouring AS: no router does unless it was set
+-- (own); RFC 4271, 9.1.2.2 c), compares it among the routes of one neighbouring AS
+abbrev pub compares_all_meds : Configuration → Addr → Bool
+compares_all_meds c r = list_any (is_at (addr_cmp r)) c.med_always
 
 -- the router puts itself as NEXT_HOP towards the peer (RFC 4271, 5.1.3)
 abbrev pub puts_itself : Configuration → Addr → Addr → Bool

@@ -24,6 +24,7 @@ pub record IsInOrder (c : Configuration) : Type 0 where
   pub imports : IsStrictlySortedBy end_cmp (keys_of c.imports)
   pub exports : IsStrictlySortedBy end_cmp (keys_of c.exports)
   pub clusters : IsStrictlySortedBy addr_cmp (keys_of c.clusters)
+  pub med_always : IsStrictlySortedBy addr_cmp c.med_always
   pub origins : IsStrictlySortedBy origination_cmp c.origins
 
 -- links and sessions are between two that are there, and that differ

@@ -20,7 +20,7 @@ use Rattle.net_conf.specs.declared.tables.PolicySide.{PolicySide}
 use Rattle.net_conf.specs.declared.tables.PolicySide.TheVariants.{Import, Export}
 use Rattle.net_conf.specs.declared.tables.Kind.TheVariants.{Router as AsRouter, Virtual as AsVirtual}
 use Rattle.net_conf.specs.declared.edit.Edit.{Edit}
-use Rattle.net_conf.specs.declared.edit.Edit.TheVariants.{Router, Virtual, Link, Metric, Fail, Mend, Join, Stop, Start, Client, OwnNext, Cluster, Rule as AddRule, Clear, Origin, NoOrigin}
+use Rattle.net_conf.specs.declared.edit.Edit.TheVariants.{Router, Virtual, Link, Metric, Fail, Mend, Join, Stop, Start, Client, OwnNext, Cluster, MedAlways, Rule as AddRule, Clear, Origin, NoOrigin}
 use Rattle.net_conf.specs.declared.refusal.Refusal.{Refusal}
 use Rattle.net_conf.specs.declared.refusal.Refusal.TheVariants.{NoRouter, RouterExists, SameRouter, BadEnd, VirtualInside, NoLink, LinkExists, NotLinked, NoSession, SessionExists, InternalOnly, RuleNotAllowed, OriginExists, NoOrigin as NotOriginated, Limit, Memory}
 use Rattle.net_conf.specs.Configuration.{Configuration, has_node, is_virtual, is_external, ends_of, ends_cmp, end_of, end_cmp, link_between, has_link, has_session, session_count, rules_at, import_rules, export_rules, originates, origination_cmp}
@@ -44,6 +44,7 @@ lacks_node c (Start a b) = lacks_either c a b
 lacks_node c (Client a b on) = lacks_either c a b
 lacks_node c (OwnNext a b on) = lacks_either c a b
 lacks_node c (Cluster a id) = not (has_node c a)
+lacks_node c (MedAlways a on) = not (has_node c a)
 lacks_node c (AddRule a b side rule) = lacks_either c a b
 lacks_node c (Clear a b side) = lacks_either c a b
 lacks_node c (Origin a p) = not (has_node c a)
@@ -68,6 +69,7 @@ has_bad_end c (Join a b) = is_virtual c a && is_virtual c b
 has_bad_end c (Client a b on) = is_virtual c a
 has_bad_end c (OwnNext a b on) = is_virtual c a
 has_bad_end c (Cluster a id) = is_virtual c a
+has_bad_end c (MedAlways a on) = is_virtual c a
 has_bad_end c (AddRule a b side rule) = is_virtual c a
 has_bad_end c (Clear a b side) = is_virtual c a
 has_bad_end c (Origin a p) = is_virtual c a
@@ -218,6 +220,11 @@ abbrev pub switched : Bool → End → List End → List End
 switched true e es = insert_key end_cmp es e
 switched false e es = remove_key (is_at (end_cmp e)) es
 
+-- the routers, with this one or without it
+abbrev pub router_switched : Bool → Addr → List Addr → List Addr
+router_switched true r rs = insert_key addr_cmp rs r
+router_switched false r rs = remove_key (is_at (addr_cmp r)) rs
+
 -- the policies, with a rule at the end of the one of this end
 abbrev pub with_rule : End → Rule → List (End × List Rule) → List (End × List Rule)
 with_rule e rule policies = insert_entry end_cmp policies e (rules_at policies e ++ rule ∷ [])
@@ -250,6 +257,7 @@ edited c (Start a b) = with_session c a b true
 edited c (Client a b on) = record c { clients = switched on (end_of a b) c.clients }
 edited c (OwnNext a b on) = record c { own_next = switched on (end_of a b) c.own_next }
 edited c (Cluster a id) = record c { clusters = insert_entry addr_cmp c.clusters a id }
+edited c (MedAlways a on) = record c { med_always = router_switched on a c.med_always }
 edited c (AddRule a b side rule) = with_rule_of c a b side rule
 edited c (Clear a b side) = without_rules_of c a b side
 edited c (Origin a p) = record c { origins = insert_key origination_cmp c.origins (record { router = a; prefix = p }) }

@@ -89,8 +89,11 @@ module _ (s t : SiteConf) (h : same_facts s t ≡ true) where
   abbrev sessions : Bool
   sessions = pointwise same_session s.sessions t.sessions
 
+  abbrev comparisons : Bool
+  comparisons = beq s.med_always t.med_always && sessions
+
   abbrev reflectors : Bool
-  reflectors = beq s.reflector t.reflector && sessions
+  reflectors = beq s.reflector t.reflector && comparisons
 
   abbrev clusters : Bool
   clusters = same_addr s.cluster t.cluster && reflectors
@@ -103,14 +106,17 @@ module _ (s t : SiteConf) (h : same_facts s t ≡ true) where
       let after_me = second_so (same_addr s.me t.me) systems h in
       let after_asn = second_so (s.asn == t.asn) clusters after_me in
       let after_cluster = second_so (same_addr s.cluster t.cluster) reflectors after_asn in
+      let after_reflector = second_so (beq s.reflector t.reflector) comparisons after_cluster in
       let me = sym (addr_true s.me t.me (first_so (same_addr s.me t.me) systems h)) in
       let asn = sym ((unsigned_Decides s.asn t.asn).0 (first_so (s.asn == t.asn) clusters after_me)) in
       let cluster = sym (addr_true s.cluster t.cluster (first_so (same_addr s.cluster t.cluster) reflectors after_asn)) in
-      let reflector = sym ((booleans_Decides s.reflector t.reflector).0 (first_so (beq s.reflector t.reflector) sessions after_cluster)) in
-      let same = sym ((lists_exact sessions_exact s.sessions t.sessions).0 (second_so (beq s.reflector t.reflector) sessions after_cluster)) in
-      λ i. record { me = me i; asn = asn i; cluster = cluster i; reflector = reflector i; origins = t.origins; sessions = same i; costs = t.costs }
+      let reflector = sym ((booleans_Decides s.reflector t.reflector).0 (first_so (beq s.reflector t.reflector) comparisons after_cluster)) in
+      let med_always = sym ((booleans_Decides s.med_always t.med_always).0 (first_so (beq s.med_always t.med_always) sessions after_reflector)) in
+      let same = sym ((lists_exact sessions_exact s.sessions t.sessions).0 (second_so (beq s.med_always t.med_always) sessions after_reflector)) in
+      λ i. record { me = me i; asn = asn i; cluster = cluster i; reflector = reflector i; med_always = med_always i; origins = t.origins; sessions = same i; costs = t.costs }
 
 -- and a site has the same facts as itself with other originated prefixes and costs
 pub facts_itself : (s : SiteConf) (origins : List Prefix) (costs : Reached) → same_facts s (with_facts_of s origins costs) ≡ true
 facts_itself s origins costs =
-    both_true _ _ (number_itself s.me.0) (both_true _ _ (number_itself s.asn) (both_true _ _ (number_itself s.cluster.0) (both_true _ _ (bool_itself s.reflector) ((lists_exact sessions_exact s.sessions s.sessions).1 refl))))
+    both_true _ _ (number_itself s.me.0) (both_true _ _ (number_itself s.asn) (both_true _ _ (number_itself s.cluster.0) (both_true _ _ (bool_itself s.reflector)
+    (both_true _ _ (bool_itself s.med_always) ((lists_exact sessions_exact s.sessions s.sessions).1 refl)))))

@@ -19,7 +19,8 @@ same_session x y =
 -- the sites differ in the prefixes that they originate and in their costs alone
 abbrev pub same_facts : SiteConf → SiteConf → Bool
 same_facts s t =
-    same_addr s.me t.me && (s.asn == t.asn && (same_addr s.cluster t.cluster && (beq s.reflector t.reflector && pointwise same_session s.sessions t.sessions)))
+    same_addr s.me t.me && (s.asn == t.asn && (same_addr s.cluster t.cluster && (beq s.reflector t.reflector
+    && (beq s.med_always t.med_always && pointwise same_session s.sessions t.sessions))))
 
 -- the site, with these originated prefixes and costs
 abbrev pub with_facts_of : SiteConf → List Prefix → Reached → SiteConf

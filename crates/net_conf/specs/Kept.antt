@@ -1,5 +1,6 @@
 -- What is kept beside the tables, and what holds of every configuration that edits lead to. No public contract cites this file.
 use Rattle.std.specs.Prelude.{◌≡◌, ◌≤◌, ℕ, Bool, true, false, ◌==◌, nat_lt, List, ◌∷◌, ◌++◌, length, map, filter, Option, Some, None, option_map, IsTrue, All, if◌then◌else◌}
+use Rattle.std.proofs.Math.Bool.{beq}
 use Rattle.std.specs.Map.{keys_of, values_of, lookup}
 use Rattle.std.specs.Set.{remove_key}
 use Rattle.std.specs.BTreeMap.{is_at}
@@ -21,9 +22,9 @@ use Rattle.net_conf.specs.declared.tables.Ends.{Ends}
 use Rattle.net_conf.specs.declared.tables.Link.{Link as TheLink}
 use Rattle.net_conf.specs.declared.edit.Edit.{Edit}
 use Rattle.net_conf.specs.declared.edit.SiteEffect.{SiteEffect}
-use Rattle.net_conf.specs.declared.edit.SiteEffect.TheVariants.{Costs, Origins, Session, NewSession, ClusterId, Other}
-use Rattle.net_conf.specs.declared.edit.Edit.TheVariants.{Router, Virtual, Link, Metric, Fail, Mend, Join, Stop, Start, Client, OwnNext, Cluster, Rule, Clear, Origin, NoOrigin}
-use Rattle.net_conf.specs.Configuration.{Configuration, ends_of, ends_session, link_between, is_reflector, cluster_id}
+use Rattle.net_conf.specs.declared.edit.SiteEffect.TheVariants.{Costs, Origins, Session, NewSession, ClusterId, MedComparison, Other}
+use Rattle.net_conf.specs.declared.edit.Edit.TheVariants.{Router, Virtual, Link, Metric, Fail, Mend, Join, Stop, Start, Client, OwnNext, Cluster, MedAlways, Rule, Clear, Origin, NoOrigin}
+use Rattle.net_conf.specs.Configuration.{Configuration, ends_of, ends_session, link_between, is_reflector, cluster_id, compares_all_meds}
 use Rattle.net_conf.specs.Edits.{refusal_of, edited, with_link, with_session}
 use Rattle.net_conf.specs.Costs.{costs_of, is_up, down_sessions}
 use Rattle.net_conf.specs.Sites.{session_of}
@@ -161,6 +162,14 @@ reclustered d r s = record s { cluster = cluster_id d r }
 pub record IsReclustered (c d : Configuration) (r : Addr) : Type 0 where
   pub site : router_site d r ≡ option_map (reclustered d r) (router_site c r)
 
+-- the site, with how it compares MULTI_EXIT_DISC by the configuration
+abbrev pub recompared : Configuration → Addr → SiteConf → SiteConf
+recompared d r s = record s { med_always = compares_all_meds d r }
+
+-- of the router's part how it compares MULTI_EXIT_DISC differs alone
+pub record IsRecompared (c d : Configuration) (r : Addr) : Type 0 where
+  pub site : router_site d r ≡ option_map (recompared d r) (router_site c r)
+
 -- it makes a client of a peer, or takes it for one no more
 abbrev pub sets_client : Edit → Bool
 sets_client (Client a b on) = true
@@ -173,9 +182,15 @@ site_from d e r Origins s = Some (reoriginated e s)
 site_from d e r (Session u) s = Some (resettled d r u (sets_client e) s)
 site_from d e r (NewSession u) s = Some (extended d r u s)
 site_from d e r ClusterId s = Some (reclustered d r s)
+site_from d e r MedComparison s = Some (recompared d r s)
 site_from d e r Other s = router_site d r
 
 -- WHAT AN EDIT TOUCHES
+
+-- it asks for a setting of a router that is there already
+abbrev pub has_setting : Configuration → Edit → Bool
+has_setting c (MedAlways a on) = beq (compares_all_meds c a) on
+has_setting c _ = false
 
 -- the metric of a new link, or the new one of a link, is one
 abbrev pub HasMetric : Edit → Type 0
@@ -222,6 +237,7 @@ effect_on (Start a b) r = if r.0 == a.0 then Session b else effect_at r b (Sessi
 effect_on (Client a b on) r = effect_at r a (Session b)
 effect_on (OwnNext a b on) r = effect_at r a (Session b)
 effect_on (Cluster a id) r = effect_at r a ClusterId
+effect_on (MedAlways a on) r = effect_at r a MedComparison
 effect_on (Rule a b side rule) r = effect_at r a (Session b)
 effect_on (Clear a b side) r = effect_at r a (Session b)
 effect_on (Origin a p) r = effect_at r a Origins

@@ -5,7 +5,7 @@ use Rattle.net_prefix.specs.declared.addr.Addr.{Addr}
 use Rattle.net_prefix.specs.Address.{same_addr}
 use Rattle.net_prefix.specs.Prefix.{Prefix, same_prefix}
 use Rattle.net_conf.specs.declared.edit.Edit.{Edit}
-use Rattle.net_conf.specs.declared.edit.Edit.TheVariants.{Client, OwnNext, Cluster, Rule, Clear, Origin, NoOrigin}
+use Rattle.net_conf.specs.declared.edit.Edit.TheVariants.{Client, OwnNext, Cluster, MedAlways, Rule, Clear, Origin, NoOrigin}
 use Rattle.net_conf.specs.declared.edit.Scope.{Scope}
 use Rattle.net_conf.specs.declared.edit.Scope.TheVariants.{Network, Site, Route}
 use Rattle.net_conf.specs.declared.site.SiteConf.{SiteConf}
@@ -19,6 +19,7 @@ abbrev pub scope : Edit → Scope
 scope (Client a b on) = Site a
 scope (OwnNext a b on) = Site a
 scope (Cluster a id) = Site a
+scope (MedAlways a on) = Site a
 scope (Rule a b side rule) = Site a
 scope (Clear a b side) = Site a
 scope (Origin a p) = Route a p

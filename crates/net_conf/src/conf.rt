@@ -187,8 +187,38 @@ impl Conf {
         self.made(rt, alloc, edit).map_err(|_| Refusal::Memory)
     }
 
-    /// The same, of an edit that is not refused: it is not checked again.
+    /// The same, of an edit that is not refused: it is not checked again. Where the setting of a router is there
+    /// already, it takes no memory.
     pub fn made<R: Threads + Sync>(
+        &self,
+        rt: &R,
+        alloc: Global,
+        edit: &Edit,
+    ) -> Result<EditedConf, AllocError>
+        requires { refusal_of self.now edit.now ≡ None }
+        ensures conf { IfOk result (λ made. made.conf ≡ edited self.now edit.now) }
+        ensures concerned { IfOk result (λ made. ConcernsAlone self.now made.conf made.concerned.keys) }
+    {
+        if self.sessions.tables().has_setting(edit) {
+            self.unchanged(alloc, edit)
+        } else {
+            self.changed(rt, alloc, edit)
+        }
+    }
+
+    /// The same, of an edit that changes nothing: it concerns nobody.
+    fn unchanged(&self, alloc: Global, edit: &Edit) -> Result<EditedConf, AllocError>
+        requires { edited self.now edit.now ≡ self.now }
+        ensures conf { IfOk result (λ made. made.conf ≡ edited self.now edit.now) }
+        ensures concerned { IfOk result (λ made. ConcernsAlone self.now made.conf made.concerned.keys) }
+    {
+        let conf = self.copy(alloc)?;
+        let concerned = BTreeSet::new(alloc);
+        Ok(EditedConf { conf, concerned })
+    }
+
+    /// The same, of any edit.
+    fn changed<R: Threads + Sync>(
         &self,
         rt: &R,
         alloc: Global,

@@ -37,6 +37,8 @@ pub enum Edit {
     OwnNext(Addr, Addr, bool),
     /// The CLUSTER_ID of the router (RFC 4456, 7).
     Cluster(Addr, Addr),
+    /// Whether the router compares MULTI_EXIT_DISC whatever the neighbouring AS (RFC 4271, 9.1.2.2).
+    MedAlways(Addr, bool),
     /// A rule at the end of the policy of the first for what comes from the second, or goes to it.
     Rule(Addr, Addr, PolicySide, Rule),
     /// That policy is emptied.
@@ -71,6 +73,8 @@ pub(crate) enum SiteEffect {
     NewSession(Addr),
     /// Its CLUSTER_ID (RFC 4456, 7).
     ClusterId,
+    /// Whether it compares MULTI_EXIT_DISC whatever the neighbouring AS (RFC 4271, 9.1.2.2).
+    MedComparison,
     /// None of these alone.
     Other,
 }
@@ -95,6 +99,7 @@ impl Edit {
         match self {
             Edit::Client(router, _, _) | Edit::OwnNext(router, _, _) => Scope::Site(*router),
             Edit::Cluster(router, _) => Scope::Site(*router),
+            Edit::MedAlways(router, _) => Scope::Site(*router),
             Edit::Rule(router, _, _, _) | Edit::Clear(router, _, _) => Scope::Site(*router),
             Edit::Origin(router, prefix) => Scope::Route(*router, *prefix),
             Edit::NoOrigin(router, prefix) => Scope::Route(*router, *prefix),
@@ -169,6 +174,7 @@ impl Edit {
             Edit::Rule(one, peer, _, _) => effect_at(router, *one, SiteEffect::Session(*peer)),
             Edit::Clear(one, peer, _) => effect_at(router, *one, SiteEffect::Session(*peer)),
             Edit::Cluster(one, _) => effect_at(router, *one, SiteEffect::ClusterId),
+            Edit::MedAlways(one, _) => effect_at(router, *one, SiteEffect::MedComparison),
             Edit::Origin(one, _) | Edit::NoOrigin(one, _) => {
                 effect_at(router, *one, SiteEffect::Origins)
             }

@@ -21,7 +21,7 @@ impl SiteConf {
     }
 
     /// Whether all but the originated prefixes and the costs is the same in both: the address, the AS, the CLUSTER_ID,
-    /// whether there is a client, and the sessions with what is set for each.
+    /// whether there is a client, how MULTI_EXIT_DISC is compared, and the sessions with what is set for each.
     pub fn has_same_facts(&self, other: &SiteConf) -> bool
         ensures { result ≡ same_facts self.now other.now }
     {
@@ -29,6 +29,7 @@ impl SiteConf {
             && self.asn == other.asn
             && self.cluster == other.cluster
             && self.reflector == other.reflector
+            && self.med_always == other.med_always
             && self.sessions == other.sessions
     }
 }

@@ -27,6 +27,8 @@ pub struct SiteConf {
     pub cluster: Addr,
     /// Whether it has a client (RFC 4456, 6).
     pub reflector: bool,
+    /// Whether it compares MULTI_EXIT_DISC whatever the neighbouring AS (RFC 4271, 9.1.2.2).
+    pub med_always: bool,
     /// The prefixes that it originates, in order.
     pub origins: ChunkedSet<Prefix>,
     /// Its sessions, up or down, by the address of the peer.
@@ -82,6 +84,7 @@ impl SiteConf {
             asn: self.asn,
             cluster: self.cluster,
             reflector: self.reflector,
+            med_always: self.med_always,
             origins,
             sessions,
             costs,
@@ -187,6 +190,7 @@ impl ConfSessions {
             asn: node.asn,
             cluster: self.tables().cluster_id(router),
             reflector: self.tables().is_reflector(router),
+            med_always: self.tables().compares_all_meds(router),
             origins: self.tables().shared_origins(alloc, router)?,
             sessions: SharedSeq::of(alloc, self.sessions_of(alloc, router)?)?,
             costs: self.costs(alloc, router)?,

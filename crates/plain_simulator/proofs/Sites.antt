@@ -6,7 +6,7 @@ use Rattle.net_prefix.specs.Prefix.{Prefix}
 use Rattle.net_conf.specs.declared.site.SiteConf.{SiteConf}
 use Rattle.net_conf.specs.declared.tables.Node.{Node}
 use Rattle.igp_cost.specs.Trees.{Reached}
-use Rattle.net_conf.specs.Configuration.{Configuration, node_at, cluster_id, is_reflector, origins_of}
+use Rattle.net_conf.specs.Configuration.{Configuration, node_at, cluster_id, is_reflector, compares_all_meds, origins_of}
 use Rattle.net_conf.specs.Costs.{costs_of}
 use Rattle.net_conf.specs.Sites.{site_of, sessions_of}
 use Rattle.route_select.specs.Selection.{best_of}
@@ -31,5 +31,5 @@ mapped_costs f t all (Some n) site is = ap (λ here. here.costs) (sym (same_Some
 pub site_costs : (c : Configuration) (r : Addr) (site : SiteConf) → site_of c r ≡ Some site → site.costs ≡ costs_of c r
 unfolding site_of
 site_costs c r site is =
-    let f : Node → SiteConf = λ n. record { me = r; asn = n.asn; cluster = cluster_id c r; reflector = is_reflector c r; origins = origins_of c r; sessions = sessions_of c r; costs = costs_of c r } in
+    let f : Node → SiteConf = λ n. record { me = r; asn = n.asn; cluster = cluster_id c r; reflector = is_reflector c r; med_always = compares_all_meds c r; origins = origins_of c r; sessions = sessions_of c r; costs = costs_of c r } in
     mapped_costs f (costs_of c r) (λ n. refl) (node_at c r) site is

@@ -78,7 +78,7 @@ pub fn standings<S: Selector + Drop>(
 ) -> Result<S, AllocError>
     ensures { IfOk result (λ chosen. S.standings chosen ≡ standings site.now prefix received.now.entries) }
 {
-    let mut chosen = S::new(alloc);
+    let mut chosen = S::new(alloc, site.med_always);
     put_own(&mut chosen, site, prefix)?;
     add_peers(
         alloc,

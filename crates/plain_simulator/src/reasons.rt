@@ -80,7 +80,8 @@ fn sources_at(
     prefix: Prefix,
     received: &BTreeMap<RouteKey, Attr>,
 ) -> Result<BTreeSet<Source>, AllocError>
-    ensures { IfOk result (λ sources. sources.keys ≡ finite.keys (standings site.now prefix received.now.entries)) }
+    ensures { IfOk result (λ sources.
+        sources.keys ≡ finite.keys (standings site.now prefix received.now.entries).known) }
 {
     let mut sources = BTreeSet::new(alloc);
     add_own(&mut sources, site, prefix)?;

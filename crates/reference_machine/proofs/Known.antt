@@ -17,7 +17,7 @@ use Rattle.net_prefix.specs.Address.{same_addr}
 use Rattle.net_prefix.specs.Prefix.{Prefix, same_prefix, prefix_cmp}
 use Rattle.net_prefix.specs.Orders.{prefix_exact}
 use Rattle.path_attr.specs.declared.attr.Attr.{Attr}
-use Rattle.net_conf.specs.Configuration.{Configuration, node_at, is_reflector, cluster_id, origins_of}
+use Rattle.net_conf.specs.Configuration.{Configuration, node_at, is_reflector, cluster_id, compares_all_meds, origins_of}
 use Rattle.net_conf.specs.Costs.{costs_of}
 use Rattle.net_conf.specs.Sites.{sessions_of, site_of}
 use Rattle.net_conf.specs.declared.tables.Node.{Node}
@@ -25,7 +25,7 @@ use Rattle.net_conf.specs.declared.site.SiteConf.{SiteConf}
 use Rattle.net_conf.specs.declared.site.SiteSession.{SiteSession}
 use Rattle.route_select.specs.declared.candidate.Source.{Source}
 use Rattle.route_select.specs.declared.candidate.Standing.{Standing}
-use Rattle.route_select.specs.Selection.{best_of, best_among, considered_in, source_cmp}
+use Rattle.route_select.specs.Selection.{no_standings, best_of, best_among, considered_in, source_cmp}
 use Rattle.reference_machine.specs.declared.rows.RouteKey.{RouteKey}
 use Rattle.reference_machine.specs.Network.{Network, route_cmp, received_by}
 use Rattle.reference_machine.specs.Decision.{route_from, is_originated, standing_over, standing_from, routes_at, added, standings, best}
@@ -125,15 +125,15 @@ none_standing site p es none (x ∷ xs) =
 no_entries : finite.entries (finite.empty {K = Source} {X = Standing} {R = source_cmp}) ≡ []
 no_entries = nil_from_length _ (sym (finite.len-entries (finite.empty {K = Source} {X = Standing} {R = source_cmp})) ∙ finite.len-empty source_cmp Standing)
 
-none_best : best_of finite.empty ≡ None
+none_best : (always : Bool) → best_of (no_standings always) ≡ None
 unfolding best_among
-none_best = ap (λ es. best_among (considered_in es)) no_entries
+none_best always = ap (λ es. best_among always (considered_in es)) no_entries
 
 routes_none : (site : SiteConf) (p : Prefix) (es : List (RouteKey × Attr)) → is_originated site p ≡ false → ((u : Addr) → route_from es site.me p u ≡ None) → routes_at site p es ≡ []
 routes_none site p es own none = rw own (none_standing site p es none site.sessions)
 
 best_at_none : (site : SiteConf) (p : Prefix) (es : List (RouteKey × Attr)) → is_originated site p ≡ false → ((u : Addr) → route_from es site.me p u ≡ None) → best_of (standings site p es) ≡ None
-best_at_none site p es own none = ap (λ rs. best_of (added finite.empty rs)) (routes_none site p es own none) ∙ none_best
+best_at_none site p es own none = ap (λ rs. best_of (added (no_standings site.med_always) rs)) (routes_none site p es own none) ∙ none_best site.med_always
 
 none_through : {A B C : Type 0} (f : B → Option C) (g : A → B) (o : Option A) → ((a : A) → f (g a) ≡ None) → option_and_then f (option_map g o) ≡ None
 none_through f g None none = refl
@@ -141,7 +141,7 @@ none_through f g (Some a) none = none a
 
 -- the router's part of the configuration, where this node stands at its address
 abbrev site_at : Configuration → Addr → Node → SiteConf
-site_at c r n = record { me = r; asn = n.asn; cluster = cluster_id c r; reflector = is_reflector c r; origins = origins_of c r; sessions = sessions_of c r; costs = costs_of c r }
+site_at c r n = record { me = r; asn = n.asn; cluster = cluster_id c r; reflector = is_reflector c r; med_always = compares_all_meds c r; origins = origins_of c r; sessions = sessions_of c r; costs = costs_of c r }
 
 -- nothing is chosen for a prefix that the router neither originates nor has received
 pub best_none : (s : Network) (r : Addr) (p : Prefix) → list_any (same_prefix p) (prefixes_at s r) ≡ false → best s r p ≡ None

@@ -14,7 +14,7 @@ use Rattle.net_prefix.specs.Address.{addr_cmp}
 use Rattle.net_prefix.specs.Prefix.{Prefix}
 use Rattle.net_prefix.specs.Orders.{addr_total}
 use Rattle.igp_cost.specs.Trees.{Reached as Costs}
-use Rattle.net_conf.specs.Configuration.{node_at, has_node, is_virtual, cluster_id, is_reflector, origins_of}
+use Rattle.net_conf.specs.Configuration.{node_at, has_node, is_virtual, cluster_id, is_reflector, compares_all_meds, origins_of}
 use Rattle.net_conf.specs.Costs.{costs_of}
 use Rattle.net_conf.specs.Sites.{site_of, sessions_of}
 use Rattle.route_select.specs.declared.candidate.Candidate.{Candidate}
@@ -83,7 +83,7 @@ some_through f g (Some a) h = refl
 chooser_there : (s : Network) (r : Addr) (p : Prefix) → is_some (best s r p) ≡ true → has_node s.conf r ≡ true
 unfolding best site_of
 chooser_there s r p h =
-    some_through (λ site. best_of (standings site p s.received)) (λ n. record { me = r; asn = n.asn; cluster = cluster_id s.conf r; reflector = is_reflector s.conf r; origins = origins_of s.conf r; sessions = sessions_of s.conf r; costs = costs_of s.conf r }) (node_at s.conf r) h
+    some_through (λ site. best_of (standings site p s.received)) (λ n. record { me = r; asn = n.asn; cluster = cluster_id s.conf r; reflector = is_reflector s.conf r; med_always = compares_all_meds s.conf r; origins = origins_of s.conf r; sessions = sessions_of s.conf r; costs = costs_of s.conf r }) (node_at s.conf r) h
 
 matched_there : (s : Network) (r : Addr) (found : Option Prefix) (p : Prefix) (h : Addr) → by_prefix s r found ≡ Forwards p h → has_node s.conf r ≡ true
 matched_there s r None p h is = absurd (ends_not _ p h is)

@@ -4,7 +4,6 @@ use Rattle.std.specs.Option.{unwrap_or, option_or}
 use Rattle.std.specs.List.{filter_map, list_any}
 use Rattle.std.specs.Map.{lookup}
 use Rattle.std.specs.BTreeMap.{is_at}
-use Rattle.std.specs.FinMap as finite
 use Rattle.net_prefix.specs.declared.addr.Addr.{Addr}
 use Rattle.net_prefix.specs.Address.{same_addr}
 use Rattle.net_prefix.specs.Prefix.{Prefix, same_prefix}
@@ -26,7 +25,7 @@ use Rattle.route_select.specs.declared.candidate.Reason.{Reason}
 use Rattle.route_select.specs.declared.candidate.Reason.TheVariants.{Loop, Originator, Cluster, Denied, Unresolved}
 use Rattle.route_select.specs.declared.candidate.Standing.{Standing}
 use Rattle.route_select.specs.declared.candidate.Standing.TheVariants.{Excluded, Considered}
-use Rattle.route_select.specs.Selection.{Standings, best_of}
+use Rattle.route_select.specs.Selection.{Standings, no_standings, with_standing, best_of}
 use Rattle.reference_machine.specs.declared.rows.RouteKey.{RouteKey}
 use Rattle.reference_machine.specs.Network.{Network, route_cmp}
 
@@ -145,13 +144,13 @@ standing_from site p es from = standing_over site p from (route_from es site.me 
 abbrev pub routes_at : SiteConf → Prefix → List (RouteKey × Attr) → List (Source × Standing)
 routes_at site p es = own_standings site p ++ filter_map (standing_from site p es) site.sessions
 
--- the map to which these entries were added
+-- the standings to which these were added
 abbrev pub added : Standings → List (Source × Standing) → Standings
-added m es = fold (λ n e. finite.insert n e.0 e.1) m es
+added m es = fold (λ n e. with_standing e.0 e.1 n) m es
 
--- how each source's route to the prefix stands at the router
+-- how each source's route to the prefix stands at the router, and whether the router compares MED over all neighbours
 abbrev pub standings : SiteConf → Prefix → List (RouteKey × Attr) → Standings
-standings site p es = added finite.empty (routes_at site p es)
+standings site p es = added (no_standings site.med_always) (routes_at site p es)
 
 -- the route that the router chooses (RFC 4271, 9.1.2.2; RFC 4456, 9)
 unfoldable pub best : Network → Addr → Prefix → Option Candidate

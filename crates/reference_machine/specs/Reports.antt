@@ -37,13 +37,13 @@ loc_rib s r = filter_map (λ p. held_of p (best s r p)) (in_order (prefixes_at s
 unfoldable pub choice : Network → Addr → Prefix → Option Held
 choice s r p = held_of p (best s r p)
 
--- the source of the entry, and why its route was chosen or dropped, among the routes that are considered
-abbrev pub why : List Candidate → (Source × Standing) → (Source × Reason)
-why routes e = (e.0, reason_for routes e.1)
+-- the source of the entry, and why its route was chosen or dropped, among the standings
+abbrev pub why : Standings → (Source × Standing) → (Source × Reason)
+why standings e = (e.0, reason_for standings.med_always (considered standings) e.1)
 
 -- why the route of each source was chosen or dropped, in the order of the sources
 abbrev pub reasons_of : Standings → List (Source × Reason)
-reasons_of standings = map (why (considered standings)) (finite.entries standings)
+reasons_of standings = map (why standings) (finite.entries standings.known)
 
 abbrev pub reasons_at : Prefix → List (RouteKey × Attr) → Option SiteConf → List (Source × Reason)
 reasons_at p es None = []

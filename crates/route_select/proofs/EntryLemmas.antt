@@ -55,8 +55,12 @@ pub source_total : IsTotalOrder source_cmp
 source_total = record { antisymm = source_antisymm; trans = source_trans; congr = λ a b c e. ap (λ s. source_cmp s c) (same_source a b e) }
 
 -- the map that these entries make
-abbrev pub map_of : Entries → Standings
+abbrev pub map_of : Entries → map.FinMap source_cmp Standing
 map_of es = map.from_sorted es
+
+-- what is known, by how MULTI_EXIT_DISC is compared
+abbrev pub compared : Bool → map.FinMap source_cmp Standing → Standings
+compared always known = record { known = known; med_always = always }
 
 pub entries_of : (es : Entries) → AreEntries es → map.entries (map_of es) ≡ es
 entries_of es are = map.entries-from_sorted source_cmp es (T_of _ are.in_order)

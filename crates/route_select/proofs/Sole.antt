@@ -13,64 +13,64 @@ use Rattle.route_select.proofs.Filtering.{before_peer, cases_of, refuted, in_fil
 use Rattle.route_select.proofs.EntryLemmas.{of_T, AreApart, considered_apart, each_from}
 
 -- what beats one that beats m beats m
-beats_trans : (k : Filter) (p n m : Candidate) → beats k p n ≡ true → beats k n m ≡ true → beats k p m ≡ true
-beats_trans k p n m h g = elim (cases_of (beats k p m)) [
+beats_trans : (always : Bool) (k : Filter) (p n m : Candidate) → beats always k p n ≡ true → beats always k n m ≡ true → beats always k p m ≡ true
+beats_trans always k p n m h g = elim (cases_of (beats always k p m)) [
   | inl t ↦ t
   | inr f ↦
-      let back : beats k m n ≡ true = elim (plain_or_med k) [
-        | inl plain ↦ weak k plain p m n h f
-        | inr e ↦ weak_within k p m n (same_sym m n ∙ med_same n m (subst (λ q. beats q n m ≡ true) e g)) h f
+      let back : beats always k m n ≡ true = elim (plain_or_med k) [
+        | inl plain ↦ weak always k plain p m n h f
+        | inr e ↦ weak_within always k p m n (same_sym always m n ∙ med_same always n m (subst (λ q. beats always q n m ≡ true) e g)) h f
       ] in
-      absurd (false≢true (sym (beats_asym k n m g) ∙ back))
+      absurd (false≢true (sym (beats_asym always k n m g) ∙ back))
 ]
 
-not_itself : (k : Filter) (m : Candidate) → beats k m m ≡ false
-not_itself k m = refuted (beats k m m) (λ t. beats_asym k m m t)
+not_itself : (always : Bool) (k : Filter) (m : Candidate) → beats always k m m ≡ false
+not_itself always k m = refuted (beats always k m m) (λ t. beats_asym always k m m t)
 
 -- one of the routes that none of them beats
-abbrev Unbeaten : Filter → List Candidate → Type 0
-Unbeaten k ms = (b : Candidate) × In b ms × ((n : Candidate) → In n ms → beats k n b ≡ false)
+abbrev Unbeaten : Bool → Filter → List Candidate → Type 0
+Unbeaten always k ms = (b : Candidate) × In b ms × ((n : Candidate) → In n ms → beats always k n b ≡ false)
 
-unbeaten : (k : Filter) (m : Candidate) (ms : List Candidate) → Unbeaten k (m ∷ ms)
-unbeaten k m [] = (m, inl refl, λ n i. elim i [ inl e ↦ subst (λ q. beats k q m ≡ false) e (not_itself k m) | inr none ↦ absurd none ])
-unbeaten k m (x ∷ xs) =
-    let r = unbeaten k x xs in
-    elim (cases_of (beats k m r.0)) [
+unbeaten : (always : Bool) (k : Filter) (m : Candidate) (ms : List Candidate) → Unbeaten always k (m ∷ ms)
+unbeaten always k m [] = (m, inl refl, λ n i. elim i [ inl e ↦ subst (λ q. beats always k q m ≡ false) e (not_itself always k m) | inr none ↦ absurd none ])
+unbeaten always k m (x ∷ xs) =
+    let r = unbeaten always k x xs in
+    elim (cases_of (beats always k m r.0)) [
       | inl t ↦ (
         m,
         inl refl,
         λ n i. elim i [
-          | inl e ↦ subst (λ q. beats k q m ≡ false) e (not_itself k m)
-          | inr j ↦ refuted (beats k n m) (λ u. absurd (false≢true (sym (r.2 n j) ∙ beats_trans k n m r.0 u t)))
+          | inl e ↦ subst (λ q. beats always k q m ≡ false) e (not_itself always k m)
+          | inr j ↦ refuted (beats always k n m) (λ u. absurd (false≢true (sym (r.2 n j) ∙ beats_trans always k n m r.0 u t)))
         ],
       )
-      | inr f ↦ (r.0, inr r.1, λ n i. elim i [ inl e ↦ subst (λ q. beats k q r.0 ≡ false) e f | inr j ↦ r.2 n j ])
+      | inr f ↦ (r.0, inr r.1, λ n i. elim i [ inl e ↦ subst (λ q. beats always k q r.0 ≡ false) e f | inr j ↦ r.2 n j ])
     ]
 
 -- so each filter leaves one of some routes, and so do all
-one_left : (k : Filter) (ms : List Candidate) (m : Candidate) → In m ms → (b : Candidate) × In b (left_by k ms)
-one_left k [] m i = absurd i
-one_left k (x ∷ xs) m i = let r = unbeaten k x xs in (r.0, unbeaten_left k (x ∷ xs) r.0 r.1 r.2)
+one_left : (always : Bool) (k : Filter) (ms : List Candidate) (m : Candidate) → In m ms → (b : Candidate) × In b (left_by always k ms)
+one_left always k [] m i = absurd i
+one_left always k (x ∷ xs) m i = let r = unbeaten always k x xs in (r.0, unbeaten_left always k (x ∷ xs) r.0 r.1 r.2)
 
-some_left : (ks : List Filter) (ms : List Candidate) (m : Candidate) → In m ms → (b : Candidate) × In b (left_by_all ks ms)
-some_left [] ms m i = (m, i)
-some_left (k ∷ ks) ms m i = let r = one_left k ms m i in some_left ks (left_by k ms) r.0 r.1
+some_left : (always : Bool) (ks : List Filter) (ms : List Candidate) (m : Candidate) → In m ms → (b : Candidate) × In b (left_by_all always ks ms)
+some_left always [] ms m i = (m, i)
+some_left always (k ∷ ks) ms m i = let r = one_left always k ms m i in some_left always ks (left_by always k ms) r.0 r.1
 
-none_is_none : (ms : List Candidate) → best_among ms ≡ None → ms ≡ []
+none_is_none : (always : Bool) (ms : List Candidate) → best_among always ms ≡ None → ms ≡ []
 unfolding best_among
-none_is_none [] none = refl
-none_is_none (m ∷ ms) none = let r = some_left filters (m ∷ ms) m (inl refl) in first_none (left_by_all filters (m ∷ ms)) none r.0 r.1
+none_is_none always [] none = refl
+none_is_none always (m ∷ ms) none = let r = some_left always filters (m ∷ ms) m (inl refl) in first_none (left_by_all always filters (m ∷ ms)) none r.0 r.1
   where
     first_none : (xs : List Candidate) → slice_get xs 0 ≡ None → (b : Candidate) → In b xs → m ∷ ms ≡ []
     first_none [] e b i = absurd i
     first_none (x ∷ xs) e b i = let e' : Some x ≡ None = e in absurd (cc)
 
-none_of_none : (ms : List Candidate) → ms ≡ [] → best_among ms ≡ None
+none_of_none : (always : Bool) (ms : List Candidate) → ms ≡ [] → best_among always ms ≡ None
 unfolding best_among
-none_of_none ms e = ap best_among e
+none_of_none always ms e = ap (best_among always) e
 
 pub none_is_left : NoneIsLeft
-none_is_left standings = (none_is_none (considered standings), none_of_none (considered standings))
+none_is_left standings = (none_is_none standings.med_always (considered standings), none_of_none standings.med_always (considered standings))
 
 -- what is left of routes of different sources is of different sources
 apart_filter : (p : Candidate → Bool) (ms : List Candidate) → AreApart ms → AreApart (filter p ms)
@@ -80,9 +80,9 @@ apart_filter p (m ∷ ms) a = elim (p m) as (λ b. AreApart (cond b (m ∷ filte
   | false ↦ apart_filter p ms a.1
 ]
 
-apart_left : (ks : List Filter) (ms : List Candidate) → AreApart ms → AreApart (left_by_all ks ms)
-apart_left [] ms a = a
-apart_left (k ∷ ks) ms a = apart_left ks (left_by k ms) (apart_filter _ ms a)
+apart_left : (always : Bool) (ks : List Filter) (ms : List Candidate) → AreApart ms → AreApart (left_by_all always ks ms)
+apart_left always [] ms a = a
+apart_left always (k ∷ ks) ms a = apart_left always ks (left_by always k ms) (apart_filter _ ms a)
 
 -- a list of different sources, all of one source, whose first is b
 only : (xs : List Candidate) (b : Candidate) → AreApart xs → ((m n : Candidate) → In m xs → In n xs → m.source ≡ n.source) → slice_get xs 0 ≡ Some b → xs ≡ b ∷ []
@@ -90,18 +90,18 @@ only [] b a tie first = let e : None ≡ Some b = first in absurd (cc)
 only (x ∷ []) b a tie first = let e : Some x ≡ Some b = first in let e' : x ≡ b = cc in ap (λ y. y ∷ []) e'
 only (x ∷ y ∷ ys) b a tie first = absurd (a.0 y (inl refl) (tie x y (inl refl) (inr (inl refl))))
 
-only_best : (ms : List Candidate) (b : Candidate) → AreApart ms → best_among ms ≡ Some b → left_by_all filters ms ≡ b ∷ []
+only_best : (always : Bool) (ms : List Candidate) (b : Candidate) → AreApart ms → best_among always ms ≡ Some b → left_by_all always filters ms ≡ b ∷ []
 unfolding best_among
-only_best ms b a best =
-    let ws = left_by_all (before_peer filters) ms in
-    only (left_by_all filters ms) b (apart_left filters ms a) (λ m n i j.
-    peer_tie m n (left_unbeaten Peer ws n m j (from_left Peer ws m i)) (left_unbeaten Peer ws m n i (from_left Peer ws n j))) best
+only_best always ms b a best =
+    let ws = left_by_all always (before_peer filters) ms in
+    only (left_by_all always filters ms) b (apart_left always filters ms a) (λ m n i j.
+    peer_tie always m n (left_unbeaten always Peer ws n m j (from_left always Peer ws m i)) (left_unbeaten always Peer ws m n i (from_left always Peer ws n j))) best
 
 pub one_is_left : OneIsLeft
 one_is_left standings own b best =
-    let es = map.entries standings in
-    let sorted = of_T _ (map.entries_sorted standings) in
-    only_best (considered standings) b (considered_apart es sorted (each_from es sorted (λ q w is. own q w (map.get-entries standings q ∙ is)))) best
+    let es = map.entries standings.known in
+    let sorted = of_T _ (map.entries_sorted standings.known) in
+    only_best standings.med_always (considered standings) b (considered_apart es sorted (each_from es sorted (λ q w is. own q w (map.get-entries standings.known q ∙ is)))) best
 
 pub each_is_applied : EachIsApplied
 each_is_applied Pref = (0, omega arith, refl)

@@ -1,6 +1,7 @@
--- No public contract cites this file. Standings in a vector, in groups: the routes of one neighbouring AS stand together, each
--- group in the order of all filters, and behind the groups stands what is excluded, in order of source.
-use Rattle.std.specs.Prelude.{◌≡◌, ℕ, ◌+◌, ◌<◌, ◌≤◌, Bool, true, false, not, ◌&&◌, ◌||◌, ◌==◌, nat_lt, List, [], ◌∷◌, length, slice_index_or, Option, Some, None, ⊤}
+-- No public contract cites this file. Standings in a vector, in groups: the routes of one neighbouring AS stand together, or where
+-- MULTI_EXIT_DISC is compared whatever the neighbouring AS all routes, each group in the order of all filters. Behind the groups
+-- stands what is excluded, in order of source.
+use Rattle.std.specs.Prelude.{◌≡◌, ℕ, ◌+◌, ◌<◌, ◌≤◌, Bool, true, false, not, ◌&&◌, ◌||◌, ◌==◌, nat_lt, if◌then◌else◌, List, [], ◌∷◌, length, slice_index_or, Option, Some, None, ⊤}
 use Rattle.std.specs.declared.cmp.Ordering.TheVariants.{Equal}
 use Rattle.std.specs.Ordering.{is_lt, eq_by_cmp}
 use Rattle.std.specs.FinMap as map
@@ -13,7 +14,7 @@ use Rattle.route_select.specs.declared.candidate.Candidate.{Candidate}
 use Rattle.route_select.specs.declared.candidate.Reason.TheVariants.{Loop}
 use Rattle.route_select.specs.declared.candidate.Standing.{Standing}
 use Rattle.route_select.specs.declared.candidate.Standing.TheVariants.{Excluded, Considered}
-use Rattle.route_select.specs.Selection.{source_cmp, Standings, filters, candidate_of, considered_in}
+use Rattle.route_select.specs.Selection.{source_cmp, filters, candidate_of, considered_in}
 use Rattle.route_select.specs.Entries.{EachIsFrom, key_at, standing_at, candidate_at}
 use Rattle.route_select.specs.Leaders.{In, ahead, unmed, Leads, Led}
 
@@ -21,28 +22,28 @@ abbrev pub number_rank : Option ℕ → ℕ
 number_rank None = 0
 number_rank (Some n) = n + 1
 
--- the groups are in order of their neighbouring AS, and the routes with none come first
-abbrev pub group_rank : Candidate → ℕ
-group_rank c = number_rank (neighbour c.attr.path)
+-- the groups are in order of their neighbouring AS, and the routes with none come first; or there is one group
+abbrev pub group_rank : Bool → Candidate → ℕ
+group_rank always c = if always then 0 else number_rank (neighbour c.attr.path)
 
 -- whether a stands before b: in an earlier group, or in the same one and ahead
-abbrev pub stands_before : Candidate → Candidate → Bool
-stands_before a b = nat_lt (group_rank a) (group_rank b) || (group_rank a == group_rank b && ahead filters a b)
+abbrev pub stands_before : Bool → Candidate → Candidate → Bool
+stands_before always a b = nat_lt (group_rank always a) (group_rank always b) || (group_rank always a == group_rank always b && ahead always filters a b)
 
 -- the same of the entries of two sources: what is excluded comes last, in order of source
-abbrev pub before_by : Source → Source → Standing → Standing → Bool
-before_by s t (Considered a) (Considered b) = stands_before a b
-before_by s t (Considered a) (Excluded r) = true
-before_by s t (Excluded q) (Considered b) = false
-before_by s t (Excluded q) (Excluded r) = is_lt (source_cmp s t)
+abbrev pub before_by : Bool → Source → Source → Standing → Standing → Bool
+before_by always s t (Considered a) (Considered b) = stands_before always a b
+before_by always s t (Considered a) (Excluded r) = true
+before_by always s t (Excluded q) (Considered b) = false
+before_by always s t (Excluded q) (Excluded r) = is_lt (source_cmp s t)
 
-abbrev pub before : Source × Standing → Source × Standing → Bool
-before e f = before_by e.0 f.0 e.1 f.1
+abbrev pub before : Bool → Source × Standing → Source × Standing → Bool
+before always e f = before_by always e.0 f.0 e.1 f.1
 
 -- no entry is to stand before an earlier one
-abbrev pub AreRanked : List (Source × Standing) → Type 0
-AreRanked [] = ⊤
-AreRanked (e ∷ es) = ((f : Source × Standing) → In f es → before f e ≡ false) × AreRanked es
+abbrev pub AreRanked : Bool → List (Source × Standing) → Type 0
+AreRanked always [] = ⊤
+AreRanked always (e ∷ es) = ((f : Source × Standing) → In f es → before always f e ≡ false) × AreRanked always es
 
 -- each source once
 abbrev pub AreDistinct : List (Source × Standing) → Type 0
@@ -50,24 +51,29 @@ AreDistinct [] = ⊤
 AreDistinct (e ∷ es) = (find source_cmp e.0 es ≡ None) × AreDistinct es
 
 -- the standing of each source
-abbrev pub standings_of : List (Source × Standing) → Standings
-standings_of es = map.from_entries es
+abbrev pub known_of : List (Source × Standing) → map.FinMap source_cmp Standing
+known_of es = map.from_entries es
 
 -- the entries of the other sources
 abbrev pub without : Source → List (Source × Standing) → List (Source × Standing)
 without source es = where_key source_cmp (λ other. not (eq_by_cmp source_cmp source other)) es
 
 -- the first of the leaders in the order without MED; None where nothing is considered
-abbrev pub IsBest : List Candidate → Option Candidate → Type 0
-IsBest set None = (n : Candidate) → In n set → ⊥
-IsBest set (Some b) = Leads set b × ((n : Candidate) → In n set → Led set b n)
+abbrev pub IsBest : Bool → List Candidate → Option Candidate → Type 0
+IsBest always set None = (n : Candidate) → In n set → ⊥
+IsBest always set (Some b) = Leads always set b × ((n : Candidate) → In n set → Led always set b n)
+
+-- the most entries, so that 32 bits hold the position of the best
+abbrev pub most_entries : ℕ
+most_entries = 4294967295
 
 -- the groups and what is excluded, and the position of the best
-pub record AreGrouped (es : List (Source × Standing)) (at : ℕ) : Type 0 where
-  pub ranked : AreRanked es
+pub record AreGrouped (always : Bool) (es : List (Source × Standing)) (at : ℕ) : Type 0 where
+  pub ranked : AreRanked always es
   pub distinct : AreDistinct es
   pub own : EachIsFrom es
-  pub best : IsBest (considered_in es) (candidate_at es at)
+  pub best : IsBest always (considered_in es) (candidate_at es at)
+  pub few : length es ≤ most_entries
 
 -- the same routes, in whatever order
 pub record SameMembers (xs ys : List Candidate) : Type 0 where
@@ -84,26 +90,27 @@ abbrev pub entry_at : List (Source × Standing) → ℕ → Source × Standing
 entry_at es i = slice_index_or es i (Own, Excluded Loop)
 
 -- the entry goes to position i
-pub record IsSlot (es : List (Source × Standing)) (e : Source × Standing) (i : ℕ) : Type 0 where
+pub record IsSlot (always : Bool) (es : List (Source × Standing)) (e : Source × Standing) (i : ℕ) : Type 0 where
   pub in_range : i ≤ length es
-  pub after : (j : ℕ) → j < i → before e (entry_at es j) ≡ false
-  pub here : i < length es → before e (entry_at es i) ≡ true
+  pub after : (j : ℕ) → j < i → before always e (entry_at es j) ≡ false
+  pub here : i < length es → before always e (entry_at es i) ≡ true
 
 -- whether the route is of a group of lower rank
-abbrev pub below_by : ℕ → Option Candidate → Bool
-below_by rank None = false
-below_by rank (Some c) = nat_lt (group_rank c) rank
+abbrev pub below_by : Bool → ℕ → Option Candidate → Bool
+below_by always rank None = false
+below_by always rank (Some c) = nat_lt (group_rank always c) rank
 
-abbrev pub is_below : ℕ → Source × Standing → Bool
-is_below rank e = below_by rank (candidate_of e.1)
+abbrev pub is_below : Bool → ℕ → Source × Standing → Bool
+is_below always rank e = below_by always rank (candidate_of e.1)
 
--- the groups of lower rank lie before position i, and the others from there on
-pub record IsGroupStart (es : List (Source × Standing)) (rank : ℕ) (i : ℕ) : Type 0 where
-  pub below : (j : ℕ) → j < i → (n : Candidate) → candidate_at es j ≡ Some n → group_rank n < rank
-  pub from : (k : ℕ) → i ≤ k → (n : Candidate) → candidate_at es k ≡ Some n → rank ≤ group_rank n
+-- position i is behind the groups of lower rank, and before the others
+pub record IsGroupStart (always : Bool) (es : List (Source × Standing)) (rank : ℕ) (i : ℕ) : Type 0 where
+  pub in_range : i ≤ length es
+  pub below : (j : ℕ) → j < i → (n : Candidate) → candidate_at es j ≡ Some n → group_rank always n < rank
+  pub from : (k : ℕ) → i ≤ k → (n : Candidate) → candidate_at es k ≡ Some n → rank ≤ group_rank always n
 
 -- whether c is there and ahead of b in the order without MED
-abbrev pub is_better : Option Candidate → Option Candidate → Bool
-is_better (Some c) (Some b) = ahead unmed c b
-is_better (Some c) None = false
-is_better None o = false
+abbrev pub is_better : Bool → Option Candidate → Option Candidate → Bool
+is_better always (Some c) (Some b) = ahead always unmed c b
+is_better always (Some c) None = false
+is_better always None o = false

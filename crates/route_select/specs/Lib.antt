@@ -4,3 +4,4 @@ pub mod Leaders
 pub mod Entries
 pub mod Groups
 pub mod AtCost
+pub mod Coding

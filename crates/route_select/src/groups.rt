@@ -1,10 +1,11 @@
-//! Standings in a vector, in groups: the routes of one neighbouring AS stand together, each group in the order of all
-//! filters, so that its leader comes first. The groups lie one behind the other, and behind them what is excluded.
+//! Standings in a vector, in groups: a group are the routes of one neighbouring AS, or all routes where MED is
+//! compared whatever the neighbouring AS. Each stands in the order of all filters, so that its leader comes first. The
+//! groups lie one behind the other, and behind them what is excluded.
 
-ghost use Rattle.std.specs.Prelude.{◌≡◌, ◌≤◌, true, IfSome, IfNone};
+ghost use Rattle.std.specs.Prelude.{◌≡◌, ◌≤◌, length, true, IfSome, IfNone};
 ghost use Rattle.std.specs.Option.{option_copied};
 ghost use Rattle.std.specs.FinMap.{find};
-ghost use Rattle.route_select.specs.Selection.{considered_in, same_neighbour, source_cmp};
+ghost use Rattle.route_select.specs.Selection.{considered_in, same_group, source_cmp};
 ghost use Rattle.route_select.specs.Entries.{candidate_at};
 ghost use Rattle.route_select.specs.Leaders.{In, Leads};
 ghost use Rattle.route_select.specs.Groups.{group_rank, stands_before, before, AreRanked, IsBest, IsPositionOf, IsSlot, IsGroupStart, is_below, is_better};
@@ -22,11 +23,15 @@ pub(crate) fn candidate_at(entries: &[(Source, Standing)], at: usize) -> Option<
     }
 }
 
-/// Where the route's group stands among the groups: the number of the neighbouring AS, plus 1, and 0 for none.
-fn group_rank(candidate: &Candidate) -> u64
-    ensures value { result ≡ group_rank candidate.now }
+/// Where the route's group stands among the groups: the number of the neighbouring AS, plus 1, and 0 for none. All are
+/// one group, of rank 0, where MED is compared whatever the neighbouring AS.
+fn group_rank(med_always: bool, candidate: &Candidate) -> u64
+    ensures value { result ≡ group_rank med_always candidate.now }
     ensures bound { result ≤ 4294967296 }
 {
+    if med_always {
+        return 0;
+    }
     match candidate.attr.path.neighbour() {
         Some(asn) => u64::from(asn.number()) + 1,
         None => 0,
@@ -34,19 +39,24 @@ fn group_rank(candidate: &Candidate) -> u64
 }
 
 /// Whether the first stands before the second: in an earlier group, or in the same one and ahead.
-fn stands_before(a: &Candidate, b: &Candidate) -> bool
-    ensures { result ≡ stands_before a.now b.now }
+fn stands_before(med_always: bool, a: &Candidate, b: &Candidate) -> bool
+    ensures { result ≡ stands_before med_always a.now b.now }
 {
-    let (mine, theirs) = (group_rank(a), group_rank(b));
-    mine < theirs || (mine == theirs && a.is_ahead(&FILTERS, b))
+    let (mine, theirs) = (group_rank(med_always, a), group_rank(med_always, b));
+    mine < theirs || (mine == theirs && a.is_ahead(med_always, &FILTERS, b))
 }
 
 /// Whether an entry stands before another. What is excluded comes last, in order of source.
-fn goes_before(source: Source, standing: &Standing, other: &(Source, Standing)) -> bool
-    ensures { result ≡ before (source, standing.now) other.now }
+fn goes_before(
+    med_always: bool,
+    source: Source,
+    standing: &Standing,
+    other: &(Source, Standing),
+) -> bool
+    ensures { result ≡ before med_always (source, standing.now) other.now }
 {
     match (standing, &other.1) {
-        (Standing::Considered(a), Standing::Considered(b)) => stands_before(a, b),
+        (Standing::Considered(a), Standing::Considered(b)) => stands_before(med_always, a, b),
         (Standing::Considered(_), Standing::Excluded(_)) => true,
         (Standing::Excluded(_), Standing::Considered(_)) => false,
         (Standing::Excluded(_), Standing::Excluded(_)) => source < other.0,
@@ -67,69 +77,80 @@ pub(crate) fn position_of(entries: &[(Source, Standing)], source: Source) -> Opt
 }
 
 /// The position where an entry goes.
-pub(crate) fn slot(entries: &[(Source, Standing)], source: Source, standing: &Standing) -> usize
-    requires { AreRanked entries.now }
-    ensures { IsSlot entries.now (source, standing.now) result }
+pub(crate) fn slot(
+    med_always: bool,
+    entries: &[(Source, Standing)],
+    source: Source,
+    standing: &Standing,
+) -> usize
+    requires { AreRanked med_always entries.now }
+    ensures { IsSlot med_always entries.now (source, standing.now) result }
 {
-    entries.partition_point(|entry| !goes_before(source, standing, entry))
+    entries.partition_point(|entry| !goes_before(med_always, source, standing, entry))
 }
 
 /// Whether an entry is of a group of lower rank.
-fn is_below(entry: &(Source, Standing), rank: u64) -> bool
-    ensures { result ≡ is_below rank entry.now }
+fn is_below(med_always: bool, entry: &(Source, Standing), rank: u64) -> bool
+    ensures { result ≡ is_below med_always rank entry.now }
 {
     match entry.1.candidate() {
-        Some(candidate) => group_rank(candidate) < rank,
+        Some(candidate) => group_rank(med_always, candidate) < rank,
         None => false,
     }
 }
 
 /// The position behind the groups of lower rank.
-fn group_start(entries: &[(Source, Standing)], rank: u64) -> usize
-    requires { AreRanked entries.now }
-    ensures { IsGroupStart entries.now rank result }
+fn group_start(med_always: bool, entries: &[(Source, Standing)], rank: u64) -> usize
+    requires { AreRanked med_always entries.now }
+    ensures { IsGroupStart med_always entries.now rank result }
 {
-    entries.partition_point(|entry| is_below(entry, rank))
+    entries.partition_point(|entry| is_below(med_always, entry, rank))
 }
 
 /// Whether the route at a position is ahead of the best so far in the order without MED.
-fn is_better(entries: &[(Source, Standing)], at: usize, best: usize) -> bool
-    ensures { result ≡ is_better (candidate_at entries.now at) (candidate_at entries.now best) }
+fn is_better(med_always: bool, entries: &[(Source, Standing)], at: usize, best: usize) -> bool
+    ensures { result ≡ is_better med_always (candidate_at entries.now at) (candidate_at entries.now best) }
 {
     match (candidate_at(entries, at), candidate_at(entries, best)) {
-        (Some(c), Some(b)) => c.is_ahead(&UNMED, b),
+        (Some(c), Some(b)) => c.is_ahead(med_always, &UNMED, b),
         _ => false,
     }
 }
 
 /// The position of the best: of the leaders the first in the order without MED. Where nothing is considered, no route
 /// is there.
-pub(crate) fn best_position(entries: &[(Source, Standing)]) -> usize
-    requires { AreRanked entries.now }
-    ensures { IsBest (considered_in entries.now) (candidate_at entries.now result) }
+pub(crate) fn best_position(med_always: bool, entries: &[(Source, Standing)]) -> usize
+    requires { AreRanked med_always entries.now }
+    ensures best { IsBest med_always (considered_in entries.now) (candidate_at entries.now result) }
+    ensures bound { result ≤ length entries.now }
 {
     let Some(first) = candidate_at(entries, 0) else {
         return 0;
     };
     let mut best = 0;
-    let mut at = group_start(entries, group_rank(first) + 1);
+    let mut at = group_start(med_always, entries, group_rank(med_always, first) + 1);
     while let Some(leader) = candidate_at(entries, at) {
-        if is_better(entries, at, best) {
+        if is_better(med_always, entries, at, best) {
             best = at;
         }
-        at = group_start(entries, group_rank(leader) + 1);
+        at = group_start(med_always, entries, group_rank(med_always, leader) + 1);
     }
     best
 }
 
-/// The leader of a route's group: the first of its neighbour.
-pub(crate) fn leader<'a>(entries: &'a [(Source, Standing)], like: &Candidate) -> &'a Candidate
-    requires ranked { AreRanked entries.now }
+/// The leader of a route's group: the first of it.
+pub(crate) fn leader<'a>(
+    med_always: bool,
+    entries: &'a [(Source, Standing)],
+    like: &Candidate,
+) -> &'a Candidate
+    requires ranked { AreRanked med_always entries.now }
     requires member { In like.now (considered_in entries.now) }
-    ensures leads { Leads (considered_in entries.now) result.now }
-    ensures same { same_neighbour like.now result.now ≡ true }
+    ensures leads { Leads med_always (considered_in entries.now) result.now }
+    ensures same { same_group med_always like.now result.now ≡ true }
 {
-    match candidate_at(entries, group_start(entries, group_rank(like))) {
+    let start = group_start(med_always, entries, group_rank(med_always, like));
+    match candidate_at(entries, start) {
         Some(first) => first,
         None => unreachable!(),
     }

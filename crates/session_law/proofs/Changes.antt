@@ -1,7 +1,6 @@
 -- What is sent leads from what was advertised to what is advertised now.
-use Rattle.std.proofs.Common.{◌≡◌, length, arith, Bool, true, false, List, [], ◌∷◌, ◌++◌, map, Option, Some, None, option_map, option_and_then, if◌then◌else◌, refl, sym, ap, ◌∙◌, subst}
+use Rattle.std.proofs.Common.{◌≡◌, Bool, true, false, List, [], ◌∷◌, ◌++◌, Option, Some, None, if◌then◌else◌, refl, sym, ap, ◌∙◌, subst}
 use Rattle.std.specs.List.{list_any, filter_map, cons_option}
-use Rattle.std.specs.FinMap as finite
 use Rattle.std.proofs.lemmas.Bool.{true≢false, false_from_ne_true}
 use Rattle.net_prefix.specs.declared.addr.Addr.{Addr}
 use Rattle.net_prefix.specs.Prefix.{Prefix, same_prefix, prefix_cmp}
@@ -10,23 +9,15 @@ use Rattle.path_attr.specs.Attribute.{same_attr}
 use Rattle.path_attr.specs.Sameness.{attrs_exact}
 use Rattle.session_queue.specs.declared.message.Message.{Message}
 use Rattle.session_queue.specs.declared.message.Message.TheVariants.{Update}
-use Rattle.net_conf.specs.Configuration.{Configuration, node_at, is_reflector, cluster_id, origins_of}
-use Rattle.net_conf.specs.Costs.{costs_of, is_up}
-use Rattle.net_conf.specs.Sites.{sessions_of, site_of}
-use Rattle.net_conf.specs.declared.tables.Node.{Node}
-use Rattle.net_conf.specs.declared.site.SiteConf.{SiteConf}
-use Rattle.net_conf.specs.declared.site.SiteSession.{SiteSession}
-use Rattle.route_select.specs.declared.candidate.Source.{Source}
-use Rattle.route_select.specs.declared.candidate.Standing.{Standing}
-use Rattle.route_select.specs.Selection.{best_of, best_among, considered_in, source_cmp}
-use Rattle.reference_machine.specs.declared.rows.RouteKey.{RouteKey}
-use Rattle.reference_machine.specs.Network.{Network, received_by}
-use Rattle.reference_machine.specs.Decision.{route_from, is_originated, standing_over, standing_from, routes_at, added, standings, best}
+use Rattle.net_conf.specs.Costs.{is_up}
+use Rattle.net_conf.specs.Sites.{site_of}
+use Rattle.reference_machine.specs.Network.{Network}
+use Rattle.reference_machine.specs.Decision.{best}
 use Rattle.reference_machine.specs.Advertising.{advertised, change_of, prefixes_at, in_order, changes, advert_of}
+use Rattle.reference_machine.proofs.Known.{best_none}
 use Rattle.session_law.specs.SessionLaw.{after_message, after_messages}
 use Rattle.session_law.proofs.Lists.{any_gathered, none_of_both}
 use Rattle.session_law.proofs.Keys.{same_prefix_true, same_prefix_itself, prefix_exact}
-use Rattle.session_law.proofs.Routes.{route_none}
 
 -- ONE MESSAGE
 
@@ -111,44 +102,6 @@ module _ (old new : Prefix → Option Attr) where
   arrives_by false p qs is same = ap (λ held. after_messages p held (turned qs)) (same refl) ∙ settles p qs
 
 -- NOTHING IS ADVERTISED WHERE NOTHING IS KNOWN
-
-none_standing : (site : SiteConf) (p : Prefix) (es : List (RouteKey × Attr)) → ((u : Addr) → route_from es site.me p u ≡ None) → (xs : List SiteSession) → filter_map (standing_from site p es) xs ≡ []
-none_standing site p es none [] = refl
-none_standing site p es none (x ∷ xs) =
-    ap (λ o. cons_option (standing_over site p x o) (filter_map (standing_from site p es) xs)) (none x.peer) ∙ none_standing site p es none xs
-
-none_entries : length (finite.entries (finite.empty {K = Source} {X = Standing} {R = source_cmp})) ≡ 0
-none_entries = sym (finite.len-entries finite.empty) ∙ finite.len-empty source_cmp Standing
-
-no_length : {A : Type 0} (xs : List A) → length xs ≡ 0 → xs ≡ []
-no_length [] e = refl
-no_length (x ∷ xs) e = absurd (omega (arith, e))
-
-none_best : best_of finite.empty ≡ None
-unfolding best_among
-none_best = ap (λ es. best_among (considered_in es)) (no_length (finite.entries (finite.empty {K = Source} {X = Standing} {R = source_cmp})) none_entries)
-
--- no route stands at the prefix
-routes_none : (site : SiteConf) (p : Prefix) (es : List (RouteKey × Attr)) → is_originated site p ≡ false → ((u : Addr) → route_from es site.me p u ≡ None) → routes_at site p es ≡ []
-routes_none site p es own none = rw own (none_standing site p es none site.sessions)
-
-best_at_none : (site : SiteConf) (p : Prefix) (es : List (RouteKey × Attr)) → is_originated site p ≡ false → ((u : Addr) → route_from es site.me p u ≡ None) → best_of (standings site p es) ≡ None
-best_at_none site p es own none = ap (λ rs. best_of (added finite.empty rs)) (routes_none site p es own none) ∙ none_best
-
-none_through : {A B C : Type 0} (f : B → Option C) (g : A → B) (o : Option A) → ((a : A) → f (g a) ≡ None) → option_and_then f (option_map g o) ≡ None
-none_through f g None none = refl
-none_through f g (Some a) none = none a
-
--- the router's part of the configuration, where this node stands at its address
-abbrev site_at : Configuration → Addr → Node → SiteConf
-site_at c r n = record { me = r; asn = n.asn; cluster = cluster_id c r; reflector = is_reflector c r; origins = origins_of c r; sessions = sessions_of c r; costs = costs_of c r }
-
--- nothing is chosen for a prefix that the router neither originates nor has received
-best_none : (s : Network) (r : Addr) (p : Prefix) → list_any (same_prefix p) (prefixes_at s r) ≡ false → best s r p ≡ None
-unfolding best site_of
-best_none s r p none =
-    let parts = none_of_both (same_prefix p) (origins_of s.conf r) (map (λ e. e.0.prefix) (received_by r s.received)) none in
-    none_through (λ site. best_of (standings site p s.received)) (site_at s.conf r) (node_at s.conf r) (λ n. best_at_none (site_at s.conf r n) p s.received parts.0 (λ u. route_none u r p s.received parts.1))
 
 none_if : {A : Type 0} (b : Bool) → ◌≡◌ {A = Option A} (if b then None else None) None
 none_if true = refl

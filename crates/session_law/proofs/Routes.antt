@@ -1,13 +1,12 @@
 -- What a router has received, after a message and after an edit.
-use Rattle.std.proofs.Common.{◌≡◌, Bool, true, false, cond, ◌&&◌, List, [], ◌∷◌, map, filter, Some, None, refl, sym, ap, ◌∙◌}
-use Rattle.std.specs.List.{list_any}
+use Rattle.std.proofs.Common.{◌≡◌, Bool, true, false, cond, ◌&&◌, List, filter, Some, None, refl, sym, ap, ◌∙◌}
 use Rattle.std.specs.List.Sorted.{IsStrictlySortedBy}
 use Rattle.std.specs.Ordering.{eq_by_cmp}
 use Rattle.std.specs.Cmp.{IsEquivalence}
 use Rattle.std.specs.Map.{keys_of}
 use Rattle.std.specs.BTreeMap.{is_at}
-use Rattle.std.proofs.lemmas.Bool.{and_parts, and_left, and_right, or_parts}
-use Rattle.std.proofs.lemmas.Cmp.{eq_by_cmp_equiv, nat_eq_equiv}
+use Rattle.std.proofs.lemmas.Bool.{and_parts}
+use Rattle.std.proofs.lemmas.Cmp.{eq_by_cmp_equiv}
 use Rattle.std.proofs.lemmas.Map.{lookup-remove_entry}
 use Rattle.std.proofs.lemmas.Map.Keys.{IsDistinct-from_sorted}
 use Rattle.std.proofs.lemmas.Map.Entries.{lookup-filter-keys}
@@ -21,7 +20,7 @@ use Rattle.session_queue.specs.declared.direction.Direction.{Direction}
 use Rattle.net_conf.specs.Configuration.{Configuration}
 use Rattle.net_conf.specs.Costs.{is_up}
 use Rattle.reference_machine.specs.declared.rows.RouteKey.{RouteKey}
-use Rattle.reference_machine.specs.Network.{route_cmp, received_by}
+use Rattle.reference_machine.specs.Network.{route_cmp}
 use Rattle.reference_machine.specs.Decision.{route_from}
 use Rattle.reference_machine.specs.Machine.{received_after, is_kept}
 use Rattle.session_law.specs.SessionLaw.{after_message}
@@ -90,23 +89,3 @@ route_kept c es r t p = lookup-filter-keys (is_at (route_cmp (at_route t p r))) 
 
 pub ordered_kept : (c : Configuration) (es : List (RouteKey × Attr)) → AreOrdered es → AreOrdered (filter (is_kept c) es)
 ordered_kept c es h = ordered_filtered route_total (is_kept c) es h
-
--- A PREFIX THAT IS NOT AMONG THOSE RECEIVED
-
-abbrev prefixes_of : List (RouteKey × Attr) → List Prefix
-prefixes_of es = map (λ x. x.0.prefix) es
-
--- the head is no route of the router to the prefix, and no later one is
-missed : (here : Bool) (u r : Addr) (p : Prefix) (e : RouteKey × Attr) (es : List (RouteKey × Attr)) → same_addr e.0.to r ≡ here → list_any (same_prefix p) (prefixes_of (received_by r (e ∷ es))) ≡ false → (is_at (route_cmp (at_route r p u)) e.0 ≡ false) × (list_any (same_prefix p) (prefixes_of (received_by r es)) ≡ false)
-missed true u r p e es to none =
-    let parts = or_parts (same_prefix p e.0.prefix) (list_any (same_prefix p) (prefixes_of (received_by r es))) (rw to at none) in
-    (sym (route_tied (at_route r p u) e.0) ∙ and_right (same_addr r e.0.to) (same_prefix p e.0.prefix && same_addr u e.0.from) (and_left (same_prefix p e.0.prefix) (same_addr u e.0.from) parts.0), parts.1)
-missed false u r p e es to none =
-    (sym (route_tied (at_route r p u) e.0) ∙ and_left (same_addr r e.0.to) (same_prefix p e.0.prefix && same_addr u e.0.from) (nat_eq_equiv.symm r.0 e.0.to.0 ∙ to), rw to at none)
-
--- a prefix that is none of those received has no route
-pub route_none : (u r : Addr) (p : Prefix) (es : List (RouteKey × Attr)) → list_any (same_prefix p) (prefixes_of (received_by r es)) ≡ false → route_from es r p u ≡ None
-route_none u r p [] none = refl
-route_none u r p (e ∷ es) none =
-    let parts = missed (same_addr e.0.to r) u r p e es refl none in
-    ap (λ b. cond b (Some e.1) (route_from es r p u)) parts.0 ∙ route_none u r p es parts.1

@@ -1,14 +1,17 @@
 //! Edits.
 
-ghost use Rattle.std.specs.Prelude.{◌≡◌, None, IfOk};
+ghost use Rattle.std.specs.Prelude.{◌≡◌, None, IfOk, OnOk};
 ghost use Rattle.sim_event.specs.declared.event.Event.TheVariants.{Edit as AnEdit};
 ghost use Rattle.net_conf.specs.Edits.{refusal_of};
 ghost use Rattle.cell_engine.specs.State.{network};
+ghost use Rattle.cell_engine.specs.Deliveries.{KeepsSame};
+ghost use Rattle.cell_engine.specs.Edits.{HasPlaces, refreshed_by};
 ghost use Rattle.sim_core.specs.Plans.{IsPrepared, Prepares};
 
 use crate::plan::Plan;
-use cell_engine::{Cell, State};
+use cell_engine::{Cell, Edited, State};
 use net_conf::{Edit, Refusal};
+use net_prefix::{Addr, Prefix};
 use prefix_table::PrefixTable;
 use route_select::Selector;
 use sim_event::Reply;
@@ -45,9 +48,11 @@ fn plan_edit<S: Selector + Send + Sync + Drop, T: PrefixTable<Cell<S>> + Drop, R
     ensures plan { IfOk result (λ plan. IsPrepared state.new (AnEdit edit.now) plan) }
 {
     let edited = state.edited(rt, edit)?;
-    state.make_room_for(&edited)?;
+    let Ok(refreshed) = make_ready(alloc, state, &edited) else {
+        drop(edited);
+        return Err(AllocError);
+    };
     state.facts();
-    let refreshed = edited.refreshed(alloc)?;
     Ok(Plan {
         reply: Reply::Done,
         refreshed,
@@ -55,4 +60,20 @@ fn plan_edit<S: Selector + Send + Sync + Drop, T: PrefixTable<Cell<S>> + Drop, R
         taken: None,
         edited: Some(edited),
     })
+}
+
+/// Sees to it that all is there that the edit will put in; the routers and prefixes that it decides anew.
+fn make_ready<S: Selector + Drop, T: PrefixTable<Cell<S>> + Drop>(
+    alloc: Global,
+    state: &mut State<S, T>,
+    edited: &Edited<S>,
+) -> Result<Vec<(Addr, Prefix)>, AllocError>
+    ensures same { KeepsSame state.old state.new }
+    ensures tables { state.new.tables ≡ state.old.tables }
+    ensures network { network state.new ≡ network state.old }
+    ensures places { OnOk result (HasPlaces state.new edited.now) }
+    ensures refreshed { IfOk result (λ cells. cells.items ≡ refreshed_by edited.now) }
+{
+    state.make_room_for(edited)?;
+    edited.refreshed(alloc)
 }

@@ -12,7 +12,7 @@ use Rattle.route_policy.specs.declared.rule.Settings.{Settings}
 use Rattle.route_policy.specs.declared.rule.Action.{Action}
 use Rattle.route_policy.specs.declared.rule.Action.TheVariants.{Deny, Permit}
 use Rattle.net_conf.specs.declared.edit.Edit.{Edit}
-use Rattle.net_conf.specs.declared.edit.Edit.TheVariants.{Router, Virtual, Link, Metric, Fail, Mend, Join, Stop, Start, Client, OwnNext, Cluster, Rule as AddRule, Clear, Origin, NoOrigin}
+use Rattle.net_conf.specs.declared.edit.Edit.TheVariants.{Router, Virtual, Link, Metric, Fail, Mend, Join, Stop, Start, Client, OwnNext, Cluster, MedAlways, Rule as AddRule, Clear, Origin, NoOrigin}
 use Rattle.sim_event.specs.declared.event.Event.{Event}
 use Rattle.sim_event.specs.declared.event.Event.TheVariants.{Edit as AnEdit, Feed as AFeed, Deliver, Ask as AnAsk}
 use Rattle.sim_event.specs.declared.event.FedRoute.{FedRoute}
@@ -63,6 +63,7 @@ IsEdit (Start a b) = IsAddress a × IsAddress b
 IsEdit (Client a b on) = IsAddress a × IsAddress b
 IsEdit (OwnNext a b on) = IsAddress a × IsAddress b
 IsEdit (Cluster a id) = IsAddress a × IsAddress id
+IsEdit (MedAlways a always) = IsAddress a
 IsEdit (AddRule a b side rule) = IsAddress a × IsAddress b × IsMatch rule.cond × IsAction rule.act
 IsEdit (Clear a b side) = IsAddress a × IsAddress b
 IsEdit (Origin a p) = IsAddress a × IsPrefix p

@@ -40,6 +40,7 @@ impl Same for Edit {
             (Edit::Client(a, b, on), Edit::Client(c, d, also)) => a == c && b == d && on == also,
             (Edit::OwnNext(a, b, on), Edit::OwnNext(c, d, also)) => a == c && b == d && on == also,
             (Edit::Cluster(a, id), Edit::Cluster(b, other)) => a == b && id == other,
+            (Edit::MedAlways(a, always), Edit::MedAlways(b, also)) => a == b && always == also,
             (Edit::Rule(a, b, side, rule), Edit::Rule(c, d, other, another)) => {
                 a == c && b == d && side == other && rule.is_same(another)
             }

@@ -5,6 +5,7 @@ ghost use Rattle.std.specs.List.Sorted.{IsStrictlySortedBy};
 ghost use Rattle.net_prefix.specs.Address.{addr_cmp};
 ghost use Rattle.session_queue.specs.Telling.{prefix_of};
 ghost use Rattle.cell_engine.specs.Cells.{IsDecided, delivered, stored, refreshed};
+ghost use Rattle.cell_engine.specs.Updates.{ComparesAt, compared};
 
 use crate::route_cell::cell::Cell;
 use crate::route_cell::moves::SiteChange;
@@ -33,19 +34,25 @@ pub fn deliver<S: Selector + Drop>(
     ensures { IfOk result (λ outcome. outcome ≡ delivered site.now cell.now from message.now) }
 {
     let received = cell.received.with_news(alloc, from, message)?;
-    let mut chosen = cell.chosen.copy(alloc)?;
+    let mut chosen = choice_at(alloc, site, &cell.chosen)?;
     take(alloc, &mut chosen, site, from, message)?;
-    let sends = sends_at(
-        alloc,
-        site,
-        message.prefix(),
-        cell.chosen.best(),
-        chosen.best(),
-    )?;
-    Ok(Outcome {
-        cell: Cell { received, chosen },
-        sends,
-    })
+    let after = Cell { received, chosen };
+    let sends = sends_at(alloc, site, message.prefix(), cell.best(), after.best())?;
+    Ok(Outcome { cell: after, sends })
+}
+
+/// The choice of a router's cell, to be changed: where it compares otherwise than the router does, no route stands in
+/// it, and it is begun anew.
+#[tactic(auto, using(crate::proofs::Effective::begun_anew))]
+fn choice_at<S: Selector>(alloc: Global, site: &SiteConf, chosen: &S) -> Result<S, AllocError>
+    requires { ComparesAt site.now.med_always (S.standings chosen.now) }
+    ensures { IfOk result (λ copied. S.standings copied ≡ compared site.now.med_always (S.standings chosen.now)) }
+{
+    if chosen.med_always() == site.med_always {
+        chosen.copy(alloc)
+    } else {
+        Ok(S::new(alloc, site.med_always))
+    }
 }
 
 /// What a router does when its site becomes another (RFC 4271, 6 and 8): what it received over sessions that are down
@@ -62,11 +69,9 @@ pub fn refresh<S: Selector + Drop>(
 {
     let received = cell.received.kept_at(alloc, new)?;
     let chosen: S = decide(alloc, new, prefix, &received)?;
-    let sends = sends_of(alloc, old, new, prefix, cell.chosen.best(), chosen.best())?;
-    Ok(Outcome {
-        cell: Cell { received, chosen },
-        sends,
-    })
+    let after = Cell { received, chosen };
+    let sends = sends_of(alloc, old, new, prefix, cell.best(), after.best())?;
+    Ok(Outcome { cell: after, sends })
 }
 
 /// What a router does when its site becomes another, and both were compared. Where settings and sessions stay, and the
@@ -83,11 +88,9 @@ pub fn refresh_compared<S: Selector + Drop>(
 {
     let received = cell.received.kept_at(alloc, change.new)?;
     let chosen: S = decide(alloc, change.new, prefix, &received)?;
-    let sends = sends_compared(alloc, change, prefix, cell.chosen.best(), chosen.best())?;
-    Ok(Outcome {
-        cell: Cell { received, chosen },
-        sends,
-    })
+    let after = Cell { received, chosen };
+    let sends = sends_compared(alloc, change, prefix, cell.best(), after.best())?;
+    Ok(Outcome { cell: after, sends })
 }
 
 /// What a virtual peer does with a message: it keeps what it receives, decides nothing and sends nothing.
@@ -100,11 +103,9 @@ pub fn store<S: Selector + Drop>(
 ) -> Result<Outcome<S>, AllocError>
     ensures { IfOk result (λ outcome. outcome ≡ stored cell.now from message.now) }
 {
+    let received = cell.received.with_news(alloc, from, message)?;
     Ok(Outcome {
-        cell: Cell {
-            received: cell.received.with_news(alloc, from, message)?,
-            chosen: S::new(alloc),
-        },
+        cell: Cell::undecided(alloc, received, false),
         sends: Vec::new(alloc),
     })
 }

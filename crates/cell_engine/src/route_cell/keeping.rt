@@ -1,8 +1,8 @@
 //! What is left of a virtual peer's cell when the configuration changes.
 
-ghost use Rattle.std.specs.Prelude.{◌≡◌, filter, IfOk};
-ghost use Rattle.std.specs.FinMap as finite;
+ghost use Rattle.std.specs.Prelude.{◌≡◌, false, filter, IfOk};
 ghost use Rattle.net_conf.specs.Costs.{is_up};
+ghost use Rattle.route_select.specs.Selection.{no_standings};
 
 use crate::route_cell::cell::Cell;
 use net_conf::Conf;
@@ -21,11 +21,9 @@ pub fn keep<S: Selector + Drop>(
     ensures { IfOk result (λ kept.
         kept ≡ record {
           received = filter (λ e. is_up conf.now e.0 peer) cell.now.received;
-          standings = finite.empty;
+          standings = no_standings false;
         }) }
 {
-    Ok(Cell {
-        received: cell.received.kept_by(alloc, conf, peer)?,
-        chosen: S::new(alloc),
-    })
+    let received = cell.received.kept_by(alloc, conf, peer)?;
+    Ok(Cell::undecided(alloc, received, false))
 }

@@ -4,7 +4,7 @@ ghost use Rattle.std.specs.Prelude.{◌≡◌, OnOk, IfOk};
 ghost use Rattle.std.specs.List.{filter_map};
 ghost use Rattle.std.specs.Option.{option_to_list};
 ghost use Rattle.reference_machine.specs.Decision.{added};
-ghost use Rattle.cell_engine.specs.Cells.{standing_of, standings_of};
+ghost use Rattle.cell_engine.specs.Cells.{standing_of, standings_by};
 ghost use Rattle.cell_engine.specs.Updates.{standings_after};
 
 use crate::route_cell::received_routes::ReceivedRoutes;
@@ -53,16 +53,16 @@ fn put_peers<S: Selector>(
     Ok(())
 }
 
-/// How each source's route to the prefix stands at the router, by what it has received.
+/// How each source's route to the prefix stands at the router, by what it has received, and how it compares them.
 pub(crate) fn decide<S: Selector + Drop>(
     alloc: Global,
     site: &SiteConf,
     prefix: Prefix,
     received: &ReceivedRoutes,
 ) -> Result<S, AllocError>
-    ensures { IfOk result (λ chosen. S.standings chosen ≡ standings_of site.now prefix received.now) }
+    ensures { IfOk result (λ chosen. S.standings chosen ≡ standings_by site.now prefix received.now) }
 {
-    let mut chosen = S::new(alloc);
+    let mut chosen = S::new(alloc, site.med_always);
     put_own(&mut chosen, site, prefix)?;
     put_peers(
         alloc,

@@ -3,7 +3,7 @@
 ghost use Rattle.std.specs.Prelude.{◌≡◌, ◌++◌, true, false, map, filter, IfOk, if◌then◌else◌};
 ghost use Rattle.net_conf.specs.Configuration.{ends_session, is_reflector};
 ghost use Rattle.net_conf.specs.Concerned.{is_among};
-ghost use Rattle.net_conf.specs.Kept.{asked, relinked, origins_after, reoriginated, settled, resettled, sets_client, sessions_with, is_below, is_above, extended, reclustered, effect_on, site_from};
+ghost use Rattle.net_conf.specs.Kept.{asked, relinked, origins_after, reoriginated, settled, resettled, sets_client, sessions_with, is_below, is_above, extended, reclustered, recompared, effect_on, site_from};
 
 use crate::edit::{Edit, SiteEffect};
 use crate::kept::conf_sessions::ConfSessions;
@@ -35,6 +35,7 @@ impl ConfSessions {
             SiteEffect::Session(peer) => Ok(Some(self.resettled(alloc, edit, router, peer, old)?)),
             SiteEffect::NewSession(peer) => Ok(Some(self.extended(alloc, router, peer, old)?)),
             SiteEffect::ClusterId => Ok(Some(self.reclustered(alloc, router, old)?)),
+            SiteEffect::MedComparison => Ok(Some(self.recompared(alloc, router, old)?)),
             SiteEffect::Other => self.router_site(alloc, router),
         }
     }
@@ -203,6 +204,20 @@ impl ConfSessions {
     {
         let mut site = old.copy(alloc)?;
         site.cluster = self.tables().cluster_id(router);
+        Ok(site)
+    }
+
+    /// The old site, with how the router compares MULTI_EXIT_DISC by this configuration.
+    fn recompared(
+        &self,
+        alloc: Global,
+        router: Addr,
+        old: &SiteConf,
+    ) -> Result<SiteConf, AllocError>
+        ensures { IfOk result (λ site. site ≡ recompared self.now router old.now) }
+    {
+        let mut site = old.copy(alloc)?;
+        site.med_always = self.tables().compares_all_meds(router);
         Ok(site)
     }
 }

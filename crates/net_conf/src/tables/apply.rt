@@ -1,11 +1,12 @@
 //! What an edit changes.
 
-ghost use Rattle.std.specs.Prelude.{◌≡◌, ◌∷◌, ◌++◌, [], IfOk, OnOk, OnErr};
+ghost use Rattle.std.specs.Prelude.{◌≡◌, ◌∷◌, ◌++◌, [], true, IfOk, OnOk, OnErr};
 ghost use Rattle.std.specs.BTreeMap.{insert_entry};
 ghost use Rattle.std.specs.BTreeSet.{insert_key};
 ghost use Rattle.net_prefix.specs.Address.{addr_cmp};
 ghost use Rattle.net_conf.specs.Configuration.{end_cmp, origination_cmp, link_between, rules_at};
-ghost use Rattle.net_conf.specs.Edits.{with_link, with_link_changed, with_metric, with_state, with_session, switched, with_rule, without_rules, with_rule_of, without_rules_of, edited};
+ghost use Rattle.net_conf.specs.Edits.{with_link, with_link_changed, with_metric, with_state, with_session, switched, router_switched, with_rule, without_rules, with_rule_of, without_rules_of, edited};
+ghost use Rattle.net_conf.specs.Kept.{has_setting};
 
 use crate::edit::Edit;
 use crate::tables::conf_tables::{ConfTables, policy_at};
@@ -18,6 +19,19 @@ use shared_map::{SharedMap, SharedSet};
 use std::alloc::{AllocError, Global};
 
 impl ConfTables {
+    /// Whether the edit asks for a setting of a router that is there already: it changes nothing then. It takes no
+    /// memory.
+    pub fn has_setting(&self, edit: &Edit) -> bool
+        ensures is { result ≡ has_setting self.now edit.now }
+        ensures same { result ≡ true → edited self.now edit.now ≡ self.now }
+    {
+        self.orders();
+        match *edit {
+            Edit::MedAlways(router, on) => self.compares_all_meds(router) == on,
+            _ => false,
+        }
+    }
+
     /// Makes the edit, whether or not it is to be refused. An error changes nothing.
     pub fn apply(&mut self, alloc: Global, edit: &Edit) -> Result<(), AllocError>
         ensures ok { OnOk result (self.new ≡ edited self.old edit.now) }
@@ -49,6 +63,7 @@ impl ConfTables {
                 on,
             ),
             Edit::Cluster(router, id) => self.set_cluster(alloc, router, id),
+            Edit::MedAlways(router, on) => self.set_comparison(alloc, router, on),
             Edit::Rule(router, peer, side, rule) => {
                 self.add_rule(alloc, End { router, peer }, side, rule)
             }
@@ -145,6 +160,23 @@ impl ConfTables {
         ensures err { OnErr result (self.new ≡ self.old) }
     {
         self.clusters.insert(alloc, router, id)
+    }
+
+    fn set_comparison(
+        &mut self,
+        alloc: Global,
+        router: Addr,
+        always: bool,
+    ) -> Result<(), AllocError>
+        ensures ok { OnOk result
+            (self.new ≡ record self.old { med_always = router_switched always router self.old.med_always }) }
+        ensures err { OnErr result (self.new ≡ self.old) }
+    {
+        if always {
+            self.med_always.insert(alloc, router)
+        } else {
+            self.med_always.remove(alloc, &router)
+        }
     }
 
     fn add_rule(

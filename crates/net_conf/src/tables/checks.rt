@@ -80,7 +80,7 @@ impl ConfTables {
             }
             Edit::Rule(router, peer, _, _) => self.lacks_either(router, peer),
             Edit::Clear(router, peer, _) => self.lacks_either(router, peer),
-            Edit::Cluster(router, _) => !self.has_node(router),
+            Edit::Cluster(router, _) | Edit::MedAlways(router, _) => !self.has_node(router),
             Edit::Origin(router, _) | Edit::NoOrigin(router, _) => !self.has_node(router),
         }
     }
@@ -103,7 +103,7 @@ impl ConfTables {
             Edit::Link(one, other, _) => self.is_virtual(one) && self.is_virtual(other),
             Edit::Join(one, other) => self.is_virtual(one) && self.is_virtual(other),
             Edit::Client(router, _, _) | Edit::OwnNext(router, _, _) => self.is_virtual(router),
-            Edit::Cluster(router, _) => self.is_virtual(router),
+            Edit::Cluster(router, _) | Edit::MedAlways(router, _) => self.is_virtual(router),
             Edit::Rule(router, _, _, _) | Edit::Clear(router, _, _) => self.is_virtual(router),
             Edit::Origin(router, _) | Edit::NoOrigin(router, _) => self.is_virtual(router),
             _ => false,

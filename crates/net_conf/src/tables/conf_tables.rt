@@ -4,7 +4,7 @@ ghost use Rattle.std.specs.Prelude.{◌≡◌, IfOk, OnOk, OnErr, length};
 ghost use Rattle.std.specs.Map.{remove_entry};
 ghost use Rattle.std.specs.BTreeMap.{insert_entry, is_at};
 ghost use Rattle.net_prefix.specs.Address.{addr_cmp};
-ghost use Rattle.net_conf.specs.Configuration.{unconfigured, node_at, has_node, is_virtual, as_of, is_external, link_between, has_link, has_link_up, session_between, has_session, session_count, is_client, is_reflector, cluster_id, puts_itself, rules_at, import_rules, export_rules, originates, origins_of, end_of};
+ghost use Rattle.net_conf.specs.Configuration.{unconfigured, node_at, has_node, is_virtual, as_of, is_external, link_between, has_link, has_link_up, session_between, has_session, session_count, is_client, is_reflector, cluster_id, compares_all_meds, puts_itself, rules_at, import_rules, export_rules, originates, origins_of, end_of};
 ghost use Rattle.net_conf.specs.Configured.{IsInOrder};
 
 use crate::tables::{End, Ends, Kind, Link, Node, Origination};
@@ -16,8 +16,9 @@ use shared_map::{ChunkedSet, SharedMap, SharedSet};
 use std::alloc::{AllocError, Global};
 use std::marker::Model;
 
-/// Routers and virtual peers, links, sessions with the settings of their ends, CLUSTER_IDs, and who originates what. A
-/// copy shares each table, and an edit copies the one that it changes.
+/// Routers and virtual peers, links, sessions with the settings of their ends, CLUSTER_IDs, the routers that compare
+/// MULTI_EXIT_DISC whatever the neighbouring AS, and who originates what. A copy shares each table, and an edit copies
+/// the one that it changes.
 #[derive(Drop)]
 pub struct ConfTables {
     pub(crate) nodes: SharedMap<Addr, Node>,
@@ -28,6 +29,7 @@ pub struct ConfTables {
     pub(crate) imports: SharedMap<End, Policy>,
     pub(crate) exports: SharedMap<End, Policy>,
     pub(crate) clusters: SharedMap<Addr, Addr>,
+    pub(crate) med_always: SharedSet<Addr>,
     pub(crate) origins: ChunkedSet<Origination>,
 }
 
@@ -45,6 +47,7 @@ impl Model for ConfTables {
       imports = c.imports;
       exports = c.exports;
       clusters = c.clusters;
+      med_always = c.med_always;
       origins = c.origins;
     } };
 }
@@ -63,6 +66,7 @@ impl ConfTables {
             imports: SharedMap::new(),
             exports: SharedMap::new(),
             clusters: SharedMap::new(),
+            med_always: SharedSet::new(),
             origins: ChunkedSet::new(),
         }
     }
@@ -79,6 +83,7 @@ impl ConfTables {
         let _ = self.imports.as_slice();
         let _ = self.exports.as_slice();
         let _ = self.clusters.as_slice();
+        let _ = self.med_always.as_slice();
         self.origins.order();
     }
 
@@ -195,6 +200,13 @@ impl ConfTables {
         self.clusters.get(&router).copied().unwrap_or(router)
     }
 
+    /// Whether the router compares MULTI_EXIT_DISC whatever the neighbouring AS.
+    pub fn compares_all_meds(&self, router: Addr) -> bool
+        ensures { result ≡ compares_all_meds self.now router }
+    {
+        self.med_always.contains(&router)
+    }
+
     /// Whether the router puts itself as NEXT_HOP towards the peer.
     pub fn puts_itself(&self, router: Addr, peer: Addr) -> bool
         ensures { result ≡ puts_itself self.now router peer }
@@ -273,12 +285,11 @@ pub(crate) fn policy_at(
     }
 }
 
-/// Routers and virtual peers, links, and CLUSTER_IDs.
-type Interior = (
-    SharedMap<Addr, Node>,
-    SharedMap<Ends, Link>,
-    SharedMap<Addr, Addr>,
-);
+/// Routers and virtual peers, and links.
+type Interior = (SharedMap<Addr, Node>, SharedMap<Ends, Link>);
+
+/// The settings of routers: CLUSTER_IDs, and who compares MULTI_EXIT_DISC whatever the neighbouring AS.
+type RouterSettings = (SharedMap<Addr, Addr>, SharedSet<Addr>);
 
 /// Sessions, and the settings of their ends but for the policies.
 type Sessions = (SharedMap<Ends, bool>, SharedSet<End>, SharedSet<End>);
@@ -294,11 +305,17 @@ impl ConfTables {
     fn share_interior(&self) -> Result<Interior, AllocError>
         ensures nodes { IfOk result (λ t. t.0 ≡ self.now.nodes) }
         ensures links { IfOk result (λ t. t.1 ≡ self.now.links) }
-        ensures clusters { IfOk result (λ t. t.2 ≡ self.now.clusters) }
     {
         let nodes = self.nodes.share()?;
-        let links = self.links.share()?;
-        Ok((nodes, links, self.clusters.share()?))
+        Ok((nodes, self.links.share()?))
+    }
+
+    fn share_router_settings(&self) -> Result<RouterSettings, AllocError>
+        ensures clusters { IfOk result (λ t. t.0 ≡ self.now.clusters) }
+        ensures med_always { IfOk result (λ t. t.1 ≡ self.now.med_always) }
+    {
+        let clusters = self.clusters.share()?;
+        Ok((clusters, self.med_always.share()?))
     }
 
     fn share_sessions(&self) -> Result<Sessions, AllocError>
@@ -325,7 +342,8 @@ impl ConfTables {
 impl Copied for ConfTables {
     // The parts one after another: the prover's work grows steeply with the values that one function may have to drop.
     fn copy(&self, _alloc: Global) -> Result<ConfTables, AllocError> {
-        let (nodes, links, clusters) = self.share_interior()?;
+        let (nodes, links) = self.share_interior()?;
+        let (clusters, med_always) = self.share_router_settings()?;
         let (sessions, clients, own_next) = self.share_sessions()?;
         let (imports, exports, origins) = self.share_policies()?;
         Ok(ConfTables {
@@ -337,6 +355,7 @@ impl Copied for ConfTables {
             imports,
             exports,
             clusters,
+            med_always,
             origins,
         })
     }

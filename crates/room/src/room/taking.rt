@@ -198,7 +198,7 @@ impl<S: Selector + Drop, T: PrefixTable<Cell<S>>, L: Ledger> Room<S, T, L> {
     {
         match self.sim.state().cell(router, prefix) {
             Some(cell) => cell.copy(self.alloc),
-            None => Ok(Cell::new(self.alloc)),
+            None => Ok(Cell::new(self.alloc, false)),
         }
     }
 }

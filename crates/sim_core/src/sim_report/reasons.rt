@@ -56,7 +56,7 @@ fn reasons_in<S: Selector>(
 fn reason_at<S: Selector>(cell: &Cell<S>, source: Source) -> Option<(Source, Reason)>
     ensures { result ≡ reason_at cell.now.standings source }
 {
-    match cell.chosen().reason(source) {
+    match cell.reason(source) {
         None => None,
         Some(reason) => Some((source, reason)),
     }

@@ -9,5 +9,5 @@ returns c =
     let is = c.self.invariant in
     c.candidate_at.ensures
     ∙ ap (λ xs. candidate_at xs c.self.inside.best) c.deref.ensures.value
-    ∙ best_is c.self.inside.entries.items _ is.distinct is.own is.best
+    ∙ best_is c.self.inside.med_always c.self.inside.entries.items _ is.distinct is.own is.best
     ∙ ap (λ (m : Standings). best_of m) c.self.view_is

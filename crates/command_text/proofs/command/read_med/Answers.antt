@@ -1,0 +1,9 @@
+use Rattle.sim_event.specs.Events.{IsEvent}
+use Rattle.command_text.specs.Words.{words_of}
+use Rattle.command_text.specs.Arguments.{IsAddressAndComparison, comparison_words}
+use Rattle.command_text.proofs.FirstWords.{med_follows}
+use Rattle.command_text.proofs.Readings.{unread}
+use Rattle.command_text.proofs.command.read_med.Goals as goal
+
+pub returns-in_err-addr : goal.returns-in_err-addr
+returns-in_err-addr c = unread IsEvent words_of _ IsAddressAndComparison comparison_words _ _ c.from_residual.ensures c.in_err-addr.ensures (med_follows _)
