@@ -8,9 +8,8 @@ use Rattle.net_conf.specs.declared.site.SiteConf.{SiteConf}
 use Rattle.net_conf.specs.Configuration.{Configuration, node_at, has_node, is_virtual}
 use Rattle.net_conf.specs.Costs.{costs_of}
 use Rattle.net_conf.specs.RouterSites.{router_site}
-use Rattle.net_conf.specs.Sites.{site_of}
+use Rattle.net_conf.specs.Sites.{site_at, site_of}
 use Rattle.net_conf.proofs.RouterLaws.{site_of_router}
-use Rattle.cell_engine.proofs.Decided.{site_at}
 
 module _ (c : Configuration) (r : Addr) where
   without_site : (n : Option Node) → is_some n ≡ true → option_map (site_at c r) n ≡ None → ⊥
