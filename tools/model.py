@@ -136,6 +136,7 @@ class Net:
         self.sessions = {}   # frozenset: enabled
         self.clients, self.own = set(), set()
         self.cluster = {}
+        self.med_always = set()      # the routers that compare MED whatever the neighbouring AS
         self.rules = {}      # (router, peer, way): list
         self.origins = set()
         self.received = {}   # (to, prefix, from): attributes
@@ -234,12 +235,14 @@ class Net:
     FILTERS = ["pref", "length", "origin", "med", "external", "cost", "ident", "clusters", "peer"]
 
     @staticmethod
-    def beats(name, n, m):
+    def beats(name, n, m, always):
+        """Whether the filter prefers n to m. MED counts within one neighbouring AS (RFC 4271, 9.1.2.2 c), or `always`."""
         med = lambda c: c["attr"]["med"] or 0
+        same = lambda: always or neighbour(n["attr"]["path"]) == neighbour(m["attr"]["path"])
         return {"pref": lambda: n["pref"] > m["pref"],
                 "length": lambda: length(n["attr"]["path"]) < length(m["attr"]["path"]),
                 "origin": lambda: n["attr"]["origin"] < m["attr"]["origin"],
-                "med": lambda: neighbour(n["attr"]["path"]) == neighbour(m["attr"]["path"]) and med(n) < med(m),
+                "med": lambda: same() and med(n) < med(m),
                 "external": lambda: n["external"] and not m["external"],
                 "cost": lambda: n["cost"] < m["cost"],
                 "ident": lambda: n["ident"] < m["ident"],
@@ -252,7 +255,7 @@ class Net:
         reasons = {source: why for source, why, _ in routes if why}
         left = [c for _, _, c in routes if c]
         for name in self.FILTERS:
-            dropped = [m for m in left if any(self.beats(name, n, m) for n in left)]
+            dropped = [m for m in left if any(self.beats(name, n, m, r in self.med_always) for n in left)]
             for m in dropped:
                 reasons[m["source"]] = name
             left = [m for m in left if m not in dropped]
@@ -346,6 +349,7 @@ def parse(words):
     metric = lambda t: number(t, 1, 65535)
     switch = lambda t: {"on": True, "off": False}[t] if t in ("on", "off") else wrong()
     way = lambda t: t if t in ("in", "out") else wrong()
+    scope = lambda t: {"as": False, "always": True}[t] if t in ("as", "always") else wrong()
     if w in ("router", "virtual"):
         return take(addr, asn)
     if w in ("link", "metric"):
@@ -354,6 +358,8 @@ def parse(words):
         return take(addr, addr)
     if w in ("client", "self"):
         return take(addr, addr, switch)
+    if w == "med":
+        return take(addr, scope)
     if w == "clear":
         return take(addr, addr, way)
     if w in ("origin", "noorigin", "best", "why"):
@@ -408,7 +414,7 @@ def tests(net, w, v):
     """Raises the first refusal of 2 to 19."""
     ends = ("link", "metric", "fail", "mend", "join", "stop", "start", "client", "self", "rule", "clear", "feed", "deliver", "in",
             "out", "queue", "cost")
-    named = v[:2] if w in ends else v[:1] if w in ("cluster", "origin", "noorigin", "routes", "best", "why", "trace") else []
+    named = v[:2] if w in ends else v[:1] if w in ("cluster", "med", "origin", "noorigin", "routes", "best", "why", "trace") else []
     virtual = lambda a: net.nodes[a][1]
     key = frozenset(v[:2]) if w in ends else None
     if any(a not in net.nodes for a in named):
@@ -421,7 +427,8 @@ def tests(net, w, v):
         raise Refused(5)
     if w == "feed" and (not virtual(v[0]) or virtual(v[1])):
         raise Refused(5)
-    if w in ("client", "self", "cluster", "rule", "clear", "origin", "noorigin", "routes", "best", "why", "out", "cost", "trace") and virtual(v[0]):
+    of_a_router = ("client", "self", "cluster", "med", "rule", "clear", "origin", "noorigin", "routes", "best", "why", "out", "cost", "trace")
+    if w in of_a_router and virtual(v[0]):
         raise Refused(5)
     if w in ("link", "join") and (virtual(v[0]) or virtual(v[1])) and not net.external(v[0], v[1]):
         raise Refused(6)
@@ -486,7 +493,8 @@ def counted(lines):
 
 def run(net, w, v):
     tests(net, w, v)
-    key = frozenset(v[:2]) if len(v) > 1 and w not in ("router", "virtual", "cluster", "origin", "noorigin", "best", "why", "trace") else None
+    no_ends = ("router", "virtual", "cluster", "med", "origin", "noorigin", "best", "why", "trace")
+    key = frozenset(v[:2]) if len(v) > 1 and w not in no_ends else None
     if w in ("router", "virtual"):
         net.edit(lambda: net.nodes.update({v[0]: (v[1], w == "virtual")}))
     elif w == "link":
@@ -502,6 +510,8 @@ def run(net, w, v):
         net.edit(lambda: (marks.add if v[2] else marks.discard)((v[0], v[1])))
     elif w == "cluster":
         net.edit(lambda: net.cluster.update({v[0]: v[1]}))
+    elif w == "med":
+        net.edit(lambda: (net.med_always.add if v[1] else net.med_always.discard)(v[0]))
     elif w == "rule":
         net.edit(lambda: net.rules.setdefault((v[0], v[1], v[2]), []).append(v[3]))
     elif w == "clear":

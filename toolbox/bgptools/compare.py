@@ -19,6 +19,13 @@ REASONS = {
     "clusters": "another has passed fewer clusters", "peer": "another has a lower peer address"}
 
 
+def reason_text(reason: str, is_med_always: bool) -> str:
+    """What a reason means at a router that compares MED over all neighbours, or does not."""
+    if reason == "med" and is_med_always:
+        return "another has a lower MED, compared over all neighbours"
+    return REASONS[reason]
+
+
 @dataclass
 class Change:
     """A route before and after; `reason` says by what the old one loses now, or why it is gone."""
@@ -103,8 +110,10 @@ def _tell_why(before: Run, after: Run, found: Difference) -> None:
     for (router, change, source), reply in zip(asked, after.ask("why %s %s" % (router, change.prefix) for router, change, _ in asked)):
         reason = dict(reasons(reply)).get(source)
         shown = after.network.names.shown(source)
-        if reason:
-            change.reason = "it comes from the same, with other attributes" if reason == "best" else "%s: %s" % (reason, REASONS[reason])
+        if reason == "best":
+            change.reason = "it comes from the same, with other attributes"
+        elif reason:
+            change.reason = "%s: %s" % (reason, reason_text(reason, router in after.network.med_always))
         elif source == "self":
             change.reason = "it is no longer originated here"
         elif (router, source) in found.down or (source, router) in found.down:

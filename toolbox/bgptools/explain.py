@@ -7,10 +7,10 @@ from dataclasses import dataclass
 from typing import Callable, Dict, List, Optional, Tuple
 
 from . import adverts, communities
-from .compare import REASONS
+from .compare import REASONS, reason_text
 from .language import by_address, neighbour, prefix
 from .mistakes import CHANGED, DISAGREES, Mistake
-from .names import Names
+from .network import Network
 from .orders import add_order, order_of
 from .replies import Attributes, Route, best, reasons, routes
 from .run import Run, told_of
@@ -100,36 +100,48 @@ def _candidate(run: Run, router: str, source: str, reason: str, attributes: Attr
     return Explained(source, reason, attributes, run.network.is_external(router, source), int(cost.split(" ")[0]), ident, source)
 
 
-def winner(lost: Explained, among: List[Explained]) -> Optional[Explained]:
+def winner(lost: Explained, among: List[Explained], is_med_always: bool) -> Optional[Explained]:
     """The route by which this one was dropped: of those still there at its filter that beat it, the best by that filter's value."""
     name = lost.reason
     there = [each for each in among if not each.is_excluded and each.attributes and (each.reason == "best" or FILTERS.index(each.reason) >= FILTERS.index(name))]
-    if name == "med" and lost.attributes:
+    if name == "med" and lost.attributes and not is_med_always:
         there = [each for each in there if each.attributes and neighbour(each.attributes.path) == neighbour(lost.attributes.path)]
     better = [each for each in there if each.value(name) < lost.value(name)]
     return min(better, key=lambda each: (each.value(name), each.reason != "best")) if better else None
 
 
-def verdict(one: Explained, among: List[Explained], names: Names) -> str:
-    """Why a route was chosen or not, in a few words."""
+def _compared(lost: Explained, is_med_always: bool) -> str:
+    """Among which routes MED was compared."""
+    asn = neighbour(lost.attributes.path) if lost.attributes else None
+    if is_med_always:
+        return "over all neighbours"
+    return "among routes of AS %d" % asn if asn else "among routes without a neighbouring AS"
+
+
+def verdict(one: Explained, among: List[Explained], router: str, network: Network) -> str:
+    """Why a route of the router was chosen or not, in a few words."""
+    is_med_always = router in network.med_always
     if one.reason == "best":
         return "chosen"
     if one.is_excluded or not one.attributes:
         return "excluded (%s): %s" % (one.reason, REASONS[one.reason])
-    by = winner(one, among)
+    by = winner(one, among, is_med_always)
     if by is None:
-        return "lost (%s): %s" % (one.reason, REASONS[one.reason])
+        return "lost (%s): %s" % (one.reason, reason_text(one.reason, is_med_always))
+    shown = network.names.shown(by.source)
     if one.reason == "external":
-        return "lost by external: it came from inside the AS, that of %s from another" % names.shown(by.source)
-    return "lost by %s: %s against %s of %s" % (NAMES[one.reason], one.shown(one.reason), by.shown(one.reason), names.shown(by.source))
+        return "lost by external: it came from inside the AS, that of %s from another" % shown
+    text = "lost by %s: %s against %s of %s" % (NAMES[one.reason], one.shown(one.reason), by.shown(one.reason), shown)
+    return text + (", compared " + _compared(one, is_med_always) if one.reason == "med" else "")
 
 
-def text_of(router: str, to: str, found: List[Explained], names: Names) -> str:
+def text_of(router: str, to: str, found: List[Explained], network: Network) -> str:
     """The explanation for a reader."""
+    names = network.names
     lines = ["%s at %s: %s" % (to, names.shown(router), "no route" if not found else "1 route" if len(found) == 1 else "%d routes" % len(found))]
     for one in found:
         source = "its own" if one.source == "self" else "from " + names.shown(one.source)
-        lines.append("  %-20s %s" % (source, verdict(one, found, names)))
+        lines.append("  %-20s %s" % (source, verdict(one, found, router, network)))
         if one.attributes:
             shown = communities.in_text(str(one.attributes))
             lines.append("      %s%s" % (shown, " (as received)" if one.is_excluded else ", cost %d" % one.cost))
@@ -181,7 +193,7 @@ def _told(run: Run, router: str, to: str, peer: Optional[str]) -> Tuple[str, int
     """The answer, and the exit status."""
     names = run.network.names
     if peer is None:
-        return text_of(router, to, explain(run, router, to), names), 0
+        return text_of(router, to, explain(run, router, to), run.network), 0
     found = adverts.Teller(run, router, peer).advert(to)
     return adverts.text_of(router, peer, to, found, names), DISAGREES if found.doubts else 0
 

@@ -102,6 +102,7 @@ class Translation:
         if how_many > MOST_SESSIONS:
             raise Mistake("it has %d sessions, and a router has at most %d" % (how_many, MOST_SESSIONS), config.name)
         self.lines += ["cluster %s %s" % (name, config.cluster)] if config.cluster else []
+        self.lines += ["med %s always" % name] if config.is_on("bgp always-compare-med") else []
         for other, each in self.network.peers_of(name):
             self._peer(name, config, other, each)
         self.lines += ["origin %s %s" % (name, shown(own.where)) for own in self.owns[name]]

@@ -448,7 +448,7 @@ TAKERS: Dict[str, List[Taker]] = {
     "isis": _takers((r"redistribute ipv4 (connected|static) \S+", _ospf_redistribute)),
     "bgp": _takers(
         (r"bgp router-id (\S+)", _identifier), (r"bgp cluster-id (\S+)", _cluster),
-        (r"(no )?(bgp (?:ebgp-requires-policy|network import-check|deterministic-med|bestpath "
+        (r"(no )?(bgp (?:ebgp-requires-policy|network import-check|deterministic-med|always-compare-med|bestpath "
          r"compare-routerid|disable-ebgp-connected-route-check))", _flag),
         (r"(no )?(bgp default ipv4-unicast)", _flag), (r"(no )?(bgp shutdown)(?: message .+)?", _flag),
         (r"bgp default local-preference 100()", lambda c, line, _: None),

@@ -11,6 +11,9 @@ from .language import by_address
 
 # So many rules of a kind are written out in what is told.
 SHOWN = 4
+# What FRR does of MED without `bgp deterministic-med`.
+_IN_ORDER = ("compares each route with the best before it, so that where MED decides between some of three the choice "
+             "depends on their order; here all routes of a neighbouring AS are compared")
 
 
 def check(network: Network) -> None:
@@ -114,13 +117,25 @@ def _check_choice(network: Network) -> None:
         config.tell(config.line, "%s: of external routes that are alike FRR keeps the one that came first, and here "
                     "the lower identifier wins; so it is at %s. "
                     "`bgp bestpath compare-routerid` makes FRR do the same" % (short(config.line.text), _some(oldest)))
-    grouped = [name for name, config in network.routers.items() if not config.is_on("bgp deterministic-med")
-               and _compares_med(network, name)]
+    _check_order_of_med(network)
+
+
+def _check_order_of_med(network: Network) -> None:
+    """Where FRR compares routes in the order in which they came: each line that says so is told, and the default once.
+    Over all neighbours the order does not matter."""
+    ordered = {name: config for name, config in network.routers.items()
+               if not config.is_on("bgp deterministic-med") and not config.is_on("bgp always-compare-med")}
+    by_line = [name for name, config in ordered.items() if "bgp deterministic-med" in config.flags]
+    for name in by_line:
+        _, line = ordered[name].flags["bgp deterministic-med"]
+        ordered[name].tell(line, "%s: FRR %s. `bgp deterministic-med` makes FRR do the same" % (
+            short(line.text), _IN_ORDER))
+    grouped = [name for name in ordered if name not in by_line and _compares_med(network, name)]
     if grouped:
-        config = network.routers[grouped[0]]
-        config.tell(config.line, "%s: where MED decides between some of three routes, FRR's choice depends on their "
-                    "order, and here it does not; so it is at %s. "
-                    "`bgp deterministic-med` makes FRR do the same" % (short(config.line.text), _some(grouped)))
+        config = ordered[grouped[0]]
+        config.tell(config.line, "%s: without `bgp deterministic-med`, which is off by default but in the datacenter "
+                    "profile, FRR %s; so it is at %s. `bgp deterministic-med` makes FRR do the same" % (
+                        short(config.line.text), _IN_ORDER, _some(grouped)))
 
 
 def _some(names: List[str]) -> str:

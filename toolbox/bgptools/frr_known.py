@@ -90,9 +90,11 @@ TOLD: Dict[str, Table] = {
         ("vrf", "FRR's interface is of a VRF; give `interface NAME vrf VRF`, so that it is left out"),
         ("pbr-policy", "packets follow the policy in FRR, and routes alone here")),
     "bgp": _table(
-        ("bgp always-compare-med", "FRR compares MED between all neighbouring ASes; here within one alone"),
-        ("bgp bestpath med", "FRR takes a missing MED for the highest, or compares it in confederations; here a "
-         "missing one is 0"),
+        ("bgp bestpath med (confed missing-as-worst|missing-as-worst confed)", "FRR takes a missing MED for the "
+         "highest, and compares MED inside a confederation; here a missing one is 0, and there are no confederations"),
+        ("bgp bestpath med missing-as-worst", "FRR takes a missing MED for the highest; here a missing one is 0"),
+        ("bgp bestpath med confed", "FRR compares MED between routes that come from inside its confederation; there "
+         "are no confederations here"),
         ("bgp bestpath as-path (ignore|confed)", "FRR takes no path for shorter, or counts confederations; here the "
          "shorter path wins"),
         ("bgp bestpath (as-path multipath-relax|bandwidth|prefix-validate)|maximum-paths", _ONE_WAY),

@@ -40,6 +40,7 @@ FORMS = (
     Form("client A B on|off", "B is a client of the reflector A, or no more", MAKES),
     Form("self A B on|off", "A puts itself as next hop towards B, or no more", MAKES),
     Form("cluster A ID", "the CLUSTER_ID of A", MAKES),
+    Form("med A as|always", "A compares MED within a neighbouring AS (at first), or always", MAKES),
     Form("rule A B in|out MATCH ACT", "a rule at the end of A's policy for B", MAKES),
     Form("origin A P", "A originates the prefix", MAKES),
     Form("metric A B M", "another cost of a link", CHANGES),

@@ -16,7 +16,7 @@ from .scene import DOWN, EXTERNAL, FORWARDS, INTERNAL, LINK, WAY, Scene, Spot, W
 LONGEST_PATH, MOST_COMMUNITIES = 24, 2
 SHORT = {**NAMES, "length": "length", "cost": "cost", "external": "external", "clusters": "clusters", "peer": "peer"}
 # After these commands costs are what they were, and sessions are up or down as before.
-KEEPING = QUESTIONS | {"deliver", "feed", "origin", "noorigin", "rule", "clear", "client", "self", "cluster"}
+KEEPING = QUESTIONS | {"deliver", "feed", "origin", "noorigin", "rule", "clear", "client", "self", "cluster", "med"}
 Delivered = Dict[Direction, List[str]]
 
 
@@ -150,7 +150,8 @@ class Look:
         cost = int(self.costs[a][0]) if a in self.costs else 0
         is_external = is_own or self.network.is_external(a, peer)
         chosen = Explained(peer, "best", route.attributes, is_external, cost, ident, peer)
-        return "by %s%s" % (SHORT[name], "" if name == "external" else " " + chosen.shown(name))
+        by = "by %s%s" % (SHORT[name], "" if name == "external" else " " + chosen.shown(name))
+        return by + (" over all neighbours" if name == "med" and a in self.network.med_always else "")
 
     def _is_exit(self, a: str) -> bool:
         """Whether packets leave the AS here, or have arrived."""

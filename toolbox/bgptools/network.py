@@ -46,6 +46,8 @@ class Network:
         self.clients: Set[Direction] = set()
         self.selves: Set[Direction] = set()
         self.clusters: Dict[str, str] = {}
+        # The routers that compare MED whatever the neighbouring AS.
+        self.med_always: Set[str] = set()
         self.rules: Dict[Tuple[str, str, str], List[str]] = {}
         self.origins: Dict[str, Set[str]] = {}
         self.prefixes: Set[str] = set()
@@ -143,6 +145,10 @@ def _cluster(network: Network, words: List[str]) -> None:
     network.clusters[words[1]] = words[2]
 
 
+def _med(network: Network, words: List[str]) -> None:
+    (network.med_always.add if words[2] == "always" else network.med_always.discard)(words[1])
+
+
 def _feed(network: Network, words: List[str]) -> None:
     network.prefixes.add(words[4])
     network.communities.update(map(int, words[8][len("comm="):].split(",")) if len(words) > 8 else [])
@@ -151,4 +157,4 @@ def _feed(network: Network, words: List[str]) -> None:
 _TAKES: Dict[str, Callable[[Network, List[str]], None]] = {
     "router": _node, "virtual": _node, "link": _link, "metric": _link, "fail": _link, "mend": _link, "join": _session, "stop": _session,
     "start": _session, "client": _switch, "self": _switch, "rule": _policy, "clear": _policy, "origin": _origin, "noorigin": _origin,
-    "cluster": _cluster, "feed": _feed}
+    "cluster": _cluster, "med": _med, "feed": _feed}

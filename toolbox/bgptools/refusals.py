@@ -16,7 +16,8 @@ def sentence(line: str, number: int, network: Network) -> str:
 
 
 def _no_router(words: List[str], network: Network) -> str:
-    named = words[1:2] if words[0] in ("cluster", "origin", "noorigin", "routes", "best", "why", "trace") else words[1:3]
+    of_one = ("cluster", "med", "origin", "noorigin", "routes", "best", "why", "trace")
+    named = words[1:2] if words[0] in of_one else words[1:3]
     missing = [word for word in named if word not in network.nodes]
     return "there is no router or virtual peer %s" % " and no ".join(dict.fromkeys(missing))
 

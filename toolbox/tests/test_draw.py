@@ -417,7 +417,9 @@ class Steps(Case):
 class Looks(Case):
     def test_what_is_not_asked_again_has_not_changed(self):
         """After each line, what is seen by one who remembers is what is seen by one who asks for all."""
-        for name, prefix in (("two-reflectors", None), ("tour", "10.7.0.0/16"), ("lessons/leaking-policy", "203.0.113.0/24")):
+        for name, prefix in (("two-reflectors", None), ("tour", "10.7.0.0/16"),
+                             ("lessons/leaking-policy", "203.0.113.0/24"),
+                             ("lessons/med-at-one-router", "203.0.113.0/24")):
             path = TOOLBOX.parent / "examples" / (name + ".bgp")
             with self.subTest(path=path.name), Run() as run:
                 view, known = View(prefix), Known()

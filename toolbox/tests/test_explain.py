@@ -89,7 +89,7 @@ class Explain(Case):
     def test_reasons(self):
         tour, change = "examples/tour.bgp", "lost by "
         for words, text in ((("10.3.0.0/16",), change + "preference: 100 against 150 of 8.0.0.1"), (("10.4.0.0/16",), change + "path length: 2 against 1 of 7.0.0.1"),
-                            (("10.5.0.0/16",), change + "origin: egp against igp of 7.0.0.1"), (("10.6.0.0/16",), change + "MED: 10 against 5 of 7.0.0.1"),
+                            (("10.5.0.0/16",), change + "origin: egp against igp of 7.0.0.1"), (("10.6.0.0/16",), change + "MED: 10 against 5 of 7.0.0.1, compared among routes of AS 7\n"),
                             (("10.8.0.0/16",), change + "identifier: 8.0.0.1 against 7.0.0.1 of 7.0.0.1"),
                             (("10.7.0.0/16",), change + "external: it came from inside the AS, that of 7.0.0.1 from another")):
             with self.subTest(prefix=words[0]):
@@ -113,7 +113,7 @@ feed 1.0.0.1 9.0.0.1 update 198.51.100.0/24 1 igp 10
 feed 1.0.0.2 9.0.0.1 update 198.51.100.0/24 1 igp 5
 feed 2.0.0.1 9.0.0.1 update 198.51.100.0/24 2 igp 0""".split("\n")))
         told = tool("explain", "--settle", script, "9.0.0.1", "198.51.100.0/24", status=0).stdout
-        self.assertIn("from 1.0.0.1         lost by MED: 10 against 5 of 1.0.0.2", told)
+        self.assertIn("from 1.0.0.1         lost by MED: 10 against 5 of 1.0.0.2, compared among routes of AS 1\n", told)
         self.assertIn("from 1.0.0.2         lost by cost to the next hop: 30 against 20 of 2.0.0.1", told)
 
     def test_names_are_shown_and_taken(self):
@@ -122,7 +122,7 @@ feed 2.0.0.1 9.0.0.1 update 198.51.100.0/24 2 igp 0""".split("\n")))
         told = tool("explain", script, "west", "10.6.0.0/16", status=0).stdout
         self.assertEqual(told, tool("explain", script, "5.0.0.1", "10.6.0.0/16", status=0).stdout)
         self.assertTrue(told.startswith("10.6.0.0/16 at west (5.0.0.1): 2 routes\n  from left (7.0.0.1)  chosen\n"), told)
-        self.assertIn("\n  from right (7.0.0.2) lost by MED: 10 against 5 of left (7.0.0.1)\n", told)
+        self.assertIn("\n  from right (7.0.0.2) lost by MED: 10 against 5 of left (7.0.0.1), compared among routes of AS 7\n", told)
         self.assertIn("there is no router left in the script; it has 3.0.0.1, 3.0.0.2", tool("explain", script, "left", "10.6.0.0/16", status=2).stderr)
 
     def test_a_refused_line_is_a_mistake(self):

@@ -7,7 +7,7 @@ from common import DATA, EXAMPLES, Case, inside, program, tool
 from frr import OUTSIDE, Told, at, border, inner, router
 from simtools import real_routers, settling_networks
 
-SCRIPTS = [path for path in EXAMPLES if path.name not in ("tour.bgp", "med-oscillation.bgp")]
+SCRIPTS = [path for path in EXAMPLES if path.name != "tour.bgp"]
 
 
 # A link of a virtual peer has the peer's address on its subnet, to which FRR counts no cost; tools/real-routers has a
@@ -53,7 +53,7 @@ class FromFrr(Case):
 
     def test_the_way_back_of_random_networks(self):
         real = real_routers
-        for seed in (1, 5, 6):
+        for seed in (1, 5, 6, 7):
             with self.subTest(seed=seed):
                 self.assert_way_back(real, "seed%d" % seed, settling_networks.script(seed).split("\n"))
 
@@ -339,10 +339,10 @@ class Lines(Told):
         """And not all of `router bgp`."""
         text = border("address-family ipv6 unicast", "exit", "neighbor 10.0.0.2 next-hop-self",
                       "address-family ipv4 unicast",
-                      "exit", "bgp always-compare-med", "exit", "neighbor 10.9.0.2 shutdown")
+                      "exit", "bgp bestpath med confed", "exit", "neighbor 10.9.0.2 shutdown")
         made = self.convert({"a.conf": text, "b.conf": inner(), "c.conf": OUTSIDE}, status=1)
         self.assertIn("self 10.0.0.1 10.0.0.2 on\n", made.stdout)
-        self.assert_told(made, "a.conf", at(text, "bgp always-compare-med"), "MED")
+        self.assert_told(made, "a.conf", at(text, "bgp bestpath med confed"), "MED")
         self.assert_told(made, "a.conf", at(text, "neighbor 10.9.0.2 shutdown"), "does not know")
 
     def test_what_cannot_be_shown_is_escaped(self):
@@ -368,6 +368,7 @@ class Lines(Told):
         self.assert_quiet(made)
         self.assertNotIn("origin", made.stdout)
         self.assertNotIn("stop", made.stdout)
+        self.assertNotIn("med ", made.stdout)
 
     def test_what_a_member_has_otherwise_than_its_group(self):
         group = ["neighbor G peer-group", "neighbor G next-hop-self", "neighbor 10.0.0.2 peer-group G"]
@@ -377,10 +378,10 @@ class Lines(Told):
             "no neighbor 10.0.0.2 next-hop-self"), "b.conf": inner(), "c.conf": OUTSIDE}).stdout)
 
     def test_strict(self):
-        text = border("neighbor 10.0.0.2 next-hop-self", "bgp always-compare-med")
+        text = border("neighbor 10.0.0.2 next-hop-self", "bgp bestpath med confed")
         made = self.convert({"a.conf": text, "b.conf": inner()}, "--strict", status=2)
         self.assertEqual(made.stdout, "")
-        self.assert_told(made, "a.conf", at(text, "bgp always-compare-med"), "always-compare-med")
+        self.assert_told(made, "a.conf", at(text, "bgp bestpath med confed"), "bestpath med confed")
         self.assertIn("router 10.0.0.1", self.convert({"a.conf": border("neighbor 10.0.0.2 next-hop-self"),
                                                        "b.conf": inner()}, "--strict", status=0).stdout)
 
@@ -432,7 +433,7 @@ class Layouts(Told):
         files = {"a.conf": border("neighbor 10.0.0.2 next-hop-self"), "b.conf": inner()}
         made = self.convert(files, "-o", self.folder / "made.bgp", status=0)
         self.assertEqual((made.stdout, (self.folder / "made.bgp").read_text()), ("", self.convert(files).stdout))
-        files["a.conf"] += " bgp always-compare-med\n"
+        files["a.conf"] += " bgp bestpath med confed\n"
         self.convert(files, "--strict", "-o", self.folder / "none.bgp", status=2)
         self.assertFalse((self.folder / "none.bgp").exists())
 

@@ -400,9 +400,43 @@ class Choice(Told):
         files["a.conf"] = "frr defaults datacenter\n" + files["a.conf"]
         self.assert_quiet(self.convert(files))
 
+    def test_a_line_for_the_order_of_med(self):
+        """It is told at each router that has it, also in the profile in which the order does not matter by default."""
+        files = self.two("bgp deterministic-med")
+        text = files["a.conf"] + " no bgp deterministic-med\n"
+        other = text.replace("10.0.0.1", "10.0.0.7").replace("10.9.", "10.8.").replace("6500", "6400")
+        for first in ("", "frr defaults datacenter\n"):
+            made = self.convert({"a.conf": first + text, "b.conf": first + other}, status=1)
+            for name, whole in (("a.conf", first + text), ("b.conf", first + other)):
+                self.assert_told(made, name, at(whole, "no bgp deterministic-med"), "no bgp deterministic-med", "order")
+            self.assertNotIn("router bgp", made.stderr)
+
+    def test_med_over_all_neighbours(self):
+        """Then the order of arrival does not matter."""
+        files = self.two("bgp deterministic-med")
+        self.assertNotIn("med ", self.convert(files).stdout)
+        text = files["a.conf"] + " bgp always-compare-med\n"
+        for more in ("", " no bgp deterministic-med\n", " bgp deterministic-med\n"):
+            made = self.convert({"a.conf": text + more})
+            self.assert_quiet(made)
+            self.assertEqual(made.stdout.count("\nmed 10.0.0.1 always\n"), 1)
+        made = self.convert({"a.conf": text + " no bgp always-compare-med\n"}, status=1)
+        self.assertNotIn("med ", made.stdout)
+        self.assert_told(made, "a.conf", at(text, "router bgp 65001"), "MED", "order")
+
+    def test_what_is_not_modelled_of_med(self):
+        worst, confed = "a missing MED for the highest", "confederation"
+        for end, said in (("missing-as-worst", [worst]), ("confed", [confed]),
+                          ("confed missing-as-worst", [worst, confed]), ("missing-as-worst confed", [worst, confed])):
+            line = "bgp bestpath med " + end
+            text = self.two()["a.conf"] + " %s\n" % line
+            made = self.convert({"a.conf": text}, status=1)
+            self.assert_told(made, "a.conf", at(text, line), line + ":", *said)
+            self.assertEqual(made.stderr.count("not taken over"), 1)
+
     def test_lines_that_decide(self):
         """Each is told at its line, with what comes of it; its `no` is what FRR does without it."""
-        lines = ["bgp always-compare-med", "bgp bestpath med missing-as-worst", "bgp bestpath as-path ignore",
+        lines = ["bgp bestpath med confed", "bgp bestpath med missing-as-worst", "bgp bestpath as-path ignore",
                  "bgp default local-preference 200", "bgp confederation identifier 5", "bgp dampening",
                  "bgp graceful-shutdown",
                  "bgp reject-as-sets", "bgp listen range 10.0.0.0/8 peer-group X",

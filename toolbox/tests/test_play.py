@@ -237,6 +237,7 @@ class Prompt(AtPrompt):
         for word in ("prepend=K", "add=N", "comm N", "65000:1 is 65000 x 65536 + 1, 4259840001"):
             self.assertIn(word, shown)
         self.assertIn("  feed V R update P PATH ORIGIN MED [comm=N,..] ", self.typed.type("? feed\n"))
+        self.assertIn("  med A as|always  ", self.typed.type("? med\n"))
 
     def test_settle_undo_and_save(self):
         self.network()

@@ -1,5 +1,6 @@
 """The commands of tools/ and bench/, and simtools, which they are made of: what each says of a program that is not
 there, or that does something else."""
+import collections
 import contextlib
 import hashlib
 import io
@@ -14,6 +15,8 @@ import unittest
 import unittest.mock
 
 from common import TOP, Case
+
+import model
 from simtools import (bench_tables, commands, language, loads, logs, planted, programs, random_interiors,
                       random_scripts, real_routers, refuse_allocations, refusing, run_toolbox_tests, running, speaker,
                       teams)
@@ -39,6 +42,17 @@ def commands_of(folder):
 
 def sha256(text):
     return hashlib.sha256(text.encode("latin-1")).hexdigest()
+
+
+def cells(net, router, prefixes):
+    """Of each of these cells of a router in the model: how many routes may be chosen, of how many neighbours, and
+    which is."""
+    found = {}
+    address = next((a for a in net.nodes if model.show(a) == router), None)
+    for prefix in [] if address is None else prefixes:
+        paths = [candidate["attr"]["path"] for _, _, candidate in net.routes(address, prefix) if candidate]
+        found[prefix] = (len(paths), len(set(map(model.neighbour, paths))), net.best(address, prefix))
+    return found
 
 
 def called(main, *words):
@@ -149,16 +163,15 @@ class RandomScripts(Case):
     def test_a_seed_gives_the_script_that_it_always_gave(self):
         ran = command("tools/random-scripts", 5, 300)
         self.assertEqual(ran.stdout, random_scripts.script(5, 300))
-        self.assertEqual(sha256(ran.stdout), "1daa902f2aed94d20a0e6c58da58344bf29943648bbaa4bdc69b2e30f2de8f73")
+        self.assertEqual(sha256(ran.stdout), "dea87db406b17e535a46dc669487e70a4e164d1bb82272af0b262a6e96c4fdf1")
 
     def test_a_seed_gives_the_changes_of_an_interior_that_it_always_gave(self):
         text = "".join(random_interiors.script(seed, 17) for seed in (3, 5))
-        self.assertEqual(sha256(text), "f0022450e899da5d7d71f67a5a03f138c0cde00e41a3c2a3b44b595ab32b27e6")
-
+        self.assertEqual(sha256(text), "33388e02958926dddccc916bdc9be9df189eccfb1d3bfc10bbe65a7c0bb0766c")
 
     def test_forms_of_communities(self):
         """All stand in few scripts."""
-        lines = "".join(map(random_scripts.script, range(1, 21))).split("\n")
+        lines = "".join(map(random_scripts.script, range(1, 41))).split("\n")
         feeds = [line for line in lines if line.startswith("feed ")]
         for form in ("comm=", *language.WELL_KNOWN):
             self.assertGreater(sum(form in line for line in feeds), 10)
@@ -166,6 +179,29 @@ class RandomScripts(Case):
         for form in (r"rule \S+ \S+ in comm [0-9]+ ", r"rule \S+ \S+ out comm [0-9]+ ", r"rule .* in .* add=[0-9]+",
                      r"rule .* out .* add=[0-9]+", r"rule .* pref=.* add=", r"rule .* prepend=.* add="):
             self.assertTrue(any(re.match(form, line) for line in lines), form)
+
+
+    def test_where_the_comparison_of_med_is_turned(self):
+        """In few scripts it is so over cells that have no route, one, several of one neighbour and several of two, and
+        by it other routes are chosen; and it is refused in each way."""
+        replies, kinds, has_moved = set(), set(), False
+        for seed in range(1, 41):
+            net, heard = model.Net(), collections.defaultdict(set)
+            for line in random_scripts.script(seed).split("\n"):
+                words = line.rstrip("\r").split()
+                if words[:1] != ["med"]:
+                    for reply in model.answer(net, line):
+                        if reply.startswith("took "):
+                            heard[words[2]].add(model.prefix(reply.split()[1]))
+                    continue
+                router = words[1] if len(words) > 1 else ""
+                before, setting = cells(net, router, heard[router]), len(net.med_always)
+                replies.update(model.answer(net, line))
+                after = cells(net, router, heard[router]) if len(net.med_always) != setting else {}
+                kinds.update((min(routes, 2), min(neighbours, 2)) for routes, neighbours, _ in after.values())
+                has_moved = has_moved or after not in ({}, before)
+        self.assertEqual(replies, {"ok", "refused 1 syntax", "refused 2 no-router", "refused 5 bad-end"})
+        self.assertEqual((kinds, has_moved), ({(0, 0), (1, 1), (2, 1), (2, 2)}, True))
 
 
 class Logs(Case):
@@ -184,7 +220,12 @@ class Logs(Case):
         self.assertEqual(newest.split("\n")[:4], [
             "bgpsim log 2", "@0 router 9.0.0.1 9", "= ok", "@0 feed 7.0.0.1 9.0.0.1 update 10.0.0.0/8 7 igp - comm=5"])
         self.assertEqual(first, "bgpsim log 1\n@0 router 9.0.0.1 9\n= ok\n@0 quiet\n= yes\nend 2\n")
-        for log, said in ((newest, "ok 3"), (first, "ok 2"), (logs.under(newest, 1), "bad line 4"),
+        turned = logs.log_of("router 9.0.0.1 9\nmed 9.0.0.1 always\nmed 3.3.3.3 as\nmed 9.0.0.1 maybe\n")
+        self.assertEqual(turned.split("\n")[3:8], [
+            "@0 med 9.0.0.1 always", "= ok", "@0 med 3.3.3.3 as", "= refused 2 no-router", "end 3"])
+        self.assertEqual(logs.log_of("router 9.0.0.1 9\nmed 9.0.0.1 as\n", version=1).split("\n")[-2], "end 1")
+        for log, said in ((turned, "ok 3"), (logs.under(turned, 1), "bad line 4"), (newest, "ok 3"),
+                          (first, "ok 2"), (logs.under(newest, 1), "bad line 4"),
                           (logs.under(first, 2), "ok 2"), (newest.replace("log 2", "log 3"), "bad line 1")):
             self.assertEqual(logs.verdict(log), said)
 
@@ -197,6 +238,13 @@ class RealRouters(Case):
             ["bgp community-list standard in-1 permit 65000:1"], [" match community in-1"]))
         self.assertEqual(real_routers.settings(9, {"med": 3, "add": 4294967041}), [
             " set metric 3", " set community 65535:65281 additive"])
+
+    def test_med_over_all_neighbours(self):
+        net = model.Net()
+        for line in ("router 9.0.0.1 9", "router 9.0.0.2 9", "med 9.0.0.1 always"):
+            self.assertEqual(model.answer(net, line), ["ok"])
+        texts = [real_routers.configuration(net, router).split("\n") for router in sorted(net.nodes)]
+        self.assertEqual([" bgp always-compare-med" in lines for lines in texts], [True, False])
 
     def test_attributes(self):
         route = {"prefix": "10.0.0.0/8", "path": [("seq", [7])], "origin": 0, "med": None, "comms": [5, 4294967041]}

@@ -11,8 +11,8 @@
                                                 refused in turn: each run has to end with `memory` and status 5, or as
                                                 ever; it needs cc
 
-A line of a script that spells no command is no call, and is left out; so is, of a log of version 1, a command that
-speaks of communities. `agree` ends with `N logs, K differ`, and
+A line of a script that spells no command is no call, and is left out; so is, of a log of version 1, a command of a
+form that it has not: one that speaks of communities, or `med`. `agree` ends with `N logs, K differ`, and
 with exit 1 where one differs; `refuse` with how many runs ended how, and with exit 1 where one ended otherwise.
 PROGRAM= is another program than crates/bgpsim/out/bgpsim.
 """
@@ -40,8 +40,11 @@ CHANGES = 12
 CALL = re.compile(r"@(0|[1-9][0-9]{0,2}) ([!-~]+(?: [!-~]+)*)")
 
 
-def has_communities(command: str, values: List[Any]) -> bool:
-    """Whether a command, of these values, speaks of communities, as logs of version 1 do not."""
+def is_of_version_2(command: str, values: List[Any]) -> bool:
+    """Whether logs of version 1 have no command of this form, with these values: it speaks of communities, or is
+    `med`."""
+    if command == "med":
+        return True
     if command == "feed":
         route = values[3]
         return bool(route and route[3])
@@ -60,7 +63,7 @@ def is_command(line: str, version: int = NEWEST) -> bool:
         values = model.parse(words)
     except model.Bad:
         return False
-    return version > 1 or not has_communities(words[0], values)
+    return version > 1 or not is_of_version_2(words[0], values)
 
 
 def calls_of(script: str, version: int = NEWEST) -> Iterator[str]:

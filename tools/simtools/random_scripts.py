@@ -14,6 +14,7 @@ from __future__ import annotations
 
 import random
 import sys
+from collections import Counter
 from typing import Collection, Dict, Iterable, List, Sequence, Set, Tuple, TypeVar
 
 from . import commands
@@ -23,7 +24,8 @@ PREFIXES = ["0.0.0.0/0", "10.0.0.0/8", "10.0.0.0/16", "10.1.0.0/16", "192.0.2.0/
 TARGETS = ["10.0.0.1", "10.1.2.3", "10.200.0.1", "192.0.2.1", "192.0.2.7", "8.8.8.8"]
 WORDS = ["router", "link", "join", "rule", "feed", "deliver", "quiet", "on", "in", "any", "permit", "deny", "pref=5",
          "-", "0", "7", "4294967296", "1.0.0.1", "1.0.0.256", "10.0.0.1/8", "10.0.0.0/33", "{3,2}", "prepend=17",
-         "igp", "#", "x", "comm", "comm=", "comm=5", "comm=6,5", "add=", "add=5", "add=4294967296"]
+         "igp", "#", "x", "comm", "comm=", "comm=5", "comm=6,5", "add=", "add=5", "add=4294967296", "med", "as",
+         "always"]
 # Communities that mean nothing by themselves; the first few are drawn often, and so met again by rules.
 COMMUNITIES = ["1", "2", "3", "65001", "4259840100", "0", "4294967040", "4294967044", "4294967295"]
 One = TypeVar("One")
@@ -43,6 +45,8 @@ class Script:
         self.prefixes = self.random.sample(PREFIXES, self.random.choice([1, 1, 2, 3]))
         self.asns = self.random.sample(range(1, 7), self.random.randint(1, 3))
         self.count = self.random.randint(4, 9)      # of routers and peers, to begin with
+        self.turns_med = self.chance(0.5)      # whether ties are made that MED breaks
+        self.fed: Counter[Ends] = Counter()      # about how many messages of a virtual peer wait
 
     # choices
 
@@ -194,6 +198,9 @@ class Script:
     def set_cluster(self) -> str:
         return "cluster %s %s" % (self.router(), self.address())
 
+    def set_med(self) -> str:
+        return "med %s %s" % (self.router(), self.some(["always", "always", "as"]))
+
     def add_rule(self) -> str:
         external = {ends for ends in self.sessions if not self.is_internal(*ends)}
         one, other = self.pair(external if self.chance(0.7) else self.sessions)
@@ -260,6 +267,10 @@ class Script:
     # scripts
 
     def add(self, line: str) -> None:
+        words = line.split(" ")
+        if words[0] in ("feed", "deliver"):
+            ways = tuple(words[1:3])
+            self.fed[ways] = max(self.fed[ways] + (1 if words[0] == "feed" else -1), 0)
         if self.chance(0.02):
             line = "  " + line.replace(" ", "   ") + " "
         if self.chance(0.02):
@@ -278,6 +289,39 @@ class Script:
         for one, other in ways:
             if one in self.nodes and other in self.nodes:
                 self.add("deliver %s %s" % (one, other))
+
+    def feeding(self) -> List[Ends]:
+        """The sessions of virtual peers, each with the peer first; often those alone of a router that has the most."""
+        there = [ends for ends in sorted(self.sessions) if set(ends) <= self.nodes.keys()]
+        found = [ends for one, other in there for ends in ((one, other), (other, one)) if self.nodes[ends[0]][1]]
+        count = Counter(router for _, router in found)
+        most = self.some([one for one in count if count[one] == max(count.values())]) if found else ""
+        return [ends for ends in found if ends[1] == most] if self.chance(0.6) else found
+
+    def tie(self, prefix: str, feeding: List[Ends]) -> None:
+        """Some of these peers tell routes to the prefix that MED alone parts, as a rule may set it; the others take
+        theirs back. All that they told is delivered."""
+        telling = max(self.random.randint(0, len(feeding)) for _ in range(2))
+        for number, ways in enumerate(self.random.sample(feeding, len(feeding))):
+            if self.chance(0.8):
+                self.add("clear %s %s in" % ways[::-1])
+            if self.chance(0.2):
+                self.add("rule %s %s in any permit med=%s" % (*ways[::-1], self.number(0, 3)))
+            told = "update %s %d igp %s" % (prefix, self.nodes[ways[0]][0], self.some("-0123"))
+            self.add("feed %s %s %s" % (*ways, told if number < telling else "withdraw " + prefix))
+        self.add_all("deliver %s %s" % ways for ways in feeding for _ in range(self.fed[ways]))
+        if len({router for _, router in feeding}) > 1:
+            self.burst()
+
+    def turn_med(self) -> None:
+        """MED decides, and then is compared otherwise at a router, and once more, with questions after each."""
+        foreign = [prefix for prefix in self.prefixes if all(prefix != own for _, own in self.origins)]
+        prefix, feeding = self.some(foreign or self.prefixes), self.feeding()
+        self.tie(prefix, feeding)
+        router = self.some(feeding)[1] if feeding and self.chance(0.8) else self.router()
+        for setting in self.random.sample(["as", "always"], 2):
+            self.add_all(["med %s %s" % (router, setting), "why %s %s" % (router, prefix)])
+            self.add(self.question())
 
     def build(self) -> None:
         """Anything, a part of it linked and joined."""
@@ -304,11 +348,13 @@ class Script:
     def go_on(self, count: int) -> None:
         kinds = [self.deliver] * 5 + [self.feed] * 9 + [self.question] * 5 + [self.change_link] * 4
         kinds += [self.change_origin] * 3 + [self.mark] * 4 + [self.add_rule] * 5 + [self.change_session] * 2
-        kinds += [self.malformed] * 2 + [self.clear_rules, self.set_cluster]
+        kinds += [self.malformed] * 2 + [self.set_med] * 2 + [self.clear_rules, self.set_cluster]
         kinds += [self.add_node, self.add_link, self.add_session]
         while len(self.lines) < count:
             if self.sessions and self.chance(0.07):
                 self.burst()
+            elif self.sessions and self.turns_med and self.chance(0.06):
+                self.turn_med()
             else:
                 self.add(self.random.choice(kinds)())
             if self.chance(0.01):

@@ -176,6 +176,8 @@ def configuration(net: Net, r: int) -> str:
            " bgp bestpath compare-routerid", " bgp deterministic-med", " no bgp network import-check"]
     if net.reflector(r):
         own.append(" bgp cluster-id " + show(net.cluster_id(r)))
+    if r in net.med_always:
+        own.append(" bgp always-compare-med")
     lines = ["frr defaults traditional"] + before + own + peers + [" address-family ipv4 unicast"] + inside
     return "\n".join(lines + [""])
 

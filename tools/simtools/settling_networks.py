@@ -2,9 +2,9 @@
 
     tools/settling-networks SEED        the same seed gives the same script
 
-Some ASes of some routers each, with a full mesh of sessions or one or two reflectors; virtual peers; policies on
-external sessions; communities; then failures, repairs, metrics, sessions stopped and prefixes withdrawn, with
-deliveries between them.
+Some ASes of some routers each, with a full mesh of sessions or one or two reflectors; in some of them all routers
+compare MED whatever the neighbouring AS; virtual peers; policies on external sessions; communities; then failures,
+repairs, metrics, sessions stopped and prefixes withdrawn, with deliveries between them.
 """
 from __future__ import annotations
 
@@ -69,6 +69,7 @@ class Script:
             self.say("link %s %s %d" % (inside[n], inside[self.random.randrange(n)], self.random.randint(1, 9)))
         self.say_all("link %s %s %d" % (*self.random.sample(inside, 2), self.random.randint(1, 9))
                      for _ in range(self.random.randint(0, 2)))
+        self.say_all("med %s always" % router for router in (inside if self.chance(0.3) else []))
         tops = inside[:self.random.randint(1, 2)] if len(inside) > 2 and self.chance(0.6) else inside
         self.interior_sessions(inside, tops)
 
