@@ -73,6 +73,32 @@ fn counts_of_deliveries<M: Counting + Drop>(
     }
 }
 
+/// Fails unless an edit that turns how the router compares MED counts the cells in which a route stands: not one that
+/// was emptied, and none where it compares so already.
+fn counts_of_comparisons<M: Counting + Drop>(
+    rt: &(impl Abort + Threads + Sync),
+    alloc: Global,
+    mut machine: M,
+) {
+    counts(rt, alloc, &mut machine, THREE_PEERS, 0);
+    for (line, count) in [
+        ("deliver 1.0.0.1 9.0.0.1", 1),
+        ("deliver 1.0.0.2 9.0.0.1", 2),
+        ("deliver 2.0.0.1 9.0.0.1", 3),
+        ("feed 1.0.0.2 9.0.0.1 withdraw 10.0.0.0/8", 3),
+        ("deliver 1.0.0.2 9.0.0.1", 4),
+        ("med 9.0.0.1 always", 5),
+        ("med 9.0.0.1 always", 5),
+        ("feed 1.0.0.1 9.0.0.1 update 11.0.0.0/8 1 igp -", 5),
+        ("deliver 1.0.0.1 9.0.0.1", 6),
+        ("feed 1.0.0.1 9.0.0.1 withdraw 11.0.0.0/8", 6),
+        ("deliver 1.0.0.1 9.0.0.1", 7),
+        ("med 9.0.0.1 as", 8),
+    ] {
+        counts(rt, alloc, &mut machine, line, count);
+    }
+}
+
 /// A reflector between two routers, of which one has a route that the reflector passed on.
 const REFLECTED: &str = "router 5.0.0.1 5
 router 5.0.0.2 5
@@ -128,6 +154,7 @@ fn counts_of_virtual_peers<M: Counting + Drop>(
 fn tries_count(rt: HostRuntime) {
     let alloc = rt.alloc();
     counts_of_deliveries(&rt, alloc, TrieMachine::new(alloc, None));
+    counts_of_comparisons(&rt, alloc, TrieMachine::new(alloc, None));
     counts_of_edits(&rt, alloc, TrieMachine::new(alloc, None));
     counts_of_virtual_peers(&rt, alloc, TrieMachine::new(alloc, None));
 }
@@ -136,6 +163,7 @@ fn tries_count(rt: HostRuntime) {
 fn sorted_tables_count(rt: HostRuntime) {
     let alloc = rt.alloc();
     counts_of_deliveries(&rt, alloc, SortedMachine::new(alloc, None));
+    counts_of_comparisons(&rt, alloc, SortedMachine::new(alloc, None));
     counts_of_edits(&rt, alloc, SortedMachine::new(alloc, None));
     counts_of_virtual_peers(&rt, alloc, SortedMachine::new(alloc, None));
 }
