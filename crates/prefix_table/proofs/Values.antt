@@ -1,11 +1,11 @@
 -- The table of values, as it follows from the table of their places.
-use Rattle.std.proofs.Common.{◌≡◌, ◌≢◌, ℕ, zero, suc, ◌<◌, Bool, true, false, cond, ◌&&◌, T, List, [], ◌∷◌, ◌++◌, length, set, Option, Some, None, IsTrue, is_some, refl, sym, ap, subst, ◌∙◌, inl, inr, ◌⊎◌, arith}
+use Rattle.std.proofs.Common.{◌≡◌, ℕ, zero, suc, ◌<◌, Bool, true, false, cond, ◌&&◌, T, List, [], ◌∷◌, ◌++◌, length, set, Option, Some, None, is_some, refl, sym, ap, ◌∙◌, inl, inr, ◌⊎◌, arith}
 use Rattle.std.specs.Prelude.{slice_get}
-use Rattle.std.proofs.lemmas.Bool.{false≢true, cases_eq}
+use Rattle.std.proofs.lemmas.Bool.{false≢true}
 use Rattle.std.proofs.lemmas.List.{length-set, length_push}
-use Rattle.std.proofs.lemmas.Option.{same_Some, slice_get_within}
+use Rattle.std.proofs.lemmas.Option.{same_Some}
 use Rattle.std.proofs.lemmas.List.Elements.{filter_map-append}
-use Rattle.std.specs.Option.{option_map, option_and_then, IfSome, IfNone}
+use Rattle.std.specs.Option.{option_map, option_and_then}
 use Rattle.std.specs.List as list
 use Rattle.std.specs.List.{cons_option}
 use Rattle.std.specs.Ordering.{is_lt, eq_by_cmp}
@@ -14,7 +14,7 @@ use Rattle.std.specs.FinMap.Entries.{find, is_sorted, below_all}
 use Rattle.net_prefix.specs.declared.addr.Addr.{Addr}
 use Rattle.net_prefix.specs.Prefix.{Prefix, prefix_cmp}
 use Rattle.net_prefix.specs.Orders.{prefix_total, prefix_exact}
-use Rattle.prefix_table.specs.Tables.{Table, IsKey, IsMatch, IsLongestMatch, HasNoMatch, is_after, first_after, adjusted, adjusted_by}
+use Rattle.prefix_table.specs.Tables.{Table, IsLongestMatch, HasNoMatch, is_after, first_after, adjusted, adjusted_by}
 use Rattle.prefix_table.specs.Trie.{entry_or_not}
 use Rattle.prefix_table.specs.Values.{value_in, with_value, with_values, values_of, ArePlaced}
 use Rattle.prefix_table.proofs.Entries.{first, second, find_below}

@@ -1,6 +1,6 @@
 //! Ways down the trie, from a node to those below it.
 
-ghost use Rattle.std.specs.Prelude.{◌≡◌, ◌↔◌, ◌<◌, ◌≤◌, ℕ, length, false, IsTrue};
+ghost use Rattle.std.specs.Prelude.{◌≡◌, ◌↔◌, ◌<◌, ℕ, length, false, IsTrue};
 ghost use Rattle.std.specs.Option.{IfSome, IfNone};
 ghost use Rattle.net_prefix.specs.Prefix.{Prefix, Covers};
 ghost use Rattle.prefix_table.specs.Tables.{is_after};

@@ -1,9 +1,9 @@
 //! New nodes of the trie. They take no memory: the room for them is made before.
 
-ghost use Rattle.std.specs.Prelude.{◌≡◌, ◌+◌, ◌<◌, ◌≤◌, ◌≢◌, ◌++◌, ◌∷◌, [], ℕ, length, Some, OnOk, OnErr, vec_len, vec_capacity};
+ghost use Rattle.std.specs.Prelude.{◌≡◌, ◌+◌, ◌<◌, ◌≤◌, ◌≢◌, ◌++◌, ◌∷◌, [], length, Some, OnOk, OnErr, vec_len, vec_capacity};
 ghost use Rattle.std.specs.Option.{IfSome, IfNone};
 ghost use Rattle.std.specs.FinMap as map;
-ghost use Rattle.net_prefix.specs.Prefix.{MakePrefix, Covers};
+ghost use Rattle.net_prefix.specs.Prefix.{Covers};
 ghost use Rattle.net_prefix.specs.declared.prefix.TheConstants.{MAX_LEN};
 ghost use Rattle.prefix_table.specs.declared.link.TheConstants.{NONE};
 ghost use Rattle.prefix_table.specs.declared.node.NodeId.{NodeId};
@@ -99,13 +99,7 @@ fn splice(nodes: &mut Vec<Node>, parent: NodeId, upper: bool, prefix: Prefix) ->
 }
 
 /// Puts a branch between a node and those in one of its halves, and a leaf into the branch's empty half.
-fn fork(
-    nodes: &mut Vec<Node>,
-    parent: NodeId,
-    upper: bool,
-    branch: Prefix,
-    leaf: Prefix,
-) -> NodeId
+fn fork(nodes: &mut Vec<Node>, parent: NodeId, upper: bool, branch: Prefix, leaf: Prefix) -> NodeId
     requires trie { IsTrie nodes.old.items }
     requires here { parent.0 < length nodes.old.items }
     requires gap { IsGap nodes.old.items (prefix_at nodes.old.items parent.0) upper branch }

@@ -6,7 +6,7 @@ ghost use Rattle.std.specs.FinMap as map;
 ghost use Rattle.prefix_table.specs.declared.growth.TheConstants.{NEW_NODES};
 ghost use Rattle.prefix_table.specs.Numbers.{HasRoom};
 ghost use Rattle.prefix_table.specs.Tables.{seen, IsLongestMatch, HasNoMatch, first_after, adjusted};
-ghost use Rattle.prefix_table.specs.Trie.{IsClosest, places_in};
+ghost use Rattle.prefix_table.specs.Trie.{IsClosest};
 ghost use Rattle.prefix_table.specs.Values.{IsIndex, table_in};
 
 use crate::adjust::Adjust;
@@ -66,13 +66,7 @@ fn write<V>(values: &mut Vec<V>, place: usize, value: V) -> V
 }
 
 /// Gives a prefix that has none this value. The node that comes closest to it is known, and all room is made.
-fn add_in<V>(
-    nodes: &mut Vec<Node>,
-    values: &mut Vec<V>,
-    near: NodeId,
-    prefix: Prefix,
-    value: V,
-)
+fn add_in<V>(nodes: &mut Vec<Node>, values: &mut Vec<V>, near: NodeId, prefix: Prefix, value: V)
     requires index { IsIndex nodes.old.items values.old.items }
     requires near { IsClosest nodes.old.items prefix near.0 }
     requires node_room { HasRoom nodes.old NEW_NODES }
@@ -173,11 +167,7 @@ fn longest_in<'a, V>(
 }
 
 /// The first key after this prefix, or the first of all.
-fn next_in<'a, V>(
-    nodes: &[Node],
-    values: &'a [V],
-    after: Option<Prefix>,
-) -> Option<(Prefix, &'a V)>
+fn next_in<'a, V>(nodes: &[Node], values: &'a [V], after: Option<Prefix>) -> Option<(Prefix, &'a V)>
     requires { IsIndex nodes.now values.now }
     ensures { seen result ≡ first_after (table_in nodes.now values.now) after }
 {

@@ -1,5 +1,5 @@
 -- The node itself comes first, then its lower half, then its upper half.
-use Rattle.std.proofs.Common.{◌<◌, length, true, false, sym, ◌∙◌, arith, rules}
+use Rattle.std.proofs.Common.{◌<◌, length, true, false, sym, ◌∙◌, arith}
 use Rattle.std.proofs.lemmas.Bool.{false≢true}
 use Rattle.std.proofs.lemmas.Option.{IfSome_then}
 use Rattle.prefix_table.proofs.Paths.{IfNone_then}

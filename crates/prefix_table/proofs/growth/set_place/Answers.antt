@@ -1,4 +1,4 @@
-use Rattle.std.proofs.Common.{Some, ap, set, ◌∙◌}
+use Rattle.std.proofs.Common.{ap, set, ◌∙◌}
 use Rattle.prefix_table.proofs.Contents.{set_placed}
 use Rattle.prefix_table.proofs.growth.set_place.Goals as goal
 

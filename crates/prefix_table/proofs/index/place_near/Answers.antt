@@ -1,4 +1,4 @@
-use Rattle.std.proofs.Common.{◌≡◌, sym, ap, ◌∙◌, arith, rules}
+use Rattle.std.proofs.Common.{◌≡◌, sym, ap, ◌∙◌, rules}
 use Rattle.prefix_table.specs.Trie.{prefix_at}
 use Rattle.prefix_table.proofs.Contents.{near_get, near_none}
 use Rattle.prefix_table.proofs.index.place_near.Goals as goal

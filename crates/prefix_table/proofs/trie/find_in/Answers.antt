@@ -1,4 +1,4 @@
-use Rattle.std.proofs.Common.{◌≡◌, length, sym, refl}
+use Rattle.std.proofs.Common.{length, sym, refl}
 use Rattle.std.proofs.lemmas.Option.{slice_get_read}
 use Rattle.prefix_table.specs.Trie.{places_in}
 use Rattle.prefix_table.proofs.Values.{value_of_place, none_of_places}
