@@ -19,7 +19,7 @@ from common import TOP, Case
 import model
 from simtools import (bench_tables, commands, language, loads, logs, planted, programs, random_interiors,
                       random_scripts, real_routers, refuse_allocations, refusing, run_toolbox_tests, running, speaker,
-                      teams)
+                      teams, wants_memory)
 
 NOWHERE = "/nowhere/bgpsim"
 NOT_THERE = "there is no program %s: PROGRAM= names it\n" % NOWHERE
@@ -157,6 +157,48 @@ class Cases(Case):
         self.file("made.make", "import sys\nprint('yes' if sys.argv[1:] == ['replies'] else 'quiet')\n")
         ran = command("tools/run-cases", self.folder / "made.make")
         self.assertEqual((ran.returncode, ran.stdout), (0, "1 passed, 0 failed\n"))
+
+
+class WantsMemory(Case):
+    """right.txt has each form that tools/wants-memory lets pass; each edit beside it makes want of memory up."""
+    DATA = TOP / "toolbox/tests/data/wants-memory"
+
+    def told(self, text, listed=None):
+        """How many functions of the text make want of memory, and what is told of it, without the places."""
+        self.file("crates/sample/src/right.rt", text)
+        known = (self.DATA / "list.txt").read_text() if listed is None else listed
+        made, told = wants_memory.checked(self.folder, known, "list", [])
+        return made, [re.sub(r"^[\w./]+:\d+: ", "", line) for line in told]
+
+    def test_each_form_that_passes_it_on(self):
+        self.assertEqual(self.told((self.DATA / "right.txt").read_text()), (15, []))
+
+    def test_each_wrong_body_is_seen(self):
+        edits = sorted(self.DATA.glob("*.edit"))
+        self.assertEqual(len(edits), 16)
+        for edit in edits:
+            with self.subTest(edit=edit.stem):
+                texts, why = planted.texts_of(edit, self.DATA)
+                self.assertIsNone(why)
+                wanted = [line[6:] for line in edit.read_text().splitlines() if line.startswith("told: ")]
+                self.assertEqual(self.told(*texts.values())[1], wanted)
+
+    def test_a_list_that_is_no_longer_so(self):
+        right = (self.DATA / "right.txt").read_text()
+        for file, lines, told in (("gone", "in: f", "a stanza has `file:` of a source, and `why:`"),
+                                  ("right", "in: gone", "crates/sample/src/right.rt has no such function"),
+                                  ("right", "error: Gone", "crates/sample/src/right.rt has no struct Gone"),
+                                  ("right", "hands back: work gone",
+                                   "crates/sample/src/right.rt has no function gone with an error"),
+                                  ("right", "in: trace\nwhere: if x", "trace makes nothing there")):
+            stanza = "file: crates/sample/src/%s.rt\n%s\nwhy: it is so" % (file, lines)
+            with self.subTest(stanza=stanza):
+                whole = (self.DATA / "list.txt").read_text() + "\n" + stanza + "\n"
+                self.assertIn(told, self.told(right, whole)[1])
+
+    def test_a_source_that_cannot_be_read(self):
+        self.assertEqual(self.told("fn f() {\n    (]\n}\n"), (0, ["`]` closes nothing"]))
+        self.assertEqual(self.told("fn f() {\n"), (0, ["`{` is not closed"]))
 
 
 class RandomScripts(Case):
