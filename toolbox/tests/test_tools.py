@@ -17,7 +17,7 @@ import unittest.mock
 from common import TOP, Case
 
 import model
-from simtools import (bench_tables, commands, language, loads, logs, planted, programs, random_interiors,
+from simtools import (believed, bench_tables, commands, language, loads, logs, planted, programs, random_interiors,
                       random_scripts, real_routers, refuse_allocations, refusing, run_toolbox_tests, running, speaker,
                       teams, wants_memory)
 
@@ -199,6 +199,61 @@ class WantsMemory(Case):
     def test_a_source_that_cannot_be_read(self):
         self.assertEqual(self.told("fn f() {\n    (]\n}\n"), (0, ["`]` closes nothing"]))
         self.assertEqual(self.told("fn f() {\n"), (0, ["`{` is not closed"]))
+
+
+class Believed(Case):
+    """A workspace of two crates: `low` has three files of definitions, one of which nothing of `high` leads to."""
+    PAGE = "# Map\n\n%s\n\nSo many: %s.\n\n| Files | Lines |\n|---|---|\n| `low`: `Gone` | 7 |\n\n## More\n"
+    SUMS = ("{} for `bgpsim script`, down to its command line, {} with `replay` and `team`, {} with what stands beside "
+            "the program")
+
+    def setUp(self):
+        super().setUp()
+        self.file("crates.txt", "## Values\nlow:\nhigh: low # the program\n")
+        self.file("crates/low/specs/Costs.antt", (
+            "-- Costs.\nuse Rattle.std.specs.Prelude.{ℕ}\n\nabbrev pub cost : ℕ → ℕ\ncost n = half n\n\n"
+            "-- half of it\nabbrev pub half : ℕ → ℕ\nhalf n = n / 2\n"))
+        self.file("crates/low/specs/Ways.antt", (
+            "use Rattle.low.specs.Costs.{cost as weight}\npub record Way : Type 0 where\n  pub length : ℕ -- of all\n\n"
+            "abbrev pub long : ℕ → Way\nlong n = record { length = weight n }\n"))
+        self.file("crates/low/specs/Other.antt", "-- No public contract cites this file.\nother : ℕ\nother = 1\n")
+        self.source("{ result ≡ long 3 }", "{ s.other ≡ 1 }")
+        self.parts = (believed.Part("", (believed.Root("high/src/*.rt", ("run",)),)),
+                      believed.Part("for more", (believed.Root("high/src/*.rt"),)), believed.Part("beside", ()))
+
+    def source(self, run, more):
+        self.file("crates/high/src/lib.rt", (
+            "ghost use Rattle.low.specs.Ways.{long};\nghost use Rattle.low.specs.Other.{other};\nfn run() -> u8\n"
+            "    ensures first %s\n{ 3 }\n\npub fn more()\n    ensures %s\n{}\n") % (run, more))
+
+    def made(self, page, *flags):
+        path = self.file("docs/ARCHITECTURE.md", page)
+        with unittest.mock.patch.multiple(believed, TOP=self.folder, PAGE=path, PARTS=self.parts):
+            return (*called(believed.main, *flags), path.read_text())
+
+    def test_what_is_cited_is_followed_by_its_names(self):
+        status, told, page = self.made(self.PAGE % (believed.HEADING, self.SUMS.format(1, 2, 3)), "--write")
+        self.assertEqual((status, told), (0, "2 passed, 0 failed\n"))
+        self.assertIn("| `low`: `Costs`, `Ways` | 8 |\n\n## More", page)
+        self.assertIn("So many: %s." % self.SUMS.format(8, 8, 8), page)
+        self.assertNotIn("Gone", page)
+        self.assertEqual(self.made(page), (0, "2 passed, 0 failed\n", page))
+
+    def test_what_differs_is_told(self):
+        page = self.made(self.PAGE % (believed.HEADING, self.SUMS.format(1, 2, 3)), "--write")[2]
+        self.source("{ result ≡ long 3 }", "{ result ≡ other }")
+        status, told, same = self.made(page)
+        self.assertEqual((status, same), (1, page))
+        for line in ("docs/ARCHITECTURE.md: wanted: | `low`: `Other` (for more) | 2 |", "8 for `bgpsim script`",
+                     "crates/low/specs/Other.antt:1: other is cited, by more of crates/high/src/lib.rt",
+                     "0 passed, 3 failed"):
+            self.assertIn(line, told)
+
+    def test_calls_that_are_gone(self):
+        self.parts = (believed.Part("", (believed.Root("high/src/*.rt", ("gone",)),)),)
+        status, told, _ = self.made(self.PAGE % (believed.HEADING, ""))
+        self.assertEqual(status, 1)
+        self.assertIn("crates/high/src/*.rt has no gone", told)
 
 
 class RandomScripts(Case):

@@ -42,7 +42,8 @@ Nodes = Sequence[Node]
 
 
 class Function(NamedTuple):
-    """A declared function. The owner is the type or trait that it belongs to, and the trait the one that it is of."""
+    """A declared function. The owner is the type or trait that it belongs to, and the trait the one that it is of; the
+    clauses are those of its contract, each in its braces."""
     name: str
     file: str
     line: int
@@ -51,8 +52,10 @@ class Function(NamedTuple):
     parameters: Dict[str, Nodes]
     has_self: bool
     gives: Nodes
+    clauses: Nodes
     body: Optional[Group]
     of: str
+    is_public: bool
 
 
 class Source(NamedTuple):
@@ -248,18 +251,20 @@ class Reading:
 
     def function(self, nodes: Nodes, at: int, owner: str, trait: str, of: str) -> int:
         """Past the function whose `fn` stands here."""
-        name, line = text_at(nodes, at + 1), nodes[at].line
+        name, line, is_public = text_at(nodes, at + 1), nodes[at].line, text_at(nodes, at - 1) == "pub"
         at += 2
         if text_at(nodes, at) == "<":
             at = angle_end(nodes, at)
         given = inside(nodes, at)
         end = past_header(nodes, at + 1)
         arrow = find(nodes[:end], ["->"], at)
-        gives = nodes[arrow + 1:find(nodes[:end], ["requires", "ensures", "where"], arrow)]
+        cut = find(nodes[:end], ["requires", "ensures", "where"], arrow if arrow < end else at)
+        gives = nodes[arrow + 1:cut]
         body = nodes[end] if end < len(nodes) and isinstance(nodes[end], Group) else None
         has_self = any(node.text == "self" for node in given[:4])
+        clauses = [node for node in nodes[cut:end] if is_group(node, "{")]
         self.source.functions.append(Function(name, self.source.file, line, owner, trait, fields(given), has_self,
-                                              gives, body, of))
+                                              gives, clauses, body, of, is_public))
         return end + 1
 
 
