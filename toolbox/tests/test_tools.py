@@ -505,24 +505,49 @@ class Teams(Case):
 
 
 class Planted(Case):
-    """A repository of one crate, and an rt that proves whatever has no `wrong` in it."""
+    """A repository of one crate, and an rt that proves whatever has no `wrong` in it, and else prints what stands after
+    that."""
+    SOURCE = "fn half(n: u8) -> u8 {\n    good\n}\n\nfn whole(n: u8) -> u8 {\n    fair\n}\nconst MOST: u8 = 3;\n"
+    GOAL = "note: src/lib.rt:2:5: it is not proved that what the function ensures holds when it returns (`returns`)"
+    PROOF = "./proofs/half/Answers.antt:3:9: error: `returns`: expected type `1 ≡ 2`, but this has type `1 ≡ 1`"
+    TOLD = {
+        "a": (GOAL, "fn low::half: no proof: expected answers", "fn low::whole: proved"),
+        "b": (GOAL, "fn low::fn::half::byte: no proof: expected answers"),
+        "c": (PROOF, GOAL, "fn low::half: not proved"),
+        "d": (GOAL, "fn low::whole: no proof: expected answers", "fn low::half: proved"),
+        "e": (GOAL + "; `search` gave up at one of its limits", "fn low::half: no proof: expected answers"),
+        "f": (PROOF, "fn low::half: not proved", "fn low::whole: no proof: it calls `low::half`, which is not proved"),
+        "g": ("src/lib.rt:2:5: error: `half`: `wrong` is not in scope",),
+    }
 
     def test_each_edit_has_to_be_refused(self):
         self.file("HANDLES", "")
         self.file("crates.txt", "low: # none\n")
-        self.file("crates/low/src/lib.rt", "good\nfair\n")
-        for name, old, new in (("a", "good", "wrong"), ("b", "good", "better"), ("c", "bad", "wrong")):
+        self.file("crates/low/src/lib.rt", self.SOURCE)
+        edits = [(name, "good", "wrong " + name) for name in self.TOLD]
+        for name, old, new in edits + [("h", "good", "better"), ("i", "bad", "wrong"), ("j", "= 3", "= 4; // wrong a")]:
             self.file("crates/low/planted/%s.edit" % name, "file: src/lib.rt\nold: %s\nnew: %s\n" % (old, new))
-        proves = "#!/bin/sh\nif grep -q wrong src/lib.rt; then echo logic=not-proved; exit 1; fi\n"
-        self.file("bin/rt", proves).chmod(0o755)
+        for name, lines in self.TOLD.items():
+            self.file("bin/" + name, "\n".join(lines) + "\nlogic=not-proved\n")
+        proves = "#!/bin/sh\nfor it in $(sed -n 's/.*wrong \\(.\\).*/\\1/p' src/lib.rt); do cat %s/$it; exit 1; done\n"
+        self.file("bin/rt", proves % (self.folder / "bin")).chmod(0o755)
         with unittest.mock.patch.object(planted, "TOP", self.folder), \
                 unittest.mock.patch.dict(os.environ, {"PATH": "%s:%s" % (self.folder / "bin", os.environ["PATH"])}):
             status, told = called(planted.main)
         self.assertEqual((status, re.sub(r" \([0-9]+ s\)", "", told)), (1, (
-            "low/a: refused\nlow/b: PROVED: the crate is still proved with this edit\n"
-            "low/c: BAD: an 'old:' text stands in src/lib.rt 0 times\n"
-            "1 that show nothing\n1 refused, 1 proved\n")))
-        self.assertEqual((self.folder / "crates/low/src/lib.rt").read_text(), "good\nfair\n")
+            "low/a: refused by a goal: `returns` of low::half\n"
+            "low/b: refused by a goal: `returns` of low::fn::half::byte\n"
+            "low/c: refused by a goal, beside a proof file: `returns` of low::half\n"
+            "low/d: refused elsewhere: `returns` of low::whole\n"
+            "low/e: refused at a limit: `returns` of low::half\n"
+            "low/f: refused BY A PROOF FILE alone: %s\n"
+            "low/g: BAD: it did not reach the prover: src/lib.rt:2:5: error: `half`: `wrong` is not in scope\n"
+            "low/h: PROVED: the crate is still proved with this edit\n"
+            "low/i: BAD: an 'old:' text stands in src/lib.rt 0 times\n"
+            "low/j: refused elsewhere: `returns` of low::half\n"
+            "2 refused by a goal\n1 refused by a goal, beside a proof file\n2 refused elsewhere\n1 refused at a limit\n"
+            "1 refused BY A PROOF FILE alone\n2 that show nothing\n7 refused, 1 proved\n") % self.PROOF))
+        self.assertEqual((self.folder / "crates/low/src/lib.rt").read_text(), self.SOURCE)
 
 
 class Toolbox(Case):
