@@ -171,11 +171,11 @@ class WantsMemory(Case):
         return made, [re.sub(r"^[\w./]+:\d+: ", "", line) for line in told]
 
     def test_each_form_that_passes_it_on(self):
-        self.assertEqual(self.told((self.DATA / "right.txt").read_text()), (15, []))
+        self.assertEqual(self.told((self.DATA / "right.txt").read_text()), (16, []))
 
     def test_each_wrong_body_is_seen(self):
         edits = sorted(self.DATA.glob("*.edit"))
-        self.assertEqual(len(edits), 16)
+        self.assertEqual(len(edits), 17)
         for edit in edits:
             with self.subTest(edit=edit.stem):
                 texts, why = planted.texts_of(edit, self.DATA)

@@ -9,15 +9,15 @@ many copies are tried side by side as there are processors, each with up to sixt
 been checked before is proved first. Of each edit it tells how it was refused:
 
     by a goal             a goal of the function that the edit stands in has no proof; it is named
-    by a goal, beside ..  so too, but a proof of that function, written by hand, does not fit the edited text either: the
-                          goal may want no more than its proof, under another name
+    by a goal, beside ..  so too, but a proof of that function, written by hand, does not fit the edited text either:
+                          the goal may want no more than its proof, under another name
     elsewhere             the edit stands in no function, or only others have such a goal: one is named
     at a limit            the search gave up at each such goal, and says nothing of it
     BY A PROOF FILE       only a proof that was written by hand does not fit: evidence of nothing
     BAD                   it does not apply or does not compile, and shows nothing
 
-The last lines count each; the very last is `N refused, M proved`. Exit 1 where one is proved, is refused by a proof file
-alone, or is BAD.
+The last lines count each; the very last is `N refused, M proved`. Exit 1 where one is proved, is refused by a proof
+file alone, or is BAD.
 """
 from __future__ import annotations
 

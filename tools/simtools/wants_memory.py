@@ -89,9 +89,13 @@ class Body:
         return reading.shown(self.place.source.text, nodes)
 
     def walk(self, nodes: Nodes, frames: List[Frame], scope: Scope) -> None:
+        """Each expression of a block. What follows a loop is told by it, since the loop says when it is come to."""
         at = 0
         while at < len(nodes):
-            at = self.step(nodes, at, frames, scope)
+            begun, at = at, self.step(nodes, at, frames, scope)
+            if nodes[begun].text in ("for", "while"):
+                told = "after " + self.shown(nodes[begun:at - 1])
+                frames = frames + [Frame("after a loop", told, [], [], [], scope)]
 
     def step(self, nodes: Nodes, at: int, frames: List[Frame], scope: Scope) -> int:
         """Past what begins here."""
