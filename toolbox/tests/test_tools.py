@@ -17,9 +17,9 @@ import unittest.mock
 from common import TOP, Case
 
 import model
-from simtools import (bench_tables, commands, language, loads, logs, planted, programs, random_interiors,
+from simtools import (believed, bench_tables, commands, language, loads, logs, planted, programs, random_interiors,
                       random_scripts, real_routers, refuse_allocations, refusing, run_toolbox_tests, running, speaker,
-                      teams)
+                      teams, wants_memory)
 
 NOWHERE = "/nowhere/bgpsim"
 NOT_THERE = "there is no program %s: PROGRAM= names it\n" % NOWHERE
@@ -157,6 +157,103 @@ class Cases(Case):
         self.file("made.make", "import sys\nprint('yes' if sys.argv[1:] == ['replies'] else 'quiet')\n")
         ran = command("tools/run-cases", self.folder / "made.make")
         self.assertEqual((ran.returncode, ran.stdout), (0, "1 passed, 0 failed\n"))
+
+
+class WantsMemory(Case):
+    """right.txt has each form that tools/wants-memory lets pass; each edit beside it makes want of memory up."""
+    DATA = TOP / "toolbox/tests/data/wants-memory"
+
+    def told(self, text, listed=None):
+        """How many functions of the text make want of memory, and what is told of it, without the places."""
+        self.file("crates/sample/src/right.rt", text)
+        known = (self.DATA / "list.txt").read_text() if listed is None else listed
+        made, told = wants_memory.checked(self.folder, known, "list", [])
+        return made, [re.sub(r"^[\w./]+:\d+: ", "", line) for line in told]
+
+    def test_each_form_that_passes_it_on(self):
+        self.assertEqual(self.told((self.DATA / "right.txt").read_text()), (16, []))
+
+    def test_each_wrong_body_is_seen(self):
+        edits = sorted(self.DATA.glob("*.edit"))
+        self.assertEqual(len(edits), 17)
+        for edit in edits:
+            with self.subTest(edit=edit.stem):
+                texts, why = planted.texts_of(edit, self.DATA)
+                self.assertIsNone(why)
+                wanted = [line[6:] for line in edit.read_text().splitlines() if line.startswith("told: ")]
+                self.assertEqual(self.told(*texts.values())[1], wanted)
+
+    def test_a_list_that_is_no_longer_so(self):
+        right = (self.DATA / "right.txt").read_text()
+        for file, lines, told in (("gone", "in: f", "a stanza has `file:` of a source, and `why:`"),
+                                  ("right", "in: gone", "crates/sample/src/right.rt has no such function"),
+                                  ("right", "error: Gone", "crates/sample/src/right.rt has no struct Gone"),
+                                  ("right", "hands back: work gone",
+                                   "crates/sample/src/right.rt has no function gone with an error"),
+                                  ("right", "in: trace\nwhere: if x", "trace makes nothing there")):
+            stanza = "file: crates/sample/src/%s.rt\n%s\nwhy: it is so" % (file, lines)
+            with self.subTest(stanza=stanza):
+                whole = (self.DATA / "list.txt").read_text() + "\n" + stanza + "\n"
+                self.assertIn(told, self.told(right, whole)[1])
+
+    def test_a_source_that_cannot_be_read(self):
+        self.assertEqual(self.told("fn f() {\n    (]\n}\n"), (0, ["`]` closes nothing"]))
+        self.assertEqual(self.told("fn f() {\n"), (0, ["`{` is not closed"]))
+
+
+class Believed(Case):
+    """A workspace of two crates: `low` has three files of definitions, one of which nothing of `high` leads to."""
+    PAGE = "# Map\n\n%s\n\nSo many: %s.\n\n| Files | Lines |\n|---|---|\n| `low`: `Gone` | 7 |\n\n## More\n"
+    SUMS = ("{} for `bgpsim script`, down to its command line, {} with `replay` and `team`, {} with what stands beside "
+            "the program")
+
+    def setUp(self):
+        super().setUp()
+        self.file("crates.txt", "## Values\nlow:\nhigh: low # the program\n")
+        self.file("crates/low/specs/Costs.antt", (
+            "-- Costs.\nuse Rattle.std.specs.Prelude.{ℕ}\n\nabbrev pub cost : ℕ → ℕ\ncost n = half n\n\n"
+            "-- half of it\nabbrev pub half : ℕ → ℕ\nhalf n = n / 2\n"))
+        self.file("crates/low/specs/Ways.antt", (
+            "use Rattle.low.specs.Costs.{cost as weight}\npub record Way : Type 0 where\n  pub length : ℕ -- of all\n\n"
+            "abbrev pub long : ℕ → Way\nlong n = record { length = weight n }\n"))
+        self.file("crates/low/specs/Other.antt", "-- No public contract cites this file.\nother : ℕ\nother = 1\n")
+        self.source("{ result ≡ long 3 }", "{ s.other ≡ 1 }")
+        self.parts = (believed.Part("", (believed.Root("high/src/*.rt", ("run",)),)),
+                      believed.Part("for more", (believed.Root("high/src/*.rt"),)), believed.Part("beside", ()))
+
+    def source(self, run, more):
+        self.file("crates/high/src/lib.rt", (
+            "ghost use Rattle.low.specs.Ways.{long};\nghost use Rattle.low.specs.Other.{other};\nfn run() -> u8\n"
+            "    ensures first %s\n{ 3 }\n\npub fn more()\n    ensures %s\n{}\n") % (run, more))
+
+    def made(self, page, *flags):
+        path = self.file("docs/ARCHITECTURE.md", page)
+        with unittest.mock.patch.multiple(believed, TOP=self.folder, PAGE=path, PARTS=self.parts):
+            return (*called(believed.main, *flags), path.read_text())
+
+    def test_what_is_cited_is_followed_by_its_names(self):
+        status, told, page = self.made(self.PAGE % (believed.HEADING, self.SUMS.format(1, 2, 3)), "--write")
+        self.assertEqual((status, told), (0, "2 passed, 0 failed\n"))
+        self.assertIn("| `low`: `Costs`, `Ways` | 8 |\n\n## More", page)
+        self.assertIn("So many: %s." % self.SUMS.format(8, 8, 8), page)
+        self.assertNotIn("Gone", page)
+        self.assertEqual(self.made(page), (0, "2 passed, 0 failed\n", page))
+
+    def test_what_differs_is_told(self):
+        page = self.made(self.PAGE % (believed.HEADING, self.SUMS.format(1, 2, 3)), "--write")[2]
+        self.source("{ result ≡ long 3 }", "{ result ≡ other }")
+        status, told, same = self.made(page)
+        self.assertEqual((status, same), (1, page))
+        for line in ("docs/ARCHITECTURE.md: wanted: | `low`: `Other` (for more) | 2 |", "8 for `bgpsim script`",
+                     "crates/low/specs/Other.antt:1: other is cited, by more of crates/high/src/lib.rt",
+                     "0 passed, 3 failed"):
+            self.assertIn(line, told)
+
+    def test_calls_that_are_gone(self):
+        self.parts = (believed.Part("", (believed.Root("high/src/*.rt", ("gone",)),)),)
+        status, told, _ = self.made(self.PAGE % (believed.HEADING, ""))
+        self.assertEqual(status, 1)
+        self.assertIn("crates/high/src/*.rt has no gone", told)
 
 
 class RandomScripts(Case):
@@ -408,24 +505,49 @@ class Teams(Case):
 
 
 class Planted(Case):
-    """A repository of one crate, and an rt that proves whatever has no `wrong` in it."""
+    """A repository of one crate, and an rt that proves whatever has no `wrong` in it, and else prints what stands after
+    that."""
+    SOURCE = "fn half(n: u8) -> u8 {\n    good\n}\n\nfn whole(n: u8) -> u8 {\n    fair\n}\nconst MOST: u8 = 3;\n"
+    GOAL = "note: src/lib.rt:2:5: it is not proved that what the function ensures holds when it returns (`returns`)"
+    PROOF = "./proofs/half/Answers.antt:3:9: error: `returns`: expected type `1 ≡ 2`, but this has type `1 ≡ 1`"
+    TOLD = {
+        "a": (GOAL, "fn low::half: no proof: expected answers", "fn low::whole: proved"),
+        "b": (GOAL, "fn low::fn::half::byte: no proof: expected answers"),
+        "c": (PROOF, GOAL, "fn low::half: not proved"),
+        "d": (GOAL, "fn low::whole: no proof: expected answers", "fn low::half: proved"),
+        "e": (GOAL + "; `search` gave up at one of its limits", "fn low::half: no proof: expected answers"),
+        "f": (PROOF, "fn low::half: not proved", "fn low::whole: no proof: it calls `low::half`, which is not proved"),
+        "g": ("src/lib.rt:2:5: error: `half`: `wrong` is not in scope",),
+    }
 
     def test_each_edit_has_to_be_refused(self):
         self.file("HANDLES", "")
         self.file("crates.txt", "low: # none\n")
-        self.file("crates/low/src/lib.rt", "good\nfair\n")
-        for name, old, new in (("a", "good", "wrong"), ("b", "good", "better"), ("c", "bad", "wrong")):
+        self.file("crates/low/src/lib.rt", self.SOURCE)
+        edits = [(name, "good", "wrong " + name) for name in self.TOLD]
+        for name, old, new in edits + [("h", "good", "better"), ("i", "bad", "wrong"), ("j", "= 3", "= 4; // wrong a")]:
             self.file("crates/low/planted/%s.edit" % name, "file: src/lib.rt\nold: %s\nnew: %s\n" % (old, new))
-        proves = "#!/bin/sh\nif grep -q wrong src/lib.rt; then echo logic=not-proved; exit 1; fi\n"
-        self.file("bin/rt", proves).chmod(0o755)
+        for name, lines in self.TOLD.items():
+            self.file("bin/" + name, "\n".join(lines) + "\nlogic=not-proved\n")
+        proves = "#!/bin/sh\nfor it in $(sed -n 's/.*wrong \\(.\\).*/\\1/p' src/lib.rt); do cat %s/$it; exit 1; done\n"
+        self.file("bin/rt", proves % (self.folder / "bin")).chmod(0o755)
         with unittest.mock.patch.object(planted, "TOP", self.folder), \
                 unittest.mock.patch.dict(os.environ, {"PATH": "%s:%s" % (self.folder / "bin", os.environ["PATH"])}):
             status, told = called(planted.main)
         self.assertEqual((status, re.sub(r" \([0-9]+ s\)", "", told)), (1, (
-            "low/a: refused\nlow/b: PROVED: the crate is still proved with this edit\n"
-            "low/c: BAD: an 'old:' text stands in src/lib.rt 0 times\n"
-            "1 that show nothing\n1 refused, 1 proved\n")))
-        self.assertEqual((self.folder / "crates/low/src/lib.rt").read_text(), "good\nfair\n")
+            "low/a: refused by a goal: `returns` of low::half\n"
+            "low/b: refused by a goal: `returns` of low::fn::half::byte\n"
+            "low/c: refused by a goal, beside a proof file: `returns` of low::half\n"
+            "low/d: refused elsewhere: `returns` of low::whole\n"
+            "low/e: refused at a limit: `returns` of low::half\n"
+            "low/f: refused BY A PROOF FILE alone: %s\n"
+            "low/g: BAD: it did not reach the prover: src/lib.rt:2:5: error: `half`: `wrong` is not in scope\n"
+            "low/h: PROVED: the crate is still proved with this edit\n"
+            "low/i: BAD: an 'old:' text stands in src/lib.rt 0 times\n"
+            "low/j: refused elsewhere: `returns` of low::half\n"
+            "2 refused by a goal\n1 refused by a goal, beside a proof file\n2 refused elsewhere\n1 refused at a limit\n"
+            "1 refused BY A PROOF FILE alone\n2 that show nothing\n7 refused, 1 proved\n") % self.PROOF))
+        self.assertEqual((self.folder / "crates/low/src/lib.rt").read_text(), self.SOURCE)
 
 
 class Toolbox(Case):

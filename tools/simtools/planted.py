@@ -1,13 +1,23 @@
 """Tries the planted bugs that the gate leaves out: rt check has to refuse each edit crates/CRATE/planted/*.edit, as
-it does those of must-fail/.
+it does those of must-fail/, and by a goal that has no proof.
 
     tools/planted [CRATE..]        without a crate: all that have planted/
 
 An edit is a line `file: src/lib.rt` and pairs of lines `old: TEXT` and `new: TEXT`, as in must-fail/. Each crate is
 copied with the crates below it and with what earlier checks kept in out/, so the files here stay as they are; as
 many copies are tried side by side as there are processors, each with up to sixteen edits of one crate. What has not
-been checked before is proved first. An edit that does not apply or does not compile shows nothing and is BAD.
-The last line is `N refused, M proved`; exit 1 unless each was refused.
+been checked before is proved first. Of each edit it tells how it was refused:
+
+    by a goal             a goal of the function that the edit stands in has no proof; it is named
+    by a goal, beside ..  so too, but a proof of that function, written by hand, does not fit the edited text either:
+                          the goal may want no more than its proof, under another name
+    elsewhere             the edit stands in no function, or only others have such a goal: one is named
+    at a limit            the search gave up at each such goal, and says nothing of it
+    BY A PROOF FILE       only a proof that was written by hand does not fit: evidence of nothing
+    BAD                   it does not apply or does not compile, and shows nothing
+
+The last lines count each; the very last is `N refused, M proved`. Exit 1 where one is proved, is refused by a proof
+file alone, or is BAD.
 """
 from __future__ import annotations
 
@@ -19,9 +29,10 @@ import subprocess
 import tempfile
 import threading
 import time
-from typing import Collection, Dict, List, Optional, Sequence, Set, Tuple
+from typing import Collection, Dict, Iterator, List, Optional, Sequence, Set, Tuple
 
 from . import commands
+from . import rattle_source as reading
 from .programs import TOP
 from .running import side_by_side
 
@@ -30,6 +41,13 @@ PARTS = ("src", "specs", "proofs", "c")
 EDITS_A_COPY = 16
 # What is told of a text that cannot be read; an edit that only makes a statement false reads well.
 UNREAD = re.compile(r"is not in scope|has no field|is no name|operand is missing|expected the end|cannot continue")
+# How an edit is refused.
+BY_GOAL, BESIDE, ELSEWHERE = "refused by a goal", "refused by a goal, beside a proof file", "refused elsewhere"
+AT_LIMIT, BY_PROOF = "refused at a limit", "refused BY A PROOF FILE alone"
+# What a check prints of a goal that has no proof, then of its function; and of a proof that does not fit.
+GOAL = re.compile(r"note: \S+:\d+:\d+: .* \(`(\S+)`\)(.*)")
+FUNCTION = re.compile(r"fn (\S+): ")
+PROOF = re.compile(r"(?:\./)?(proofs/\S+)\.antt:\d+:\d+: error")
 Texts = Dict[pathlib.Path, str]
 printing = threading.Lock()
 
@@ -111,13 +129,60 @@ def is_unread(line: str, changed: Collection[str]) -> bool:
     return not found[2] or bool(UNREAD.search(re.sub(r"`[^`]*`", "", found[3])))
 
 
-def verdict(status: int, told: List[str], changed: Collection[str]) -> Tuple[str, Optional[str]]:
+def functions_at(path: pathlib.Path, old: str, new: str) -> Set[str]:
+    """The names of the functions in which a source was changed, by the first and the last byte that differs."""
+    first = len(os.path.commonprefix((old, new)))
+    last = len(old) - len(os.path.commonprefix((old[first:][::-1], new[first:][::-1])))
+    try:
+        read = reading.Reading(path.name, "", old)
+        read.items(reading.nested(old, path.name))
+    except reading.Unreadable:
+        return set()
+    lines = [0] + [found.end() for found in re.finditer("\n", old)]
+    return {function.name for function in read.source.functions if function.body for at in (first, last)
+            if lines[function.line - 1] <= at <= function.body.end}
+
+
+def open_goals(told: List[str]) -> Iterator[Tuple[str, str, bool]]:
+    """Each goal without a proof: its function, its name, and whether the search gave up at a limit."""
+    goals: List[Tuple[str, bool]] = []
+    for line in told:
+        goal, function = GOAL.match(line), FUNCTION.match(line)
+        if goal:
+            goals.append((goal[1], "gave up" in goal[2]))
+        elif function:
+            yield from ((function[1], name, is_at_limit) for name, is_at_limit in goals)
+            goals = []
+
+
+def is_of(function: str, own: Collection[str]) -> bool:
+    """Whether the function, as a check names it, is one of these or a closure of one."""
+    return any(re.search(r"(?:^|::)%s$|::fn::%s::" % (name, name), function) for name in own)
+
+
+def refusal(told: List[str], own: Collection[str]) -> Tuple[str, str]:
+    """How a check refused an edit of these functions, and by what."""
+    goals = list(open_goals(told))
+    found = [(function, name) for function, name, is_at_limit in goals if not is_at_limit]
+    here = [goal for goal in found if is_of(goal[0], own)]
+    proofs = [line for line in told if PROOF.match(line)]
+    function, name = (here + found + [goal[:2] for goal in goals] + [("", "")])[0]
+    why = "`%s` of %s" % (name, function)
+    if here:
+        is_beside = any(set(PROOF.match(line)[1].split("/")) & set(own) for line in proofs)
+        return BESIDE if is_beside else BY_GOAL, why
+    if found:
+        return ELSEWHERE, why
+    return (AT_LIMIT, why) if goals else (BY_PROOF, (proofs + ["no goal is open"])[0])
+
+
+def verdict(status: int, told: List[str], changed: Collection[str], own: Collection[str]) -> Tuple[str, str]:
     if status == 0:
         return "PROVED", "the crate is still proved with this edit"
     unread = [line for line in told if is_unread(line, changed)]
     if unread or not any(line.startswith("logic=not-proved") for line in told):
         return "BAD", "it did not reach the prover: %s" % (unread or told or ["?"])[0]
-    return "refused", None
+    return refusal(told, own)
 
 
 def attempt(edit: pathlib.Path, folder: pathlib.Path) -> Tuple[str, Optional[str]]:
@@ -129,7 +194,8 @@ def attempt(edit: pathlib.Path, folder: pathlib.Path) -> Tuple[str, Optional[str
     try:
         for path, text in texts.items():
             path.write_text(text)
-        return verdict(*check(folder), {str(path.relative_to(folder)) for path in texts})
+        own = {name for path, text in texts.items() for name in functions_at(path, were[path], text)}
+        return verdict(*check(folder), {str(path.relative_to(folder)) for path in texts}, own)
     finally:
         for path, text in were.items():
             path.write_text(text)
@@ -167,6 +233,18 @@ def parts_of(crates: Sequence[str]) -> List[Tuple[str, List[pathlib.Path]]]:
     return sorted(parts, key=lambda part: -len(part[1]))
 
 
+def counted(came: Sequence[str]) -> int:
+    """Prints how many came to each word. The exit status."""
+    words = (BY_GOAL, BESIDE, ELSEWHERE, AT_LIMIT, BY_PROOF)
+    for word in words:
+        if came.count(word):
+            print("%d %s" % (came.count(word), word))
+    if came.count("BAD"):
+        print("%d that show nothing" % came.count("BAD"))
+    print("%d refused, %d proved" % (sum(map(came.count, words)), came.count("PROVED")))
+    return 1 if {"BAD", "PROVED", BY_PROOF} & set(came) else 0
+
+
 def main(words: Sequence[str]) -> int:
     """The command."""
     asked = commands.parser(__doc__)
@@ -178,7 +256,4 @@ def main(words: Sequence[str]) -> int:
     parts = parts_of(crates or list(stands_on))
     tried = side_by_side(lambda part: try_edits(part[0], stands_on[part[0]], part[1]), parts)
     came = [word for some in tried for word in some]
-    if came.count("BAD"):
-        print("%d that show nothing" % came.count("BAD"))
-    print("%d refused, %d proved" % (came.count("refused"), came.count("PROVED")))
-    return 0 if came.count("refused") == len(came) else 1
+    return counted(came)
