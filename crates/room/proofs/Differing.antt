@@ -1,5 +1,5 @@
 -- What the first difference of two lists of routes tells.
-use Rattle.std.proofs.Common.{◌≡◌, Bool, true, false, ◌&&◌, List, [], ◌∷◌, Option, Some, None, if◌then◌else◌, refl, sym, ap, ◌∙◌, subst}
+use Rattle.std.proofs.Common.{◌≡◌, Bool, true, false, ◌&&◌, cond, List, [], ◌∷◌, Option, Some, None, if◌then◌else◌, refl, sym, ap, ◌∙◌, subst}
 use Rattle.std.proofs.lemmas.Bool.{true≢false}
 use Rattle.std.proofs.lemmas.Option.{none-some, same_Some}
 use Rattle.std.proofs.lemmas.Map.{lookup-none}
@@ -119,3 +119,36 @@ other_route [] [] ox oy w at same = none-some w at
 other_route (x ∷ xs) [] ox oy w at same = some_is_none (route_of [] w) x.1 (sym same ∙ subst (λ u. route_of (x ∷ xs) u ≡ Some x.1) (same_Some x.0 w at) (at_head x xs)) refl
 other_route [] (y ∷ ys) ox oy w at same = some_is_none (route_of [] w) y.1 (same ∙ subst (λ u. route_of (y ∷ ys) u ≡ Some y.1) (same_Some y.0 w at) (at_head y ys)) refl
 other_route (x ∷ xs) (y ∷ ys) ox oy w at same = differs_step (same_route x y) x y xs ys refl ox oy w at (other_route xs ys ox.1 oy.1 w) same
+
+-- THE SAME ROUTES BELOW
+
+below_both : (u : Addr) (x y : Addr × Attr) (xs ys : List (Addr × Attr)) → AreInOrder (x ∷ xs) → AreInOrder (y ∷ ys) → addr_cmp u x.0 ≡ Less → addr_cmp u y.0 ≡ Less → route_of (x ∷ xs) u ≡ route_of (y ∷ ys) u
+below_both u x y xs ys ox oy hx hy = below_head u x xs ox hx ∙ sym (below_head u y ys oy hy)
+
+-- the first entries are other routes
+below_heads : (o : Ordering) (x y : Addr × Attr) (xs ys : List (Addr × Attr)) → addr_cmp x.0 y.0 ≡ o → AreInOrder (x ∷ xs) → AreInOrder (y ∷ ys) → (w u : Addr) → Some (if is_lt o then x.0 else y.0) ≡ Some w → addr_cmp u w ≡ Less → route_of (x ∷ xs) u ≡ route_of (y ∷ ys) u
+below_heads Less x y xs ys is ox oy w u at below =
+    let first : addr_cmp u x.0 ≡ Less = subst (λ v. addr_cmp u v ≡ Less) (sym (same_Some x.0 w at)) below in
+    below_both u x y xs ys ox oy first (addr_total.trans u x.0 y.0 first is)
+below_heads Equal x y xs ys is ox oy w u at below =
+    let second : addr_cmp u y.0 ≡ Less = subst (λ v. addr_cmp u v ≡ Less) (sym (same_Some y.0 w at)) below in
+    below_both u x y xs ys ox oy (subst (λ v. addr_cmp u v ≡ Less) (sym (addr_exact x.0 y.0 is)) second) second
+below_heads Greater x y xs ys is ox oy w u at below =
+    let second : addr_cmp u y.0 ≡ Less = subst (λ v. addr_cmp u v ≡ Less) (sym (same_Some y.0 w at)) below in
+    let less : addr_cmp y.0 x.0 ≡ Less = addr_total.antisymm y.0 x.0 ∙ ap ordering_reverse is in
+    below_both u x y xs ys ox oy (addr_total.trans u y.0 x.0 second less) second
+
+below_step : (b : Bool) (x y : Addr × Attr) (xs ys : List (Addr × Attr)) → same_route x y ≡ b → AreInOrder (x ∷ xs) → AreInOrder (y ∷ ys) → (w u : Addr) → (if b then first_difference xs ys else Some (lower x.0 y.0)) ≡ Some w → addr_cmp u w ≡ Less → (first_difference xs ys ≡ Some w → route_of xs u ≡ route_of ys u) → route_of (x ∷ xs) u ≡ route_of (y ∷ ys) u
+below_step true x y xs ys is ox oy w u at below later =
+    let parts = route_true x y is in
+    let rest = later at in
+    λ i. cond (is_at (addr_cmp u) (parts.0 i)) (Some (parts.1 i)) (rest i)
+below_step false x y xs ys is ox oy w u at below later = below_heads (addr_cmp x.0 y.0) x y xs ys refl ox oy w u at below
+
+-- below where two lists differ first they have the same routes
+pub same_below : (xs ys : List (Addr × Attr)) → AreInOrder xs → AreInOrder ys → (w u : Addr) → first_difference xs ys ≡ Some w → addr_cmp u w ≡ Less → route_of xs u ≡ route_of ys u
+unfolding IsStrictlySortedBy
+same_below [] [] ox oy w u at below = refl
+same_below (x ∷ xs) [] ox oy w u at below = below_head u x xs ox (subst (λ v. addr_cmp u v ≡ Less) (sym (same_Some x.0 w at)) below)
+same_below [] (y ∷ ys) ox oy w u at below = sym (below_head u y ys oy (subst (λ v. addr_cmp u v ≡ Less) (sym (same_Some y.0 w at)) below))
+same_below (x ∷ xs) (y ∷ ys) ox oy w u at below = below_step (same_route x y) x y xs ys refl ox oy w u at below (λ there. same_below xs ys ox.1 oy.1 w u there below)

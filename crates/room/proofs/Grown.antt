@@ -1,5 +1,5 @@
 -- A history that is one call longer.
-use Rattle.std.proofs.Common.{◌≡◌, ℕ, ◌+◌, Bool, true, false, not, ◌&&◌, cond, List, [], ◌∷◌, ◌++◌, fold, refl, sym, ap, ◌∙◌, subst}
+use Rattle.std.proofs.Common.{◌≡◌, ℕ, ◌+◌, Bool, true, false, not, ◌&&◌, cond, List, [], ◌∷◌, ◌++◌, fold, length, refl, sym, ap, ◌∙◌, subst}
 use Rattle.sim_event.specs.declared.entry.Entry.{Entry}
 use Rattle.sim_event.specs.declared.event.Event.{Event}
 use Rattle.sim_event.specs.declared.reply.Reply.{Reply}
@@ -7,7 +7,9 @@ use Rattle.reference_machine.specs.Network.{Network}
 use Rattle.reference_machine.specs.Machine.{nothing, step, is_refusal}
 use Rattle.reference_machine.specs.Histories.{after_calls, AreAnswered, IsLegal, state_after}
 use Rattle.cell_engine.specs.State.{State, network}
-use Rattle.room.specs.Books.{IsKept, is_accepted_edit, version_of}
+use Rattle.sim_core.specs.Counting.{Counts, CountsIf, raised}
+use Rattle.sim_core.specs.Plans.{Plan, IsPrepared}
+use Rattle.room.specs.Books.{RoomBook, AreCounted, IsKept, is_accepted_edit, version_of}
 
 state_push : (s : Network) (es : List Entry) (e : Entry) → after_calls s (es ++ e ∷ []) ≡ (step (after_calls s es) e.event).next
 state_push s [] e = refl
@@ -41,15 +43,27 @@ pub refused_none : (b : Bool) → one_if (b && not true) ≡ 0
 refused_none true = refl
 refused_none false = refl
 
+-- what is prepared is counted as its plan says
+pub prepared_counts : (e : State) (event : Event) (x : Plan) (n m : ℕ) → IsPrepared e event x → m ≡ raised n (length x.refreshed) → Counts (network e) event x.reply n m
+prepared_counts e event x n m prepared is =
+    subst (λ b. CountsIf b (network e) event n m) (sym prepared.accepted) (record { cells = x.refreshed; refreshes = prepared.refreshes; is = is })
+
+-- the count after one call more
+counted_push : (s : Network) (n : ℕ) (es : List Entry) (e : Entry) (k m : ℕ) → AreCounted s n es k → Counts (after_calls s es) e.event e.reply k m → AreCounted s n (es ++ e ∷ []) m
+counted_push s n [] e k m is more = (m, subst (λ j. Counts s e.event e.reply j m) is more, refl)
+counted_push s n (x ∷ es) e k m done more = (done.0, done.1, counted_push (step s x.event).next done.0 es e k m done.2 more)
+
 -- a room that was kept is kept after a call
-pub kept_push : (es now : List Entry) (e e' : State) (n m : ℕ) (number : ℕ) (event : Event) (reply : Reply) → IsKept (record { history = es; engine = e; seats = n })
-    → now ≡ es ++ record { seat = number; event = event; reply = reply } ∷ []
-    → reply ≡ (step (network e) event).reply
-    → network e' ≡ (step (network e) event).next
-    → IsKept (record { history = now; engine = e'; seats = m })
-kept_push es now e e' n m number event reply kept is same next =
+pub kept_push : (room next : RoomBook) (number : ℕ) (event : Event) (reply : Reply) → IsKept room
+    → next.history ≡ room.history ++ record { seat = number; event = event; reply = reply } ∷ []
+    → reply ≡ (step (network room.engine) event).reply
+    → network next.engine ≡ (step (network room.engine) event).next
+    → Counts (network room.engine) event reply room.decided next.decided
+    → IsKept next
+kept_push room next number event reply kept is same goes counts =
     let x : Entry = record { seat = number; event = event; reply = reply } in
     record {
-      legal = subst IsLegal (sym is) (answered_push nothing es x kept.legal (same ∙ ap (λ s. (step s event).reply) kept.state));
-      state = next ∙ ap (λ s. (step s event).next) kept.state ∙ sym (state_push nothing es x) ∙ ap state_after (sym is);
+      legal = subst IsLegal (sym is) (answered_push nothing room.history x kept.legal (same ∙ ap (λ s. (step s event).reply) kept.state));
+      state = goes ∙ ap (λ s. (step s event).next) kept.state ∙ sym (state_push nothing room.history x) ∙ ap state_after (sym is);
+      counted = subst (λ h. AreCounted nothing 0 h next.decided) (sym is) (counted_push nothing 0 room.history x room.decided next.decided kept.counted (subst (λ s. Counts s event reply room.decided next.decided) kept.state counts));
     }

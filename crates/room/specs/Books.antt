@@ -9,14 +9,17 @@ use Rattle.sim_event.specs.declared.event.Event.TheVariants.{Edit as AnEdit}
 use Rattle.sim_event.specs.declared.reply.Reply.{Reply}
 use Rattle.sim_event.specs.declared.reply.Reply.TheVariants.{Refused}
 use Rattle.reference_machine.specs.Network.{Network}
-use Rattle.reference_machine.specs.Machine.{step, is_refusal}
+use Rattle.reference_machine.specs.Machine.{nothing, step, is_refusal}
 use Rattle.reference_machine.specs.Histories.{IsLegal, state_after}
 use Rattle.cell_engine.specs.State.{State, network}
+use Rattle.sim_core.specs.Counting.{Counts}
 
--- history: the calls that were made, the first first; engine: the machine, as it stands; seats: how many there are
+-- history: the calls that were made, the first first; engine: the machine, as it stands; decided: how many routes it has decided anew;
+-- seats: how many there are
 pub record RoomBook : Type 0 where
   pub history : List Entry
   pub engine : State
+  pub decided : ℕ
   pub seats : ℕ
 
 -- notes: the calls that were made from the seat, the first first
@@ -25,10 +28,16 @@ pub record SeatBook : Type 0 where
   pub count : ℕ
   pub notes : List Call
 
--- the history is legal, and the machine stands where it leaves it
+-- the calls take the count from n to m: at each it rises by the number of routes that the event decides anew, by none where it is refused
+abbrev pub AreCounted : Network → ℕ → List Entry → ℕ → Type 0
+AreCounted s n [] m = m ≡ n
+AreCounted s n (e ∷ es) m = (k : ℕ) × Counts s e.event e.reply n k × AreCounted (step s e.event).next k es m
+
+-- the history is legal, the machine stands where it leaves it, and has counted the routes that its calls decide anew
 pub record IsKept (room : RoomBook) : Type 0 where
   pub legal : IsLegal room.history
   pub state : network room.engine ≡ state_after room.history
+  pub counted : AreCounted nothing 0 room.history room.decided
 
 -- the seat is the same, and its notes go on from what they were
 pub record GoesOn (old new : SeatBook) : Type 0 where

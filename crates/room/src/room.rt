@@ -7,6 +7,7 @@ ghost use Rattle.reference_machine.specs.Histories.{IsLegal, state_after, calls_
 ghost use Rattle.net_conf.specs.Configured.{IsConfigured};
 ghost use Rattle.session_queue.specs.Waiting.{IsQuiet};
 ghost use Rattle.cell_engine.specs.State.{network, IsConsistent};
+ghost use Rattle.sim_core.specs.Counting.{Counts};
 ghost use Rattle.sim_core.specs.Plans.{IsPrepared};
 ghost use Rattle.room.specs.Books.{IsKept, blank_seats, is_memory, stepped, recorded, noted, with_call, is_edit, version_of};
 ghost use Rattle.room.specs.Closing.{IsEachOnce, AllAgree, IsFault, counted};
@@ -66,9 +67,20 @@ impl<S: Chosen, T: PrefixTable<Cell<S>>, L: Ledger> Model for Room<S, T, L> {
 
     ghost coded = { Prim.hlevel (codes, coded_table) };
 
-    ghost view = { λ r. record { history = r.history.entries; engine = r.sim.engine; seats = r.seats } };
+    ghost view = { λ r. record {
+      history = r.history.entries;
+      engine = r.sim.engine;
+      decided = r.sim.decided;
+      seats = r.seats;
+    } };
 
-    ghost invariant = { λ r. IsKept (record { history = r.history.entries; engine = r.sim.engine; seats = r.seats })
+    ghost invariant = { λ r.
+        IsKept (record {
+          history = r.history.entries;
+          engine = r.sim.engine;
+          decided = r.sim.decided;
+          seats = r.seats;
+        })
         × (r.version ≡ version_of r.history.entries) × (r.book.total ≡ length r.history.entries)
         × (r.rest.parts + r.seats ≡ 256) × (r.rest.amount ≡ 0) × (L.parts ≡ 256) };
 }
@@ -96,6 +108,7 @@ impl<S: Chosen, T: PrefixTable<Cell<S>>, L: Ledger> Room<S, T, L> {
         requires parts { blank.parts ≡ 256 }
         ensures history { IfOk result (λ made. made.0.history ≡ []) }
         ensures network { IfOk result (λ made. network made.0.engine ≡ nothing) }
+        ensures decided { IfOk result (λ made. made.0.decided ≡ 0) }
         ensures count { IfOk result (λ made. made.0.seats ≡ seats) }
         ensures seats { IfOk result (λ made. made.1.items ≡ blank_seats seats) }
     {
@@ -175,7 +188,7 @@ impl<S: Chosen + Drop, T: PrefixTable<Cell<S>> + Drop, L: Ledger> Room<S, T, L> 
         }
     }
 
-    /// Ends the room as `close` does, and gives the machine too, as the history leaves it.
+    /// Ends the room as `close` does, and gives the machine too, as the history leaves it, with its count.
     pub fn close_with_machine(
         self,
         seats: Vec<Seat<L>>,
@@ -184,6 +197,7 @@ impl<S: Chosen + Drop, T: PrefixTable<Cell<S>> + Drop, L: Ledger> Room<S, T, L> 
         ensures agree { OnOk result (AllAgree self.history seats.items) }
         ensures entries { IfOk result (λ made. made.0 ≡ self.history) }
         ensures machine { IfOk result (λ made. network made.1.engine ≡ state_after self.history) }
+        ensures decided { IfOk result (λ made. made.1.decided ≡ self.decided) }
         ensures counted { OnOk result (length self.history ≡ counted seats.items) }
         ensures fault { IfErr result (λ e. IsFault self.seats self.history seats.items e.fault) }
         ensures room { IfErr result (λ e. e.room ≡ self) }
@@ -220,11 +234,12 @@ impl<S: Chosen + Drop, T: PrefixTable<Cell<S>> + Drop, L: Ledger> Room<S, T, L> 
 
 impl<S: Selector + Send + Sync + Drop, T: PrefixTable<Cell<S>> + Drop, L: Ledger> Room<S, T, L> {
     /// Makes a call from the seat. The reply is the machine's own; it is the last of the history, and of the seat's
-    /// notes. For want of memory the reply is the refusal `Memory`, and the network, the history and the seat stay as
-    /// they are.
+    /// notes. The routes that the event decides anew are counted. For want of memory the reply is the refusal `Memory`,
+    /// and the network, the count, the history and the seat stay as they are.
     pub fn step<R: Threads + Sync>(&mut self, rt: &R, seat: &mut Seat<L>, event: Event) -> Reply
         ensures reply { is_memory result ≡ false → result ≡ (step (network self.old.engine) event).reply }
         ensures state { network self.new.engine ≡ stepped (network self.old.engine) event result }
+        ensures counted { Counts (network self.old.engine) event result self.old.decided self.new.decided }
         ensures history { self.new.history ≡ recorded self.old.history seat.old.number event result }
         ensures seat { seat.new ≡ noted seat.old event result }
         ensures seats { self.new.seats ≡ self.old.seats }
@@ -252,6 +267,8 @@ impl<S: Selector + Drop, T: PrefixTable<Cell<S>> + Drop, L: Ledger> Room<S, T, L
         requires { IsPrepared self.old.engine event plan }
         ensures reply { IfOk result (λ reply. reply ≡ plan.reply) }
         ensures state { OnOk result (network self.new.engine ≡ (step (network self.old.engine) event).next) }
+        ensures counted { OnOk result (Counts (network self.old.engine)
+            event plan.reply self.old.decided self.new.decided) }
         ensures history { OnOk result (self.new.history ≡ self.old.history ++ record {
           seat = seat.old.number;
           event = event;
@@ -289,6 +306,7 @@ impl<S: Selector + Drop, T: PrefixTable<Cell<S>> + Drop, L: Ledger> Room<S, T, L
         requires { step (network self.old.engine) event ≡ refused refusal (network self.old.engine) }
         ensures reply { IfOk result (λ reply. reply ≡ Reply.Refused refusal) }
         ensures engine { self.new.engine ≡ self.old.engine }
+        ensures decided { self.new.decided ≡ self.old.decided }
         ensures history { OnOk result (self.new.history ≡ self.old.history ++ record {
           seat = seat.old.number;
           event = event;

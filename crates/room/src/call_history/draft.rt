@@ -30,38 +30,50 @@ impl Draft {
             drop((event, call));
             return Err(AllocError);
         };
-        let entry = Entry {
-            seat: number,
-            event,
-            reply,
-        };
-        Ok(Draft { entry, call })
+        Ok(Draft {
+            entry: entry_of(number, Call { event, reply }),
+            call,
+        })
     }
 
-    /// Of the delivery of this message. The only fault is want of memory.
-    pub fn of_delivery(
-        alloc: Global,
-        number: u8,
-        direction: Direction,
-        head: &Message,
-    ) -> Result<Draft, AllocError>
-        ensures entry { IfOk result (λ draft.
-            draft.entry ≡ record {
-              seat = number;
-              event = Event.Deliver direction.from direction.to;
-              reply = took_of head.now;
-            }) }
-        ensures call { IfOk result (λ draft.
-            draft.call ≡ record { event = Event.Deliver direction.from direction.to; reply = took_of head.now }) }
+    /// Of the delivery of this message. It takes no memory.
+    pub fn of_delivery(number: u8, direction: Direction, head: &Message) -> Draft
+        ensures entry { result.entry ≡ record {
+          seat = number;
+          event = Event.Deliver direction.from direction.to;
+          reply = took_of head.now;
+        } }
+        ensures call { result.call ≡ record {
+          event = Event.Deliver direction.from direction.to;
+          reply = took_of head.now;
+        } }
     {
-        let event = Event::Deliver(direction.from, direction.to);
-        let took = Reply::Took(head.prefix(), head.kind());
-        let Ok(draft) = Draft::of(alloc, number, event, &took) else {
-            drop(took);
-            return Err(AllocError);
-        };
-        drop(took);
-        Ok(draft)
+        Draft {
+            entry: entry_of(number, delivery_of(direction, head)),
+            call: delivery_of(direction, head),
+        }
+    }
+}
+
+/// The entry of the call, made from the seat of this number.
+fn entry_of(number: u8, call: Call) -> Entry
+    ensures { result ≡ record { seat = number; event = call.event; reply = call.reply } }
+{
+    let Call { event, reply } = call;
+    Entry {
+        seat: number,
+        event,
+        reply,
+    }
+}
+
+/// The call that delivers the message.
+fn delivery_of(direction: Direction, head: &Message) -> Call
+    ensures { result ≡ record { event = Event.Deliver direction.from direction.to; reply = took_of head.now } }
+{
+    Call {
+        event: Event::Deliver(direction.from, direction.to),
+        reply: Reply::Took(head.prefix(), head.kind()),
     }
 }
 

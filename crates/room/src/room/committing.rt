@@ -30,10 +30,11 @@ impl<S: Chosen + Drop, T: PrefixTable<Cell<S>> + Drop, L: Ledger> Room<S, T, L> 
     /// Puts in the outcome where all that the job held is still as it was: this is the machine's own step of the
     /// delivery, the last of the history, and of the seat's notes. Else it is told what has moved, the first of
     /// version, site, head and received routes, and nothing changes. For want of memory nothing changes either, and the
-    /// outcome is handed back. Nothing is decided here.
+    /// outcome is handed back; another version is told without memory. Nothing is decided here.
     pub fn commit(&mut self, seat: &mut Seat<L>, done: Done<S>) -> Result<Committed, CommitFault<S>>
         ensures committed { IfOk result (λ committed. IsCommitted self.old seat.old done committed self.new seat.new) }
         ensures back { IfErr result (λ fault. fault.done ≡ done) }
+        ensures version { OnErr result (HasVersion self.old done) }
         ensures left { OnErr result (IsUnchanged self.old seat.old self.new seat.new) }
     {
         self.commit_one(seat, done, false)
@@ -51,6 +52,7 @@ impl<S: Chosen + Drop, T: PrefixTable<Cell<S>> + Drop, L: Ledger> Room<S, T, L> 
         ensures committed { IfOk result (λ committed. IsCommitted self.old seat.old done committed self.new seat.new) }
         ensures site { IfOk result (λ committed. is_delivered committed ≡ true → HasSite self.new done) }
         ensures back { IfErr result (λ fault. fault.done ≡ done) }
+        ensures version { OnErr result (HasVersion self.old done) }
         ensures left { OnErr result (IsUnchanged self.old seat.old self.new seat.new) }
     {
         match self.newer(&done, is_site_known) {
@@ -83,8 +85,8 @@ impl<S: Chosen + Drop, T: PrefixTable<Cell<S>> + Drop, L: Ledger> Room<S, T, L> 
         }
     }
 
-    /// Puts in each outcome in turn, as `commit` does: one that came too late is let go. For want of memory it stops,
-    /// and the outcomes that are left are let go. The site of a receiver is compared once for all that come one after
+    /// Puts in each outcome in turn, as `commit` does: one that came too late is let go. At the first for which there
+    /// is no memory it stops, and the outcomes that are left are let go. The site of a receiver is compared once for all that come one after
     /// another.
     pub fn commit_all(
         &mut self,
@@ -118,6 +120,7 @@ impl<S: Chosen + Drop, T: PrefixTable<Cell<S>> + Drop, L: Ledger> Room<S, T, L> 
         requires { is_site_known ≡ true → HasSite self.now done.now }
         ensures newer { IfOk result (λ found. IfSome found (IsNewer self.now done.now)) }
         ensures none { IfOk result (λ found. found ≡ None → IsSeenIn self.now done.now) }
+        ensures version { OnErr result (HasVersion self.now done.now) }
     {
         let job = &done.job;
         if job.version != self.version {
@@ -252,9 +255,7 @@ impl<S: Chosen + Drop, T: PrefixTable<Cell<S>> + Drop, L: Ledger> Room<S, T, L> 
             return Err(outcome);
         }
         let direction = job.direction();
-        let Ok(draft) = Draft::of_delivery(self.alloc, seat.number, direction, job.head()) else {
-            return Err(outcome);
-        };
+        let draft = Draft::of_delivery(seat.number, direction, job.head());
         let reply = match self.sim.install(direction, outcome) {
             Ok(reply) => reply,
             Err(outcome) => {

@@ -30,11 +30,13 @@ returns-in-Err-clause-broken_off g c =
     let first = c.loop-done.invariant.2.0 in
     record {
       first = first;
-      others = c.in-Some.done ∷ c.next.new.self.rest.items;
+      wanting = c.in-Some.done;
+      others = c.next.new.self.rest.items;
       parts = c.loop-done.invariant.2.1 ∙ ap (λ (w : List Job). first ++ w) c.in-Some.ensures.steps.0;
       next = c.loop-done.self;
       after = c.loop-done.seat;
       committed = c.loop-done.invariant.2.2;
+      version = c.in-Err.ensures.version;
       left = c.in-Err.ensures.left;
     }
 
