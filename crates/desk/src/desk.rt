@@ -1,12 +1,13 @@
 //! The desk: a room under one lock.
 
-ghost use Rattle.std.specs.Prelude.{◌≡◌, ◌<◌, ◌≤◌, false, None, IfOk, IfErr, IfSome, OnOk, OnErr};
-ghost use Rattle.room.specs.Books.{GoesOn, blank_seats, is_memory, noted};
+ghost use Rattle.std.specs.Prelude.{◌≡◌, ◌<◌, ◌≤◌, false, None, All, length, max, IfOk, IfErr, IfSome, OnOk, OnErr};
+ghost use Rattle.room.specs.Books.{blank_seats, is_memory, noted};
 ghost use Rattle.room.specs.Jobs.{IsOfShard};
-ghost use Rattle.desk.specs.Desks.{AreSeats, AreShards, IsDeskLedger, IsOpenFault, IsReplied, IsTaken, IsWithout, IsNoted, IsUnlike, IsSeatAfter};
+ghost use Rattle.desk.specs.Desks.{AreSeats, AreShards, IsDeskLedger, IsOpenFault, IsReplied, IsTaken, IsWithout, IsNoted, IsUnlike, IsSeatAfter, IsSeatAfterAll, IsSeatAfterFirst};
 
 use crate::backoff::Backoff;
 use crate::effort::are_much_work;
+use crate::guarded::Guarded;
 use crate::receivers::Receivers;
 use crate::scheduler::{Scheduler, Workers};
 use cell_engine::Cell;
@@ -39,13 +40,6 @@ pub enum OpenFault {
     Memory,
 }
 
-/// What lies under the lock.
-#[derive(Drop)]
-struct Guarded<S: Chosen, T: PrefixTable<Cell<S>>, L: Ledger> {
-    room: Room<S, T, L>,
-    workers: Workers,
-}
-
 /// A room under one lock, at which several work: engineers make calls, and workers take jobs, each of the receivers of
 /// one shard. Contracts see how many shards there are. What is under the lock is known by what holds of every room: its
 /// history is legal.
@@ -64,14 +58,13 @@ impl<S: Chosen, T: PrefixTable<Cell<S>>, L: Ledger> Model for Desk<S, T, L> {
     ghost view = { λ d. record { shards = d.scheduler } };
 }
 
-/// What a worker finds at the desk.
-pub(crate) enum Turn<S: Chosen> {
-    /// Jobs, at least one.
-    Jobs(Jobs<S>),
-    /// There was no memory for a job, or none waited though the engineers have finished.
-    Nothing,
-    /// The engineers have finished, and no message waits, or nobody is left who could bring one.
-    End,
+/// Why a worker gets no jobs.
+#[derive(Clone, Copy)]
+pub(crate) enum NoJobs {
+    /// In this turn: there was no memory for one, or none waited though the engineers have finished.
+    ThisTurn,
+    /// Any more: the engineers have finished, and no message waits, or nobody is left who could bring one.
+    AnyMore,
 }
 
 impl<S: Chosen, T: PrefixTable<Cell<S>>, L: Ledger> Desk<S, T, L> {
@@ -96,18 +89,14 @@ impl<S: Chosen, T: PrefixTable<Cell<S>>, L: Ledger> Desk<S, T, L> {
         if shards < 1 || shards > MAX_SHARDS {
             return Err(OpenFault::Shards);
         }
-        let Ok(workers) = Workers::new(alloc, shards) else {
-            return Err(OpenFault::Memory);
-        };
         let Ok(scheduler) = Scheduler::new(alloc, shards) else {
             return Err(OpenFault::Memory);
         };
-        match Room::new(alloc, keys, seats, blank) {
-            Ok((room, all)) => {
-                let guarded = Mutex::new(Guarded { room, workers });
+        match Guarded::new(alloc, keys, seats, shards, blank) {
+            Ok((guarded, all)) => {
                 let desk = Desk {
                     alloc,
-                    guarded,
+                    guarded: Mutex::new(guarded),
                     scheduler,
                 };
                 Ok((desk, all))
@@ -139,7 +128,7 @@ impl<S: Chosen, T: PrefixTable<Cell<S>>, L: Ledger> Desk<S, T, L> {
 
     /// How far the room is, for people to read.
     pub fn progress<R: Wait>(&self, rt: &R) -> Progress {
-        self.guarded.lock(rt).room.progress()
+        self.guarded.lock(rt).progress()
     }
 
     /// Tells the workers that no more calls come: they end once no message waits.
@@ -151,7 +140,7 @@ impl<S: Chosen, T: PrefixTable<Cell<S>>, L: Ledger> Desk<S, T, L> {
 
     /// The room, once nobody is at the desk.
     pub fn end(self) -> Room<S, T, L> {
-        self.guarded.into_inner().room
+        self.guarded.into_inner().into_room()
     }
 
     /// So many workers come. Each leaves once. Whether their gate may hold one of them until another has gone on.
@@ -210,7 +199,7 @@ impl<S: Chosen, T: PrefixTable<Cell<S>>, L: Ledger> Desk<S, T, L> {
     ) -> MutexGuard<'a, Guarded<S, T, L>> {
         let mut guarded = self.when_no_edit_is_asked_for(rt, guarded);
         for _ in rt.forever() {
-            if !backoff.sees_edits(guarded.room.version()) {
+            if !backoff.sees_edits(guarded.version()) {
                 return guarded;
             }
             drop(guarded);
@@ -260,7 +249,7 @@ impl<S: Chosen, T: PrefixTable<Cell<S>>, L: Ledger> Desk<S, T, L> {
 
     /// Makes the workers of these receivers ready: of none, while no message waits.
     fn make_ready(&self, guarded: &mut Guarded<S, T, L>, receivers: Receivers) {
-        if !guarded.workers.is_somebody_idle() || guarded.room.is_quiet() {
+        if !guarded.workers.is_somebody_idle() || guarded.is_quiet() {
             return;
         }
         match receivers {
@@ -293,7 +282,7 @@ impl<S: Chosen, T: PrefixTable<Cell<S>>, L: Ledger> Desk<S, T, L> {
             if !guarded.workers.is_ready(shard) {
                 continue;
             }
-            if guarded.room.has_message(shard, shards) {
+            if guarded.has_message(shard, shards) {
                 return;
             }
             guarded.workers.make_idle(shard);
@@ -304,7 +293,7 @@ impl<S: Chosen, T: PrefixTable<Cell<S>>, L: Ledger> Desk<S, T, L> {
     fn make_ready_by_sender(&self, guarded: &mut Guarded<S, T, L>, sender: Addr) {
         let mut past = last_before(sender);
         for _ in 0..u64::MAX {
-            match guarded.room.next_full(past) {
+            match guarded.next_full(past) {
                 Some((from, to)) if from == sender => {
                     self.scheduler.make_ready(&mut guarded.workers, to);
                     past = Some((from, to));
@@ -333,7 +322,7 @@ impl<S: Chosen, T: PrefixTable<Cell<S>>, L: Ledger> Desk<S, T, L> {
 
     /// Wakes all once they may end: no calls come, and no message waits.
     fn wake_at_end(&self, guarded: &mut Guarded<S, T, L>) {
-        if guarded.workers.is_finished() && guarded.room.is_quiet() {
+        if guarded.workers.is_finished() && guarded.is_quiet() {
             self.scheduler.wake_all(&mut guarded.workers);
         }
     }
@@ -385,16 +374,18 @@ impl<S: Chosen + Drop, T: PrefixTable<Cell<S>> + Drop, L: Ledger> Desk<S, T, L> 
         seat: &mut Seat<L>,
         outcomes: Outcomes<S>,
         backoff: &mut Backoff,
-    )
-        ensures { GoesOn seat.old seat.new }
+    ) -> Result<(), AllocError>
+        ensures committed { OnOk result (IsSeatAfterAll seat.old outcomes seat.new) }
+        ensures broken_off { OnErr result (IsSeatAfterFirst seat.old outcomes seat.new) }
     {
         let is_much_work = are_much_work(&outcomes);
         let mut guarded = self.lock_noted(rt, backoff);
         backoff.note_work(is_much_work, guarded.workers.turns_to_a_wakeup());
         guarded.workers.note_work(is_much_work);
         self.make_ready_by_outcomes(&mut guarded.workers, &outcomes);
-        drop(guarded.room.commit_all(seat, outcomes));
+        let committed = guarded.commit_all(seat, outcomes);
         self.wake_at_end(&mut guarded);
+        committed
     }
 }
 
@@ -409,87 +400,46 @@ impl<S: Selector + Drop, T: PrefixTable<Cell<S>> + Drop, L: Ledger> Desk<S, T, L
         self.guarded.lock(rt).take(shard, self.scheduler.shards())
     }
 
-    /// What a worker of the shard does next, so many jobs at most. It waits, without looking again and again, until
-    /// there is something. Where it finds no job it wakes another. No job is taken while an edit is asked for, nor till
-    /// a little while after.
+    /// The next jobs of a worker of the shard: one at least, and so many at most, or one. It waits, without looking
+    /// again and again, until there is something. Where it finds no job it wakes another. No job is taken while an edit
+    /// is asked for, nor till a little while after.
     pub(crate) fn next_turn<R: Wait>(
         &self,
         rt: &R,
         shard: u64,
         most: usize,
         backoff: &mut Backoff,
-    ) -> Turn<S>
+    ) -> Result<Jobs<S>, NoJobs>
         requires { shard < self.now.shards }
+        ensures shard { IfOk result (All (IsOfShard shard self.now.shards)) }
+        ensures some { IfOk result (λ jobs. 0 < length jobs) }
+        ensures most { IfOk result (λ jobs. length jobs ≤ max most 1) }
     {
         let shards = self.scheduler.shards();
         let mut guarded = self.lock_noted(rt, backoff);
         for _ in rt.forever() {
             guarded = self.when_no_edits_follow(rt, guarded, backoff);
-            let Ok(jobs) = guarded.room.jobs(shard, shards, most) else {
-                return Turn::Nothing;
+            let Ok(jobs) = guarded.jobs(shard, shards, most) else {
+                return Err(NoJobs::ThisTurn);
             };
             if !jobs.is_empty() {
-                return Turn::Jobs(jobs);
+                return Ok(jobs);
             }
             drop(jobs);
             guarded.workers.add_idle(shard);
             self.wake_next(&mut guarded);
-            if guarded.workers.is_over(guarded.room.is_quiet()) {
+            if guarded.workers.is_over(guarded.is_quiet()) {
                 guarded.workers.remove_idle(shard);
-                return Turn::End;
+                return Err(NoJobs::AnyMore);
             }
             let is_finished = guarded.workers.is_finished();
             backoff.reset();
             guarded = self.when_woken(rt, guarded, shard);
             if is_finished {
-                return Turn::Nothing;
+                return Err(NoJobs::ThisTurn);
             }
         }
         unreachable!()
-    }
-}
-
-// What is done under the lock. Contracts see what it guards here: what they say outlasts the lock.
-impl<S: Chosen, T: PrefixTable<Cell<S>>, L: Ledger> Guarded<S, T, L> {
-    fn audit(&self, seat: &Seat<L>) -> Audit
-        ensures agrees { result ≡ Audit.Agrees → IsNoted seat.now }
-        ensures differs { result ≡ Audit.Differs → IsUnlike seat.now }
-    {
-        self.room.facts();
-        self.room.audit(seat)
-    }
-}
-
-impl<S: Selector + Send + Sync + Drop, T: PrefixTable<Cell<S>> + Drop, L: Ledger> Guarded<S, T, L> {
-    fn call<R: Threads + Sync>(&mut self, rt: &R, seat: &mut Seat<L>, event: Event) -> Reply
-        ensures seat { seat.new ≡ noted seat.old event result }
-        ensures reply { is_memory result ≡ false → IsReplied event result }
-    {
-        self.room.facts();
-        self.room.step(rt, seat, event)
-    }
-}
-
-impl<S: Chosen + Drop, T: PrefixTable<Cell<S>> + Drop, L: Ledger> Guarded<S, T, L> {
-    fn commit(&mut self, seat: &mut Seat<L>, done: Done<S>) -> Result<Committed, CommitFault<S>>
-        ensures committed { IfOk result (λ committed. IsSeatAfter seat.old done committed seat.new) }
-        ensures back { IfErr result (λ fault. fault.done ≡ done) }
-        ensures seat { OnErr result (seat.new ≡ seat.old) }
-    {
-        self.room.facts();
-        self.room.commit(seat, done)
-    }
-}
-
-impl<S: Selector + Drop, T: PrefixTable<Cell<S>> + Drop, L: Ledger> Guarded<S, T, L> {
-    fn take(&self, shard: u64, shards: u64) -> Result<Option<Job<S>>, AllocError>
-        requires { shard < shards }
-        ensures taken { IfOk result (λ found. IfSome found IsTaken) }
-        ensures shard { IfOk result (λ found. IfSome found (IsOfShard shard shards)) }
-        ensures none { IfOk result (λ found. found ≡ None → IsWithout shard shards) }
-    {
-        self.room.facts();
-        self.room.job(shard, shards)
     }
 }
 

@@ -4,6 +4,7 @@
 mod backoff;
 mod desk;
 mod effort;
+mod guarded;
 mod receivers;
 mod scheduler;
 mod shard_waits;

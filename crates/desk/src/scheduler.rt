@@ -1,6 +1,6 @@
 //! The workers at a desk, who of them waits, and what wakes them.
 
-ghost use Rattle.std.specs.Prelude.{◌≡◌, ◌<◌, IfOk};
+ghost use Rattle.std.specs.Prelude.{◌≡◌, ◌<◌, length, IfOk};
 ghost use Rattle.desk.specs.Desks.{AreShards};
 
 use crate::backoff::BackedOff;
@@ -34,8 +34,10 @@ pub(crate) struct Workers {
 }
 
 impl Workers {
-    /// Nobody is there.
-    pub(crate) fn new(alloc: Global, shards: u64) -> Result<Self, AllocError> {
+    /// Nobody is there, of any of so many shards.
+    pub(crate) fn new(alloc: Global, shards: u64) -> Result<Self, AllocError>
+        ensures { IfOk result (λ made. length made.waits.shards.items ≡ shards) }
+    {
         Ok(Workers {
             is_finished: false,
             count: 0,

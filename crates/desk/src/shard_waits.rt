@@ -1,6 +1,6 @@
 //! Which workers of each shard wait for a message, and the condition variables that they wait by.
 
-ghost use Rattle.std.specs.Prelude.{◌≡◌, ◌<◌, IfOk};
+ghost use Rattle.std.specs.Prelude.{◌≡◌, ◌<◌, length, IfOk};
 
 use std::alloc::{AllocError, Global};
 use std::marker::Model;
@@ -29,7 +29,9 @@ pub(crate) struct ShardWaits {
 
 impl ShardWaits {
     /// No worker of so many shards waits.
-    pub(crate) fn new(alloc: Global, count: u64) -> Result<Self, AllocError> {
+    pub(crate) fn new(alloc: Global, count: u64) -> Result<Self, AllocError>
+        ensures { IfOk result (λ made. length made.shards.items ≡ count) }
+    {
         let mut shards = Vec::new(alloc);
         for _ in 0..count {
             shards.push(ShardWait {

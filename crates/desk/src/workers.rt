@@ -1,12 +1,12 @@
 //! Worker threads at a desk.
 
-ghost use Rattle.std.specs.Prelude.{◌≡◌, ◌<◌, All, vec_len, vec_capacity};
-ghost use Rattle.room.specs.Books.{GoesOn, RoomBook};
-ghost use Rattle.room.specs.Jobs.{IsSeenIn};
-ghost use Rattle.desk.specs.Desks.{AllGoOn};
+ghost use Rattle.std.specs.Prelude.{◌≡◌, ◌<◌, ◌≤◌, ◌%◌, ◌++◌, ℕ, List, All, length, vec_len, vec_capacity};
+ghost use Rattle.room.specs.Jobs as taken;
+ghost use Rattle.room.specs.Jobs.{IsOfShard};
+ghost use Rattle.desk.specs.Desks.{AllWorked, IsWorked, IsWorkedAt};
 
 use crate::backoff::{Backoff, Between};
-use crate::desk::{Desk, Turn};
+use crate::desk::{Desk, NoJobs};
 use cell_engine::Cell;
 use prefix_table::PrefixTable;
 use room::{Done, Job, Jobs, Outcomes, Seat};
@@ -24,10 +24,12 @@ const TURNS_AT_ONCE: u64 = 16;
 /// What is told of the workers' jobs. The n-th of a worker has the number n, from 1 on.
 pub trait Gate {
     /// A worker took a job.
-    fn taken(&self, worker: usize, n: u64);
+    fn taken(&self, worker: usize, n: u64)
+        requires { 1 ≤ n };
 
     /// A worker has the outcome of its job.
-    fn worked(&self, worker: usize, n: u64);
+    fn worked(&self, worker: usize, n: u64)
+        requires { 1 ≤ n };
 
     /// Whether it may hold one worker until another has gone on. Where it does not, a worker who finds the lock taken
     /// may back off, and leave it to others for a while.
@@ -52,7 +54,7 @@ pub fn run_workers<
     G: Gate + Sync,
     R: Threads + Wait + Sync,
 >(rt: &R, desk: &Desk<S, T, L>, seats: Vec<Seat<L>>, gate: &G, turns: u64) -> Vec<Seat<L>>
-    ensures { AllGoOn seats.items result.items }
+    ensures { AllWorked desk.now.shards turns seats.items result.items }
 {
     desk.enter(rt, seats.len(), gate.may_hold());
     let crew = Crew {
@@ -73,14 +75,19 @@ struct Crew<'a, S: Selector, T: PrefixTable<Cell<S>>, L: Ledger, G: Gate, R: Wai
     turns: u64,
 }
 
-/// What a thread hands back goes on from the seat that it was given.
+/// What a thread hands back is the seat that it was given, after so many turns for the shard.
 #[derive(Drop)]
-struct SeatGoesOn<L: Ledger>(Snapshot<Seat<L>>);
+struct SeatIsWorked<L: Ledger> {
+    shard: u64,
+    shards: u64,
+    turns: u64,
+    given: Snapshot<Seat<L>>,
+}
 
-impl<L: Ledger> Promise<Seat<L>> for SeatGoesOn<L> {
-    ghost use Rattle.room.specs.Books.{GoesOn};
+impl<L: Ledger> Promise<Seat<L>> for SeatIsWorked<L> {
+    ghost use Rattle.desk.specs.Desks.{IsWorked};
 
-    ghost kept_by = { λ promise seat. GoesOn promise.0.value seat };
+    ghost kept_by = { λ promise seat. IsWorked promise.shard promise.shards promise.turns promise.given.value seat };
 }
 
 impl<
@@ -92,9 +99,9 @@ impl<
     R: Threads + Wait + Sync,
 > Crew<'a, S, T, L, G, R> {
     /// Starts a thread for the last seat, then those for the seats before it, and waits for all.
-    #[tactic(auto, using(crate::proofs::Following::rows))]
+    #[tactic(auto, using(crate::proofs::Working::rows))]
     fn run(&self, mut seats: Vec<Seat<L>>) -> Vec<Seat<L>>
-        ensures each { AllGoOn seats.items result.items }
+        ensures each { AllWorked self.now.desk.now.shards self.now.turns seats.items result.items }
         ensures len { vec_len result ≡ vec_len seats }
         ensures capacity { vec_capacity result ≡ vec_capacity seats }
     {
@@ -108,12 +115,15 @@ impl<
             thread::scope_env(),
             self.rt,
             |scope| -> (Vec<Seat<L>>, Seat<L>)
-                ensures { AllGoOn seats.items result.0.items × GoesOn seat result.1 ×
+                ensures { let crew = self.entry.now in
+                    AllWorked crew.desk.now.shards crew.turns seats.items result.0.items ×
+                    IsWorkedAt worker crew.desk.now.shards crew.turns seat result.1 ×
                     (vec_len result.0 ≡ vec_len seats) × (vec_capacity result.0 ≡ vec_capacity seats) }
             {
-                let promise = SeatGoesOn(Snapshot::of(&seat));
+                let promise = self.promise(worker, &seat);
                 let job = move || -> Seat<L>
-                    ensures { GoesOn seat result }
+                    ensures { let crew = self.entry.now in
+                        IsWorkedAt worker crew.desk.now.shards crew.turns seat result }
                 { self.work(is_out, worker, seat) };
                 match scope.spawn_with(promise, job) {
                     Ok(handle) => {
@@ -141,10 +151,32 @@ impl<'a, S: Selector + Drop, T: PrefixTable<Cell<S>> + Drop, L: Ledger, G: Gate,
     G,
     R,
 > {
+    /// The shard that the worker serves.
+    fn shard_of(&self, worker: usize) -> u64
+        ensures shard { result ≡ worker % self.now.desk.now.shards }
+        ensures allowed { result < self.now.desk.now.shards }
+    {
+        worker as u64 % self.desk.shards()
+    }
+
+    /// What is promised of the worker's seat.
+    fn promise(&self, worker: usize, seat: &Seat<L>) -> SeatIsWorked<L>
+        ensures shard { result.shard ≡ worker % self.now.desk.now.shards }
+        ensures shards { result.shards ≡ self.now.desk.now.shards }
+        ensures turns { result.turns ≡ self.now.turns }
+        ensures given { result.given.value ≡ seat.now }
+    {
+        SeatIsWorked {
+            shard: self.shard_of(worker),
+            shards: self.desk.shards(),
+            turns: self.turns,
+            given: Snapshot::of(seat),
+        }
+    }
+
     /// A worker makes its turns, unless it is left out, and leaves.
-    #[tactic(auto, using(crate::proofs::Following::goes_on))]
     fn work(&self, is_out: &AtomicBool, worker: usize, mut seat: Seat<L>) -> Seat<L>
-        ensures { GoesOn seat result }
+        ensures { IsWorkedAt worker self.now.desk.now.shards self.now.turns seat result }
     {
         if !is_out.load(Ordering::SeqCst) {
             self.make_turns(worker, &mut seat);
@@ -155,9 +187,9 @@ impl<'a, S: Selector + Drop, T: PrefixTable<Cell<S>> + Drop, L: Ledger, G: Gate,
 
     /// All turns of a worker: one at first, then as many at once as `most_after` tells.
     fn make_turns(&self, worker: usize, seat: &mut Seat<L>)
-        ensures { GoesOn seat.old seat.new }
+        ensures { IsWorkedAt worker self.now.desk.now.shards self.now.turns seat.old seat.new }
     {
-        let shard = worker as u64 % self.desk.shards();
+        let shard = self.shard_of(worker);
         let mut turns = 0;
         let mut jobs_before = 0;
         let mut most = 1;
@@ -166,18 +198,18 @@ impl<'a, S: Selector + Drop, T: PrefixTable<Cell<S>> + Drop, L: Ledger, G: Gate,
             if turns >= self.turns {
                 return;
             }
-            let at_once = most.min(self.turns - turns) as usize;
+            let at_once = turns_at_once(most, self.turns - turns);
             match self.desk.next_turn(self.rt, shard, at_once, &mut backoff) {
-                Turn::Jobs(jobs) => {
+                Ok(jobs) => {
                     let count = jobs.len() as u64;
                     let put_in = self.do_jobs(worker, jobs_before, jobs, seat, &mut backoff);
                     most = most_after(most, count, put_in);
                     jobs_before = count.saturating_add(jobs_before);
-                    turns = count.saturating_add(turns);
+                    turns += count;
                     self.back_off_or_wake(&mut backoff);
                 }
-                Turn::Nothing => turns += 1,
-                Turn::End => return,
+                Err(NoJobs::ThisTurn) => turns += 1,
+                Err(NoJobs::AnyMore) => return,
             }
         }
     }
@@ -195,7 +227,7 @@ impl<'a, S: Selector + Drop, T: PrefixTable<Cell<S>> + Drop, L: Ledger, G: Gate,
     }
 
     /// Works jobs one after another, of which the first is one more than so many, and commits their outcomes. How many
-    /// were put in.
+    /// were put in. Outcomes for which there is no memory are let go: their messages still wait.
     fn do_jobs(
         &self,
         worker: usize,
@@ -204,16 +236,21 @@ impl<'a, S: Selector + Drop, T: PrefixTable<Cell<S>> + Drop, L: Ledger, G: Gate,
         seat: &mut Seat<L>,
         backoff: &mut Backoff,
     ) -> u64
-        ensures { GoesOn seat.old seat.new }
+        ensures { (shard shards : ℕ) → All (IsOfShard shard shards) jobs →
+            IsWorked shard shards (length jobs) seat.old seat.new }
     {
         let outcomes = self.outcomes_of(worker, jobs_before, jobs);
         let calls_before = seat.count();
-        self.desk.commit_all(self.rt, seat, outcomes, backoff);
+        drop(self.desk.commit_all(self.rt, seat, outcomes, backoff));
         seat.count().saturating_sub(calls_before)
     }
 
-    /// The outcomes of jobs.
-    fn outcomes_of(&self, worker: usize, jobs_before: u64, jobs: Jobs<S>) -> Outcomes<S> {
+    /// The outcomes of jobs, but of those for which there is no memory.
+    fn outcomes_of(&self, worker: usize, jobs_before: u64, jobs: Jobs<S>) -> Outcomes<S>
+        ensures of_shard { (shard shards : ℕ) → All (IsOfShard shard shards) jobs →
+            All (IsOfShard shard shards) result }
+        ensures most { length result ≤ length jobs }
+    {
         let mut outcomes = Vec::new(self.desk.alloc());
         let mut n = jobs_before;
         for job in jobs.into_vec() {
@@ -225,8 +262,9 @@ impl<'a, S: Selector + Drop, T: PrefixTable<Cell<S>> + Drop, L: Ledger, G: Gate,
 
     /// Works a job, and keeps its outcome where there is memory.
     fn do_job(&self, worker: usize, n: u64, job: Job<S>, outcomes: &mut Vec<Done<S>>)
-        ensures { (room : RoomBook) → IsSeenIn room job → All (IsSeenIn room) outcomes.old.items →
-            All (IsSeenIn room) outcomes.new.items }
+        requires { 1 ≤ n }
+        ensures { (more : List taken.Job) × (outcomes.new.items ≡ outcomes.old.items ++ more) × (length more ≤ 1) ×
+            All (λ done. done ≡ job) more }
     {
         self.gate.taken(worker, n);
         let Ok(done) = job.work() else {
@@ -235,6 +273,13 @@ impl<'a, S: Selector + Drop, T: PrefixTable<Cell<S>> + Drop, L: Ledger, G: Gate,
         self.gate.worked(worker, n);
         drop(outcomes.push(done));
     }
+}
+
+/// How many turns are made at once where so many are left.
+fn turns_at_once(most: u64, left: u64) -> usize
+    ensures { result ≤ left }
+{
+    most.min(left) as usize
 }
 
 /// How many turns a worker makes at once at most, after turns of so many jobs, of which so many outcomes were put in.

@@ -1,6 +1,7 @@
-use Rattle.room.specs.Books.{GoesOn}
+use Rattle.std.proofs.Common.{◌≤◌}
+use Rattle.desk.specs.Desks.{IsWorkedAt}
 use Rattle.desk.proofs.workers.Crew.make_turns.Given as goal
 
--- the seat goes on from what it was
+-- the turns so far were made for the worker's shard, and are no more than it has
 abbrev pub invariant-loop : goal.invariant-loop
-invariant-loop g l = GoesOn l.initial.seat l.seat
+invariant-loop g l = IsWorkedAt l.worker l.self.desk.now.shards l.turns l.initial.seat l.seat × (l.turns ≤ l.self.turns)
