@@ -32,6 +32,7 @@ pub fn run_replay<M: Machine, R: Read, W: Write, E: Write>(
     requires shown { output.old.held ≡ false }
     requires empty { M.network machine.old ≡ nothing }
     ensures sent { output.new.failed ≡ false → output.new.held ≡ false }
+    ensures told_sent { errors.old.held ≡ false → errors.new.failed ≡ false → errors.new.held ≡ false }
     ensures run { IsReplayRun input.old.remaining output.old errors.old result input.new output.new errors.new }
 {
     match replay(rt, alloc, input, machine) {
@@ -44,6 +45,7 @@ pub fn run_replay<M: Machine, R: Read, W: Write, E: Write>(
 fn answer<W: Write, E: Write>(found: Replayed, output: &mut Output<W>, errors: &mut Output<E>) -> u8
     requires calm { output.old.failed ≡ false }
     ensures sent { output.new.failed ≡ false → output.new.held ≡ false }
+    ensures told_sent { errors.old.held ≡ false → errors.new.failed ≡ false → errors.new.held ≡ false }
     ensures answered { IsAnswered found output.old errors.old result output.new errors.new }
 {
     if show(found, output).is_ok() {

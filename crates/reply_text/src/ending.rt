@@ -1,6 +1,6 @@
 //! How a run of the program ends: its exit status, and what is told of a fault.
 
-ghost use Rattle.std.specs.Prelude.{◌≡◌};
+ghost use Rattle.std.specs.Prelude.{◌≡◌, false};
 ghost use Rattle.watched.specs.Streams.{Writes};
 ghost use Rattle.reply_text.specs.Ending.{fault_status, fault_text, memory_fault, IsTold};
 
@@ -52,10 +52,11 @@ impl From<AllocError> for RunFault {
     }
 }
 
-/// Tells the fault, and gives the exit status. A failure to tell it is passed over.
+/// Tells the fault, sends that on, and gives the exit status. A failure to tell it is passed over.
 pub fn end_by<E: Write>(fault: &RunFault, errors: &mut Output<E>) -> u8
     ensures status { result ≡ fault_status fault.now }
     ensures told { IsTold errors.old (fault_text fault.now) errors.new }
+    ensures sent { errors.new.failed ≡ false → errors.new.held ≡ false }
 {
     tell(fault, errors);
     status_of(fault)
@@ -72,11 +73,21 @@ fn status_of(fault: &RunFault) -> u8
     }
 }
 
-/// Tells the fault. A failure to do so is passed over.
+/// Tells the fault, and sends that on. A failure to do so is passed over.
 fn tell<E: Write>(fault: &RunFault, errors: &mut Output<E>)
-    ensures { IsTold errors.old (fault_text fault.now) errors.new }
+    ensures told { IsTold errors.old (fault_text fault.now) errors.new }
+    ensures sent { errors.new.failed ≡ false → errors.new.held ≡ false }
 {
-    let _ = write_line(fault, errors);
+    let _ = send_line(fault, errors);
+}
+
+/// Writes the line of the fault, and sends it on.
+fn send_line<W: Write>(fault: &RunFault, output: &mut Output<W>) -> Result<(), WriterFailed>
+    ensures told { IsTold output.old (fault_text fault.now) output.new }
+    ensures sent { output.new.failed ≡ false → output.new.held ≡ false }
+{
+    write_line(fault, output)?;
+    output.flush()
 }
 
 /// Writes the line of the fault. At an error a front of it went out.

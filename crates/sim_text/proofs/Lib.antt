@@ -1,3 +1,4 @@
 mod AnswerLemmas
 mod LineLemmas
 mod ReadLemmas
+mod ReadingLemmas

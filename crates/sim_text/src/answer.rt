@@ -2,11 +2,14 @@
 
 ghost use Rattle.std.specs.Prelude.{ℕ, List};
 ghost use Rattle.watched.specs.Streams.{Writes};
+ghost use Rattle.sim_text.specs.Answering.{IsAnswerTo};
 ghost use Rattle.sim_text.specs.Serving.{IsAnswer};
 
 use command_text::read_line;
+use net_conf::Refusal;
 use reference_machine::Machine;
 use reply_text::{write_refusal, write_reply};
+use sim_event::Event;
 use std::alloc::Global;
 use std::io::Write;
 use std::thread::Threads;
@@ -23,7 +26,20 @@ pub(crate) fn answer_line<W: Write, M: Machine>(
     ensures { (answer : List ℕ) × IsAnswer (M.network machine.old) line.now answer (M.network machine.new)
         × Writes output.old answer result output.new }
 {
-    match read_line(alloc, line) {
+    answer(rt, read_line(alloc, line), output, machine)
+}
+
+/// Writes the answer to what was read of a line. An event is always taken.
+fn answer<W: Write, M: Machine>(
+    rt: &(impl Threads + Sync),
+    reading: Result<Option<Event>, Refusal>,
+    output: &mut Output<W>,
+    machine: &mut M,
+) -> Result<(), WriterFailed>
+    ensures { (answer : List ℕ) × IsAnswerTo reading (M.network machine.old) answer (M.network machine.new)
+        × Writes output.old answer result output.new }
+{
+    match reading {
         Ok(None) => Ok(()),
         Ok(Some(event)) => {
             let reply = machine.step(rt, &event);

@@ -15,7 +15,8 @@ use std::thread::Threads;
 use watched::{Input, Output};
 
 /// Serves the script on the reader to the writer, by a machine that begins with the empty network, and tells a fault on
-/// the third stream, whose own failure is passed over. The exit status: 0 done, 3 read fault, 4 write fault.
+/// the third stream, whose own failure is passed over. Nothing is held back at the end, on a stream that did not fail.
+/// The exit status: 0 done, 3 read fault, 4 write fault.
 pub fn run_script<M: Machine, R: Read, W: Write, E: Write>(
     rt: &(impl Threads + Sync),
     alloc: Global,
@@ -29,6 +30,7 @@ pub fn run_script<M: Machine, R: Read, W: Write, E: Write>(
     requires shown { output.old.held ≡ false }
     requires empty { M.network machine.old ≡ nothing }
     ensures sent { output.new.failed ≡ false → output.new.held ≡ false }
+    ensures told_sent { errors.old.held ≡ false → errors.new.failed ≡ false → errors.new.held ≡ false }
     ensures run { IsScriptRun input.old.remaining output.old errors.old result
         (M.network machine.new) input.new output.new errors.new }
 {
@@ -40,6 +42,7 @@ pub fn run_script<M: Machine, R: Read, W: Write, E: Write>(
 fn end<E: Write>(served: &Result<u64, ServeFault>, errors: &mut Output<E>) -> u8
     ensures status { result ≡ status_of served.now }
     ensures told { IsTold errors.old (told served.now) errors.new }
+    ensures sent { errors.old.held ≡ false → errors.new.failed ≡ false → errors.new.held ≡ false }
 {
     match served {
         Ok(_) => SUCCESS,
