@@ -5,8 +5,8 @@ use Rattle.watched.specs.Streams.{Writing, AppendsFront}
 use Rattle.sim_event.specs.declared.entry.Entry.{Entry}
 use Rattle.reference_machine.specs.Histories.{IsLegal}
 use Rattle.reply_text.specs.declared.ending.RunFault.{RunFault}
-use Rattle.reply_text.specs.declared.ending.RunFault.TheVariants.{FileUnread, NoMemory, BookDiffers}
-use Rattle.reply_text.specs.Ending.{success, read_fault, write_fault, no_memory, unread_text, IsTold}
+use Rattle.reply_text.specs.declared.ending.RunFault.TheVariants.{FileUnread, Unwritten, NoMemory, BookDiffers}
+use Rattle.reply_text.specs.Ending.{success, read_fault, write_fault, no_memory, fault_text, unread_text, IsTold}
 use Rattle.log_text.specs.Logs.{log_text}
 
 -- the log of the history was written, whole, and sent on
@@ -39,9 +39,19 @@ IsOfPlay NoMemory = ⊤
 IsOfPlay BookDiffers = ⊤
 IsOfPlay _ = ⊥
 
--- scripts that were read were played: the log was written; or it was cut off; or nothing was written
-abbrev pub IsPlayed : Writing → ℕ → Writing → Type 0
-IsPlayed o status o' = ((status ≡ success) × IsLogged o o') ⊎ (((status ≡ write_fault) × IsCutOff o o') ⊎ ((status ≡ no_memory) × (o' ≡ o)))
+-- this was told last
+abbrev pub IsToldLast : List ℕ → Writing → Type 0
+IsToldLast text errors' = (errors : Writing) × IsTold errors text errors'
+
+-- there was no memory, or the notes of a seat are not its calls: nothing was written, and this was told last
+abbrev pub IsBroken : Writing → Writing → Writing → Type 0
+IsBroken o o' errors' = (o' ≡ o) × (IsToldLast (fault_text NoMemory) errors' ⊎ IsToldLast (fault_text BookDiffers) errors')
+
+-- a team played, or there was no memory for its scripts: the log was written; or it was cut off, which was told last; or nothing was written
+abbrev pub IsPlayed : Writing → ℕ → Writing → Writing → Type 0
+IsPlayed o status o' errors' = ((status ≡ success) × IsLogged o o')
+    ⊎ (((status ≡ write_fault) × IsCutOff o o' × IsToldLast (fault_text Unwritten) errors')
+    ⊎ ((status ≡ no_memory) × IsBroken o o' errors'))
 
 -- nothing was written, since a file was not read, and that alone was told
 abbrev pub IsUnread : Writing → Writing → ℕ → Writing → Writing → Type 0
@@ -49,4 +59,4 @@ IsUnread o errors status o' errors' = (status ≡ read_fault) × (o' ≡ o) × (
 
 -- a team was run: its scripts were read and played, or one was not read
 abbrev pub IsTeamRun : Writing → Writing → ℕ → Writing → Writing → Type 0
-IsTeamRun o errors status o' errors' = IsPlayed o status o' ⊎ IsUnread o errors status o' errors'
+IsTeamRun o errors status o' errors' = IsPlayed o status o' errors' ⊎ IsUnread o errors status o' errors'

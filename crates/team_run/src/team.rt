@@ -1,8 +1,9 @@
 //! A team at its desk, from the scripts to the log.
 
-ghost use Rattle.std.specs.Prelude.{◌≡◌, ◌≤◌, false, true, vec_len, IfErr, OnOk, OnErr};
+ghost use Rattle.std.specs.Prelude.{◌≡◌, ◌≤◌, ◌+◌, false, true, vec_len, IfOk, IfErr, OnOk, OnErr};
 ghost use Rattle.log_text.specs.Logs.{log_text};
 ghost use Rattle.reference_machine.specs.Histories.{IsLegal};
+ghost use Rattle.desk.specs.Desks.{IsDeskLedger};
 ghost use Rattle.team_run.specs.TeamRun.{IsFrontOf, IsLogOf, IsOfPlay, IsPlayed, IsTeamRun};
 ghost use Rattle.watched.specs.Streams.{AppendsFront};
 
@@ -11,7 +12,7 @@ use crate::engineer::Engineer;
 use crate::scripts::{ScriptFile, read_scripts};
 use crate::told::Told;
 use cell_engine::Cell;
-use desk::{Audit, Desk, Record, Seat};
+use desk::{Audit, Desk, OpenFault, Record, Seat};
 use log_text::write_log_in_threads;
 use prefix_table::PrefixTable;
 use reply_text::{RunFault, SUCCESS, end_by};
@@ -107,13 +108,15 @@ fn play<
     requires hands { settings.workers ≤ 64 }
     requires calm { output.old.failed ≡ false }
     requires shown { output.old.held ≡ false }
-    ensures { IsPlayed output.old result output.new }
+    ensures { IsPlayed output.old result output.new errors.new }
 {
-    let ended = match recorded::<S, T, L, E, R>(rt, alloc, keys, blank, settings, scripts, errors) {
-        Ok(record) => write_record(rt, alloc, settings.workers, &record, output),
-        Err(fault) => Err(fault),
+    let record = match recorded::<S, T, L, E, R>(
+        rt, alloc, keys, blank, settings, scripts, errors,
+    ) {
+        Ok(record) => record,
+        Err(fault) => return end_by(&fault, errors),
     };
-    match ended {
+    match write_record(rt, alloc, settings.workers, &record, output) {
         Ok(()) => SUCCESS,
         Err(fault) => end_by(&fault, errors),
     }
@@ -142,14 +145,9 @@ fn recorded<
     requires hands { settings.workers ≤ 64 }
     ensures { IfErr result IsOfPlay }
 {
-    let seats = scripts.len() as u16 + settings.workers;
-    let Ok((desk, seats)) = Desk::<S, T, L>::open(
-        alloc,
-        keys,
-        seats,
-        u64::from(settings.workers),
-        blank,
-    ) else {
+    let engineers = scripts.len() as u16;
+    let Ok((desk, seats)) = opened::<S, T, L>(alloc, keys, engineers, settings.workers, blank)
+    else {
         drop(scripts);
         return Err(RunFault::NoMemory);
     };
@@ -166,6 +164,22 @@ fn recorded<
             Err(RunFault::NoMemory)
         }
     }
+}
+
+/// A desk with a seat for each engineer and for each worker, and with a shard for each worker.
+fn opened<S: Selector + Drop, T: PrefixTable<Cell<S>> + Drop, L: Ledger>(
+    alloc: Global,
+    keys: Option<RandomState>,
+    engineers: u16,
+    workers: u16,
+    blank: Blank,
+) -> Result<(Desk<S, T, L>, Vec<Seat<L>>), OpenFault>
+    requires ledger { IsDeskLedger blank.name blank.parts L.name L.parts }
+    requires most { engineers ≤ 64 }
+    requires hands { workers ≤ 64 }
+    ensures shards { IfOk result (λ made. made.0.shards ≡ workers) }
+{
+    Desk::open(alloc, keys, engineers + workers, u64::from(workers), blank)
 }
 
 /// All threads at the desk, from the first call to the last. The seats come back.

@@ -2,6 +2,7 @@
 
 ghost use Rattle.std.specs.Prelude.{◌≡◌};
 ghost use Rattle.team_run.specs.Told.{progress_text, told_text};
+ghost use Rattle.reply_text.specs.Ending.{IsTold};
 ghost use Rattle.watched.specs.Streams.{Writes};
 
 use boxcar::Vec;
@@ -57,11 +58,11 @@ impl<'a, E: Write> Told<'a, E> {
         let _ = write_progress(progress, &mut errors);
     }
 
-    /// Takes a line down, or where there is no memory writes it at once.
+    /// Takes a line down, or where there is no memory tells of it at once.
     pub(crate) fn tell<R: Wait>(&self, rt: &R, line: ToldLine) {
         if self.lines.push(rt, line).is_err() {
             let mut errors = self.errors.lock(rt);
-            let _ = write_told(line, &mut errors);
+            tell_at_once(line, &mut errors);
         }
     }
 
@@ -77,7 +78,7 @@ impl<'a, E: Write> Told<'a, E> {
             let _ = errors.write(b"\r\x1b[K");
         }
         for (_, line) in lines.iter() {
-            let _ = write_told(*line, errors);
+            tell_at_once(*line, errors);
         }
     }
 }
@@ -94,6 +95,13 @@ fn write_progress<W: Write>(progress: Progress, output: &mut Output<W>) -> Resul
         Part::Bytes(b" messages wait"),
     ];
     write_each(&parts, output)
+}
+
+/// Tells of the line. A failure to do so is passed over.
+fn tell_at_once<W: Write>(told: ToldLine, errors: &mut Output<W>)
+    ensures { IsTold errors.old (told_text told) errors.new }
+{
+    let _ = write_told(told, errors);
 }
 
 /// Writes what is told of the line.
