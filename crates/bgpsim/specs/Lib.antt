@@ -1,2 +1,2 @@
 pub mod CommandLine
-pub mod Status
+pub mod Running

@@ -1,5 +1,5 @@
 use Rattle.std.proofs.Common.{◌≡◌, length}
-use Rattle.bgpsim.proofs.opened.Given as goal
+use Rattle.bgpsim.proofs.running.opened.Given as goal
 
 -- a file for each name so far
 abbrev pub invariant-loop-name : goal.invariant-loop-name

@@ -1,4 +1,4 @@
-use Rattle.bgpsim.proofs.main.Given as goal
+use Rattle.bgpsim.proofs.running.run_choice.Given as goal
 
 -- the ledger that was just made
 abbrev pub ghosts-play_team : goal.ghosts-play_team
