@@ -44,12 +44,12 @@ class Part(NamedTuple):
 
 
 PARTS = (
-    Part("", (Root("bgpsim/src/main.rt", ("show", "without_memory", "serve_streams")),
+    Part("", (Root("bgpsim/src/main.rt", ("without_memory",)), Root("bgpsim/src/running.rt", ("show", "serve_script")),
               Root("bgpsim/src/command_line.rt", ("choose",)), Root("sim_text/src/script_run.rt", ("run_script",)),
               Root("reference_machine/src/machine.rt", ("step",)))),
-    Part("for `bgpsim replay`", (Root("bgpsim/src/main.rt", ("replay_streams",)),
+    Part("for `bgpsim replay`", (Root("bgpsim/src/running.rt", ("replay_log",)),
                                  Root("log_replay/src/replay_run.rt", ("run_replay",)))),
-    Part("for `bgpsim team`", (Root("bgpsim/src/main.rt", ("*",)), Root("team_run/src/team.rt", ("run_team",)))),
+    Part("for `bgpsim team`", (Root("bgpsim/src/running.rt", ("*",)), Root("team_run/src/team.rt", ("run_team",)))),
     Part("laws beside the program", (Root("*/src/laws.rt"), Root("session_law/src/lib.rt"))),
     Part("what the desk's own calls promise", (Root("room/src/**/*.rt"), Root("desk/src/**/*.rt"))),
     Part("trees over a change", (Root("igp_cost/src/graph.rt"),)),
