@@ -18,9 +18,7 @@ replied room event reply kept is = record { history = room.history; legal = kept
 
 -- a room that was kept is kept after a commit
 kept_after : (room : RoomBook) (seat : SeatBook) (x : Job) (told : Committed) (room' : RoomBook) (seat' : SeatBook) → IsKept room → IsCommitted room seat x told room' seat' → IsKept room'
-kept_after room seat x (Delivered reply) room' seat' kept is =
-    let now = kept_push room.history room'.history room.engine room'.engine room.seats room'.seats seat.number (delivery_of x) reply (record { legal = kept.legal; state = kept.state }) is.history is.replies is.state in
-    record { legal = now.legal; state = now.state }
+kept_after room seat x (Delivered reply) room' seat' kept is = kept_push room room' seat.number (delivery_of x) reply kept is.history is.replies is.state is.counted
 kept_after room seat x (Stale newer) room' seat' kept is = subst IsKept (sym is.1) kept
 
 pub seat_after : (room : RoomBook) (seat : SeatBook) (x : Job) (told : Committed) (room' : RoomBook) (seat' : SeatBook) → IsKept room → IsCommitted room seat x told room' seat' → IsSeatAfter seat x told seat'
@@ -40,7 +38,7 @@ after_first : (room : RoomBook) (seat : SeatBook) (xs : List Job) (room' : RoomB
 after_first room seat xs room' seat' kept is =
     record {
       first = is.first;
-      others = is.others;
+      others = is.wanting ∷ is.others;
       parts = is.parts;
       after = subst (λ (s : SeatBook). IsSeatAfterAll seat is.first s) (sym is.left.notes) (after_all room seat is.first is.next is.after kept is.committed);
     }

@@ -86,8 +86,8 @@ impl<S: Chosen + Drop, T: PrefixTable<Cell<S>> + Drop, L: Ledger> Room<S, T, L> 
     }
 
     /// Puts in each outcome in turn, as `commit` does: one that came too late is let go. At the first for which there
-    /// is no memory it stops, and the outcomes that are left are let go. The site of a receiver is compared once for all that come one after
-    /// another.
+    /// is no memory it stops, and the outcomes that are left are let go. The site of a receiver is compared once for
+    /// all that come one after another.
     pub fn commit_all(
         &mut self,
         seat: &mut Seat<L>,
