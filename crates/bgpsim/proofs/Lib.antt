@@ -3,3 +3,4 @@ mod Uses
 mod Teams
 mod Subcommands
 mod Getters
+mod Unopened

@@ -11,6 +11,7 @@ use Rattle.reply_text.specs.declared.ending.RunFault.TheVariants.{NoMemory, Unwr
 use Rattle.reply_text.specs.Ending.{success, mistaken, fault_status, fault_text, IsTold}
 use Rattle.sim_text.specs.ScriptRun.{IsScriptRun}
 use Rattle.log_replay.specs.ReplayRun.{IsReplayRun}
+use Rattle.team_run.specs.Sources.{Source}
 use Rattle.team_run.specs.TeamRun.{IsTeamRun}
 use Rattle.bgpsim.specs.CommandLine.{commands, Chooses}
 use Rattle.bgpsim.specs.declared.command_line.Choice.{Choice}
@@ -52,11 +53,16 @@ IsServed bytes o errors status o' errors' = (end : Network) × (i' : Reading) ×
 abbrev pub IsReplayed : Option (List ℕ) → Writing → Writing → ℕ → Writing → Writing → Type 0
 IsReplayed bytes o errors status o' errors' = (i' : Reading) × IsReplayRun bytes o errors status i' o' errors'
 
+-- a team was run on some files
+pub record IsTeamPlayed (o errors : Writing) (status : ℕ) (o' errors' : Writing) : Type 0 where
+  pub files : List Source
+  pub run : IsTeamRun files o errors status o' errors'
+
 -- what was asked for was run
 abbrev pub IsRunOf : Choice → Option (List ℕ) → Writing → Writing → ℕ → Writing → Writing → Type 0
 IsRunOf Script bytes o errors status o' errors' = IsServed bytes o errors status o' errors'
 IsRunOf Replay bytes o errors status o' errors' = IsReplayed bytes o errors status o' errors'
-IsRunOf (ForTeam team) bytes o errors status o' errors' = IsTeamRun o errors status o' errors'
+IsRunOf (ForTeam team) bytes o errors status o' errors' = IsTeamPlayed o errors status o' errors'
 
 -- ---- the program
 

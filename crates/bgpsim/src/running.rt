@@ -4,9 +4,8 @@ ghost use Rattle.std.specs.Prelude.{◌≡◌, false, length, map, string_bytes,
 ghost use Rattle.std.specs.Process.{exit_status};
 ghost use Rattle.clap.specs.Words.{kind_of};
 ghost use Rattle.reply_text.specs.Ending.{IsTold};
-ghost use Rattle.team_run.specs.TeamRun.{IsTeamRun};
 ghost use Rattle.bgpsim.specs.CommandLine.{IsTeamWithin, IsWithin};
-ghost use Rattle.bgpsim.specs.Running.{shown_status, shown_text, IsPrinted, IsProgramRun, IsReplayed, IsRunOf, IsServed, IsShown};
+ghost use Rattle.bgpsim.specs.Running.{shown_status, shown_text, IsPrinted, IsProgramRun, IsReplayed, IsRunOf, IsServed, IsShown, IsTeamPlayed};
 
 use crate::command_line::{Choice, Team, choose};
 use cell_engine::Cell;
@@ -155,6 +154,7 @@ fn replay_log<R: Read + Drop, W: Write, E: Write>(
 }
 
 /// Runs the team, and writes its log.
+#[tactic(auto, using(crate::proofs::Unopened::rows))]
 fn play_team<
     L: Ledger + Send + Sync,
     H: AllocGlobal + Files + RandomSource + Threads + Wait + Sync,
@@ -167,7 +167,7 @@ fn play_team<
     requires team { IsTeamWithin team.now }
     requires calm { streams.old.output.failed ≡ false }
     requires shown { streams.old.output.held ≡ false }
-    ensures { IsTeamRun streams.old.output streams.old.errors result streams.new.output streams.new.errors }
+    ensures { IsTeamPlayed streams.old.output streams.old.errors result streams.new.output streams.new.errors }
 {
     let alloc = rt.alloc();
     let Ok(files) = opened(rt, alloc, team.files.as_slice()) else {

@@ -1,7 +1,7 @@
 -- Bytes that are read one piece after another.
 use Rattle.std.proofs.Common.{◌∙◌, ap, sym, ℕ, List, [], ◌++◌, refl, append_assoc, append-nil, Option, Some, None}
 use Rattle.std.specs.Io.KnownBytes.{Consumes, IsAtEnd}
-use Rattle.team_run.specs.Scripts.{IsWhole}
+use Rattle.team_run.specs.Sources.{IsWhole}
 
 -- a, and then b
 pub consumes_both : (old mid new : Option (List ℕ)) (a b : List ℕ) → Consumes old mid a → Consumes mid new b → Consumes old new (a ++ b)

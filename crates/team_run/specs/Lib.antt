@@ -1,3 +1,5 @@
+pub mod Playing
 pub mod Scripts
+pub mod Sources
 pub mod TeamRun
 pub mod Told

@@ -1,6 +1,8 @@
 //! The threads of a team: one for each engineer, and those of the workers.
 
-ghost use Rattle.std.specs.Prelude.{⊤};
+ghost use Rattle.std.specs.Prelude.{IfOk, IfSome};
+ghost use Rattle.desk.specs.Desks.{AllWorked};
+ghost use Rattle.team_run.specs.Playing.{AreBack, HasPlayed};
 
 use crate::engineer::{Engineer, play};
 use crate::told::Told;
@@ -10,11 +12,12 @@ use prefix_table::PrefixTable;
 use route_select::Selector;
 use std::alloc::{AllocError, Global};
 use std::io::Write;
+use std::snapshot::Snapshot;
 use std::sync::Wait;
 use std::sync::atomic::{AtomicU64, Ordering};
 use std::sync::ledger::Ledger;
 use std::thread;
-use std::thread::Threads;
+use std::thread::{Promise, Threads};
 
 /// After how many jobs a worker tells anew how far the team is.
 const JOBS_BETWEEN: u64 = 1_000;
@@ -41,6 +44,16 @@ impl<'a, 'e, S: Selector, T: PrefixTable<Cell<S>>, L: Ledger, E: Write, R: Wait>
     fn may_hold(&self) -> bool {
         false
     }
+}
+
+/// From the seat that an engineer's thread hands back its script was called.
+#[derive(Drop)]
+struct HasCalledScript<L: Ledger>(Snapshot<Engineer<L>>);
+
+impl<L: Ledger> Promise<Seat<L>> for HasCalledScript<L> {
+    ghost use Rattle.team_run.specs.Playing.{HasPlayed};
+
+    ghost kept_by = { λ promise seat. HasPlayed promise.0.value seat };
 }
 
 /// What the threads of a team have in common.
@@ -74,13 +87,16 @@ impl<
     R: Threads + Wait + Sync,
 > Crew<'a, 'e, S, T, L, E, R> {
     /// Starts a thread for the last engineer, then those for the engineers before, then those of the workers, and waits
-    /// for all. The seats of all come back. An engineer whose thread cannot be started has ended; this is want of
-    /// memory, as is none for the seats.
+    /// for all. The seats of all come back, those of the workers first. An engineer whose thread cannot be started has
+    /// ended; this is want of memory, as is none for the seats.
+    #[tactic(auto, using(crate::proofs::Crews::rows))]
     pub(crate) fn run(
         &self,
         mut engineers: Vec<Engineer<L>>,
         workers: Vec<Seat<L>>,
-    ) -> Result<Vec<Seat<L>>, AllocError> {
+    ) -> Result<Vec<Seat<L>>, AllocError>
+        ensures { IfOk result (λ seats. AreBack engineers.items workers.items seats.items) }
+    {
         let Some(engineer) = engineers.pop() else {
             return Ok(self.work_all(workers));
         };
@@ -88,12 +104,14 @@ impl<
             thread::scope_env(),
             self.rt,
             |scope| -> (Result<Vec<Seat<L>>, AllocError>, Option<Seat<L>>)
-                ensures { ⊤ }
+                ensures { IfOk result.0 (λ seats. AreBack engineers.items workers.items seats.items)
+                    × IfSome result.1 (HasPlayed engineer) }
             {
+                let promise = HasCalledScript(Snapshot::of(&engineer));
                 let job = move || -> Seat<L>
-                    ensures { ⊤ }
+                    ensures { HasPlayed engineer result }
                 { self.work(engineer) };
-                match scope.spawn(job) {
+                match scope.spawn_with(promise, job) {
                     Ok(handle) => {
                         let seats = self.run(engineers, workers);
                         (seats, Some(handle.join(self.rt)))
@@ -112,7 +130,9 @@ impl<
     }
 
     /// The workers' threads.
-    fn work_all(&self, workers: Vec<Seat<L>>) -> Vec<Seat<L>> {
+    fn work_all(&self, workers: Vec<Seat<L>>) -> Vec<Seat<L>>
+        ensures { AllWorked self.now.desk.now.shards self.now.turns workers.items result.items }
+    {
         let teller = Teller {
             rt: self.rt,
             desk: self.desk,
@@ -122,7 +142,9 @@ impl<
     }
 
     /// An engineer's thread: all lines are called.
-    fn work(&self, engineer: Engineer<L>) -> Seat<L> {
+    fn work(&self, engineer: Engineer<L>) -> Seat<L>
+        ensures { HasPlayed engineer result }
+    {
         let seat = play(self.rt, self.alloc, self.desk, self.told, engineer);
         self.end_one();
         seat

@@ -1,8 +1,12 @@
 //! An engineer: a script whose lines are called from a seat, from the first to the last.
 
-ghost use Rattle.std.specs.Prelude.{◌≡◌};
+ghost use Rattle.std.specs.Prelude.{◌≡◌, ◌↔◌, IsTrue, IfSome};
+ghost use Rattle.std.specs.Option.{option_map};
+ghost use Rattle.room.specs.Books.{is_memory};
+ghost use Rattle.team_run.specs.Playing.{HasPlayed, IsCalled};
 
-use crate::lines::next_line;
+use crate::lines::{Line, Lines};
+use crate::scripts::Script;
 use crate::told::{Told, ToldLine};
 use cell_engine::Cell;
 use command_text::read_line;
@@ -13,6 +17,7 @@ use route_select::Selector;
 use sim_event::Reply;
 use std::alloc::Global;
 use std::io::Write;
+use std::marker::Model;
 use std::sync::Wait;
 use std::sync::ledger::Ledger;
 use std::thread::Threads;
@@ -21,8 +26,16 @@ use std::thread::Threads;
 #[derive(Drop)]
 pub(crate) struct Engineer<L: Ledger> {
     pub(crate) file: u64,
-    pub(crate) script: Vec<u8>,
+    pub(crate) script: Script,
     pub(crate) seat: Seat<L>,
+}
+
+impl<L: Ledger> Model for Engineer<L> {
+    ghost use Rattle.team_run.specs.Playing.{Engineering};
+
+    ghost Value = { Engineering };
+
+    ghost view = { λ e. record { file = e.file; script = e.script; seat = e.seat } };
 }
 
 /// Calls each line of the script in turn, and tells of those that made no call.
@@ -32,50 +45,88 @@ pub(crate) fn play<
     L: Ledger,
     E: Write,
     R: Threads + Wait + Sync,
->(
-    rt: &R,
-    alloc: Global,
-    desk: &Desk<S, T, L>,
-    told: &Told<'_, E>,
-    engineer: Engineer<L>,
-) -> Seat<L> {
+>(rt: &R, alloc: Global, desk: &Desk<S, T, L>, told: &Told<'_, E>, engineer: Engineer<L>) -> Seat<L>
+    ensures { HasPlayed engineer result }
+{
     let Engineer {
         file,
         script,
         mut seat,
     } = engineer;
-    let mut rest = script.as_slice();
-    let mut line = 0;
-    while let Some((first, more)) = next_line(rest) {
-        line += 1;
-        if let Some(refusal) = call(rt, alloc, desk, &mut seat, first) {
-            told.tell(
-                rt,
-                ToldLine {
-                    file,
-                    line,
-                    refusal,
-                },
-            );
+    let mut lines = Lines::of(script.as_bytes());
+    while let Some(line) = lines.next() {
+        if let Some(uncalled) = call(rt, alloc, desk, &mut seat, file, line) {
+            told.tell(rt, uncalled);
         }
-        rest = more;
     }
     seat
 }
 
-/// Calls the line from the seat. Where it makes no call: why not.
+/// Calls the line of the file from the seat. Where that has to be told, as it makes no call: what is told of it.
 fn call<
     S: Selector + Send + Sync + Drop,
     T: PrefixTable<Cell<S>> + Drop,
     L: Ledger,
     R: Threads + Wait + Sync,
->(rt: &R, alloc: Global, desk: &Desk<S, T, L>, seat: &mut Seat<L>, line: &[u8]) -> Option<Refusal> {
+>(
+    rt: &R,
+    alloc: Global,
+    desk: &Desk<S, T, L>,
+    seat: &mut Seat<L>,
+    file: u64,
+    line: Line<'_>,
+) -> Option<ToldLine>
+    ensures call { IsCalled seat.old line.entry.bytes.now (option_map (λ told. told.refusal) result) seat.new }
+    ensures place { IfSome result (λ told. (told.file ≡ file) × (told.line ≡ line.entry.number)) }
+{
+    let number = line.number;
+    match call_line(rt, alloc, desk, seat, line.bytes) {
+        Some(refusal) => Some(ToldLine {
+            file,
+            line: number,
+            refusal,
+        }),
+        None => None,
+    }
+}
+
+/// Calls the line from the seat. Where that has to be told, as it makes no call: why not.
+fn call_line<
+    S: Selector + Send + Sync + Drop,
+    T: PrefixTable<Cell<S>> + Drop,
+    L: Ledger,
+    R: Threads + Wait + Sync,
+>(rt: &R, alloc: Global, desk: &Desk<S, T, L>, seat: &mut Seat<L>, line: &[u8]) -> Option<Refusal>
+    ensures { IsCalled seat.old line.now result seat.new }
+{
     match read_line(alloc, line) {
-        Ok(Some(event)) => match desk.call(rt, seat, event) {
-            Reply::Refused(Refusal::Memory) => Some(Refusal::Memory),
-            _ => None,
-        },
+        Ok(Some(event)) => {
+            let reply = desk.call(rt, seat, event);
+            if wants_memory(&reply) {
+                return Some(Refusal::Memory);
+            }
+            None
+        }
         Ok(None) => None,
         Err(refusal) => Some(refusal),
     }
+}
+
+/// Whether a call was refused for want of memory.
+fn wants_memory(reply: &Reply) -> bool
+    ensures { result ≡ is_memory reply.now }
+{
+    match reply {
+        Reply::Refused(refusal) => is_of_memory(*refusal),
+        Reply::Done => false,
+        Reply::Took(_, _) => false,
+        Reply::Report(_) => false,
+    }
+}
+
+/// Whether the refusal is want of memory.
+fn is_of_memory(refusal: Refusal) -> bool
+    ensures { IsTrue result ↔ (refusal ≡ Refusal.Memory) }
+{
+    refusal == Refusal::Memory
 }

@@ -1,13 +1,15 @@
 //! The engineers' scripts, read whole before a thread starts.
 
-ghost use Rattle.std.specs.Prelude.{◌≡◌, ◌++◌, ℕ, List, false, vec_len, IfOk, IfErr, IfSome};
+ghost use Rattle.std.specs.Prelude.{◌≡◌, ◌⊎◌, ◌++◌, ◌∷◌, ◌<◌, ◌≤◌, ℕ, List, [], true, false, string_bytes, vec_len, IfOk, IfErr, OnOk};
 ghost use Rattle.std.specs.Io.KnownBytes.{Consumes, IsAtEnd};
-ghost use Rattle.team_run.specs.Scripts.{IsWhole, no_memory};
-ghost use Rattle.team_run.specs.TeamRun.{IsOfReading};
+ghost use Rattle.team_run.specs.Sources.{IsFit, IsRead, AreRead, IsWhole};
+ghost use Rattle.team_run.specs.Scripts.{IsFaultOf, IsFileFault, IsMeasured, IsReadingFault, IsUnfit, no_memory};
 
 use reply_text::RunFault;
 use std::alloc::{AllocError, Global};
 use std::io::Read;
+use std::marker::Model;
+use watched::Input;
 
 /// The most bytes of a line, its end not counted.
 const MOST_BYTES: u64 = 65_536;
@@ -25,10 +27,46 @@ pub struct ScriptFile<F: Read> {
     pub reader: Option<F>,
 }
 
+impl<F: Read> Model for ScriptFile<F> {
+    ghost use Rattle.std.specs.Prelude.{string_bytes};
+    ghost use Rattle.std.specs.Option.{option_map};
+    ghost use Rattle.team_run.specs.Sources.{Source};
+
+    ghost Value = { Source };
+
+    ghost view = { λ f. record {
+      name = string_bytes f.name;
+      bytes = option_map (λ reader. F.remaining reader) f.reader;
+    } };
+}
+
+/// A script that was read whole, as its bytes.
+#[derive(Drop)]
+pub(crate) struct Script {
+    bytes: Vec<u8>,
+}
+
+impl Model for Script {
+    ghost use Rattle.std.specs.Prelude.{ℕ, List};
+
+    ghost Value = { List ℕ };
+
+    ghost view = { λ s. s.bytes.items };
+}
+
+impl Script {
+    /// Its bytes.
+    pub(crate) fn as_bytes(&self) -> &[u8]
+        ensures { result.now ≡ self.now }
+    {
+        self.bytes.as_slice()
+    }
+}
+
 /// Why a script was not read whole.
 #[derive(Clone, Copy, Debug, PartialEq, Eq)]
 enum Unread {
-    /// It could not be opened, the reader failed, or it is past a limit.
+    /// The reader failed, or it is past a limit.
     Fault,
     /// There was no memory.
     Memory,
@@ -45,39 +83,38 @@ impl From<AllocError> for Unread {
 /// What was read of a script, as the limits see it.
 #[derive(Clone, Copy, Debug, PartialEq, Eq)]
 struct Measure {
-    /// How many lines have begun.
+    /// How many lines have ended.
     lines: u64,
-    /// How many bytes the last of them has, its line feed not counted.
+    /// How many bytes came after them.
     length: u64,
-    /// Whether the last of these bytes is a carriage return.
+    /// Whether the last of these is a carriage return.
     is_returned: bool,
-    /// Whether the next byte begins a line.
-    is_between: bool,
 }
 
 impl Measure {
-    fn new() -> Self {
+    /// Nothing was read.
+    fn new() -> Self
+        ensures { IsMeasured [] result }
+    {
         Measure {
             lines: 0,
             length: 0,
             is_returned: false,
-            is_between: true,
         }
     }
 
-    /// A byte more. False where no script may begin so.
-    fn take(&mut self, byte: u8) -> bool {
-        if self.is_between {
-            if self.lines >= MOST_LINES {
-                return false;
-            }
-            self.lines += 1;
-            self.length = 0;
-            self.is_returned = false;
+    /// A byte more. False where no script begins so.
+    fn take(&mut self, byte: u8) -> bool
+        ensures taken { result ≡ true → (read : List ℕ) →
+            IsMeasured read self.old → IsMeasured (read ++ byte ∷ []) self.new }
+        ensures unfit { result ≡ false → (read left : List ℕ) →
+            IsMeasured read self.old → IsFit (read ++ byte ∷ left) → ⊥ }
+    {
+        if self.lines >= MOST_LINES {
+            return false;
         }
-        self.is_between = byte == b'\n';
-        if self.is_between {
-            return self.is_returned || self.length <= MOST_BYTES;
+        if byte == b'\n' {
+            return self.end_line();
         }
         if self.length > MOST_BYTES {
             return false;
@@ -87,8 +124,30 @@ impl Measure {
         true
     }
 
-    /// Some bytes more. False where no script may begin so.
-    fn take_all(&mut self, bytes: &[u8]) -> bool {
+    /// A line feed more, where a line more is allowed. False where the line is too long.
+    fn end_line(&mut self) -> bool
+        requires { self.old.lines < 1000000 }
+        ensures taken { result ≡ true → (read : List ℕ) →
+            IsMeasured read self.old → IsMeasured (read ++ 10 ∷ []) self.new }
+        ensures unfit { result ≡ false → (read left : List ℕ) →
+            IsMeasured read self.old → IsFit (read ++ 10 ∷ left) → ⊥ }
+    {
+        if self.length > MOST_BYTES && !self.is_returned {
+            return false;
+        }
+        self.lines += 1;
+        self.length = 0;
+        self.is_returned = false;
+        true
+    }
+
+    /// Some bytes more. False where no script begins so.
+    fn take_all(&mut self, bytes: &[u8]) -> bool
+        ensures taken { result ≡ true → (read : List ℕ) →
+            IsMeasured read self.old → IsMeasured (read ++ bytes.now) self.new }
+        ensures unfit { result ≡ false → (read left : List ℕ) →
+            IsMeasured read self.old → IsFit (read ++ (bytes.now ++ left)) → ⊥ }
+    {
         for byte in bytes {
             if !self.take(*byte) {
                 return false;
@@ -98,19 +157,25 @@ impl Measure {
     }
 
     /// Whether a script may end here. A carriage return with no line feed after it belongs to its line.
-    fn may_end(&self) -> bool {
-        self.is_between || self.length <= MOST_BYTES
+    fn may_end(&self) -> bool
+        ensures fit { result ≡ true → (read : List ℕ) → IsMeasured read self.now → IsFit read }
+        ensures unfit { result ≡ false → (read : List ℕ) → IsMeasured read self.now → IsFit read → ⊥ }
+    {
+        self.length <= MOST_BYTES
     }
 }
 
 /// Reads some bytes more to the end of the script. False at the end of the input.
 fn read_on<F: Read>(
-    reader: &mut F,
+    reader: &mut Input<F>,
     script: &mut Vec<u8>,
     measure: &mut Measure,
 ) -> Result<bool, Unread>
-    ensures { IfOk result (λ more. (bytes : List ℕ) × Consumes (F.remaining reader.old) (F.remaining reader.new) bytes
-        × (script.new.items ≡ script.old.items ++ bytes) × (more ≡ false → IsAtEnd (F.remaining reader.new))) }
+    ensures more { IfOk result (λ more. (bytes : List ℕ) × Consumes reader.old.remaining reader.new.remaining bytes
+        × (script.new.items ≡ script.old.items ++ bytes) × (more ≡ false → IsAtEnd reader.new.remaining)) }
+    ensures measured { OnOk result (IsMeasured script.old.items measure.old → IsMeasured script.new.items measure.new) }
+    ensures fault { IfErr result (λ unread. unread ≡ Unread.Fault → IsMeasured script.old.items measure.old →
+        (reader.new.failed ≡ true) ⊎ IsUnfit script.old.items reader.old.remaining) }
 {
     let mut buffer = [0; AT_A_TIME];
     let Ok(count) = reader.read(&mut buffer) else {
@@ -124,47 +189,66 @@ fn read_on<F: Read>(
     Ok(count > 0)
 }
 
-/// All bytes that the reader has.
-fn read_whole<F: Read>(alloc: Global, reader: &mut F) -> Result<Vec<u8>, Unread>
-    ensures { IfOk result (λ script. IsWhole (F.remaining reader.old) script.items) }
+/// All bytes that the reader has, where they are a script.
+fn read_whole<F: Read>(alloc: Global, reader: &mut Input<F>) -> Result<Script, Unread>
+    ensures whole { IfOk result (λ script. IsWhole reader.old.remaining script) }
+    ensures fit { IfOk result (λ script. IsFit script) }
+    ensures fault { IfErr result (λ unread. unread ≡ Unread.Fault →
+        (reader.new.failed ≡ true) ⊎ IsUnfit [] reader.old.remaining) }
 {
     let mut script = Vec::new(alloc);
     let mut measure = Measure::new();
     for _ in 0..u64::MAX {
         if !read_on(reader, &mut script, &mut measure)? {
             return if measure.may_end() {
-                Ok(script)
+                Ok(Script { bytes: script })
             } else {
                 Err(Unread::Fault)
             };
         }
     }
-    Err(Unread::Fault)
+    // No memory has room for so many bytes.
+    Err(Unread::Memory)
 }
 
-/// The script of the file: all its bytes.
-fn read_script<F: Read + Drop>(alloc: Global, file: ScriptFile<F>) -> Result<Vec<u8>, RunFault>
-    ensures script { IfOk result (λ script. IfSome file.reader (λ reader. IsWhole (F.remaining reader) script.items)) }
-    ensures fault { IfErr result IsOfReading }
+/// The script of a file of this name that could be opened.
+fn read_opened<F: Read>(
+    alloc: Global,
+    name: String,
+    reader: &mut Input<F>,
+) -> Result<Script, RunFault>
+    ensures whole { IfOk result (λ script. IsWhole reader.old.remaining script) }
+    ensures fit { IfOk result (λ script. IsFit script) }
+    ensures fault { IfErr result (IsFaultOf (string_bytes name) reader.old.remaining reader.new.failed) }
 {
-    let ScriptFile { name, reader } = file;
-    let Some(mut reader) = reader else {
-        return Err(RunFault::FileUnread(name));
-    };
-    match read_whole(alloc, &mut reader) {
+    match read_whole(alloc, reader) {
         Ok(script) => Ok(script),
         Err(Unread::Fault) => Err(RunFault::FileUnread(name)),
         Err(Unread::Memory) => Err(RunFault::NoMemory),
     }
 }
 
+/// The script of the file: all its bytes.
+fn read_script<F: Read + Drop>(alloc: Global, file: ScriptFile<F>) -> Result<Script, RunFault>
+    ensures script { IfOk result (IsRead file) }
+    ensures fault { IfErr result (IsFileFault file) }
+{
+    let ScriptFile { name, reader } = file;
+    let Some(reader) = reader else {
+        return Err(RunFault::FileUnread(name));
+    };
+    let mut input = Input::new(reader);
+    read_opened(alloc, name, &mut input)
+}
+
 /// The scripts of the files, in their order. The fault is that of the first that was not read.
 pub(crate) fn read_scripts<F: Read + Drop>(
     alloc: Global,
     files: Vec<ScriptFile<F>>,
-) -> Result<Vec<Vec<u8>>, RunFault>
+) -> Result<Vec<Script>, RunFault>
+    ensures scripts { IfOk result (λ scripts. AreRead files.items scripts.items) }
     ensures count { IfOk result (λ scripts. vec_len scripts ≡ vec_len files) }
-    ensures fault { IfErr result IsOfReading }
+    ensures fault { IfErr result (IsReadingFault files.items) }
 {
     let mut scripts = Vec::new(alloc);
     for file in files {

@@ -1,15 +1,18 @@
 //! A team at its desk, from the scripts to the log.
 
-ghost use Rattle.std.specs.Prelude.{◌≡◌, ◌≤◌, ◌+◌, false, true, vec_len, IfOk, IfErr, OnOk, OnErr};
+ghost use Rattle.std.specs.Prelude.{◌≡◌, ◌≤◌, ◌+◌, false, true, drop, length, vec_len, IfOk, IfErr, OnOk, OnErr};
 ghost use Rattle.log_text.specs.Logs.{log_text};
 ghost use Rattle.reference_machine.specs.Histories.{IsLegal};
+ghost use Rattle.room.specs.Books.{blank_seats};
+ghost use Rattle.room.specs.Closing.{AllAgree};
 ghost use Rattle.desk.specs.Desks.{IsDeskLedger};
-ghost use Rattle.team_run.specs.TeamRun.{IsFrontOf, IsLogOf, IsOfPlay, IsPlayed, IsTeamRun};
+ghost use Rattle.team_run.specs.Playing.{AreBack, IsOfPlay, engineers_of};
+ghost use Rattle.team_run.specs.TeamRun.{AreOfScripts, IsFrontOf, IsLogOf, IsPlayed, IsTeamRun};
 ghost use Rattle.watched.specs.Streams.{AppendsFront};
 
 use crate::crew::Crew;
 use crate::engineer::Engineer;
-use crate::scripts::{ScriptFile, read_scripts};
+use crate::scripts::{Script, ScriptFile, read_scripts};
 use crate::told::Told;
 use cell_engine::Cell;
 use desk::{Audit, Desk, OpenFault, Record, Seat};
@@ -71,7 +74,7 @@ pub fn run_team<
     requires hands { settings.workers ≤ 64 }
     requires calm { output.old.failed ≡ false }
     requires shown { output.old.held ≡ false }
-    ensures run { IsTeamRun output.old errors.old result output.new errors.new }
+    ensures run { IsTeamRun files.items output.old errors.old result output.new errors.new }
 {
     match read_scripts(alloc, files) {
         Ok(scripts) => {
@@ -95,7 +98,7 @@ fn play<
     keys: Option<RandomState>,
     blank: Blank,
     settings: Settings,
-    scripts: Vec<Vec<u8>>,
+    scripts: Vec<Script>,
     output: &mut Output<W>,
     errors: &mut Output<E>,
 ) -> u8
@@ -108,7 +111,7 @@ fn play<
     requires hands { settings.workers ≤ 64 }
     requires calm { output.old.failed ≡ false }
     requires shown { output.old.held ≡ false }
-    ensures { IsPlayed output.old result output.new errors.new }
+    ensures { IsPlayed scripts.items output.old result output.new errors.new }
 {
     let record = match recorded::<S, T, L, E, R>(
         rt, alloc, keys, blank, settings, scripts, errors,
@@ -135,7 +138,7 @@ fn recorded<
     keys: Option<RandomState>,
     blank: Blank,
     settings: Settings,
-    scripts: Vec<Vec<u8>>,
+    scripts: Vec<Script>,
     errors: &mut Output<E>,
 ) -> Result<Record, RunFault>
     requires name { blank.name ≡ L.name }
@@ -143,7 +146,8 @@ fn recorded<
     requires parts { blank.parts ≡ 256 }
     requires most { vec_len scripts ≤ 64 }
     requires hands { settings.workers ≤ 64 }
-    ensures { IfErr result IsOfPlay }
+    ensures calls { IfOk result (AreOfScripts 0 scripts.items) }
+    ensures fault { IfErr result IsOfPlay }
 {
     let engineers = scripts.len() as u16;
     let Ok((desk, seats)) = opened::<S, T, L>(alloc, keys, engineers, settings.workers, blank)
@@ -166,7 +170,7 @@ fn recorded<
     }
 }
 
-/// A desk with a seat for each engineer and for each worker, and with a shard for each worker.
+/// A desk with a seat for each engineer, then one for each worker, and with a shard for each worker.
 fn opened<S: Selector + Drop, T: PrefixTable<Cell<S>> + Drop, L: Ledger>(
     alloc: Global,
     keys: Option<RandomState>,
@@ -177,12 +181,14 @@ fn opened<S: Selector + Drop, T: PrefixTable<Cell<S>> + Drop, L: Ledger>(
     requires ledger { IsDeskLedger blank.name blank.parts L.name L.parts }
     requires most { engineers ≤ 64 }
     requires hands { workers ≤ 64 }
+    ensures seats { IfOk result (λ made. made.1.items ≡ blank_seats (engineers + workers)) }
     ensures shards { IfOk result (λ made. made.0.shards ≡ workers) }
 {
     Desk::open(alloc, keys, engineers + workers, u64::from(workers), blank)
 }
 
-/// All threads at the desk, from the first call to the last. The seats come back.
+/// All threads at the desk, from the first call to the last. The seats come back: the workers', and then those of the
+/// engineers, from which their scripts were called.
 fn at_desk<
     S: Selector + Send + Sync + Drop,
     T: PrefixTable<Cell<S>> + Drop + Send,
@@ -194,10 +200,14 @@ fn at_desk<
     alloc: Global,
     desk: &Desk<S, T, L>,
     told: &Told<'_, E>,
-    scripts: Vec<Vec<u8>>,
+    scripts: Vec<Script>,
     seats: Vec<Seat<L>>,
     turns: u64,
-) -> Result<Vec<Seat<L>>, AllocError> {
+) -> Result<Vec<Seat<L>>, AllocError>
+    requires most { vec_len scripts ≤ 64 }
+    ensures { IfOk result (λ back. AreBack (engineers_of 1 scripts.items seats.items)
+        (drop (length scripts.items) seats.items) back.items) }
+{
     let (engineers, workers) = seated(alloc, scripts, seats)?;
     let at_work = AtomicU64::new(engineers.len() as u64);
     let crew = Crew {
@@ -211,17 +221,21 @@ fn at_desk<
     crew.run(engineers, workers)
 }
 
-/// An engineer for each script, with the seat at its place, and the seats that are left.
+/// An engineer for each script, with the seat at its place, the files numbered from 1 on; and the seats that are left.
 fn seated<L: Ledger>(
     alloc: Global,
-    scripts: Vec<Vec<u8>>,
+    scripts: Vec<Script>,
     seats: Vec<Seat<L>>,
-) -> Result<(Vec<Engineer<L>>, Vec<Seat<L>>), AllocError> {
+) -> Result<(Vec<Engineer<L>>, Vec<Seat<L>>), AllocError>
+    requires most { vec_len scripts ≤ 64 }
+    ensures engineers { IfOk result (λ made. made.0.items ≡ engineers_of 1 scripts.items seats.items) }
+    ensures workers { IfOk result (λ made. made.1.items ≡ drop (length scripts.items) seats.items) }
+{
     let mut engineers = Vec::new(alloc);
     let mut seats = seats.into_iter();
-    for (index, script) in scripts.into_iter().enumerate() {
+    for script in scripts {
         let seat = seats.next().ok_or(AllocError)?;
-        let file = index as u64 + 1;
+        let file = engineers.len() as u64 + 1;
         engineers.push(Engineer { file, script, seat })?;
     }
     Ok((engineers, seats.collect(alloc)?))
@@ -233,7 +247,8 @@ fn closed<S: Selector + Drop, T: PrefixTable<Cell<S>> + Drop, L: Ledger, R: Wait
     desk: Desk<S, T, L>,
     seats: Vec<Seat<L>>,
 ) -> Result<Record, RunFault>
-    ensures { IfErr result IsOfPlay }
+    ensures agree { IfOk result (λ kept. AllAgree kept seats.items) }
+    ensures fault { IfErr result IsOfPlay }
 {
     if !seats
         .iter()

@@ -1,9 +1,12 @@
-use Rattle.std.proofs.Common.{◌+◌, ◌≤◌, length}
+use Rattle.std.proofs.Common.{length}
+use Rattle.std.specs.Str.Lines.{lines}
+use Rattle.room.specs.Books.{SeatBook}
+use Rattle.team_run.specs.Playing.{AreCalledFrom}
 use Rattle.team_run.proofs.engineer.play.Given as goal
 
--- each line had a byte
-abbrev pub invariant-loop-first : goal.invariant-loop-first
-invariant-loop-first g l = l.line + length l.rest ≤ length l.fn.engineer.script.items
+-- once the lines that are left are called too, the whole script is
+abbrev pub invariant-loop-line : goal.invariant-loop-line
+invariant-loop-line g l = (end : SeatBook) → AreCalledFrom l.lines.left l.seat end → AreCalledFrom (lines l.fn.engineer.script) l.fn.engineer.seat end
 
-abbrev pub decreases-loop-first : goal.decreases-loop-first
-decreases-loop-first g l = length l.rest
+abbrev pub decreases-loop-line : goal.decreases-loop-line
+decreases-loop-line g l = length l.lines.left

@@ -1,11 +1,12 @@
-use Rattle.std.proofs.Common.{subst, sym}
-use Rattle.team_run.specs.TeamRun.{IsTeamRun}
-use Rattle.team_run.proofs.Unread.{unread}
+use Rattle.std.proofs.Common.{inl}
+use Rattle.team_run.proofs.Endings.{unread}
 use Rattle.team_run.proofs.team.run_team.Goals as goal
+
+pub returns-in-Ok : goal.returns-in-Ok
+returns-in-Ok g c = record { run = inl (c.in-Ok.scripts.items, c.in-Ok.ensures.scripts, c.play.ensures) }
 
 pub returns-in-Err : goal.returns-in-Err
 returns-in-Err g c =
     record {
-      run = subst (λ status. IsTeamRun c.args.output.now c.args.errors.now status c.args.output.now c.end_by.new.errors) (sym c.end_by.ensures.status)
-          (unread c.args.output.now c.args.errors.now c.in-Err.fault c.end_by.new.errors c.in-Err.ensures.fault c.end_by.ensures.told);
+      run = unread c.args.files.items c.args.output.now c.args.errors.now c.in-Err.fault c.end_by.result c.end_by.new.errors c.in-Err.ensures.fault c.end_by.ensures.told c.end_by.ensures.status;
     }
