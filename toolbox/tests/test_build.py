@@ -14,6 +14,10 @@ from contextlib import redirect_stderr
 from common import TOP, Case
 
 
+# What the kit's functions give the prover so that it keeps its work.
+KEPT = ["--incremental", "out/incremental"]
+
+
 def build_tool():
     """tools/build as a module."""
     loader = importlib.machinery.SourceFileLoader("build_tool", str(TOP / "tools" / "build"))
@@ -32,6 +36,7 @@ class Library:
         with open(self.folder + "/src/lib.rt", "w") as file:
             file.write("\n" * lines)
         self.order, self.lock, self.stamps = [], threading.Lock(), 0
+        self.rlib, self.calls = "%s/out/rlib/%s.rlib" % (self.folder, name), []
 
     def below(self):
         found = []
@@ -49,11 +54,21 @@ class Library:
     def is_built(self):
         return False
 
+    def makes_rlib(self):
+        return True
+
+    def has_kept(self):
+        return os.path.isdir(self.folder + "/out/incremental")
+
+    def call(self, *words):
+        self.calls.append(words)
+        self.out.write("goal left open\n")
+        return int(self.fails)
+
     def build_rlib(self, flags, anew):
         with self.lock:
             self.order.append((self.name, flags[1]))
-        self.out.write("goal left open\n")
-        return int(self.fails)
+        return self.call("rattle", "build", *flags, *KEPT, "-o", self.rlib)
 
 
 class Building(Case):
@@ -72,7 +87,7 @@ class Building(Case):
     def proved(self, libraries):
         """In which order they are proved, with their jobs, on four processors."""
         with redirect_stderr(io.StringIO()), unittest.mock.patch.object(os, "sched_getaffinity", lambda _: set(range(4))):
-            self.tool.prove_libraries(libraries, self.tool.Teller())
+            self.tool.prove_libraries(libraries, KEPT, self.tool.Teller())
         return libraries[0].order
 
     def test_each_after_what_it_names_and_processors_are_shared(self):
@@ -89,6 +104,16 @@ class Building(Case):
             shutil.rmtree(str(self.folder / name))
         with unittest.mock.patch.object(self.tool, "free_memory", lambda: 4 << 30):
             self.assertEqual(self.proved(self.tower())[0], ("base", "3"))
+
+    def test_what_was_never_proved_is_proved_in_one_go(self):
+        """No work is kept of it, and its library has statements alone; of one that was proved work is kept as ever."""
+        new, worked_on, built = (Library(self.folder, name, 1) for name in ("new", "worked_on", "built"))
+        os.makedirs(worked_on.folder + "/out/incremental")
+        os.makedirs(built.rlib)
+        self.proved([new, worked_on, built])
+        self.assertEqual(new.calls[0][4:], ("-o", new.rlib, "--statements"))
+        for again in (worked_on, built):
+            self.assertEqual(again.calls[0][4:], (*KEPT, "-o", again.rlib))
 
     def test_what_is_not_proved_is_told_and_nothing_above_it_is_tried(self):
         libraries = self.tower(low=True)
