@@ -5,6 +5,7 @@ mod counts;
 mod faults;
 mod prompt;
 mod runs;
+mod serving;
 
 use reference_machine::Machine;
 use sim_text::serve;

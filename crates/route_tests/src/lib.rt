@@ -6,6 +6,8 @@
 #[cfg(test)]
 mod common;
 #[cfg(test)]
+mod numbers;
+#[cfg(test)]
 mod paths;
 #[cfg(test)]
 mod policies;

@@ -12,6 +12,3 @@ mod serving;
 pub use fault::ServeFault;
 pub use script_run::run_script;
 pub use serving::serve;
-
-#[cfg(test)]
-mod tests;

@@ -1,7 +1,7 @@
 //! Whole scripts that reach no event, read in pieces of every kind, and how serving ends early.
 
-use crate::{ServeFault, serve};
 use reference_machine::{Event, Machine, Reply};
+use sim_text::{ServeFault, serve};
 use std::alloc::Global;
 use std::io;
 use std::io::{Read, Write};
