@@ -549,6 +549,30 @@ class Planted(Case):
             "1 refused BY A PROOF FILE alone\n2 that show nothing\n7 refused, 1 proved\n") % self.PROOF))
         self.assertEqual((self.folder / "crates/low/src/lib.rt").read_text(), self.SOURCE)
 
+    def test_edits_of_other_functions_share_a_check(self):
+        edits = []
+        for name, old, new in (("a", "good", "wrong a"), ("b", "fair", "wrong b"), ("c", "good", "better")):
+            edits.append(self.file("low/planted/%s.edit" % name, "file: src/lib.rt\nold: %s\nnew: %s\n" % (old, new)))
+        self.file("low/src/lib.rt", self.SOURCE)
+        self.assertEqual(planted.rounds_of(edits, self.folder / "low"), [[edits[0], edits[1]], [edits[2]]])
+        other = "note: src/lib.rt:6:5: it is not proved that what the function ensures holds when it returns (`gives`)"
+        for lines, found in (
+                ((self.GOAL, "fn low::half: not proved", other, "fn low::whole: not proved"), {
+                    edits[0]: ("refused by a goal", "`returns` of low::half"),
+                    edits[1]: ("refused by a goal", "`gives` of low::whole")}),
+                ((other, "fn low::whole: not proved"), {edits[1]: ("refused by a goal", "`gives` of low::whole")}),
+                ((self.PROOF, "fn low::half: not proved"), {}), (("src/lib.rt:2:5: error: `half`: gone",), {})):
+            seen = []
+
+            def check(folder, lines=lines, seen=seen):
+                seen.append((folder / "src/lib.rt").read_text())
+                return 1, [*lines, "logic=not-proved"]
+
+            with self.subTest(lines=lines), unittest.mock.patch.object(planted, "check", check):
+                self.assertEqual(planted.at_once(edits[:2], self.folder / "low"), found)
+            self.assertEqual(seen, [self.SOURCE.replace("good", "wrong a").replace("fair", "wrong b")])
+        self.assertEqual((self.folder / "low/src/lib.rt").read_text(), self.SOURCE)
+
 
 class Toolbox(Case):
     def test_a_test_counts_once_however_many_of_its_parts_fail(self):

@@ -5,8 +5,10 @@ it does those of must-fail/, and by a goal that has no proof.
 
 An edit is a line `file: src/lib.rt` and pairs of lines `old: TEXT` and `new: TEXT`, as in must-fail/. Each crate is
 copied with the crates below it and with what earlier checks kept in out/, so the files here stay as they are; as
-many copies are tried side by side as there are processors, each with up to sixteen edits of one crate. What has not
-been checked before is proved first. Of each edit it tells how it was refused:
+many copies are tried side by side as there are processors, each with up to 48 edits of one crate. What has not
+been checked before is proved first. Edits of functions with other names are tried in one check, up to sixteen at
+once: a contract is all that others see of a function, so none hides or helps another. Each one that such a check
+does not show to be refused by a goal of its own is tried again alone. Of each edit it tells how it was refused:
 
     by a goal             a goal of the function that the edit stands in has no proof; it is named
     by a goal, beside ..  so too, but a proof of that function, written by hand, does not fit the edited text either:
@@ -29,6 +31,7 @@ import subprocess
 import tempfile
 import threading
 import time
+from dataclasses import dataclass, field
 from typing import Collection, Dict, Iterator, List, Optional, Sequence, Set, Tuple
 
 from . import commands
@@ -37,8 +40,8 @@ from .programs import TOP
 from .running import side_by_side
 
 PARTS = ("src", "specs", "proofs", "c")
-# The most edits that are tried in one copy of a crate.
-EDITS_A_COPY = 16
+# The most edits that are tried in one copy of a crate, and in one check.
+EDITS_A_COPY, EDITS_A_CHECK = 48, 16
 # What is told of a text that cannot be read; an edit that only makes a statement false reads well.
 UNREAD = re.compile(r"is not in scope|has no field|is no name|operand is missing|expected the end|cannot continue")
 # How an edit is refused.
@@ -89,11 +92,13 @@ def copy(crate: str, others: Set[str], room: pathlib.Path) -> None:
             shutil.copytree(source, room / "crates" / name / part, copy_function=copied)
 
 
-def texts_of(edit: pathlib.Path, folder: pathlib.Path) -> Tuple[Texts, Optional[str]]:
-    """The texts of the files that the edit changes, by their paths; or why it does not apply."""
+def texts_of(edit: pathlib.Path, folder: pathlib.Path, edited: Optional[Texts] = None) -> Tuple[Texts, Optional[str]]:
+    """The texts of the files that the edit changes, by their paths, over what others made of them; or why it does not
+    apply."""
     path: Optional[pathlib.Path] = None
     old: Optional[str] = None
     texts: Texts = {}
+    edited = edited or {}
     for line in edit.read_text().splitlines():
         word, _, rest = line.partition(":")
         rest = rest[1:] if rest.startswith(" ") else rest
@@ -104,7 +109,7 @@ def texts_of(edit: pathlib.Path, folder: pathlib.Path) -> Tuple[Texts, Optional[
         elif word == "new":
             if path is None or not old or not path.is_file():
                 return {}, "a 'new:' line with no file or no 'old:' line before it"
-            text = texts.get(path) or path.read_text()
+            text = texts.get(path) or edited.get(path) or path.read_text()
             if text.count(old) != 1:
                 return {}, "an 'old:' text stands in %s %d times" % (path.relative_to(folder), text.count(old))
             texts[path], old = text.replace(old, rest), None
@@ -185,20 +190,75 @@ def verdict(status: int, told: List[str], changed: Collection[str], own: Collect
     return refusal(told, own)
 
 
+@dataclass
+class Applied:
+    """Edits that stand in the files at once: the texts, and of each edit its files and its functions."""
+    texts: Texts = field(default_factory=dict)
+    edits: List[pathlib.Path] = field(default_factory=list)
+    files: List[Set[str]] = field(default_factory=list)
+    own: List[Set[str]] = field(default_factory=list)
+
+    def add(self, edit: pathlib.Path, folder: pathlib.Path) -> Optional[str]:
+        """Puts the edit to the others. Why it does not apply, if it does not."""
+        texts, why = texts_of(edit, folder, self.texts)
+        if why:
+            return why
+        were = {path: self.texts.get(path) or path.read_text() for path in texts}
+        self.edits.append(edit)
+        self.files.append({str(path.relative_to(folder)) for path in texts})
+        self.own.append({name for path, text in texts.items() for name in functions_at(path, were[path], text)})
+        self.texts.update(texts)
+        return None
+
+    def check(self, folder: pathlib.Path) -> Tuple[int, List[str]]:
+        """A check with these edits; then the files are as before."""
+        were = {path: path.read_text() for path in self.texts}
+        try:
+            for path, text in self.texts.items():
+                path.write_text(text)
+            return check(folder)
+        finally:
+            for path, text in were.items():
+                path.write_text(text)
+
+
 def attempt(edit: pathlib.Path, folder: pathlib.Path) -> Tuple[str, Optional[str]]:
-    """Applies the edit, checks, and puts the files back."""
-    texts, why = texts_of(edit, folder)
+    """Tries the edit alone."""
+    applied = Applied()
+    why = applied.add(edit, folder)
     if why:
         return "BAD", why
-    were = {path: path.read_text() for path in texts}
-    try:
-        for path, text in texts.items():
-            path.write_text(text)
-        own = {name for path, text in texts.items() for name in functions_at(path, were[path], text)}
-        return verdict(*check(folder), {str(path.relative_to(folder)) for path in texts}, own)
-    finally:
-        for path, text in were.items():
-            path.write_text(text)
+    return verdict(*applied.check(folder), applied.files[0], applied.own[0])
+
+
+def rounds_of(edits: List[pathlib.Path], folder: pathlib.Path) -> List[List[pathlib.Path]]:
+    """The edits in rounds, in each of which no two are of functions of one name."""
+    rounds: List[Applied] = []
+    for edit in edits:
+        alone = Applied()
+        if alone.add(edit, folder) is None and alone.own[0]:
+            fits = (it for it in rounds if len(it.edits) < EDITS_A_CHECK and all(it.own)
+                    and not any(own & alone.own[0] for own in it.own))
+            if any(it.add(edit, folder) is None for it in fits):
+                continue
+        alone.edits, alone.own = [edit], alone.own or [set()]
+        rounds.append(alone)
+    return [it.edits for it in rounds]
+
+
+def at_once(edits: List[pathlib.Path], folder: pathlib.Path) -> Dict[pathlib.Path, Tuple[str, Optional[str]]]:
+    """Of the edits, tried in one check, those that it shows to be refused by a goal of their own."""
+    applied = Applied()
+    for edit in edits:
+        applied.add(edit, folder)
+    status, told = applied.check(folder)
+    found: Dict[pathlib.Path, Tuple[str, Optional[str]]] = {}
+    if status and verdict(status, told, set().union(*applied.files), set())[0] != "BAD":
+        for edit, own in zip(applied.edits, applied.own):
+            word, why = refusal(told, own)
+            if word in (BY_GOAL, BESIDE):
+                found[edit] = word, why
+    return found
 
 
 def tell(crate: str, what: str, word: str, start: float, why: Optional[str]) -> None:
@@ -217,11 +277,13 @@ def try_edits(crate: str, others: Set[str], edits: List[pathlib.Path]) -> List[s
         if status:
             tell(crate, "as it is", "NOT PROVED", start, told[-1] if told else "")
             return ["BAD"]
-        for edit in edits:
+        for at_a_time in rounds_of(edits, folder):
             start = time.monotonic()
-            word, why = attempt(edit, folder)
-            words.append(word)
-            tell(crate, edit.stem, word, start, why)
+            found = at_once(at_a_time, folder) if len(at_a_time) > 1 else {}
+            for edit in at_a_time:
+                word, why = found.get(edit) or attempt(edit, folder)
+                words.append(word)
+                tell(crate, edit.stem, word, start, why)
     return words
 
 
