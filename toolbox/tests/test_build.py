@@ -113,7 +113,12 @@ class Building(Case):
         self.proved([new, worked_on, built])
         self.assertEqual(new.calls[0][4:], ("-o", new.rlib, "--statements"))
         for again in (worked_on, built):
-            self.assertEqual(again.calls[0][4:], (*KEPT, "-o", again.rlib))
+            self.assertEqual(again.calls[0][-4:], (*KEPT, "-o", again.rlib))
+
+    def test_what_nothing_waits_for_is_proved_behind_the_rest(self):
+        made = self.tower()
+        self.proved(made)
+        self.assertEqual({it.name: it.calls[0][:3] for it in made if it.calls[0][0] != "rattle"}, {"side": ("nice", "-n", "10")})
 
     def test_what_is_not_proved_is_told_and_nothing_above_it_is_tried(self):
         libraries = self.tower(low=True)
