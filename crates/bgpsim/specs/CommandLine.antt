@@ -1,4 +1,4 @@
--- What the command line may say.
+-- What the command line may say (own).
 use Rattle.std.specs.Prelude.{◌≡◌, ◌≤◌, ◌⊎◌, ◌∷◌, [], ℕ, List, Option, Some, codes, length, map, option_map, true, Result, MatchResult, IsSomeAnd, ⊤}
 use Rattle.std.specs.Str.Parse.{digits_value, without_leading_plus}
 use Rattle.clap.specs.Words.{App, Row, Rule, Text, IsUnsignedIn, all_of, kind_of, new_app, new_rule, one_of, subcommand_of, with_rule, with_subcommand}

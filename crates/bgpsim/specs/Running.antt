@@ -1,4 +1,4 @@
--- What the program does: what the words of its command line ask for, on three streams, and with which exit status.
+-- What the program does: what the words of its command line ask for, on three streams, and with which exit status (own).
 use Rattle.std.specs.Prelude.{◌≡◌, ◌⊎◌, ℕ, List, [], Option, Result, Ok, Err, IfOk, MatchResult}
 use Rattle.clap.specs.Words.{Text, FailsBy, fault_of, kind_of}
 use Rattle.clap.specs.declared.error.Error.{Error}

@@ -1,4 +1,4 @@
--- What a line means.
+-- What a line means (own).
 use Rattle.std.specs.Prelude.{◌≡◌, ℕ, ◌≤◌, Bool, true, false, ◌==◌, IsTrue, List, [], ◌∷◌, filter, length, nat_lt, Option, Some, None, Result, Ok, Err}
 use Rattle.std.specs.List.{slice_split}
 use Rattle.net_conf.specs.declared.refusal.Refusal.{Refusal}

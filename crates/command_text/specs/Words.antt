@@ -1,4 +1,4 @@
--- The command language, apart from any reader: each event is spelled by one list of words.
+-- The command language (own), apart from any reader: each event is spelled by one list of words.
 use Rattle.std.specs.Prelude.{ℕ, Bool, true, false, List, [], ◌∷◌, ◌++◌, codes, Option, Some, None}
 use Rattle.std.specs.Fmt.{decimal}
 use Rattle.net_prefix.specs.Address.{addr_text}

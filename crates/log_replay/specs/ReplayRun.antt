@@ -1,4 +1,4 @@
--- What it means to replay a log as a program does: its line, its exit status, and what is told of a fault.
+-- What it means to replay a log as a program does: its line, its exit status, and what is told of a fault (own).
 use Rattle.std.specs.Prelude.{◌≡◌, ◌⊎◌, ℕ, ◌+◌, ◌++◌, true, false, List, codes, Option, IfSome, Result, Ok, Err}
 use Rattle.std.specs.Fmt.{decimal}
 use Rattle.std.specs.Io.KnownBytes.{Appends}

@@ -1,4 +1,4 @@
--- Histories: the calls that several made of one machine, in the order in which it took them.
+-- Histories: the calls that several made of one machine, in the order in which it took them (own).
 use Rattle.std.specs.Prelude.{◌≡◌, ℕ, Bool, nat_eq, List, [], ◌∷◌, map, filter}
 use Rattle.sim_event.specs.declared.entry.Entry.{Entry}
 use Rattle.sim_event.specs.declared.entry.Call.{Call}

@@ -69,7 +69,7 @@ by_prefix s r None = Ends (NoRoute r)
 by_prefix s r (Some p) = by_route (costs_of s.conf r) r p (best s r p)
 
 -- what becomes of it at r, where it came over the hops: a router that has forwarded it before is a loop, a virtual peer is
--- reached (own), and another router looks up the address
+-- reached (both own), and another router looks up the address
 unfoldable pub look : Network → Addr → List (Addr × Prefix) → Addr → Look
 look s d hops r =
     if has_passed r hops then Ends (Loop r)

@@ -1,4 +1,4 @@
--- How a run of the program ends: its exit status (own), and what is told of a fault on the third stream.
+-- How a run of the program ends: its exit status, and what is told of a fault on the third stream (own).
 use Rattle.std.specs.Prelude.{◌≡◌, ◌⊎◌, ◌++◌, ℕ, true, List, codes, string_bytes}
 use Rattle.std.specs.Fmt.{decimal}
 use Rattle.std.specs.Io.KnownBytes.{Appends}

@@ -1,4 +1,4 @@
--- The lines of a reply, each with its line feed.
+-- The lines of a reply (own), each with its line feed.
 use Rattle.std.specs.Prelude.{◌≡◌, ℕ, ◌+◌, List, [], ◌∷◌, ◌++◌, length, map}
 use Rattle.std.specs.List.{concat, flat_map, AllByRecursion}
 use Rattle.decimal.specs.Separators.{Lacks}

@@ -1,4 +1,4 @@
--- The text of a reply: its lines, each ended by a line feed.
+-- The text of a reply (own): its lines, each ended by a line feed.
 use Rattle.std.specs.Prelude.{ℕ, ◌+◌, Bool, true, false, List, [], ◌∷◌, ◌++◌, length, codes, Option, Some, None}
 use Rattle.std.specs.Fmt.{decimal}
 use Rattle.std.specs.List.{flat_map}

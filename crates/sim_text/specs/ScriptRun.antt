@@ -1,4 +1,4 @@
--- What it means to run a script: its exit status, and what is told of a fault.
+-- What it means to run a script: its exit status, and what is told of a fault (own).
 use Rattle.std.specs.Prelude.{◌≡◌, ℕ, true, List, [], Option, IfSome, Result, Ok, Err}
 use Rattle.watched.specs.Streams.{Reading, Writing}
 use Rattle.reference_machine.specs.Network.{Network}

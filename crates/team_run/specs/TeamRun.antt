@@ -1,4 +1,4 @@
--- What it means to run a team: whose calls its log holds, its exit status, and what is told where no thread is started.
+-- What it means to run a team: whose calls its log holds, its exit status, and what is told where no thread is started (own).
 use Rattle.std.specs.Prelude.{◌≡◌, ◌⊎◌, ℕ, ◌+◌, true, false, List, [], ◌∷◌}
 use Rattle.std.specs.Str.Lines.{lines}
 use Rattle.std.specs.Io.KnownBytes.{Appends}
