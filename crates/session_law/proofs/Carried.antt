@@ -17,7 +17,6 @@ use Rattle.session_queue.specs.declared.direction.Direction.{Direction}
 use Rattle.session_queue.specs.Waiting.{direction_cmp}
 use Rattle.net_conf.specs.declared.edit.Edit.{Edit}
 use Rattle.net_conf.specs.declared.edit.Edit.TheVariants.{Join}
-use Rattle.net_conf.specs.declared.refusal.Refusal.{Refusal}
 use Rattle.net_conf.specs.declared.tables.Node.{Node}
 use Rattle.net_conf.specs.Configuration.{Configuration, node_at, has_node, as_of, is_external, has_session}
 use Rattle.net_conf.specs.Costs.{is_up}
@@ -34,7 +33,7 @@ use Rattle.reference_machine.specs.declared.rows.RouteKey.{RouteKey}
 use Rattle.reference_machine.specs.declared.rows.Queue.{Queue}
 use Rattle.reference_machine.specs.Network.{Network, route_cmp, is_of, messages_in, with_direction, with_more, with_one_more, with_message, rest_of, without_its_head}
 use Rattle.reference_machine.specs.Advertising.{advertised, change_of, sends, in_order, prefixes_at, changes, sent}
-use Rattle.reference_machine.specs.Machine.{nothing, Outcome, unless_refused, with_sent, with_queues, emptied, is_kept, reconfigured, after_edit, edit_step, has_foreign_first, fed_attr, fed_message, feed_refusal, feed_step, received_after, taken, head_step, delivery_refusal, delivery_step, ask_refusal, question_step, step, IsStep, IsRun}
+use Rattle.reference_machine.specs.Machine.{nothing, with_sent, with_queues, emptied, is_kept, reconfigured, after_edit, edit_step, has_foreign_first, fed_attr, fed_message, feed_refusal, feed_step, received_after, taken, head_step, delivery_refusal, delivery_step, ask_refusal, question_step, step, IsStep, IsRun}
 use Rattle.session_law.specs.RouteLaws.{OfUpdate, EachRoute}
 use Rattle.session_law.proofs.Lists.{each_so, each_joined, each_filtered, each_mapped, each_inserted, each_removed}
 use Rattle.session_law.proofs.Keys.{same_ends_true, route_exact}
@@ -44,7 +43,7 @@ use Rattle.session_law.proofs.Told.{direction, IsTidy, IsTold, sends_parts, told
 use Rattle.session_law.proofs.Steps.{turned_taken}
 use Rattle.session_law.proofs.Edits.{turned_edited}
 use Rattle.session_law.proofs.Foreign.{ArePlaced, AreForeign, foreign_kept}
-use Rattle.session_law.proofs.Runs.{feed_tests, feeder, delivered_up, told_step}
+use Rattle.session_law.proofs.Runs.{kept_unless, feed_tests, feeder, delivered_up, told_step}
 use Rattle.session_law.proofs.Adverts.{GoesOut, IsOwn, ComesIn, IsReflected, ComesAbout, comes_about}
 
 -- WHAT HAS IT
@@ -275,18 +274,14 @@ module _ (P : Configuration → Addr → Addr → Attr → Type 0) (kept : IsKep
 
   -- STEPS
 
-  kept_unless : (o : Option Refusal) (s : Network) (outcome : Outcome) → IsCarried P s → (o ≡ None → IsCarried P outcome.next) → IsCarried P (unless_refused o s outcome).next
-  kept_unless (Some r) s outcome carried after = carried
-  kept_unless None s outcome carried after = after refl
-
   step_edit : (s : Network) (e : Edit) → IsTold s → IsCarried P s → IsCarried P (edit_step s e).next
   unfolding edit_step
-  step_edit s e told carried = kept_unless (refusal_of s.conf e) s _ carried (λ passed. carried_edited s e told carried (passes s.conf e passed))
+  step_edit s e told carried = kept_unless (IsCarried P) (refusal_of s.conf e) s _ carried (λ passed. carried_edited s e told carried (passes s.conf e passed))
 
   step_feed : (s : Network) (f : Feed) → IsTold s → IsCarried P s → IsCarried P (feed_step s f).next
   unfolding feed_step
   step_feed s f told carried =
-      kept_unless (feed_refusal s.conf f) s _ carried (λ passed.
+      kept_unless (IsCarried P) (feed_refusal s.conf f) s _ carried (λ passed.
       let from = feeder s.conf f passed in
       let ends = ends_up s told.tidy carried.apart f.from f.to from.1 in
       let external = carried.foreign f.from f.to ends.session from.0 in
@@ -300,11 +295,11 @@ module _ (P : Configuration → Addr → Addr → Attr → Type 0) (kept : IsKep
   step_delivery : (s : Network) (d : Direction) → IsTold s → IsCarried P s → IsCarried P (delivery_step s d).next
   unfolding delivery_step
   step_delivery s d told carried =
-      kept_unless (delivery_refusal s.conf d) s (head_step s d (messages_in s.queues d)) carried (λ passed. step_head s d told carried (delivered_up s.conf d passed) (messages_in s.queues d) refl)
+      kept_unless (IsCarried P) (delivery_refusal s.conf d) s (head_step s d (messages_in s.queues d)) carried (λ passed. step_head s d told carried (delivered_up s.conf d passed) (messages_in s.queues d) refl)
 
   step_question : (s : Network) (q : Ask) → IsCarried P s → IsCarried P (question_step s q).next
   unfolding question_step
-  step_question s q carried = kept_unless (ask_refusal s.conf q) s _ carried (λ passed. carried)
+  step_question s q carried = kept_unless (IsCarried P) (ask_refusal s.conf q) s _ carried (λ passed. carried)
 
   carried_step : (s : Network) (e : Event) → IsTold s → IsCarried P s → IsCarried P (step s e).next
   carried_step s (AnEdit e) told carried = step_edit s e told carried

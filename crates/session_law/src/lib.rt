@@ -24,7 +24,7 @@ pub fn paths_begin_with_senders()
 /// Each route that came from another AS has its sender as NEXT_HOP; inside an AS it has the router that put it there, or a
 /// peer of that router in another AS.
 /// So a router that gets a route with itself as NEXT_HOP is its ORIGINATOR_ID, and chooses none such that is not its own.
-pub fn next_hops_are_put()
+pub fn next_hops_are_as_put()
     ensures law { NextHopLaw }
     ensures own { OwnNextHopLaw }
     ensures chosen { NoLoopLaw }

@@ -1,5 +1,5 @@
 use Rattle.session_law.proofs.NextHops.{next_hop_law, own_next_hop_law, no_loop_law}
-use Rattle.session_law.proofs.next_hops_are_put.Goals as goal
+use Rattle.session_law.proofs.next_hops_are_as_put.Goals as goal
 
 pub returns-clause-law : goal.returns-clause-law
 returns-clause-law c = next_hop_law
