@@ -1,13 +1,14 @@
 -- What an edit that is not refused keeps of nodes and sessions.
-use Rattle.std.proofs.Common.{◌≡◌, ◌⊎◌, inl, inr, ⊎_elim, Bool, true, false, not, ◌&&◌, ◌==◌, nat_le, cond, List, [], ◌∷◌, Option, Some, None, option_map, is_some, unwrap_or, if◌then◌else◌, refl, sym, ap, ◌∙◌, subst, arith}
-use Rattle.std.specs.Cmp.{IsTotalOrder, unsigned_ties, both_tied}
+use Rattle.std.proofs.Common.{◌≡◌, ◌⊎◌, inl, inr, ⊎_elim, ℕ, Bool, true, false, not, ◌&&◌, ◌==◌, nat_le, cond, List, [], ◌∷◌, Option, Some, None, option_map, is_some, unwrap_or, if◌then◌else◌, refl, sym, ap, ◌∙◌, subst, arith}
+use Rattle.std.specs.Cmp.{IsTotalOrder, unsigned_ties, unsigned_Decides, both_tied}
 use Rattle.std.specs.BTreeMap.{is_at, insert_entry}
 use Rattle.std.specs.List.{AllByRecursion}
 use Rattle.std.specs.Map.{lookup}
-use Rattle.std.proofs.lemmas.Bool.{true≢false, and_parts, false_from_ne_true, leb-true, leb-false}
-use Rattle.std.proofs.lemmas.Cmp.{then_total, on_total, nat_cmp_total}
+use Rattle.std.proofs.lemmas.Bool.{true≢false, and_parts, false_from_ne_true, not-false, leb-true, leb-false}
+use Rattle.std.proofs.lemmas.Cmp.{then_total, on_total, nat_cmp_total, nat_eq_equiv}
 use Rattle.net_prefix.specs.declared.addr.Addr.{Addr}
-use Rattle.net_prefix.specs.Address.{addr_cmp}
+use Rattle.net_prefix.specs.Address.{same_addr, addr_cmp}
+use Rattle.path_attr.specs.Number.{same_number}
 use Rattle.net_conf.specs.declared.tables.Ends.{Ends}
 use Rattle.net_conf.specs.declared.tables.Link.{Link as TheLink}
 use Rattle.net_conf.specs.declared.tables.Node.{Node}
@@ -17,11 +18,11 @@ use Rattle.net_conf.specs.declared.edit.Edit.{Edit}
 use Rattle.net_conf.specs.declared.edit.Edit.TheVariants.{Router, Virtual, Metric, Fail, Mend, Join, Stop, Start, Rule as AddRule, Clear}
 use Rattle.net_conf.specs.declared.refusal.Refusal.{Refusal}
 use Rattle.route_policy.specs.declared.rule.Rule.{Rule}
-use Rattle.net_conf.specs.Configuration.{Configuration, node_at, has_node, ends_of, ends_cmp, link_between, session_between, has_session}
+use Rattle.net_conf.specs.Configuration.{Configuration, node_at, has_node, as_of, is_external, ends_of, ends_cmp, link_between, session_between, has_session}
 use Rattle.net_conf.specs.Costs.{session_up, is_connected, is_up}
-use Rattle.net_conf.specs.Edits.{first_of, tests_of, refusal_of, edited, lacks_node, repeats_node, lacks_session, repeats_session, with_link_changed, with_rule_of, without_rules_of, with_session}
+use Rattle.net_conf.specs.Edits.{first_of, tests_of, refusal_of, edited, lacks_node, repeats_node, has_one_end, is_inside, lacks_session, repeats_session, with_link_changed, with_rule_of, without_rules_of, with_session}
 use Rattle.session_law.proofs.Lists.{lookup_inserted}
-use Rattle.session_law.proofs.Keys.{same_addr_true}
+use Rattle.session_law.proofs.Keys.{same_addr_true, same_addr_itself}
 
 -- WHAT IS NOT REFUSED
 
@@ -41,6 +42,8 @@ all_fail ((b, r) ∷ ts) none = let rest = passed b r ts none in (rest.0, all_fa
 pub record Passes (c : Configuration) (e : Edit) : Type 0 where
   pub nodes : lacks_node c e ≡ false
   pub fresh : repeats_node c e ≡ false
+  pub two : has_one_end e ≡ false
+  pub outside : is_inside c e ≡ false
   pub session : lacks_session c e ≡ false
   pub apart : repeats_session c e ≡ false
 
@@ -48,7 +51,7 @@ pub passes : (c : Configuration) (e : Edit) → refusal_of c e ≡ None → Pass
 unfolding refusal_of
 passes c e none =
     let t = all_fail (tests_of c e) none in
-    record { nodes = t.0; fresh = t.1.0; session = t.1.1.1.1.1.1.1.1.0; apart = t.1.1.1.1.1.1.1.1.1.0 }
+    record { nodes = t.0; fresh = t.1.0; two = t.1.1.0; outside = t.1.1.1.1.0; session = t.1.1.1.1.1.1.1.1.0; apart = t.1.1.1.1.1.1.1.1.1.0 }
 
 -- THE TWO ENDS OF A SESSION
 
@@ -201,3 +204,73 @@ session_old_or_new c (Start x y) ok a b h = inl (session_stays c x y a b true ok
 session_old_or_new c (AddRule x y side rule) ok a b h = inl (kept_sessions c _ a b (rule_keeps_sessions c x y side rule) h)
 session_old_or_new c (Clear x y side) ok a b h = inl (kept_sessions c _ a b (clear_keeps_sessions c x y side) h)
 session_old_or_new c e ok a b h = inl h
+
+-- a session stays
+
+still_some : (b here : Bool) (o : Option Bool) → is_some o ≡ true → is_some (cond here (Some b) o) ≡ true
+still_some b true o h = refl
+still_some b false o h = h
+
+session_put : (c : Configuration) (x y a b : Addr) (enabled : Bool) → has_session c a b ≡ true → has_session (with_session c x y enabled) a b ≡ true
+session_put c x y a b enabled h =
+    ap is_some (lookup_inserted ends_total (ends_of a b) (ends_of x y) enabled c.sessions) ∙ still_some enabled (is_at (ends_cmp (ends_of a b)) (ends_of x y)) (session_between c a b) h
+
+same_sessions : (c : Configuration) (es : List (Ends × Bool)) (a b : Addr) → es ≡ c.sessions → has_session c a b ≡ true → is_some (lookup (is_at (ends_cmp (ends_of a b))) es) ≡ true
+same_sessions c es a b same h = ap (λ fs. is_some (lookup (is_at (ends_cmp (ends_of a b))) fs)) same ∙ h
+
+-- no session is removed
+pub session_kept : (c : Configuration) (e : Edit) (a b : Addr) → has_session c a b ≡ true → has_session (edited c e) a b ≡ true
+session_kept c (Metric x y m) a b h = same_sessions c _ a b (link_keeps_sessions c x y _ (link_between c x y)) h
+session_kept c (Fail x y) a b h = same_sessions c _ a b (link_keeps_sessions c x y _ (link_between c x y)) h
+session_kept c (Mend x y) a b h = same_sessions c _ a b (link_keeps_sessions c x y _ (link_between c x y)) h
+session_kept c (Join x y) a b h = session_put c x y a b true h
+session_kept c (Stop x y) a b h = session_put c x y a b false h
+session_kept c (Start x y) a b h = session_put c x y a b true h
+session_kept c (AddRule x y side rule) a b h = same_sessions c _ a b (rule_keeps_sessions c x y side rule) h
+session_kept c (Clear x y side) a b h = same_sessions c _ a b (clear_keeps_sessions c x y side) h
+session_kept c e a b h = h
+
+-- NO SESSION WITH ITSELF
+
+one_end : (a x y : Addr) → ArePair a a x y → same_addr x y ≡ true
+one_end a x y (inl same) = (λ i. same_addr (sym same.0 i) (sym same.1 i)) ∙ same_addr_itself a
+one_end a x y (inr same) = (λ i. same_addr (sym same.1 i) (sym same.0 i)) ∙ same_addr_itself a
+
+not_one : (e : Edit) (a : Addr) → has_one_end e ≡ false → Joins e a a → ⊥
+not_one e a two (x, y, is, pair) = true≢false (sym (one_end a x y pair) ∙ ap has_one_end (sym is) ∙ two)
+
+-- no router has a session with itself
+pub none_alone : (c : Configuration) (e : Edit) → Passes c e → ((a : Addr) → has_session c a a ≡ false) → (a : Addr) → has_session (edited c e) a a ≡ false
+none_alone c e ok none a =
+    false_from_ne_true (has_session (edited c e) a a) (λ h. ⊎_elim (λ was. true≢false (sym was ∙ none a)) (not_one e a ok.two) (session_old_or_new c e ok a a h))
+
+-- THE AS OF A NODE
+
+same_either : (m n : Option ℕ) → same_number m n ≡ same_number n m
+same_either None None = refl
+same_either None (Some n) = refl
+same_either (Some m) None = refl
+same_either (Some m) (Some n) = nat_eq_equiv.symm m n
+
+-- two are in different ASes in both orders
+pub external_either : (c : Configuration) (a b : Addr) → is_external c a b ≡ is_external c b a
+external_either c a b = ap not (same_either (as_of c a) (as_of c b))
+
+pub same_numbers : (m n : Option ℕ) → same_number m n ≡ true → m ≡ n
+same_numbers None None h = refl
+same_numbers (Some m) (Some n) h = ap Some ((unsigned_Decides m n).0 h)
+same_numbers None (Some n) h = absurd (true≢false (sym h))
+same_numbers (Some m) None h = absurd (true≢false (sym h))
+
+-- two that are not in different ASes are in one
+pub one_as : (c : Configuration) (a b : Addr) → is_external c a b ≡ false → as_of c a ≡ as_of c b
+one_as c a b internal = same_numbers (as_of c a) (as_of c b) (not-false (same_number (as_of c a) (as_of c b)) internal)
+
+pub as_kept : (c : Configuration) (e : Edit) → Passes c e → (a : Addr) → has_node c a ≡ true → as_of (edited c e) a ≡ as_of c a
+as_kept c e ok a here = ap (option_map (λ n. n.asn)) (node_kept c e ok a here)
+
+pub external_kept : (c : Configuration) (e : Edit) → Passes c e → (a b : Addr) → has_node c a ≡ true → has_node c b ≡ true → is_external (edited c e) a b ≡ is_external c a b
+external_kept c e ok a b here there = λ i. not (same_number (as_kept c e ok a here i) (as_kept c e ok b there i))
+
+pub there_still : (c : Configuration) (e : Edit) → Passes c e → (a : Addr) → has_node c a ≡ true → has_node (edited c e) a ≡ true
+there_still c e ok a here = ap is_some (node_kept c e ok a here) ∙ here

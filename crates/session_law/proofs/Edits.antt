@@ -81,7 +81,7 @@ pair_placed : (c : Configuration) (x y a b : Addr) → not (has_node c x && has_
 pair_placed c x y a b ok (inl same) = ap (has_node c) same.0 ∙ (both_there (has_node c x) (has_node c y) ok).0
 pair_placed c x y a b ok (inr same) = ap (has_node c) same.0 ∙ (both_there (has_node c x) (has_node c y) ok).1
 
-joined_placed : (c : Configuration) (e : Edit) (a b : Addr) → lacks_node c e ≡ false → Joins e a b → has_node c a ≡ true
+pub joined_placed : (c : Configuration) (e : Edit) (a b : Addr) → lacks_node c e ≡ false → Joins e a b → has_node c a ≡ true
 joined_placed c e a b ok (x, y, is, pair) = pair_placed c x y a b (ap (lacks_node c) (sym is) ∙ ok) pair
 
 -- THE EDIT

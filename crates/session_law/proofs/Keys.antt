@@ -62,3 +62,13 @@ route_total =
     then_total (on_total (λ k. k.to.0) nat_cmp_total)
     (then_total (then_total (on_total (λ k. k.prefix.addr.0) nat_cmp_total) (on_total (λ k. k.prefix.len) nat_cmp_total))
     (on_total (λ k. k.from.0) nat_cmp_total))
+
+-- keys that compare alike are one
+pub route_exact : (k l : RouteKey) → route_cmp k l ≡ Equal → k ≡ l
+route_exact k l e =
+    let parts = and_parts (same_addr k.to l.to) (same_prefix k.prefix l.prefix && same_addr k.from l.from) (route_tied k l ∙ ap is_eq e) in
+    let others = and_parts (same_prefix k.prefix l.prefix) (same_addr k.from l.from) parts.1 in
+    let to = same_addr_true k.to l.to parts.0 in
+    let prefix = same_prefix_true k.prefix l.prefix others.0 in
+    let from = same_addr_true k.from l.from others.1 in
+    λ i. record { to = to i; prefix = prefix i; from = from i }

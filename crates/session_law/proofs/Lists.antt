@@ -1,5 +1,5 @@
 -- Lists and look-ups in general, for the session law.
-use Rattle.std.proofs.Common.{◌≡◌, Bool, true, false, cond, ◌||◌, List, [], ◌∷◌, ◌++◌, map, filter, find, fold, Option, Some, None, option_map, is_some, refl, sym, ap, ◌∙◌}
+use Rattle.std.proofs.Common.{◌≡◌, Bool, true, false, cond, ◌||◌, List, [], ◌∷◌, ◌++◌, map, filter, find, fold, Option, Some, None, option_map, is_some, refl, sym, ap, subst, ◌∙◌}
 use Rattle.std.specs.declared.cmp.Ordering.{Ordering}
 use Rattle.std.specs.declared.cmp.Ordering.TheVariants.{Less, Equal, Greater}
 use Rattle.std.specs.Ordering.{match_ordering, is_eq, ordering_reverse}
@@ -181,3 +181,40 @@ module _ {K X : Type 0} {cmp : K → K → Ordering} (o : IsTotalOrder cmp) wher
   pub lookup_inserted : (q k : K) (v : X) (es : List (K × X)) → lookup (is_at (cmp q)) (insert_entry cmp es k v) ≡ cond (is_at (cmp q) k) (Some v) (lookup (is_at (cmp q)) es)
   lookup_inserted q k v [] = refl
   lookup_inserted q k v (e ∷ es) = looked_by_order (cmp k e.0) q k v e es (insert_entry cmp es k v) refl (lookup_inserted q k v es)
+
+-- EACH
+
+module _ {X : Type 0} (P : X → Type 0) where
+  pub everywhere : ((x : X) → P x) → (xs : List X) → AllByRecursion P xs
+  everywhere all [] = tt
+  everywhere all (x ∷ xs) = (all x, everywhere all xs)
+
+  pub each_joined : (xs ys : List X) → AllByRecursion P xs → AllByRecursion P ys → AllByRecursion P (xs ++ ys)
+  each_joined [] ys h g = g
+  each_joined (x ∷ xs) ys h g = (h.0, each_joined xs ys h.1 g)
+
+  pub each_filtered : (p : X → Bool) (xs : List X) → AllByRecursion P xs → AllByRecursion P (filter p xs)
+  each_filtered p [] h = tt
+  each_filtered p (x ∷ xs) h = elim (p x) as (λ b. AllByRecursion P (cond b (x ∷ filter p xs) (filter p xs))) [ true ↦ (h.0, each_filtered p xs h.1) | false ↦ each_filtered p xs h.1 ]
+
+pub each_mapped : {X Y : Type 0} (P : X → Type 0) (Q : Y → Type 0) (f : X → Y) → ((x : X) → P x → Q (f x)) → (xs : List X) → AllByRecursion P xs → AllByRecursion Q (map f xs)
+each_mapped P Q f so [] h = tt
+each_mapped P Q f so (x ∷ xs) h = (so x h.0, each_mapped P Q f so xs h.1)
+
+pub each_so : {X : Type 0} (P Q : X → Type 0) → ((x : X) → P x → Q x) → (xs : List X) → AllByRecursion P xs → AllByRecursion Q xs
+each_so P Q so [] h = tt
+each_so P Q so (x ∷ xs) h = (so x h.0, each_so P Q so xs h.1)
+
+module _ {K X : Type 0} (P : K × X → Type 0) where
+  each_by_order : (r : Ordering) (k : K) (v : X) (e : K × X) (es more : List (K × X)) → (r ≡ Equal → k ≡ e.0) → P (k, v) → P e → AllByRecursion P es → AllByRecursion P more → AllByRecursion P (match_ordering r ((k, v) ∷ e ∷ es) ((e.0, v) ∷ es) (e ∷ more))
+  each_by_order Less k v e es more same pk pe pes pm = (pk, (pe, pes))
+  each_by_order Equal k v e es more same pk pe pes pm = (subst (λ x. P (x, v)) (same refl) pk, pes)
+  each_by_order Greater k v e es more same pk pe pes pm = (pe, pm)
+
+  pub each_inserted : (cmp : K → K → Ordering) → ((k x : K) → cmp k x ≡ Equal → k ≡ x) → (k : K) (v : X) (es : List (K × X)) → P (k, v) → AllByRecursion P es → AllByRecursion P (insert_entry cmp es k v)
+  each_inserted cmp exact k v [] pk h = (pk, tt)
+  each_inserted cmp exact k v (e ∷ es) pk h = each_by_order (cmp k e.0) k v e es (insert_entry cmp es k v) (exact k e.0) pk h.0 h.1 (each_inserted cmp exact k v es pk h.1)
+
+  pub each_removed : (test : K → Bool) (es : List (K × X)) → AllByRecursion P es → AllByRecursion P (remove_entry test es)
+  each_removed test [] h = h
+  each_removed test (e ∷ es) h = elim (test e.0) as (λ b. AllByRecursion P (cond b es (e ∷ remove_entry test es))) [ true ↦ h.1 | false ↦ (h.0, each_removed test es h.1) ]

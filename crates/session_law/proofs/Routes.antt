@@ -1,5 +1,6 @@
 -- What a router has received, after a message and after an edit.
-use Rattle.std.proofs.Common.{◌≡◌, Bool, true, false, cond, ◌&&◌, List, filter, Some, None, refl, sym, ap, ◌∙◌}
+use Rattle.std.proofs.Common.{◌≡◌, Bool, true, false, cond, ◌&&◌, List, [], ◌∷◌, filter, Option, Some, None, refl, sym, ap, subst, ◌∙◌}
+use Rattle.std.specs.List.{AllByRecursion}
 use Rattle.std.specs.List.Sorted.{IsStrictlySortedBy}
 use Rattle.std.specs.Ordering.{eq_by_cmp}
 use Rattle.std.specs.Cmp.{IsEquivalence}
@@ -7,6 +8,7 @@ use Rattle.std.specs.Map.{keys_of}
 use Rattle.std.specs.BTreeMap.{is_at}
 use Rattle.std.proofs.lemmas.Bool.{and_parts}
 use Rattle.std.proofs.lemmas.Cmp.{eq_by_cmp_equiv}
+use Rattle.std.proofs.lemmas.Option.{none-some, same_Some}
 use Rattle.std.proofs.lemmas.Map.{lookup-remove_entry}
 use Rattle.std.proofs.lemmas.Map.Keys.{IsDistinct-from_sorted}
 use Rattle.std.proofs.lemmas.Map.Entries.{lookup-filter-keys}
@@ -24,14 +26,14 @@ use Rattle.reference_machine.specs.Network.{route_cmp}
 use Rattle.reference_machine.specs.Decision.{route_from}
 use Rattle.reference_machine.specs.Machine.{received_after, is_kept}
 use Rattle.session_law.specs.SessionLaw.{after_message}
-use Rattle.session_law.proofs.Lists.{ordered_inserted, ordered_removed, ordered_filtered, lookup_inserted}
-use Rattle.session_law.proofs.Keys.{same_ends, route_tied, route_total, same_addr_true}
+use Rattle.session_law.proofs.Lists.{equal_from, ordered_inserted, ordered_removed, ordered_filtered, lookup_inserted}
+use Rattle.session_law.proofs.Keys.{same_ends, route_tied, route_total, route_exact, same_addr_true}
 
 -- what was received is in the order of its keys
 abbrev pub AreOrdered : List (RouteKey × Attr) → Type 0
 AreOrdered es = IsStrictlySortedBy route_cmp (keys_of es)
 
-abbrev at_route : Addr → Prefix → Addr → RouteKey
+abbrev pub at_route : Addr → Prefix → Addr → RouteKey
 at_route r p u = record { to = r; prefix = p; from = u }
 
 route_laws : IsEquivalence (eq_by_cmp route_cmp)
@@ -89,3 +91,15 @@ route_kept c es r t p = lookup-filter-keys (is_at (route_cmp (at_route t p r))) 
 
 pub ordered_kept : (c : Configuration) (es : List (RouteKey × Attr)) → AreOrdered es → AreOrdered (filter (is_kept c) es)
 ordered_kept c es h = ordered_filtered route_total (is_kept c) es h
+
+-- A LOOK-UP
+
+module _ (P : RouteKey × Attr → Type 0) where
+  looked_by : (b : Bool) (k : RouteKey) (e : RouteKey × Attr) (later : Option Attr) (attr : Attr) → is_at (route_cmp k) e.0 ≡ b → P e → (later ≡ Some attr → P (k, attr)) → cond b (Some e.1) later ≡ Some attr → P (k, attr)
+  looked_by true k e later attr tied here there is = subst (λ x. P (k, x)) (same_Some e.1 attr is) (subst (λ x. P (x, e.1)) (sym (route_exact k e.0 (equal_from (route_cmp k e.0) tied))) here)
+  looked_by false k e later attr tied here there is = there is
+
+  -- what holds of all that was received holds of the route that is looked up
+  pub looked_up : (r u : Addr) (p : Prefix) (attr : Attr) (es : List (RouteKey × Attr)) → AllByRecursion P es → route_from es r p u ≡ Some attr → P (at_route r p u, attr)
+  looked_up r u p attr [] each is = absurd (none-some attr is)
+  looked_up r u p attr (e ∷ es) each is = looked_by (is_at (route_cmp (at_route r p u)) e.0) (at_route r p u) e (route_from es r p u) attr refl each.0 (looked_up r u p attr es each.1) is

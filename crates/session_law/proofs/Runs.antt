@@ -31,16 +31,16 @@ use Rattle.session_law.proofs.Edits.{turned_edited}
 -- STEPS
 
 -- a refused event changes nothing
-kept_unless : (o : Option Refusal) (s : Network) (outcome : Outcome) → IsTold s → (o ≡ None → IsTold outcome.next) → IsTold (unless_refused o s outcome).next
-kept_unless (Some r) s outcome told kept = told
-kept_unless None s outcome told kept = kept refl
+pub kept_unless : (K : Network → Type 0) (o : Option Refusal) (s : Network) (outcome : Outcome) → K s → (o ≡ None → K outcome.next) → K (unless_refused o s outcome).next
+kept_unless K (Some r) s outcome was kept = was
+kept_unless K None s outcome was kept = kept refl
 
 kept_edit : (s : Network) (e : Edit) → IsTold s → IsTold (edit_step s e).next
 unfolding edit_step
 kept_edit s e told =
-    kept_unless (refusal_of s.conf e) s _ told (λ passed. told_sent s (after_edit s e) (turned_edited s e told (passes s.conf e passed)))
+    kept_unless IsTold (refusal_of s.conf e) s _ told (λ passed. told_sent s (after_edit s e) (turned_edited s e told (passes s.conf e passed)))
 
-abbrev feed_tests : Configuration → Feed → List (Bool × Refusal)
+abbrev pub feed_tests : Configuration → Feed → List (Bool × Refusal)
 feed_tests c f =
     (not (has_node c f.from && has_node c f.to), NoRouter)
     ∷ (not (is_virtual c f.from) || is_virtual c f.to, BadEnd)
@@ -51,7 +51,7 @@ feed_tests c f =
     ∷ []
 
 -- who feeds is a virtual peer, over a session that is up
-feeder : (c : Configuration) (f : Feed) → feed_refusal c f ≡ None → (is_virtual c f.from ≡ true) × (is_up c f.from f.to ≡ true)
+pub feeder : (c : Configuration) (f : Feed) → feed_refusal c f ≡ None → (is_virtual c f.from ≡ true) × (is_up c f.from f.to ≡ true)
 unfolding feed_refusal
 feeder c f none =
     let t = all_fail (feed_tests c f) none in
@@ -60,9 +60,9 @@ feeder c f none =
 kept_feed : (s : Network) (f : Feed) → IsTold s → IsTold (feed_step s f).next
 unfolding feed_step
 kept_feed s f told =
-    kept_unless (feed_refusal s.conf f) s _ told (λ passed. let from = feeder s.conf f passed in told_fed s (direction f.from f.to) (fed_message f.from f.news) told from.1 from.0)
+    kept_unless IsTold (feed_refusal s.conf f) s _ told (λ passed. let from = feeder s.conf f passed in told_fed s (direction f.from f.to) (fed_message f.from f.news) told from.1 from.0)
 
-delivered_up : (c : Configuration) (d : Direction) → delivery_refusal c d ≡ None → is_up c d.from d.to ≡ true
+pub delivered_up : (c : Configuration) (d : Direction) → delivery_refusal c d ≡ None → is_up c d.from d.to ≡ true
 unfolding delivery_refusal
 delivered_up c d none =
     let t = all_fail ((not (has_node c d.from && has_node c d.to), NoRouter) ∷ (not (has_session c d.from d.to), NoSession) ∷ (not (is_up c d.from d.to), SessionDown) ∷ []) none in
@@ -76,11 +76,11 @@ kept_head s d told up (Some (m ∷ ms)) is = told_sent s (taken s d m) (turned_t
 kept_delivery : (s : Network) (d : Direction) → IsTold s → IsTold (delivery_step s d).next
 unfolding delivery_step
 kept_delivery s d told =
-    kept_unless (delivery_refusal s.conf d) s (head_step s d (messages_in s.queues d)) told (λ passed. kept_head s d told (delivered_up s.conf d passed) (messages_in s.queues d) refl)
+    kept_unless IsTold (delivery_refusal s.conf d) s (head_step s d (messages_in s.queues d)) told (λ passed. kept_head s d told (delivered_up s.conf d passed) (messages_in s.queues d) refl)
 
 kept_question : (s : Network) (q : Ask) → IsTold s → IsTold (question_step s q).next
 unfolding question_step
-kept_question s q told = kept_unless (ask_refusal s.conf q) s _ told (λ passed. told)
+kept_question s q told = kept_unless IsTold (ask_refusal s.conf q) s _ told (λ passed. told)
 
 -- the machine's own step keeps it
 pub kept_step : (s : Network) (e : Event) → IsTold s → IsTold (step s e).next
@@ -89,7 +89,7 @@ kept_step s (AFeed f) told = kept_feed s f told
 kept_step s (Deliver a b) told = kept_delivery s (direction a b) told
 kept_step s (AnAsk q) told = kept_question s q told
 
-told_step : (s mid : Network) (e : Event) (r : Reply) → IsTold s → IsStep s e r mid → IsTold mid
+pub told_step : (s mid : Network) (e : Event) (r : Reply) → IsTold s → IsStep s e r mid → IsTold mid
 told_step s mid e r told (inl own) = subst IsTold (sym own.1) (kept_step s e told)
 told_step s mid e r told (inr none) = subst IsTold (sym none.1) told
 
