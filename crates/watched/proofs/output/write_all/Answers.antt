@@ -1,4 +1,4 @@
-use Rattle.std.proofs.Common.{arith, ap, ◌≡◌, ◌-◌, length, drop, take, ◌≤◌}
+use Rattle.std.proofs.Common.{arith, ◌≡◌, ◌-◌, length, drop, take, ◌≤◌}
 use Rattle.std.proofs.lemmas.List.{take_rest, length-drop}
 use Rattle.watched.proofs.Appending.{appends_more}
 use Rattle.watched.proofs.output.write_all.Goals as goal
@@ -12,5 +12,4 @@ loop-done-preserved g c =
     record {
       in_range = omega (arith, length-drop done bytes);
       so_far = appends_more _ _ _ _ _ _ c.loop-done.invariant.so_far (rw whole at c.in-Ok.ensures.bytes);
-      unasked = λ none. absurd (omega (arith, c.loop-done-test.true, ap length none));
     }

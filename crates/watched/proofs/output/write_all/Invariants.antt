@@ -1,13 +1,12 @@
-use Rattle.std.proofs.Common.{◌≡◌, ◌≤◌, ◌-◌, [], length, take}
+use Rattle.std.proofs.Common.{◌≤◌, ◌-◌, length, take}
 use Rattle.std.specs.Io.KnownBytes.{Appends}
 use Rattle.watched.proofs.output.write_all.Given as goal
 
--- the bytes so far were written; where there are none, the writer was not asked
+-- the bytes so far were written
 abbrev pub invariant-loop-done : goal.invariant-loop-done
 invariant-loop-done g l = record {
   in_range : l.done ≤ length l.bytes;
   so_far : Appends (g.W.Write.contents l.fn.writer) (g.W.Write.contents l.writer) (take l.done l.bytes);
-  unasked : l.bytes ≡ [] → l.writer ≡ l.fn.writer;
 }
 
 abbrev pub decreases-loop-done : goal.decreases-loop-done
