@@ -110,6 +110,17 @@ impl Pool {
         }
     }
 
+    /// Whether these attributes are in the pool. They are compared with each in turn, so no hash and no memory is
+    /// needed, and not even a share of them.
+    pub fn has(&self, attr: &Attr) -> bool
+        ensures { result ≡ has_attr self.now attr.now }
+    {
+        self.attrs
+            .as_slice()
+            .iter()
+            .any(|key| attr.is_same(key.attr()))
+    }
+
     /// The attributes of this number, where the pool has given it.
     pub fn attr(&self, id: AttrId) -> Option<&Attr>
         ensures { option_copied result ≡ slice_get self.now id }

@@ -2,6 +2,16 @@
 use Rattle.std.specs.Prelude.{ℕ, Bool, nat_eq, nat_lt, List, ◌∷◌, ◌++◌, filter, Option, Some, None}
 use Rattle.std.specs.List.{list_any}
 
+-- NO_EXPORT, NO_ADVERTISE and NO_EXPORT_SUBCONFED: FFFFFF01, FFFFFF02 and FFFFFF03 (RFC 1997)
+abbrev pub no_export : ℕ
+no_export = 4294967041
+
+abbrev pub no_advertise : ℕ
+no_advertise = 4294967042
+
+abbrev pub no_export_subconfed : ℕ
+no_export_subconfed = 4294967043
+
 -- whether the route carries the community
 abbrev pub carries : ℕ → List ℕ → Bool
 carries n cs = list_any (nat_eq n) cs

@@ -1,6 +1,6 @@
 //! The queues of all directions.
 
-ghost use Rattle.std.specs.Prelude.{◌≡◌, ◌+◌, ◌<◌, ◌≤◌, ◌↔◌, [], ◌∷◌, ◌++◌, true, length, max, drop, slice_get, option_map, IsTrue, IfSome, IfNone, OnOk, OnErr};
+ghost use Rattle.std.specs.Prelude.{◌≡◌, ◌+◌, ◌<◌, ◌≤◌, ◌↔◌, [], ◌∷◌, ◌++◌, true, false, length, max, drop, slice_get, option_map, IsTrue, IfSome, IfNone, OnOk, OnErr};
 ghost use Rattle.attr_pool.specs.Pooled.{has_attr, with_attr};
 
 use crate::direction::Direction;
@@ -69,17 +69,35 @@ impl Queues {
     }
 
     /// Sees to it that an update may have these attributes: a copy of new ones is kept. The error is want of memory,
-    /// and changes nothing.
+    /// for new ones alone, and changes nothing.
     pub fn admit(&mut self, attr: &Attr) -> Result<(), AllocError>
         ensures admitted { OnOk result (self.new.admitted ≡ with_attr self.old.admitted attr.now) }
         ensures ok { OnOk result (has_attr self.new.admitted attr.now ≡ true) }
         ensures keeps { KeepsAdmitted self.old self.new }
         ensures queue { (from to : Addr) → queue_at self.new from to ≡ queue_at self.old from to }
         ensures spare { (from to : Addr) → spare_at self.new from to ≡ spare_at self.old from to }
+        ensures absent { OnErr result (has_attr self.old.admitted attr.now ≡ false) }
         ensures err { OnErr result (self.new ≡ self.old) }
     {
-        let copy = attr.share()?;
-        match self.pool.intern(copy) {
+        match attr.share() {
+            Ok(copy) => self.admit_own(copy),
+            // 2^63 owners share one of its lists: what is there wants no copy.
+            Err(_) if self.pool.has(attr) => Ok(()),
+            Err(fault) => Err(fault),
+        }
+    }
+
+    /// The same, of attributes that are handed over.
+    fn admit_own(&mut self, attr: Attr) -> Result<(), AllocError>
+        ensures admitted { OnOk result (self.new.admitted ≡ with_attr self.old.admitted attr) }
+        ensures ok { OnOk result (has_attr self.new.admitted attr ≡ true) }
+        ensures keeps { KeepsAdmitted self.old self.new }
+        ensures queue { (from to : Addr) → queue_at self.new from to ≡ queue_at self.old from to }
+        ensures spare { (from to : Addr) → spare_at self.new from to ≡ spare_at self.old from to }
+        ensures absent { OnErr result (has_attr self.old.admitted attr ≡ false) }
+        ensures err { OnErr result (self.new ≡ self.old) }
+    {
+        match self.pool.intern(attr) {
             Ok(_id) => return Ok(()),
             Err(refused) => {
                 drop(refused);

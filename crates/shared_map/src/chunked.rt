@@ -1,6 +1,6 @@
 //! A set in chunks that its owners share.
 
-ghost use Rattle.std.specs.Prelude.{◌≡◌, ◌↔◌, ◌+◌, ◌-◌, ◌≤◌, ◌++◌, [], length, IsTrue, IfOk, OnOk, OnErr, true};
+ghost use Rattle.std.specs.Prelude.{◌≡◌, ◌↔◌, ◌+◌, ◌-◌, ◌<◌, ◌≤◌, ◌++◌, [], length, IsTrue, IfOk, OnOk, OnErr, true, false};
 ghost use Rattle.std.specs.List.{list_any, list_all};
 ghost use Rattle.std.specs.List.Sorted.{IsStrictlySortedBy};
 ghost use Rattle.std.specs.Set.{remove_key};
@@ -74,10 +74,14 @@ impl<K: Ord> ChunkedSet<K> {
         holds(self.chunks.as_slice(), key)
     }
 
-    /// One owner more of the same set. It takes no memory; the only fault is that 2^63 owners share the set.
+    /// One owner more of the same set. It takes no memory; the only fault is that 2^63 owners share a set with keys.
     pub fn share(&self) -> Result<Self, AllocError>
-        ensures { IfOk result (λ other. other ≡ self.now) }
+        ensures ok { IfOk result (λ other. other ≡ self.now) }
+        ensures some { OnErr result (0 < length self.now) }
     {
+        if self.is_empty() {
+            return Ok(ChunkedSet::new());
+        }
         Ok(ChunkedSet {
             len: self.len,
             chunks: self.chunks.share()?,
@@ -89,8 +93,12 @@ impl<K: Copy + Ord> ChunkedSet<K> {
     /// The set of these keys, from now on shared. No keys take no memory.
     pub fn of(alloc: Global, keys: Vec<K>) -> Result<Self, AllocError>
         requires { IsStrictlySortedBy K.cmp keys.items }
-        ensures { IfOk result (λ set. set ≡ keys.items) }
+        ensures ok { IfOk result (λ set. set ≡ keys.items) }
+        ensures some { OnErr result (0 < length keys.items) }
     {
+        if keys.is_empty() {
+            return Ok(ChunkedSet::new());
+        }
         let chunks = chunks_of(alloc, &keys)?;
         Ok(ChunkedSet {
             len: keys.len(),
@@ -105,11 +113,15 @@ impl<K: Copy + Ord> ChunkedSet<K> {
         keys_of(alloc, self.chunks.as_slice())
     }
 
-    /// Puts the key in, unless it is there. An error changes nothing.
+    /// Puts the key in, unless it is there: then it takes no memory. An error changes nothing.
     pub fn insert(&mut self, alloc: Global, key: K) -> Result<(), AllocError>
         ensures ok { OnOk result (self.new ≡ insert_key K.cmp self.old key) }
+        ensures absent { OnErr result (list_any (is_at (K.cmp key)) self.old ≡ false) }
         ensures err { OnErr result (self.new ≡ self.old) }
     {
+        if self.contains(&key) {
+            return Ok(());
+        }
         let parts = split(self.chunks.as_slice(), &key);
         let mut keys = owned_keys(alloc, parts.chunk)?;
         put_key(&mut keys, key)?;
@@ -122,11 +134,16 @@ impl<K: Copy + Ord> ChunkedSet<K> {
         Ok(())
     }
 
-    /// Takes the key out, if it is there. An error changes nothing.
+    /// Takes the key out, if it is there: else it takes no memory. An error changes nothing.
+    #[tactic(auto, using(crate::proofs::InOrder::keys_absent))]
     pub fn remove(&mut self, alloc: Global, key: &K) -> Result<(), AllocError>
         ensures ok { OnOk result (self.new ≡ remove_key (is_at (K.cmp key.now)) self.old) }
+        ensures present { OnErr result (list_any (is_at (K.cmp key.now)) self.old ≡ true) }
         ensures err { OnErr result (self.new ≡ self.old) }
     {
+        if !self.contains(key) {
+            return Ok(());
+        }
         let parts = split(self.chunks.as_slice(), key);
         let mut keys = owned_keys(alloc, parts.chunk)?;
         take_key(&mut keys, key);

@@ -1,6 +1,6 @@
 //! A map that its owners share.
 
-ghost use Rattle.std.specs.Prelude.{◌≡◌, ◌↔◌, [], length, is_some, IsTrue, IfOk, OnOk, OnErr};
+ghost use Rattle.std.specs.Prelude.{◌≡◌, ◌<◌, ◌↔◌, [], length, true, is_some, IsTrue, IfOk, OnOk, OnErr};
 ghost use Rattle.std.specs.Option.{option_copied};
 ghost use Rattle.std.specs.List.Sorted.{IsStrictlySortedBy};
 ghost use Rattle.std.specs.Map.{keys_of, lookup, remove_entry};
@@ -16,7 +16,7 @@ use std::sync::Arc;
 /// memory. A change of one owner's map is made in a copy, and no other owner's map changes.
 #[derive(Drop)]
 pub struct SharedMap<K: Ord, V> {
-    // None where the map is empty: no memory was taken for it.
+    // None: the map is empty, and no memory was taken for it.
     entries: Option<Arc<Vec<(K, V)>>>,
 }
 
@@ -80,25 +80,30 @@ impl<K: Ord, V> SharedMap<K, V> {
         self.get(key).is_some()
     }
 
-    /// One owner more of the same map. It takes no memory; the only fault is that 2^63 owners share the map.
+    /// One owner more of the same map. It takes no memory; the only fault is that 2^63 owners share a map with entries.
     pub fn share(&self) -> Result<Self, AllocError>
-        ensures { IfOk result (λ other. other ≡ self.now) }
+        ensures ok { IfOk result (λ other. other ≡ self.now) }
+        ensures some { OnErr result (0 < length self.now) }
     {
         match &self.entries {
-            Some(entries) => Ok(SharedMap {
+            Some(entries) if !entries.is_empty() => Ok(SharedMap {
                 entries: Some(Arc::try_clone(entries)?),
             }),
-            None => Ok(SharedMap { entries: None }),
+            _ => Ok(SharedMap { entries: None }),
         }
     }
 }
 
 impl<K: Ord + Drop, V: Drop> SharedMap<K, V> {
-    /// The map of these entries, from now on shared.
+    /// The map of these entries, from now on shared. No entries take no memory.
     fn of(alloc: Global, entries: Vec<(K, V)>) -> Result<Self, AllocError>
         requires { IsStrictlySortedBy K.cmp (keys_of entries.items) }
-        ensures { IfOk result (λ map. map ≡ entries.items) }
+        ensures ok { IfOk result (λ map. map ≡ entries.items) }
+        ensures some { OnErr result (0 < length entries.items) }
     {
+        if entries.is_empty() {
+            return Ok(SharedMap { entries: None });
+        }
         Ok(SharedMap {
             entries: Some(Arc::new(alloc, entries)?),
         })
@@ -137,11 +142,16 @@ impl<K: Copy + Ord, V: Copied> SharedMap<K, V> {
     }
 
     /// Takes out the key's entry, if there is one: in its place where the map has no other owner, else in a map of
-    /// copies. An error changes nothing.
+    /// copies. Where there is none, it takes no memory. An error changes nothing.
+    #[tactic(auto, using(crate::proofs::InOrder::entries_absent))]
     pub fn take_out(&mut self, alloc: Global, key: &K) -> Result<(), AllocError>
         ensures ok { OnOk result (self.new ≡ remove_entry (is_at (K.cmp key.now)) self.old) }
+        ensures present { OnErr result (is_some (lookup (is_at (K.cmp key.now)) self.old) ≡ true) }
         ensures err { OnErr result (self.new ≡ self.old) }
     {
+        if !self.contains_key(key) {
+            return Ok(());
+        }
         if let Some(entries) = &mut self.entries {
             if let Some(own) = Arc::get_mut(entries) {
                 take_out(own, key);

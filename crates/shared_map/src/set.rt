@@ -1,6 +1,6 @@
 //! A set that its owners share.
 
-ghost use Rattle.std.specs.Prelude.{◌≡◌, ◌↔◌, [], length, IsTrue, IfOk, OnOk, OnErr};
+ghost use Rattle.std.specs.Prelude.{◌≡◌, ◌<◌, ◌↔◌, [], length, true, false, IsTrue, IfOk, OnOk, OnErr};
 ghost use Rattle.std.specs.List.{list_any};
 ghost use Rattle.std.specs.List.Sorted.{IsStrictlySortedBy};
 ghost use Rattle.std.specs.Set.{remove_key};
@@ -18,7 +18,7 @@ use std::sync::Arc;
 /// memory. A change of one owner's set is made in a copy of plain memory, and no other owner's set changes.
 #[derive(Drop)]
 pub struct SharedSet<K: Ord> {
-    // None where the set is empty: no memory was taken for it.
+    // None: the set is empty, and no memory was taken for it.
     keys: Option<Arc<Vec<K>>>,
 }
 
@@ -77,15 +77,16 @@ impl<K: Ord> SharedSet<K> {
         }
     }
 
-    /// One owner more of the same set. It takes no memory; the only fault is that 2^63 owners share the set.
+    /// One owner more of the same set. It takes no memory; the only fault is that 2^63 owners share a set with keys.
     pub fn share(&self) -> Result<Self, AllocError>
-        ensures { IfOk result (λ other. other ≡ self.now) }
+        ensures ok { IfOk result (λ other. other ≡ self.now) }
+        ensures some { OnErr result (0 < length self.now) }
     {
         match &self.keys {
-            Some(keys) => Ok(SharedSet {
+            Some(keys) if !keys.is_empty() => Ok(SharedSet {
                 keys: Some(Arc::try_clone(keys)?),
             }),
-            None => Ok(SharedSet { keys: None }),
+            _ => Ok(SharedSet { keys: None }),
         }
     }
 }
@@ -94,7 +95,8 @@ impl<K: Ord + Drop> SharedSet<K> {
     /// The set of these keys, from now on shared. No keys take no memory.
     pub fn of(alloc: Global, keys: Vec<K>) -> Result<Self, AllocError>
         requires { IsStrictlySortedBy K.cmp keys.items }
-        ensures { IfOk result (λ set. set ≡ keys.items) }
+        ensures ok { IfOk result (λ set. set ≡ keys.items) }
+        ensures some { OnErr result (0 < length keys.items) }
     {
         if keys.is_empty() {
             return Ok(SharedSet { keys: None });
@@ -106,22 +108,30 @@ impl<K: Ord + Drop> SharedSet<K> {
 }
 
 impl<K: Copy + Ord> SharedSet<K> {
-    /// Puts the key in, unless it is there. An error changes nothing.
+    /// Puts the key in, unless it is there: then it takes no memory. An error changes nothing.
     pub fn insert(&mut self, alloc: Global, key: K) -> Result<(), AllocError>
         ensures ok { OnOk result (self.new ≡ insert_key K.cmp self.old key) }
+        ensures absent { OnErr result (list_any (is_at (K.cmp key)) self.old ≡ false) }
         ensures err { OnErr result (self.new ≡ self.old) }
     {
+        if key_position(self.as_slice(), &key).is_ok() {
+            return Ok(());
+        }
         let mut keys = owned_keys(alloc, self.as_slice())?;
         put_key(&mut keys, key)?;
         *self = SharedSet::of(alloc, keys)?;
         Ok(())
     }
 
-    /// Takes the key out, if it is there. An error changes nothing.
+    /// Takes the key out, if it is there: else it takes no memory. An error changes nothing.
     pub fn remove(&mut self, alloc: Global, key: &K) -> Result<(), AllocError>
         ensures ok { OnOk result (self.new ≡ remove_key (is_at (K.cmp key.now)) self.old) }
+        ensures present { OnErr result (list_any (is_at (K.cmp key.now)) self.old ≡ true) }
         ensures err { OnErr result (self.new ≡ self.old) }
     {
+        if key_position(self.as_slice(), key).is_err() {
+            return Ok(());
+        }
         let mut keys = owned_keys(alloc, self.as_slice())?;
         take_key(&mut keys, key);
         *self = SharedSet::of(alloc, keys)?;

@@ -1,6 +1,6 @@
 //! A watched writer.
 
-ghost use Rattle.std.specs.Prelude.{◌≡◌, true, false, OnOk, OnErr};
+ghost use Rattle.std.specs.Prelude.{◌≡◌, ◌<◌, length, true, false, OnOk, OnErr};
 ghost use Rattle.std.specs.Io.KnownBytes.{Appends, Keeps};
 ghost use Rattle.watched.specs.Streams.{AppendsFront, Writes};
 
@@ -92,6 +92,7 @@ impl<W: Write> Output<W> {
 fn write_all<W: Write>(writer: &mut W, bytes: &[u8]) -> Result<(), WriterFailed>
     ensures ok { OnOk result (Appends (W.contents writer.old) (W.contents writer.new) bytes.now) }
     ensures front { OnErr result (AppendsFront (W.contents writer.old) (W.contents writer.new) bytes.now) }
+    ensures some { OnErr result (0 < length bytes.now) }
 {
     let mut done = 0;
     while done < bytes.len() {

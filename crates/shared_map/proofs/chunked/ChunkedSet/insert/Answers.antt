@@ -1,10 +1,10 @@
--- The key goes into its chunk.
+-- The key goes into its chunk, unless it is there.
 use Rattle.std.proofs.Common.{◌≡◌, ◌∙◌, ◌+◌, ◌++◌, arith, length, sym, ap, subst}
 use Rattle.std.specs.List.{list_all}
 use Rattle.std.specs.List.Sorted.{IsStrictlySortedBy}
 use Rattle.std.specs.BTreeSet.{insert_key}
 use Rattle.shared_map.specs.Chunks.{keys_in, has_key}
-use Rattle.shared_map.proofs.InOrder.{put_in_order}
+use Rattle.shared_map.proofs.InOrder.{put_in_order, put_present}
 use Rattle.shared_map.proofs.Splits.{put_in_one, len_with_others}
 use Rattle.shared_map.proofs.chunked.ChunkedSet.insert.Goals as goal
 
@@ -30,6 +30,11 @@ invariant_of-self g c =
         subst (IsStrictlySortedBy cmp) (sym all) (put_in_order cmp g.met.K.Ord.total c.args.key (keys_in cs) sorted),
       ),
     )
+
+pub returns-then-contains-clause-ok : goal.returns-then-contains-clause-ok
+returns-then-contains-clause-ok g c =
+    let sorted = subst (IsStrictlySortedBy g.K.Ord.cmp) c.self.view_is c.self.invariant.1.1 in
+    put_present g.K.Ord.cmp g.met.K.Ord.total c.args.key c.args.self.now sorted (sym c.contains.ensures ∙ c.if-contains.true)
 
 pub returns-clause-ok : goal.returns-clause-ok
 returns-clause-ok g c =
