@@ -1,48 +1,19 @@
 //! Policies.
 
-ghost use Rattle.std.specs.Prelude.{◌≡◌, ◌↔◌, ◌≤◌, ◌∷◌, ◌++◌, [], length, find, option_map, IsTrue, IfOk, OnOk, OnErr, IsErrOf};
+ghost use Rattle.std.specs.Prelude.{◌≡◌, ◌↔◌, ◌≤◌, ◌∷◌, ◌++◌, [], false, length, find, option_map, IsTrue, IfOk, OnOk, OnErr};
 ghost use Rattle.route_policy.specs.Judging.{matches, judged};
-ghost use Rattle.route_policy.specs.Limits.{is_full};
+ghost use Rattle.route_policy.specs.Limits.{most_rules, is_full};
 ghost use Rattle.route_policy.specs.Sameness.{same_policy};
-ghost use Rattle.route_policy.specs.declared.policy.AddFault.TheVariants.{Limit};
 
 use crate::rule::{Action, Rule};
 use net_prefix::Prefix;
 use path_attr::Attr;
 use seq::{Copied, SharedSeq};
 use std::alloc::{AllocError, Global};
-use std::error::Error;
-use std::fmt;
 use std::marker::Model;
 
 /// The most rules that a policy takes.
 pub const MAX_RULES: usize = 256;
-
-/// Why a rule is not added.
-#[derive(Clone, Copy, Debug, PartialEq, Eq)]
-pub enum AddFault {
-    /// The policy has 256 rules.
-    Limit,
-    /// Memory was refused.
-    Memory,
-}
-
-impl fmt::Display for AddFault {
-    ghost use Rattle.std.specs.Prelude.{Some};
-    ghost use Rattle.route_policy.specs.Faults.{fault_text};
-
-    ghost output = { λ f. Some (fault_text f) };
-
-    #[tactic(auto, unfolding(crate::specs::Faults::fault_text))]
-    fn fmt<W: fmt::Write>(&self, f: &mut fmt::Formatter<W>) -> fmt::Result {
-        match self {
-            AddFault::Limit => write!(f, "the policy has 256 rules"),
-            AddFault::Memory => write!(f, "out of memory"),
-        }
-    }
-}
-
-impl Error for AddFault {}
 
 /// An ordered list of rules, at most 256. The first that matches a route decides what becomes of it. A copy shares the
 /// rules; a change makes a list of its own.
@@ -55,13 +26,13 @@ pub struct Policy {
 impl Model for Policy {
     ghost use Rattle.std.specs.Prelude.{List, ◌≤◌, length};
     ghost use Rattle.route_policy.specs.declared.rule.Rule.{Rule};
-    ghost use Rattle.route_policy.specs.declared.policy.TheConstants.{MAX_RULES};
+    ghost use Rattle.route_policy.specs.Limits.{most_rules};
 
     ghost Value = { List Rule };
 
     ghost view = { λ p. p.rules };
 
-    ghost invariant = { λ p. length p.rules ≤ MAX_RULES };
+    ghost invariant = { λ p. length p.rules ≤ most_rules };
 }
 
 impl Policy {
@@ -78,7 +49,7 @@ impl Policy {
     /// The rules, in order.
     pub fn rules(&self) -> &[Rule]
         ensures value { result.now ≡ self.now }
-        ensures limit { length self.now ≤ MAX_RULES }
+        ensures limit { length self.now ≤ most_rules }
     {
         self.rules.as_slice()
     }
@@ -100,27 +71,19 @@ impl Policy {
     /// Whether it takes no more rules: it has 256.
     pub fn is_full(&self) -> bool
         ensures value { result ≡ is_full self.now }
-        ensures meaning { IsTrue result ↔ (MAX_RULES ≤ length self.now) }
+        ensures meaning { IsTrue result ↔ (most_rules ≤ length self.now) }
     {
         self.len() >= MAX_RULES
     }
 
-    /// Adds a rule at the end. A fault changes nothing: the limit where there are 256 rules, else want of memory.
-    pub fn add(&mut self, rule: Rule) -> Result<(), AddFault>
+    /// Adds a rule at the end; `is_full` tells whether there is room for one. An error changes nothing.
+    pub fn add(&mut self, rule: Rule) -> Result<(), AllocError>
+        requires { is_full self.old ≡ false }
         ensures ok { OnOk result (self.new ≡ self.old ++ rule ∷ []) }
         ensures err { OnErr result (self.new ≡ self.old) }
-        ensures limit { IsErrOf result Limit ↔ (MAX_RULES ≤ length self.old) }
     {
-        if self.is_full() {
-            return Err(AddFault::Limit);
-        }
-        match longer(self.alloc, self.rules.as_slice(), rule) {
-            Ok(rules) => {
-                self.rules = rules;
-                Ok(())
-            }
-            Err(_) => Err(AddFault::Memory),
-        }
+        self.rules = longer(self.alloc, self.rules.as_slice(), rule)?;
+        Ok(())
     }
 
     /// Takes all rules away.
