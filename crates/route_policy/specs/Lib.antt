@@ -3,3 +3,4 @@ pub mod Limits
 pub mod Judging
 pub mod Sameness
 pub mod SameLaws
+pub mod Faults

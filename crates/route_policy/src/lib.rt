@@ -5,6 +5,6 @@ mod policy;
 mod repeat;
 mod rule;
 
-pub use policy::{MAX_RULES, Policy, judge};
+pub use policy::{AddFault, MAX_RULES, Policy, judge};
 pub use repeat::Repeat;
 pub use rule::{Action, Match, Rule, Settings};

@@ -1,19 +1,48 @@
 //! Policies.
 
-ghost use Rattle.std.specs.Prelude.{◌≡◌, ◌↔◌, ◌≤◌, ◌∷◌, ◌++◌, [], false, length, find, option_map, IsTrue, IfOk, OnOk, OnErr};
+ghost use Rattle.std.specs.Prelude.{◌≡◌, ◌↔◌, ◌≤◌, ◌∷◌, ◌++◌, [], false, length, find, option_map, IsTrue, IfOk, OnOk, OnErr, IsErrOf};
 ghost use Rattle.route_policy.specs.Judging.{matches, judged};
 ghost use Rattle.route_policy.specs.Limits.{most_rules, is_full};
 ghost use Rattle.route_policy.specs.Sameness.{same_policy};
+ghost use Rattle.route_policy.specs.declared.policy.AddFault.TheVariants.{Limit};
 
 use crate::rule::{Action, Rule};
 use net_prefix::Prefix;
 use path_attr::Attr;
 use seq::{Copied, SharedSeq};
 use std::alloc::{AllocError, Global};
+use std::error::Error;
+use std::fmt;
 use std::marker::Model;
 
 /// The most rules that a policy takes.
 pub const MAX_RULES: usize = 256;
+
+/// Why a rule is not added.
+#[derive(Clone, Copy, Debug, PartialEq, Eq)]
+pub enum AddFault {
+    /// The policy has 256 rules.
+    Limit,
+    /// Memory was refused.
+    Memory,
+}
+
+impl fmt::Display for AddFault {
+    ghost use Rattle.std.specs.Prelude.{Some};
+    ghost use Rattle.route_policy.specs.Faults.{fault_text};
+
+    ghost output = { λ f. Some (fault_text f) };
+
+    #[tactic(auto, unfolding(crate::specs::Faults::fault_text))]
+    fn fmt<W: fmt::Write>(&self, f: &mut fmt::Formatter<W>) -> fmt::Result {
+        match self {
+            AddFault::Limit => write!(f, "the policy has 256 rules"),
+            AddFault::Memory => write!(f, "out of memory"),
+        }
+    }
+}
+
+impl Error for AddFault {}
 
 /// An ordered list of rules, at most 256. The first that matches a route decides what becomes of it. A copy shares the
 /// rules; a change makes a list of its own.
@@ -76,8 +105,23 @@ impl Policy {
         self.len() >= MAX_RULES
     }
 
-    /// Adds a rule at the end; `is_full` tells whether there is room for one. An error changes nothing.
-    pub fn add(&mut self, rule: Rule) -> Result<(), AllocError>
+    /// Adds a rule at the end. A fault changes nothing: the limit where there are 256 rules, else want of memory.
+    pub fn add(&mut self, rule: Rule) -> Result<(), AddFault>
+        ensures ok { OnOk result (self.new ≡ self.old ++ rule ∷ []) }
+        ensures err { OnErr result (self.new ≡ self.old) }
+        ensures limit { IsErrOf result Limit ↔ (most_rules ≤ length self.old) }
+    {
+        if self.is_full() {
+            return Err(AddFault::Limit);
+        }
+        match self.append(rule) {
+            Ok(()) => Ok(()),
+            Err(_) => Err(AddFault::Memory),
+        }
+    }
+
+    /// Adds a rule at the end, where there is room for one. An error changes nothing.
+    pub fn append(&mut self, rule: Rule) -> Result<(), AllocError>
         requires { is_full self.old ≡ false }
         ensures ok { OnOk result (self.new ≡ self.old ++ rule ∷ []) }
         ensures err { OnErr result (self.new ≡ self.old) }
