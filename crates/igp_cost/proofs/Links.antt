@@ -7,7 +7,7 @@ use Rattle.std.proofs.lemmas.List.{get_or_default, get_or_append_left, get_or_pu
 use Rattle.std.proofs.lemmas.List.Elements.{All-push, Contains-push, Contains-push_cases, Contains-append_left}
 use Rattle.std.proofs.lemmas.List.Sorted.{All-permutation, Contains-permutation, IsPermutation-sym}
 use Rattle.net_prefix.specs.declared.addr.Addr.{Addr}
-use Rattle.igp_cost.specs.declared.limits.TheConstants.{MAX_NODES}
+use Rattle.igp_cost.specs.Limits.{most_nodes}
 use Rattle.igp_cost.specs.declared.least_trees.link.Link.{Link}
 use Rattle.igp_cost.specs.Metric.{IsMetric}
 use Rattle.igp_cost.specs.Walks.{Nodes, Edges, HasEdge}
@@ -75,7 +75,7 @@ module _ (nodes : Nodes) (edges : Edges) (links : List Link) (n : ℕ) (a b : Ad
   ]
 
 -- once each edge has its links, the graph is wired
-pub wired_all : (nodes : Nodes) (edges : Edges) (links : List Link) (n : ℕ) → n ≡ length edges → length nodes ≤ MAX_NODES → IsRising nodes → AreLinks nodes edges links → HasLinksBefore nodes edges links n → IsWired nodes edges links
+pub wired_all : (nodes : Nodes) (edges : Edges) (links : List Link) (n : ℕ) → n ≡ length edges → length nodes ≤ most_nodes → IsRising nodes → AreLinks nodes edges links → HasLinksBefore nodes edges links n → IsWired nodes edges links
 wired_all nodes edges links n all size rising are has = record {
   size = size;
   rising = rising;

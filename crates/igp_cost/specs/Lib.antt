@@ -1,3 +1,4 @@
+pub mod Limits
 pub mod Metric
 pub mod Walks
 pub mod Costs

@@ -1,4 +1,4 @@
-//! How much a graph holds (own): a limit that conditions cite.
+//! How much a graph holds: `specs/Limits.antt`.
 
 /// How many nodes there may be.
 pub const MAX_NODES: usize = 4096;

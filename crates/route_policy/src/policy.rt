@@ -1,8 +1,8 @@
 //! Policies.
 
-ghost use Rattle.std.specs.Prelude.{◌≡◌, ◌↔◌, ◌≤◌, ◌∷◌, ◌++◌, [], length, find, option_map, IsTrue, IfOk, OnOk, OnErr, IsErrOf};
+ghost use Rattle.std.specs.Prelude.{◌≡◌, ◌↔◌, ◌≤◌, ◌∷◌, ◌++◌, [], false, length, find, option_map, IsTrue, IfOk, OnOk, OnErr, IsErrOf};
 ghost use Rattle.route_policy.specs.Judging.{matches, judged};
-ghost use Rattle.route_policy.specs.Limits.{is_full};
+ghost use Rattle.route_policy.specs.Limits.{most_rules, is_full};
 ghost use Rattle.route_policy.specs.Sameness.{same_policy};
 ghost use Rattle.route_policy.specs.declared.policy.AddFault.TheVariants.{Limit};
 
@@ -55,13 +55,13 @@ pub struct Policy {
 impl Model for Policy {
     ghost use Rattle.std.specs.Prelude.{List, ◌≤◌, length};
     ghost use Rattle.route_policy.specs.declared.rule.Rule.{Rule};
-    ghost use Rattle.route_policy.specs.declared.policy.TheConstants.{MAX_RULES};
+    ghost use Rattle.route_policy.specs.Limits.{most_rules};
 
     ghost Value = { List Rule };
 
     ghost view = { λ p. p.rules };
 
-    ghost invariant = { λ p. length p.rules ≤ MAX_RULES };
+    ghost invariant = { λ p. length p.rules ≤ most_rules };
 }
 
 impl Policy {
@@ -78,7 +78,7 @@ impl Policy {
     /// The rules, in order.
     pub fn rules(&self) -> &[Rule]
         ensures value { result.now ≡ self.now }
-        ensures limit { length self.now ≤ MAX_RULES }
+        ensures limit { length self.now ≤ most_rules }
     {
         self.rules.as_slice()
     }
@@ -100,7 +100,7 @@ impl Policy {
     /// Whether it takes no more rules: it has 256.
     pub fn is_full(&self) -> bool
         ensures value { result ≡ is_full self.now }
-        ensures meaning { IsTrue result ↔ (MAX_RULES ≤ length self.now) }
+        ensures meaning { IsTrue result ↔ (most_rules ≤ length self.now) }
     {
         self.len() >= MAX_RULES
     }
@@ -109,18 +109,25 @@ impl Policy {
     pub fn add(&mut self, rule: Rule) -> Result<(), AddFault>
         ensures ok { OnOk result (self.new ≡ self.old ++ rule ∷ []) }
         ensures err { OnErr result (self.new ≡ self.old) }
-        ensures limit { IsErrOf result Limit ↔ (MAX_RULES ≤ length self.old) }
+        ensures limit { IsErrOf result Limit ↔ (most_rules ≤ length self.old) }
     {
         if self.is_full() {
             return Err(AddFault::Limit);
         }
-        match longer(self.alloc, self.rules.as_slice(), rule) {
-            Ok(rules) => {
-                self.rules = rules;
-                Ok(())
-            }
+        match self.append(rule) {
+            Ok(()) => Ok(()),
             Err(_) => Err(AddFault::Memory),
         }
+    }
+
+    /// Adds a rule at the end, where there is room for one. An error changes nothing.
+    pub fn append(&mut self, rule: Rule) -> Result<(), AllocError>
+        requires { is_full self.old ≡ false }
+        ensures ok { OnOk result (self.new ≡ self.old ++ rule ∷ []) }
+        ensures err { OnErr result (self.new ≡ self.old) }
+    {
+        self.rules = longer(self.alloc, self.rules.as_slice(), rule)?;
+        Ok(())
     }
 
     /// Takes all rules away.

@@ -1,8 +1,8 @@
 //! A graph by the places of its nodes, and the source of a tree.
 
 ghost use Rattle.std.specs.Prelude.{◌≡◌, ◌<◌, ◌≤◌, ◌+◌, All, length};
-ghost use Rattle.igp_cost.specs.declared.limits.TheConstants.{MAX_NODES};
 ghost use Rattle.igp_cost.specs.Labels.{IsWithin, StandsByStart, addr_at, IsPlace};
+ghost use Rattle.igp_cost.specs.Limits.{most_nodes};
 ghost use Rattle.igp_cost.specs.Walks.{share_as};
 ghost use Rattle.igp_cost.specs.Wired.{IsRising};
 
@@ -18,7 +18,7 @@ pub struct RootedGraph<'a> {
     pub links: &'a [Link],
     pub starts: &'a [usize],
     pub source: usize,
-    ghost size: { length nodes.now ≤ MAX_NODES },
+    ghost size: { length nodes.now ≤ most_nodes },
     ghost rising: { IsRising nodes.now },
     ghost within: { IsWithin nodes.now links.now },
     ghost count: { length starts.now ≡ length nodes.now + 1 },

@@ -5,8 +5,8 @@ ghost use Rattle.std.specs.Bool.{OnTrue};
 ghost use Rattle.std.specs.List.{AllWithin};
 ghost use Rattle.std.specs.List.Sorted.{IsNonDecreasingBy, IsPartitionPoint};
 ghost use Rattle.igp_cost.specs.declared.least_trees.link.Link.{Link};
-ghost use Rattle.igp_cost.specs.declared.limits.TheConstants.{MAX_NODES};
 ghost use Rattle.igp_cost.specs.Labels.{IsIndexed};
+ghost use Rattle.igp_cost.specs.Limits.{most_nodes};
 ghost use Rattle.igp_cost.specs.Topology.{is_node, IsTopology};
 ghost use Rattle.igp_cost.specs.Wired.{IsRising, IsFound, IsWired};
 
@@ -117,7 +117,7 @@ pub fn starts_of(
     nodes: &[(Addr, Asn)],
     links: &[Link],
 ) -> Result<Vec<usize>, AllocError>
-    requires size { length nodes.now ≤ MAX_NODES }
+    requires size { length nodes.now ≤ most_nodes }
     requires sorted { IsNonDecreasingBy (λ l. l.from) links.now }
     ensures { IfOk result (λ v. IsIndexed nodes.now links.now v.items) }
 {
