@@ -80,16 +80,15 @@ impl<K: Ord, V> SharedMap<K, V> {
         self.get(key).is_some()
     }
 
-    /// One owner more of the same map. It takes no memory; the only fault is that 2^63 owners share a map with entries.
+    /// One owner more of the same map. It takes no memory; the only fault is that 2^63 owners share the map.
     pub fn share(&self) -> Result<Self, AllocError>
-        ensures ok { IfOk result (λ other. other ≡ self.now) }
-        ensures some { OnErr result (0 < length self.now) }
+        ensures { IfOk result (λ other. other ≡ self.now) }
     {
         match &self.entries {
-            Some(entries) if !entries.is_empty() => Ok(SharedMap {
+            Some(entries) => Ok(SharedMap {
                 entries: Some(Arc::try_clone(entries)?),
             }),
-            _ => Ok(SharedMap { entries: None }),
+            None => Ok(SharedMap { entries: None }),
         }
     }
 }

@@ -1,6 +1,6 @@
 //! A set that its owners share.
 
-ghost use Rattle.std.specs.Prelude.{◌≡◌, ◌<◌, ◌↔◌, [], length, true, false, IsTrue, IfOk, OnOk, OnErr};
+ghost use Rattle.std.specs.Prelude.{◌≡◌, ◌↔◌, [], length, true, false, IsTrue, IfOk, OnOk, OnErr};
 ghost use Rattle.std.specs.List.{list_any};
 ghost use Rattle.std.specs.List.Sorted.{IsStrictlySortedBy};
 ghost use Rattle.std.specs.Set.{remove_key};
@@ -77,16 +77,15 @@ impl<K: Ord> SharedSet<K> {
         }
     }
 
-    /// One owner more of the same set. It takes no memory; the only fault is that 2^63 owners share a set with keys.
+    /// One owner more of the same set. It takes no memory; the only fault is that 2^63 owners share the set.
     pub fn share(&self) -> Result<Self, AllocError>
-        ensures ok { IfOk result (λ other. other ≡ self.now) }
-        ensures some { OnErr result (0 < length self.now) }
+        ensures { IfOk result (λ other. other ≡ self.now) }
     {
         match &self.keys {
-            Some(keys) if !keys.is_empty() => Ok(SharedSet {
+            Some(keys) => Ok(SharedSet {
                 keys: Some(Arc::try_clone(keys)?),
             }),
-            _ => Ok(SharedSet { keys: None }),
+            None => Ok(SharedSet { keys: None }),
         }
     }
 }
@@ -95,8 +94,7 @@ impl<K: Ord + Drop> SharedSet<K> {
     /// The set of these keys, from now on shared. No keys take no memory.
     pub fn of(alloc: Global, keys: Vec<K>) -> Result<Self, AllocError>
         requires { IsStrictlySortedBy K.cmp keys.items }
-        ensures ok { IfOk result (λ set. set ≡ keys.items) }
-        ensures some { OnErr result (0 < length keys.items) }
+        ensures { IfOk result (λ set. set ≡ keys.items) }
     {
         if keys.is_empty() {
             return Ok(SharedSet { keys: None });
