@@ -27,9 +27,13 @@ abbrev pub with_directions : Edit → List Direction → List Direction
 with_directions (Join a b) ds = insert_key direction_cmp (insert_key direction_cmp ds (record { from = b; to = a })) (record { from = a; to = b })
 with_directions _ ds = ds
 
--- a router has a cell for a prefix that it comes to originate: an empty one, where it had none
+-- the router has a cell of the prefix: an empty one, where it had none
+abbrev pub with_cell : Addr → Prefix → List (Addr × Table Cell) → List (Addr × Table Cell)
+with_cell r p ts = if is_some (value_at r p ts) then ts else with_value r p new_cell ts
+
+-- and so it has of a prefix that it comes to originate
 abbrev pub with_origin : Edit → List (Addr × Table Cell) → List (Addr × Table Cell)
-with_origin (Origin r p) ts = if is_some (value_at r p ts) then ts else with_value r p new_cell ts
+with_origin (Origin r p) ts = with_cell r p ts
 with_origin _ ts = ts
 
 -- each cell decided anew by what the edit makes of the configuration

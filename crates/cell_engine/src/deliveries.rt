@@ -10,6 +10,7 @@ ghost use Rattle.reference_machine.specs.Network.{messages_in};
 ghost use Rattle.reference_machine.specs.Machine.{head_step};
 ghost use Rattle.cell_engine.specs.State.{network};
 ghost use Rattle.cell_engine.specs.Sending.{told};
+ghost use Rattle.cell_engine.specs.Editing.{with_cell};
 ghost use Rattle.cell_engine.specs.Deliveries.{outcome_at, HasRoom, IsOfHead, KeepsSame};
 
 mod feeds;
@@ -106,11 +107,13 @@ impl<S: Selector + Drop, T: PrefixTable<Cell<S>> + Drop> State<S, T> {
         make_ready(&mut self.queues, router, &outcome.sends)
     }
 
-    /// Sees to it that the router has a cell of the prefix.
+    /// Sees to it that the router has a cell of the prefix. An error changes nothing.
     pub(crate) fn make_cell(&mut self, router: Addr, prefix: Prefix) -> Result<(), AllocError>
         ensures same { KeepsSame self.old self.new }
         ensures queues { self.new.queues ≡ self.old.queues }
         ensures there { OnOk result (is_some (value_at router prefix self.new.tables) ≡ true) }
+        ensures alone { OnOk result (self.new.tables ≡ with_cell router prefix self.old.tables) }
+        ensures err { OnErr result (self.new.tables ≡ self.old.tables) }
     {
         let has_cell = self.cell(router, prefix).is_some();
         self.grow_unless(has_cell, router, prefix)
@@ -127,6 +130,8 @@ impl<S: Selector + Drop, T: PrefixTable<Cell<S>> + Drop> State<S, T> {
         ensures same { KeepsSame self.old self.new }
         ensures queues { self.new.queues ≡ self.old.queues }
         ensures there { OnOk result (is_some (value_at router prefix self.new.tables) ≡ true) }
+        ensures alone { OnOk result (self.new.tables ≡ with_cell router prefix self.old.tables) }
+        ensures err { OnErr result (self.new.tables ≡ self.old.tables) }
     {
         if has_cell {
             return Ok(());
@@ -140,6 +145,8 @@ impl<S: Selector + Drop, T: PrefixTable<Cell<S>> + Drop> State<S, T> {
         ensures same { KeepsSame self.old self.new }
         ensures queues { self.new.queues ≡ self.old.queues }
         ensures there { OnOk result (is_some (value_at router prefix self.new.tables) ≡ true) }
+        ensures alone { OnOk result (self.new.tables ≡ with_value router prefix new_cell self.old.tables) }
+        ensures err { OnErr result (self.new.tables ≡ self.old.tables) }
     {
         // The length tells that the prefix is one, which holds of all that have a cell.
         let _ = prefix.len();

@@ -2,7 +2,7 @@
 //! The way there: whose cells it can change (`changes`), what becomes of who stands at an address (`becoming`), which
 //! cells can change (`moved_cells`), what is done to each (`cell_edits`), and places for what is sent (`places`).
 
-ghost use Rattle.std.specs.Prelude.{◌≡◌, None, IfOk, OnOk};
+ghost use Rattle.std.specs.Prelude.{◌≡◌, None, IfOk, OnOk, OnErr};
 ghost use Rattle.net_conf.specs.Concerned.{ConcernsAlone};
 ghost use Rattle.net_conf.specs.Edits.{refusal_of};
 ghost use Rattle.reference_machine.specs.Machine.{with_sent, after_edit};
@@ -119,6 +119,7 @@ impl<S: Selector + Send + Sync + Drop, T: PrefixTable<Cell<S>> + Drop> State<S, 
         requires { refusal_of self.old.conf edit.now ≡ None }
         ensures same { KeepsSame self.old self.new }
         ensures network { network self.new ≡ network self.old }
+        ensures alone { OnOk result (self.new.tables ≡ with_origin edit.now self.old.tables) }
         ensures planned { IfOk result (λ edited. IsPlanned self.new edit.now edited) }
     {
         self.make_origin(edit)?;
@@ -127,12 +128,11 @@ impl<S: Selector + Send + Sync + Drop, T: PrefixTable<Cell<S>> + Drop> State<S, 
 
     /// What the edit will do, where a router has a cell for what it is to originate.
     fn plan<R: Threads + Sync>(&self, rt: &R, edit: &Edit) -> Result<Edited<S>, AllocError>
+        requires { refusal_of self.now.conf edit.now ≡ None }
         ensures { IfOk result (λ edited. made_in self.now.tables edited ≡ planned self.now edit.now) }
     {
         self.facts();
-        let Ok(made) = self.conf().edited(rt, self.alloc, edit) else {
-            return Err(AllocError);
-        };
+        let made = self.conf().made(rt, self.alloc, edit)?;
         let Ok((directions, edits)) = self.moves_by(rt, edit, &made) else {
             drop(made);
             return Err(AllocError);
@@ -183,10 +183,13 @@ impl<S: Selector + Send + Sync + Drop, T: PrefixTable<Cell<S>> + Drop> State<S, 
 }
 
 impl<S: Selector + Drop, T: PrefixTable<Cell<S>> + Drop> State<S, T> {
-    /// Sees to it that a router that the edit makes originate a prefix has a cell of it.
+    /// Sees to it that a router that the edit makes originate a prefix has a cell of it. It makes no other cell, and at
+    /// an error none.
     fn make_origin(&mut self, edit: &Edit) -> Result<(), AllocError>
         ensures same { KeepsSame self.old self.new }
         ensures there { OnOk result (with_origin edit.now self.new.tables ≡ self.new.tables) }
+        ensures alone { OnOk result (self.new.tables ≡ with_origin edit.now self.old.tables) }
+        ensures err { OnErr result (self.new.tables ≡ self.old.tables) }
     {
         match edit {
             Edit::Origin(router, prefix) => self.make_cell(*router, *prefix),

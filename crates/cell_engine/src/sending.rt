@@ -1,10 +1,10 @@
 //! Sending without memory: a message's attributes are admitted, and there is a place for it, before it goes into its
 //! queue.
 
-ghost use Rattle.std.specs.Prelude.{◌≡◌, ◌≤◌, ◌+◌, ◌++◌, length, OnOk};
+ghost use Rattle.std.specs.Prelude.{◌≡◌, ◌≤◌, ◌+◌, ◌++◌, true, length, OnOk, OnErr};
 ghost use Rattle.session_queue.specs.Waiting.{queue_at, spare_at, IsAdmitted, KeepsAdmitted};
 ghost use Rattle.cell_engine.specs.Sending.{told, told_from};
-ghost use Rattle.cell_engine.specs.Admitting.{AreAdmitted};
+ghost use Rattle.cell_engine.specs.Admitting.{Admits, AreAdmitted, has_attributes};
 ghost use Rattle.cell_engine.specs.Queueing.{KeepsMessages, KeepsPlaces};
 
 use net_prefix::Addr;
@@ -14,6 +14,9 @@ use std::alloc::AllocError;
 /// Sees to it that the message may be sent: an update's attributes are admitted.
 pub(crate) fn admit(queues: &mut Queues, message: &Message) -> Result<(), AllocError>
     ensures admitted { OnOk result (IsAdmitted queues.new message.now) }
+    ensures admits { OnOk result (Admits message.now queues.old.admitted queues.new.admitted) }
+    ensures has { OnErr result (has_attributes message.now ≡ true) }
+    ensures err { OnErr result (queues.new ≡ queues.old) }
     ensures keeps { KeepsAdmitted queues.old queues.new }
     ensures queue { KeepsMessages queues.old queues.new }
     ensures spare { KeepsPlaces queues.old queues.new }

@@ -122,7 +122,7 @@ none_standing site p es none [] = refl
 none_standing site p es none (x ∷ xs) =
     ap (λ o. cons_option (standing_over site p x o) (filter_map (standing_from site p es) xs)) (none x.peer) ∙ none_standing site p es none xs
 
-no_entries : finite.entries (finite.empty {K = Source} {X = Standing} {R = source_cmp}) ≡ []
+pub no_entries : finite.entries (finite.empty {K = Source} {X = Standing} {R = source_cmp}) ≡ []
 no_entries = nil_from_length _ (sym (finite.len-entries (finite.empty {K = Source} {X = Standing} {R = source_cmp})) ∙ finite.len-empty source_cmp Standing)
 
 none_best : (always : Bool) → best_of (no_standings always) ≡ None

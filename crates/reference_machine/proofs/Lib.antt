@@ -2,3 +2,5 @@ pub mod Known
 pub mod Matches
 pub mod Traces
 pub mod Originated
+mod Onward
+mod Peers

@@ -1,5 +1,5 @@
 -- What a router advertises to its peers, and what it sends when that changes (RFC 4271, 9.1.3 and 9.2).
-use Rattle.std.specs.Prelude.{Bool, not, ◌&&◌, List, [], ◌++◌, map, fold, Option, Some, None, option_and_then, if◌then◌else◌}
+use Rattle.std.specs.Prelude.{◌≡◌, Bool, true, not, ◌&&◌, List, [], ◌++◌, map, fold, Option, Some, None, option_and_then, if◌then◌else◌}
 use Rattle.std.specs.List.{filter_map}
 use Rattle.std.specs.BTreeSet.{insert_key}
 use Rattle.net_prefix.specs.declared.addr.Addr.{Addr}
@@ -52,3 +52,7 @@ changes s s' r t = filter_map (λ p. change_of p (advertised s r t p) (advertise
 -- what is sent in a direction when s becomes s'
 unfoldable pub sent : Network → Network → Addr → Addr → List Message
 sent s s' r t = if sends s'.conf r t then changes s s' r t else []
+
+-- a virtual peer sends nothing by itself, whatever becomes of the state: no message depends on what is said above of one
+abbrev pub PeersSendNothing : Type 0
+PeersSendNothing = (s s' : Network) (r t : Addr) → is_virtual s'.conf r ≡ true → sent s s' r t ≡ []

@@ -1,5 +1,5 @@
 -- The machine: what each event does, and runs of events.
-use Rattle.std.specs.Prelude.{◌≡◌, Bool, true, false, not, ◌&&◌, ◌||◌, nat_lt, ◌⊎◌, List, [], ◌∷◌, length, map, filter, Option, Some, None, Result, Ok, Err, if◌then◌else◌}
+use Rattle.std.specs.Prelude.{◌≡◌, ℕ, Bool, true, false, not, ◌&&◌, ◌||◌, nat_lt, ◌⊎◌, List, [], ◌∷◌, length, map, filter, Option, Some, None, Result, Ok, Err, if◌then◌else◌}
 use Rattle.net_prefix.specs.declared.addr.Addr.{Addr}
 use Rattle.path_attr.specs.declared.attr.Attr.{Attr}
 use Rattle.path_attr.specs.Attribute.{plain_attr}
@@ -28,7 +28,6 @@ use Rattle.sim_event.specs.declared.reply.Report.TheVariants.{Routes as TheRoute
 use Rattle.sim_event.specs.declared.reply.Reply.{Reply}
 use Rattle.sim_event.specs.declared.reply.Reply.TheVariants.{Done, Took, Report as AReport, Refused}
 use Rattle.session_queue.specs.declared.direction.Direction.{Direction}
-use Rattle.reference_machine.specs.declared.limits.TheConstants.{MOST_FED_NUMBERS, MOST_FED_COMMUNITIES}
 use Rattle.reference_machine.specs.declared.rows.RouteKey.{RouteKey}
 use Rattle.reference_machine.specs.declared.rows.Queue.{Queue}
 use Rattle.reference_machine.specs.Network.{Network, with_route, without_route, messages_in, with_direction, with_more, with_message, without_head}
@@ -90,14 +89,22 @@ abbrev pub has_foreign_first : Configuration → Addr → News → Bool
 has_foreign_first c v (Update r) = not (same_number (neighbour r.path) (as_of c v))
 has_foreign_first c v (Withdraw p) = false
 
--- the path holds more AS numbers than one that is fed may (own)
+-- the most AS numbers in a path that is fed (own)
+abbrev pub most_fed_numbers : ℕ
+most_fed_numbers = 255
+
+-- the most communities that a fed route carries (own)
+abbrev pub most_fed_communities : ℕ
+most_fed_communities = 32
+
+-- the path holds more AS numbers than one that is fed may
 abbrev pub is_too_long : News → Bool
-is_too_long (Update r) = nat_lt MOST_FED_NUMBERS (number_count r.path)
+is_too_long (Update r) = nat_lt most_fed_numbers (number_count r.path)
 is_too_long (Withdraw p) = false
 
--- the route carries more communities than one that is fed may (own)
+-- the route carries more communities than one that is fed may
 abbrev pub carries_too_many : News → Bool
-carries_too_many (Update r) = nat_lt MOST_FED_COMMUNITIES (length r.comms)
+carries_too_many (Update r) = nat_lt most_fed_communities (length r.comms)
 carries_too_many (Withdraw p) = false
 
 -- why the feed is refused: the first test that holds, in the order of their numbers
@@ -208,6 +215,16 @@ report_of s (Trace r d) = let t = trace s r d in TheTrace t.hops t.ending
 unfoldable pub question_step : Network → Ask → Outcome
 question_step s q = unless_refused (ask_refusal s.conf q) s (record { reply = AReport (report_of s q); next = s })
 
+-- the router whose choices, adverts, costs or forwarding the question is about
+abbrev pub decider_asked : Ask → Option Addr
+decider_asked (Routes r) = Some r
+decider_asked (Best r p) = Some r
+decider_asked (Why r p) = Some r
+decider_asked (Out r t) = Some r
+decider_asked (Cost r x) = Some r
+decider_asked (Trace r d) = Some r
+decider_asked _ = None
+
 -- STEPS AND RUNS
 
 -- what the machine answers to an event, and its state after it
@@ -222,6 +239,10 @@ is_refusal Done = false
 is_refusal (Took p k) = false
 is_refusal (AReport r) = false
 is_refusal (Refused r) = true
+
+-- such a question about a virtual peer is refused: no report depends on what the definitions of reports say of one
+abbrev pub PeersTellNothing : Type 0
+PeersTellNothing = (s : Network) (q : Ask) (r : Addr) → decider_asked q ≡ Some r → is_virtual s.conf r ≡ true → is_refusal (step s (AnAsk q)).reply ≡ true
 
 -- the outcome was tried: it came about, or, where it is no refusal, nothing did for want of memory
 abbrev pub Tries : {E : Type 0} → Outcome → Network → Result Reply E → Network → Type 0

@@ -1,5 +1,5 @@
 -- The way of what a router forwards (RFC 4271, 9.1.2.1 and 9.1.4: by the longest prefix that matches).
-use Rattle.std.specs.Prelude.{◌≡◌, ℕ, zero, suc, Bool, true, ◌&&◌, nat_lt, List, [], ◌∷◌, ◌++◌, filter, fold, length, Option, Some, None, is_some, if◌then◌else◌}
+use Rattle.std.specs.Prelude.{◌≡◌, ℕ, zero, suc, Bool, true, false, ◌&&◌, nat_lt, List, [], ◌∷◌, ◌++◌, filter, fold, length, Option, Some, None, is_some, if◌then◌else◌}
 use Rattle.std.specs.List.{list_any}
 use Rattle.net_prefix.specs.declared.addr.Addr.{Addr}
 use Rattle.net_prefix.specs.Address.{same_addr}
@@ -53,7 +53,7 @@ LongestMatchLaw = (s : Network) (r d : Addr) → IsLongestMatch s r d (longest_m
 abbrev pub has_passed : Addr → List (Addr × Prefix) → Bool
 has_passed r hops = list_any (λ h. same_addr h.0 r) hops
 
--- over the first hop towards the NEXT_HOP, where there is one
+-- over the first hop towards the NEXT_HOP; there is one (OnwardLaw, below), so the first case is never reached
 abbrev pub onward : Addr → Prefix → Option Addr → Look
 onward r p None = Ends (NoRoute r)
 onward r p (Some h) = Forwards p h
@@ -75,6 +75,10 @@ look s d hops r =
     if has_passed r hops then Ends (Loop r)
     else if is_virtual s.conf r then Ends (Reached r)
     else by_prefix s r (longest_match s r d)
+
+-- a route that a router has chosen, and that is not its own, has a first hop towards its NEXT_HOP: what has none is excluded
+abbrev pub OnwardLaw : Type 0
+OnwardLaw = (s : Network) (r : Addr) (p : Prefix) (b : Candidate) → best s r p ≡ Some b → is_own b.source ≡ false → is_some (first_hop_in (costs_of s.conf r) b.attr.next) ≡ true
 
 -- the hops from r on, where it came over those passed, and how they end: each router forwards by the prefix to the next one,
 -- and where it comes to after the last, it ends

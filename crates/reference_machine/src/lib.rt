@@ -9,7 +9,10 @@ mod machine_rules;
 mod rows;
 mod tracing;
 
-pub use laws::{longest_match_is_longest, traces_follow_looks};
+pub use laws::{
+    chosen_routes_lead_onward, longest_match_is_longest, traces_follow_looks,
+    virtual_peers_decide_nothing,
+};
 pub use limits::{MOST_FED_COMMUNITIES, MOST_FED_NUMBERS};
 pub use machine::Machine;
 pub use machine_rules::{

@@ -1,10 +1,11 @@
 //! What a virtual peer feeds.
 
-ghost use Rattle.std.specs.Prelude.{◌≡◌, ◌<◌, true, OnOk};
+ghost use Rattle.std.specs.Prelude.{◌≡◌, ◌<◌, ◌⊎◌, max, true, OnOk, OnErr};
 ghost use Rattle.net_conf.specs.Configuration.{has_session};
-ghost use Rattle.session_queue.specs.Waiting.{spare_at, IsAdmitted};
+ghost use Rattle.session_queue.specs.Waiting.{spare_at, IsAdmitted, KeepsOthers};
 ghost use Rattle.reference_machine.specs.Network.{with_message};
 ghost use Rattle.cell_engine.specs.State.{network};
+ghost use Rattle.cell_engine.specs.Admitting.{Admits, has_attributes};
 ghost use Rattle.cell_engine.specs.Deliveries.{KeepsSame};
 
 use crate::route_cell::Cell;
@@ -16,13 +17,24 @@ use session_queue::{Direction, Message};
 use std::alloc::AllocError;
 
 impl<S: Selector, T: PrefixTable<Cell<S>>> State<S, T> {
-    /// Sees to it that the message may be sent, and that the direction's queue has a place for it. The network stays as
-    /// it is, also at an error, which is want of memory.
+    /// Sees to it that the message may be sent, and that the direction's queue has a place for it: one, where it had
+    /// none. The network stays as it is, also at an error, which is want of memory: for a withdrawal, only where the
+    /// queue had no place.
     pub fn reserve_one(&mut self, direction: Direction, message: &Message) -> Result<(), AllocError>
         ensures same { KeepsSame self.old self.new }
         ensures network { network self.new ≡ network self.old }
         ensures room { OnOk result (0 < spare_at self.new.queues direction.from direction.to) }
+        ensures place { OnOk result
+            (spare_at self.new.queues direction.from direction.to
+            ≡ max 1 (spare_at self.old.queues direction.from direction.to)) }
+        ensures others { KeepsOthers direction.from direction.to self.old.queues self.new.queues }
         ensures admitted { OnOk result (IsAdmitted self.new.queues message.now) }
+        ensures admits { OnOk result (Admits message.now self.old.queues.admitted self.new.queues.admitted) }
+        ensures short { OnErr result
+            ((has_attributes message.now ≡ true) ⊎ (spare_at self.old.queues direction.from direction.to < 1)) }
+        ensures none { OnErr result
+            (spare_at self.new.queues direction.from direction.to
+            ≡ spare_at self.old.queues direction.from direction.to) }
     {
         admit(&mut self.queues, message)?;
         self.queues.reserve(direction.from, direction.to, 1)
