@@ -10,7 +10,7 @@ use Rattle.path_attr.specs.declared.path.Segment.TheVariants.{Seq as Sequence, S
 use Rattle.path_attr.specs.Path.{IsAscending, AreSegments, numbers_of, number_count}
 use Rattle.sim_event.specs.Events.{IsAsNumber, HasAsNumbers}
 use Rattle.sim_event.specs.Wording.{none_text, numbers_text, segment_text, path_text}
-use Rattle.command_text.specs.declared.limits.TheConstants.{MAX_LINE}
+use Rattle.command_text.specs.Lines.{most_command_bytes}
 use Rattle.command_text.specs.Ascending.{HasAscending}
 use Rattle.command_text.specs.Paths.{AreNumbers, HasNumbers, IsPart, HasSegment, AreParts, HasSegments, IsAsPath, HasPath}
 use Rattle.command_text.proofs.Joins.{has_first, has_after, has_more, has_last, has_one, GoesOn, goes_more, goes_last}
@@ -98,14 +98,14 @@ segments_parts [] h g = tt
 segments_parts (s ∷ ss) h g = ((h.0, g.0), segments_parts ss h.1 g.1)
 
 -- a path of one segment or more
-pub path_of : (ss : List Segment) (text : List ℕ) → length text ≤ MAX_LINE → AreParts ss text → IsAsPath ss × (text ≡ path_text ss)
+pub path_of : (ss : List Segment) (text : List ℕ) → length text ≤ most_command_bytes → AreParts ss text → IsAsPath ss × (text ≡ path_text ss)
 unfolding path_text
 path_of [] text short are = absurd (omega (arith, are.0))
 path_of (s ∷ ss) text short are =
     let parts = parts_segments (s ∷ ss) are.1 in
     ((((parts.0, omega (arith, count_within (s ∷ ss), ap length are.2)), parts.1)), are.2)
 
-pub segments_path : (text : List ℕ) → length text ≤ MAX_LINE → HasSegments text → HasPath text
+pub segments_path : (text : List ℕ) → length text ≤ most_command_bytes → HasSegments text → HasPath text
 segments_path text short has = let made = path_of has.0 text short has.1 in (has.0, made.0, made.1)
 
 -- the path of no segment

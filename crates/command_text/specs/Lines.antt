@@ -8,7 +8,6 @@ use Rattle.sim_event.specs.declared.event.Event.TheVariants.{Feed as AFeed}
 use Rattle.sim_event.specs.declared.event.News.{News}
 use Rattle.sim_event.specs.declared.event.News.TheVariants.{Update, Withdraw}
 use Rattle.sim_event.specs.Events.{IsEvent}
-use Rattle.command_text.specs.declared.limits.TheConstants.{MAX_LINE}
 use Rattle.command_text.specs.Words.{words_of}
 
 -- the words of a line: what stands between its spaces
@@ -21,13 +20,17 @@ are_silent [] = true
 are_silent ([] ∷ words) = false
 are_silent ((b ∷ bs) ∷ words) = b == 35
 
--- a line that is not too long (own), and is blank or a comment
+-- the most bytes of a line, its end not counted (own)
+abbrev pub most_command_bytes : ℕ
+most_command_bytes = 4096
+
+-- a line that is not too long, and is blank or a comment
 abbrev pub IsSilent : List ℕ → Type 0
-IsSilent line = (length line ≤ MAX_LINE) × IsTrue (are_silent (tokens line))
+IsSilent line = (length line ≤ most_command_bytes) × IsTrue (are_silent (tokens line))
 
 -- a line that is not too long, and whose words spell the event
 abbrev pub Means : List ℕ → Event → Type 0
-Means line event = (length line ≤ MAX_LINE) × IsEvent event × (tokens line ≡ words_of event)
+Means line event = (length line ≤ most_command_bytes) × IsEvent event × (tokens line ≡ words_of event)
 
 -- a line that is neither
 abbrev pub IsFault : List ℕ → Type 0

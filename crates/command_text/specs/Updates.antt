@@ -4,8 +4,7 @@ use Rattle.net_prefix.specs.Prefix.{prefix_text}
 use Rattle.sim_event.specs.Events.{IsPrefix}
 use Rattle.sim_event.specs.Wording.{origin_text, maybe_number_text}
 use Rattle.command_text.specs.declared.feed.UpdateWords.{UpdateWords}
-use Rattle.command_text.specs.declared.limits.TheConstants.{MAX_LINE}
-use Rattle.command_text.specs.Lines.{tokens}
+use Rattle.command_text.specs.Lines.{tokens, most_command_bytes}
 use Rattle.command_text.specs.Paths.{HasPath}
 use Rattle.command_text.specs.CommunityWords.{HasCommunities}
 
@@ -15,4 +14,4 @@ update_words u = prefix_text u.prefix ∷ u.path.now ∷ origin_text u.origin �
 -- they spell a route
 abbrev pub AreUpdateWords : UpdateWords → Type 0
 AreUpdateWords u =
-    IsPrefix u.prefix × HasPath u.path.now × (length u.path.now ≤ MAX_LINE) × IfSome u.med (λ m. m < 2 ^ 32) × HasCommunities (tokens u.communities.now)
+    IsPrefix u.prefix × HasPath u.path.now × (length u.path.now ≤ most_command_bytes) × IfSome u.med (λ m. m < 2 ^ 32) × HasCommunities (tokens u.communities.now)

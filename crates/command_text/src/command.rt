@@ -2,10 +2,9 @@
 
 ghost use Rattle.std.specs.Prelude.{◌≤◌, ◌∷◌, length, codes};
 ghost use Rattle.sim_event.specs.Events.{IsEvent};
-ghost use Rattle.command_text.specs.declared.limits.TheConstants.{MAX_LINE};
 ghost use Rattle.command_text.specs.Words.{words_of};
 ghost use Rattle.command_text.specs.Verbs.{verb_word, node_word, link_word, pair_word, setting_word, prefix_word};
-ghost use Rattle.command_text.specs.Lines.{tokens, feeds_route};
+ghost use Rattle.command_text.specs.Lines.{tokens, feeds_route, most_command_bytes};
 ghost use Rattle.command_text.specs.Reading.{Reads, Makes};
 
 use crate::arguments::{
@@ -21,7 +20,7 @@ use std::alloc::Global;
 
 /// The event that the first word and the words after it spell.
 pub(crate) fn read_command(alloc: Global, first: &[u8], words: &[u8]) -> Result<Event, Refusal>
-    requires { length words.now ≤ MAX_LINE }
+    requires { length words.now ≤ most_command_bytes }
     ensures { Makes IsEvent feeds_route words_of (first.now ∷ tokens words.now) result }
 {
     if first == b"feed".as_slice() {

@@ -3,9 +3,8 @@
 ghost use Rattle.std.specs.Prelude.{◌≡◌, ◌≤◌, ◌∷◌, length, codes, IfSome, IfNone, IfOk};
 ghost use Rattle.sim_event.specs.declared.event.FedRoute.{FedRoute};
 ghost use Rattle.sim_event.specs.Events.{IsEvent, IsFedRoute, IsNews};
-ghost use Rattle.command_text.specs.declared.limits.TheConstants.{MAX_LINE};
 ghost use Rattle.command_text.specs.Words.{words_of, fed_words, news_words};
-ghost use Rattle.command_text.specs.Lines.{tokens, is_route, feeds_route};
+ghost use Rattle.command_text.specs.Lines.{tokens, is_route, feeds_route, most_command_bytes};
 ghost use Rattle.command_text.specs.Reading.{Makes};
 ghost use Rattle.command_text.specs.Updates.{update_words, AreUpdateWords};
 
@@ -22,7 +21,7 @@ use std::alloc::{AllocError, Global};
 
 /// `feed V R`, and the news
 pub(crate) fn read_feed(alloc: Global, words: &[u8]) -> Result<Event, Refusal>
-    requires { length words.now ≤ MAX_LINE }
+    requires { length words.now ≤ most_command_bytes }
     ensures { Makes IsEvent feeds_route words_of (codes "feed" ∷ tokens words.now) result }
 {
     let (from, rest) = next_address(words).ok_or(Refusal::Syntax)?;
@@ -33,7 +32,7 @@ pub(crate) fn read_feed(alloc: Global, words: &[u8]) -> Result<Event, Refusal>
 
 /// `update` and the words of a route, or `withdraw P`
 fn read_news(alloc: Global, words: &[u8]) -> Result<News, Refusal>
-    requires { length words.now ≤ MAX_LINE }
+    requires { length words.now ≤ most_command_bytes }
     ensures { Makes IsNews is_route news_words (tokens words.now) result }
 {
     let (first, rest) = next_word(words).ok_or(Refusal::Syntax)?;
@@ -57,7 +56,7 @@ fn read_withdraw(words: &[u8]) -> Result<News, Refusal>
 
 /// `update P PATH ORIGIN MED`, and `comm=N,N..` where the route has communities
 fn read_update(alloc: Global, words: &[u8]) -> Result<News, Refusal>
-    requires { length words.now ≤ MAX_LINE }
+    requires { length words.now ≤ most_command_bytes }
     ensures { Makes IsNews is_route news_words (codes "update" ∷ tokens words.now) result }
 {
     let Some(update) = update_of(words) else {
@@ -82,7 +81,7 @@ struct UpdateWords<'a> {
 
 /// The words of an update. It takes no memory.
 fn update_of(words: &[u8]) -> Option<UpdateWords<'_>>
-    requires { length words.now ≤ MAX_LINE }
+    requires { length words.now ≤ most_command_bytes }
     ensures found { IfSome result (λ u. AreUpdateWords u × (tokens words.now ≡ update_words u)) }
     ensures none { IfNone result ((r : FedRoute) → IsFedRoute r → tokens words.now ≡ fed_words r → ⊥) }
 {

@@ -2,7 +2,7 @@
 //! before any memory is taken, so that want of memory never hides a fault of syntax.
 
 ghost use Rattle.std.specs.Prelude.{◌≡◌, ◌↔◌, ℕ, ◌≤◌, List, [], ◌∷◌, ◌++◌, length, IfSome, IfNone, IfOk, IsTrue};
-ghost use Rattle.command_text.specs.declared.limits.TheConstants.{MAX_LINE};
+ghost use Rattle.command_text.specs.Lines.{most_command_bytes};
 ghost use Rattle.command_text.specs.Paths.{HasNumber, HasNumbers, AreNumbers, IsPart, HasSegment, AreParts, HasSegments, IsAsPath, HasPath};
 ghost use Rattle.sim_event.specs.Wording.{segment_text, path_text};
 
@@ -15,7 +15,7 @@ use std::alloc::{AllocError, Global};
 
 /// Whether the text spells a path of AS numbers. It takes no memory.
 pub(crate) fn is_path(text: &[u8]) -> bool
-    requires { length text.now ≤ MAX_LINE }
+    requires { length text.now ≤ most_command_bytes }
     ensures { IsTrue result ↔ HasPath text.now }
 {
     is_dash(text) || are_segments(text)
@@ -24,7 +24,7 @@ pub(crate) fn is_path(text: &[u8]) -> bool
 /// The path that the text spells.
 pub(crate) fn build_path(alloc: Global, text: &[u8]) -> Result<AsPath, AllocError>
     requires spelled { HasPath text.now }
-    requires short { length text.now ≤ MAX_LINE }
+    requires short { length text.now ≤ most_command_bytes }
     ensures { IfOk result (λ p. IsAsPath p × (text.now ≡ path_text p)) }
 {
     if is_dash(text) {

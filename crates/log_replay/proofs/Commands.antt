@@ -10,8 +10,7 @@ use Rattle.net_conf.specs.declared.refusal.Refusal.TheVariants.{Syntax, Memory}
 use Rattle.sim_event.specs.declared.event.Event.{Event}
 use Rattle.sim_event.specs.Events.{IsEvent}
 use Rattle.command_text.specs.Words.{words_of}
-use Rattle.command_text.specs.Lines.{tokens, are_silent, IsSilent, Means, IsFault, IsReading}
-use Rattle.command_text.specs.declared.limits.TheConstants.{MAX_LINE}
+use Rattle.command_text.specs.Lines.{tokens, are_silent, IsSilent, Means, IsFault, IsReading, most_command_bytes}
 use Rattle.reply_text.specs.Visible.{visible_lacks}
 use Rattle.log_text.specs.Logs.{command_text}
 use Rattle.log_replay.specs.Reading.{IsSpaced, IsCommand, Spells}
@@ -54,7 +53,7 @@ command_tokens e is =
     ap (filter (λ word. nat_lt 0 (length word))) (split_words (words_of e) words) ∙ kept (words_of e) (some_solid (words_of e) words.solid)
 
 -- so it means it
-pub command_means : (e : Event) → IsEvent e → length (command_text e) ≤ MAX_LINE → Means (command_text e) e
+pub command_means : (e : Event) → IsEvent e → length (command_text e) ≤ most_command_bytes → Means (command_text e) e
 command_means e is short = (short, is, command_tokens e is)
 
 -- a text with single spaces whose words are those of an event is its command
@@ -76,7 +75,7 @@ silent_event text silent event is =
 meant : (text : List ℕ) (event : Event) → IsSpaced text → Means text event → IsCommand text event
 meant text event spaced means =
     let same : text ≡ command_text event = spaced_command text event spaced means.2 in
-    (means.1, subst (λ t. length t ≤ MAX_LINE) same means.0, same)
+    (means.1, subst (λ t. length t ≤ most_command_bytes) same means.0, same)
 
 pub read_event : (text : List ℕ) (found : Option Event) → IsSpaced text → IsReading text (Ok found) → Spells text found
 read_event text (Some event) spaced means = meant text event spaced means

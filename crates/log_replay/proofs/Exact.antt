@@ -23,12 +23,11 @@ use Rattle.log_text.specs.declared.version.Version.TheVariants.{One, Two}
 use Rattle.log_text.specs.Versions.{header}
 use Rattle.log_text.specs.Logs.{command_text, call_line, reply_mark, entry_text, log_of}
 use Rattle.watched.specs.Streams.{Reading}
-use Rattle.log_replay.specs.declared.limits.TheConstants.{MOST_LINES}
 use Rattle.log_replay.specs.declared.verdict.Replayed.{Replayed}
 use Rattle.log_replay.specs.declared.verdict.Replayed.TheVariants.{Agrees, Differs, BadLine}
 use Rattle.log_replay.specs.declared.verdict.ReplayFault.{ReplayFault}
 use Rattle.log_replay.specs.declared.verdict.ReplayFault.TheVariants.{Read, TooManyLines, Memory}
-use Rattle.log_replay.specs.Replaying.{Place, beginning, within, finished, is_finished, IsCall, IsCallLine, Takes, TakesAll, IsFit, Stands, lines_text, IsRefused, IsTooLong, IsCutOff, IsReplay}
+use Rattle.log_replay.specs.Replaying.{Place, beginning, within, finished, is_finished, IsCall, IsCallLine, Takes, TakesAll, IsFit, Stands, lines_text, IsRefused, IsTooLong, IsCutOff, IsReplay, most_lines}
 use Rattle.log_replay.specs.Exactness.{IsLogged, IsLogOf, IsProof, IsFair}
 use Rattle.log_replay.proofs.Words.{AreSolid, literal, spelled}
 use Rattle.log_replay.proofs.Versions.{same_event}
@@ -282,7 +281,7 @@ ahead law (d ∷ ds) (l ∷ more) left p q f hd hl e a b =
     }
 
 -- what is ahead at a place that replaying has come to
-log_ahead : OneMeaning → RepliesAreLines → (bytes left : List ℕ) (k n : ℕ) (p : Place) → Stands bytes left k p → (log : IsLogOf bytes n) → (rest : List (List ℕ)) × AllByRecursion IsFit rest × (left ≡ lines_text rest) × (k + length rest ≤ MOST_LINES) × TakesAll p rest (finished n)
+log_ahead : OneMeaning → RepliesAreLines → (bytes left : List ℕ) (k n : ℕ) (p : Place) → Stands bytes left k p → (log : IsLogOf bytes n) → (rest : List (List ℕ)) × AllByRecursion IsFit rest × (left ≡ lines_text rest) × (k + length rest ≤ most_lines) × TakesAll p rest (finished n)
 log_ahead law lines bytes left k n p so log =
     let ls = log.5.0 in
     let a = ahead law so.done ls left beginning p (finished n) so.fit log.5.2 (sym so.parts ∙ log.5.1) so.taken (leads log.0 ls log.1 n lines log.5.2 log.2 log.3 (sym log.5.1 ∙ log.4)) in
@@ -332,9 +331,9 @@ length_none : (ls : List (List ℕ)) → length ls ≤ 0 → ls ≡ []
 length_none [] h = refl
 length_none (l ∷ ls) h = absurd (omega (arith, h))
 
-not_many : OneMeaning → RepliesAreLines → (bytes left : List ℕ) (n : ℕ) (p : Place) → Stands bytes left MOST_LINES p → 0 < length left → IsLogOf bytes n → ⊥
+not_many : OneMeaning → RepliesAreLines → (bytes left : List ℕ) (n : ℕ) (p : Place) → Stands bytes left most_lines p → 0 < length left → IsLogOf bytes n → ⊥
 not_many law lines bytes left n p so some log =
-    let a = log_ahead law lines bytes left MOST_LINES n p so log in
+    let a = log_ahead law lines bytes left most_lines n p so log in
     let none : a.0 ≡ [] = length_none a.0 (omega (arith, a.3)) in
     let nothing_left : left ≡ [] = a.2 ∙ ap lines_text none in
     omega (arith, ap length nothing_left, some)

@@ -8,7 +8,6 @@ use Rattle.std.proofs.lemmas.List.Elements.{All-weaker}
 use Rattle.watched.specs.LineFeeds.{is_line_feed, Whole, cut_at, no_cut}
 use Rattle.decimal.specs.Separators.{Lacks}
 use Rattle.reply_text.specs.Replies.{line_end}
-use Rattle.log_replay.specs.declared.limits.TheConstants.{MOST_BYTES, MOST_LINES}
 use Rattle.watched.specs.Streams.{Reading}
 use Rattle.reference_machine.specs.Network.{Network}
 use Rattle.reference_machine.specs.Machine.{nothing}
@@ -22,7 +21,7 @@ use Rattle.log_replay.specs.declared.verdict.Replayed.{Replayed}
 use Rattle.log_replay.specs.declared.verdict.ReplayFault.{ReplayFault}
 use Rattle.log_replay.specs.declared.verdict.Replayed.TheVariants.{Agrees, Differs, BadLine}
 use Rattle.log_replay.specs.declared.verdict.ReplayFault.TheVariants.{Read, TooManyLines, Memory}
-use Rattle.log_replay.specs.Replaying.{Place, beginning, finished, is_finished, Takes, TakesAll, IsFit, Stands, lines_text, Begins, IsInBounds, IsCallAt, IsReplay}
+use Rattle.log_replay.specs.Replaying.{Place, beginning, finished, is_finished, Takes, TakesAll, IsFit, Stands, lines_text, Begins, IsInBounds, IsCallAt, IsReplay, most_bytes, most_lines}
 use Rattle.log_replay.specs.Reading.{IsAtStage, IsAt, Becomes}
 use Rattle.log_replay.specs.Progress.{Comes, IsNext, IsTakenLine, IsAdvance}
 
@@ -35,7 +34,7 @@ fit_push [] line h fit = (fit, tt)
 fit_push (l ∷ more) line h fit = (h.0, fit_push more line h.1 fit)
 
 -- one more line was taken
-stands_more : (bytes line rest : List ℕ) (k : ℕ) (p q : Place) → Stands bytes (line ++ (10 ∷ rest)) k p → IsFit line → k < MOST_LINES → Takes p line q → Stands bytes rest (k + 1) q
+stands_more : (bytes line rest : List ℕ) (k : ℕ) (p q : Place) → Stands bytes (line ++ (10 ∷ rest)) k p → IsFit line → k < most_lines → Takes p line q → Stands bytes rest (k + 1) q
 stands_more bytes line rest k p q so fit few takes = record {
   done = so.done ++ line ∷ [];
   parts = so.parts ∙ ap (λ t. lines_text so.done ++ t) (sym (append_assoc line line_end rest)) ∙ sym (append_assoc (lines_text so.done) (line ++ line_end) rest)
@@ -50,7 +49,7 @@ stands_more bytes line rest k p q so fit few takes = record {
 pub lacks_whole : (bytes : List ℕ) → Whole bytes → Lacks 10 bytes
 lacks_whole bytes h = All-weaker (λ b. eqb b 10 ≡ false) (λ b. b ≢ 10) (λ b no_feed same. eqb-false b 10 no_feed same) bytes h
 
-first_line : (pending rest : List ℕ) (end : ℕ) → position is_line_feed pending ≡ Some end → end ≤ MOST_BYTES
+first_line : (pending rest : List ℕ) (end : ℕ) → position is_line_feed pending ≡ Some end → end ≤ most_bytes
     → (pending ++ rest ≡ take end pending ++ (10 ∷ (drop (end + 1) pending ++ rest))) × IsFit (take end pending)
 first_line pending rest end is short =
     let cut = cut_at pending end is in (
@@ -66,7 +65,7 @@ ended Finished n due s p h e = h
 
 -- THE NEXT LINE
 
-in_bounds : (left : List ℕ) (k : ℕ) → k < MOST_LINES → IsInBounds k left
+in_bounds : (left : List ℕ) (k : ℕ) → k < most_lines → IsInBounds k left
 in_bounds left k few some = few
 
 begins : (pending rest line : List ℕ) (k end : ℕ) → IsNext pending k (Line end) → line ≡ take end pending → Begins (pending ++ rest) line
@@ -116,7 +115,7 @@ line_long bytes pending rest k c s i next h =
 -- it is one too many
 pub line_many : (bytes pending rest : List ℕ) (k : ℕ) (c : Checker) (s : Network) (i : Reading) → IsNext pending k TooMany → Comes bytes (pending ++ rest) k c s → IsReplay bytes (Err TooManyLines) i
 line_many bytes pending rest k c s i next h =
-    let last : k ≡ MOST_LINES = omega (arith, next.1, h.1.few) in
+    let last : k ≡ most_lines = omega (arith, next.1, h.1.few) in
     (h.0, pending ++ rest, subst (λ n. Stands bytes (pending ++ rest) n h.0) last h.1, omega (arith, next.0, length-append pending rest))
 
 -- a line that was taken, where what is left to read is known

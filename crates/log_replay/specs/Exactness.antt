@@ -5,8 +5,7 @@ use Rattle.sim_event.specs.declared.entry.Entry.{Entry}
 use Rattle.reference_machine.specs.Histories.{IsLegal}
 use Rattle.log_text.specs.declared.version.Version.{Version}
 use Rattle.log_text.specs.Logs.{log_of}
-use Rattle.log_replay.specs.Replaying.{IsCall, IsFit, lines_text}
-use Rattle.log_replay.specs.declared.limits.TheConstants.{MOST_LINES}
+use Rattle.log_replay.specs.Replaying.{IsCall, IsFit, lines_text, most_lines}
 use Rattle.log_replay.specs.declared.verdict.Replayed.{Replayed}
 use Rattle.log_replay.specs.declared.verdict.Replayed.TheVariants.{Agrees}
 use Rattle.log_replay.specs.declared.verdict.ReplayFault.{ReplayFault}
@@ -18,7 +17,7 @@ IsLogged v h = IsLegal h × AllByRecursion (λ e. IsCall v e.seat e.event) h
 
 -- no more lines than a log may have, none too long, each with its line feed
 abbrev pub AreLogLines : List ℕ → Type 0
-AreLogLines bytes = (ls : List (List ℕ)) × (bytes ≡ lines_text ls) × AllByRecursion IsFit ls × (length ls ≤ MOST_LINES)
+AreLogLines bytes = (ls : List (List ℕ)) × (bytes ≡ lines_text ls) × AllByRecursion IsFit ls × (length ls ≤ most_lines)
 
 -- the bytes are the log, of either version, of a legal history of n calls, within the limits
 abbrev pub IsLogOf : List ℕ → ℕ → Type 0

@@ -2,21 +2,20 @@
 use Rattle.std.specs.Prelude.{◌≡◌, ℕ, ◌+◌, ◌-◌, ◌*◌, ◌<◌, ◌≤◌, ◌==◌, List, ◌++◌, length, position, Option, Some, None, Result, Ok, Err}
 use Rattle.watched.specs.Streams.{Reading}
 use Rattle.reference_machine.specs.Network.{Network}
-use Rattle.log_replay.specs.declared.limits.TheConstants.{MOST_BYTES, MOST_LINES}
 use Rattle.log_replay.specs.declared.place.Checker.{Checker}
 use Rattle.log_replay.specs.declared.place.Next.{Next}
 use Rattle.log_replay.specs.declared.place.Next.TheVariants.{Line, Part, TooLong, TooMany}
 use Rattle.log_replay.specs.declared.verdict.Replayed.{Replayed}
 use Rattle.log_replay.specs.declared.verdict.ReplayFault.{ReplayFault}
-use Rattle.log_replay.specs.Replaying.{Place, Stands, IsReplay, IsTooLong}
+use Rattle.log_replay.specs.Replaying.{Place, Stands, IsReplay, IsTooLong, most_bytes, most_lines}
 use Rattle.log_replay.specs.Reading.{IsAt}
 
 -- what the bytes begin with, after k lines: a line that ends at the index; a part of a line; or a line that is too long, or one too many
 abbrev pub IsNext : List ℕ → ℕ → Next → Type 0
-IsNext bytes k (Line end) = (position (λ b. b == 10) bytes ≡ Some end) × (end ≤ MOST_BYTES) × (k < MOST_LINES)
-IsNext bytes k Part = (position (λ b. b == 10) bytes ≡ None) × (length bytes < 1048577) × (0 < length bytes → k < MOST_LINES)
-IsNext bytes k TooLong = IsTooLong bytes × (k < MOST_LINES)
-IsNext bytes k TooMany = (0 < length bytes) × (MOST_LINES ≤ k)
+IsNext bytes k (Line end) = (position (λ b. b == 10) bytes ≡ Some end) × (end ≤ most_bytes) × (k < most_lines)
+IsNext bytes k Part = (position (λ b. b == 10) bytes ≡ None) × (length bytes ≤ most_bytes) × (0 < length bytes → k < most_lines)
+IsNext bytes k TooLong = IsTooLong bytes × (k < most_lines)
+IsNext bytes k TooMany = (0 < length bytes) × (most_lines ≤ k)
 
 -- so many lines brought the log to a place, at which the checker and the machine are; and these bytes are left
 abbrev pub Comes : List ℕ → List ℕ → ℕ → Checker → Network → Type 0
@@ -36,4 +35,4 @@ IsAdvance bytes (Err fault) pending lines c s i = IsReplay bytes (Err fault) i
 
 -- at most how many more lines may be taken and reads made, as a number that falls
 abbrev pub work_left : List ℕ → ℕ → ℕ
-work_left pending lines = (16000000 - lines) * 1048578 + (1048577 - length pending)
+work_left pending lines = (most_lines - lines) * 1048578 + (1048577 - length pending)

@@ -5,7 +5,7 @@ use Rattle.sim_event.specs.declared.event.Event.{Event}
 use Rattle.sim_event.specs.Events.{IsEvent}
 use Rattle.reference_machine.specs.Network.{Network}
 use Rattle.reference_machine.specs.Machine.{nothing}
-use Rattle.command_text.specs.declared.limits.TheConstants.{MAX_LINE}
+use Rattle.command_text.specs.Lines.{most_command_bytes}
 use Rattle.reply_text.specs.Lines.{IsLine, marked}
 use Rattle.log_text.specs.declared.version.Version.{Version}
 use Rattle.log_text.specs.declared.version.Version.TheVariants.{Two}
@@ -23,7 +23,7 @@ IsSpaced text = AllByRecursion (λ word. 0 < length word) (slice_split (λ b. b 
 
 -- the command of an event, with one space between words, and not too long
 abbrev pub IsCommand : List ℕ → Event → Type 0
-IsCommand text event = IsEvent event × (length (command_text event) ≤ MAX_LINE) × (text ≡ command_text event)
+IsCommand text event = IsEvent event × (length (command_text event) ≤ most_command_bytes) × (text ≡ command_text event)
 
 -- the event that a command spells; none where it spells none
 abbrev pub Spells : List ℕ → Option Event → Type 0

@@ -7,9 +7,8 @@ use Rattle.reply_text.specs.Replies.{line_end}
 use Rattle.reply_text.specs.declared.ending.RunFault.{RunFault}
 use Rattle.reply_text.specs.declared.ending.RunFault.TheVariants.{LineUnread, Unwritten, NoMemory}
 use Rattle.reply_text.specs.Ending.{success, disagrees, write_fault, fault_status, fault_text, IsTold}
-use Rattle.log_replay.specs.Replaying.{IsReplay, is_read_fault}
+use Rattle.log_replay.specs.Replaying.{IsReplay, is_read_fault, most_lines}
 use Rattle.log_replay.specs.Exactness.{IsProof, IsFair}
-use Rattle.log_replay.specs.declared.limits.TheConstants.{MOST_LINES}
 use Rattle.log_replay.specs.declared.verdict.Replayed.{Replayed}
 use Rattle.log_replay.specs.declared.verdict.Replayed.TheVariants.{Agrees, Differs, BadLine}
 use Rattle.log_replay.specs.declared.verdict.ReplayFault.{ReplayFault}
@@ -24,7 +23,7 @@ found_text (BadLine line) = codes "bad line " ++ decimal line ++ line_end
 -- how a fault of replaying ends the run: one line too many is not read
 abbrev pub run_fault : ReplayFault → RunFault
 run_fault (Read line) = LineUnread line
-run_fault TooManyLines = LineUnread (MOST_LINES + 1)
+run_fault TooManyLines = LineUnread (most_lines + 1)
 run_fault Memory = NoMemory
 
 -- the exit status

@@ -8,17 +8,23 @@ use Rattle.sim_event.specs.declared.event.Event.{Event}
 use Rattle.sim_event.specs.Events.{IsEvent}
 use Rattle.reference_machine.specs.Network.{Network}
 use Rattle.reference_machine.specs.Machine.{nothing, step}
-use Rattle.command_text.specs.declared.limits.TheConstants.{MAX_LINE}
+use Rattle.command_text.specs.Lines.{most_command_bytes}
 use Rattle.reply_text.specs.Replies.{line_end}
 use Rattle.reply_text.specs.Lines.{reply_lines}
 use Rattle.log_text.specs.declared.version.Version.{Version}
 use Rattle.log_text.specs.Versions.{has_form, header}
 use Rattle.log_text.specs.Logs.{command_text, call_line, reply_mark}
-use Rattle.log_replay.specs.declared.limits.TheConstants.{MOST_BYTES, MOST_LINES}
 use Rattle.log_replay.specs.declared.verdict.Replayed.{Replayed}
 use Rattle.log_replay.specs.declared.verdict.Replayed.TheVariants.{Agrees, Differs, BadLine}
 use Rattle.log_replay.specs.declared.verdict.ReplayFault.{ReplayFault}
 use Rattle.log_replay.specs.declared.verdict.ReplayFault.TheVariants.{Read, TooManyLines, Memory}
+
+-- the most bytes of a line, its line feed not counted, and the most lines
+abbrev pub most_bytes : ℕ
+most_bytes = 1048576
+
+abbrev pub most_lines : ℕ
+most_lines = 16000000
 
 -- what a log has come to: nothing; within a log of some version so many calls, the state that they leave, and the lines that
 -- are still due of the last one's reply; or its end, after so many calls
@@ -30,7 +36,7 @@ pub data Place : Type 0 where
 -- a call that a log of the version may hold: its values are in their ranges, its command is not too long, and the version has a form
 -- for it
 abbrev pub IsCall : Version → ℕ → Event → Type 0
-IsCall v seat event = (seat < 256) × IsEvent event × (length (command_text event) ≤ MAX_LINE) × (has_form v event ≡ true)
+IsCall v seat event = (seat < 256) × IsEvent event × (length (command_text event) ≤ most_command_bytes) × (has_form v event ≡ true)
 
 abbrev pub IsCallLine : Version → List ℕ → Event → Type 0
 IsCallLine v line event = (seat : ℕ) × IsCall v seat event × (line ≡ call_line seat event)
@@ -64,7 +70,7 @@ is_finished (finished n) = true
 
 -- a line is not too long, and has no line feed of its own; a carriage return is a byte like any other
 abbrev pub IsFit : List ℕ → Type 0
-IsFit line = Lacks 10 line × (length line ≤ MOST_BYTES)
+IsFit line = Lacks 10 line × (length line ≤ most_bytes)
 
 -- the lines, each with its line feed
 abbrev pub lines_text : List (List ℕ) → List ℕ
@@ -76,7 +82,7 @@ pub record Stands (bytes left : List ℕ) (k : ℕ) (p : Place) : Type 0 where
   pub parts : bytes ≡ lines_text done ++ left
   pub fit : AllByRecursion IsFit done
   pub count : length done ≡ k
-  pub few : k ≤ MOST_LINES
+  pub few : k ≤ most_lines
   pub taken : TakesAll beginning done p
 
 -- what is left begins with this line, whole and not too long
@@ -89,7 +95,7 @@ IsRefused p left = (line : List ℕ) × Begins left line × ((q : Place) → Tak
 
 -- more bytes than a line may have stand before the next line feed
 abbrev pub IsTooLong : List ℕ → Type 0
-IsTooLong left = (front : List ℕ) × (rest : List ℕ) × (left ≡ front ++ rest) × Lacks 10 front × (MOST_BYTES < length front)
+IsTooLong left = (front : List ℕ) × (rest : List ℕ) × (left ≡ front ++ rest) × Lacks 10 front × (most_bytes < length front)
 
 -- the input stops too early, or after the end in a line with no line feed
 abbrev pub IsCutOff : Place → List ℕ → Type 0
@@ -113,7 +119,7 @@ IsUnread left i' = (i'.failed ≡ true) × (part : List ℕ) × (rest : List ℕ
 
 -- after k lines one more may be read, or nothing is left
 abbrev pub IsInBounds : ℕ → List ℕ → Type 0
-IsInBounds k left = 0 < length left → k < MOST_LINES
+IsInBounds k left = 0 < length left → k < most_lines
 
 -- replaying the bytes: all of them were read, and are a log that agrees; or the next line is the first that differs or is bad;
 -- or it was not read, or is one too many; or memory was wanted for it. Lines count from 1
@@ -122,7 +128,7 @@ IsReplay bytes (Ok (Agrees n)) i' = (k : ℕ) × Stands bytes [] k (finished n) 
 IsReplay bytes (Ok (Differs line)) i' = (k : ℕ) × (p : Place) × (left : List ℕ) × Stands bytes left k p × (line ≡ k + 1) × IsInBounds k left × (awaits_reply p ≡ true) × IsRefused p left
 IsReplay bytes (Ok (BadLine line)) i' = (k : ℕ) × (p : Place) × (left : List ℕ) × Stands bytes left k p × (line ≡ k + 1) × IsInBounds k left × IsBad p left
 IsReplay bytes (Err (Read line)) i' = (k : ℕ) × (p : Place) × (left : List ℕ) × Stands bytes left k p × (line ≡ k + 1) × IsUnread left i'
-IsReplay bytes (Err TooManyLines) i' = (p : Place) × (left : List ℕ) × Stands bytes left MOST_LINES p × (0 < length left)
+IsReplay bytes (Err TooManyLines) i' = (p : Place) × (left : List ℕ) × Stands bytes left most_lines p × (0 < length left)
 IsReplay bytes (Err Memory) i' = (k : ℕ) × (p : Place) × (left : List ℕ) × Stands bytes left k p × IsInBounds k left × IsCalled p left
 
 -- the reader failed

@@ -1,6 +1,6 @@
 //! What the machine answers to a command, as a log has it.
 
-ghost use Rattle.std.specs.Prelude.{◌≡◌, false, IfOk, OnOk};
+ghost use Rattle.std.specs.Prelude.{◌≡◌, IfOk, OnOk};
 ghost use Rattle.reference_machine.specs.Machine.{step};
 ghost use Rattle.reply_text.specs.Lines.{marked, reply_lines};
 ghost use Rattle.log_text.specs.Logs.{reply_mark};
@@ -24,22 +24,9 @@ pub(crate) fn answer<M: Machine>(
         due.items ≡ marked reply_mark (reply_lines (step (M.network machine.old) event.now).reply)) }
     ensures state { OnOk result (M.network machine.new ≡ (step (M.network machine.old) event.now).next) }
 {
-    let reply = machine.step(rt, event);
-    if wants_memory(&reply) {
-        return Err(AllocError);
-    }
-    marked_text(alloc, &reply)
-}
-
-/// Whether a step was refused for want of memory.
-fn wants_memory(reply: &Reply) -> bool
-    ensures { result ≡ false → reply.now ≡ Reply.Refused Refusal.Memory → ⊥ }
-{
-    match reply {
-        Reply::Refused(refusal) => *refusal == Refusal::Memory,
-        Reply::Done => false,
-        Reply::Took(_, _) => false,
-        Reply::Report(_) => false,
+    match machine.step(rt, event) {
+        Reply::Refused(Refusal::Memory) => Err(AllocError),
+        reply => marked_text(alloc, &reply),
     }
 }
 

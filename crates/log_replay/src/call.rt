@@ -87,20 +87,9 @@ fn read_command(alloc: Global, command: &[u8]) -> Result<Option<Event>, AllocErr
     }
     match read_line(alloc, command) {
         Ok(event) => Ok(event),
-        Err(refusal) => {
-            if wants_memory(refusal) {
-                return Err(AllocError);
-            }
-            Ok(None)
-        }
+        Err(refusal) if refusal == Refusal::Memory => Err(AllocError),
+        Err(_) => Ok(None),
     }
-}
-
-/// Whether the refusal is want of memory.
-fn wants_memory(refusal: Refusal) -> bool
-    ensures { IsTrue result ↔ (refusal ≡ Refusal.Memory) }
-{
-    refusal == Refusal::Memory
 }
 
 /// Whether words stand in the text with one space between each and the next.

@@ -1,10 +1,10 @@
 //! A log on its way: what was read of it, and the place to which its lines have brought it.
 
-ghost use Rattle.std.specs.Prelude.{◌≡◌, ℕ, ◌+◌, ◌<◌, ◌≤◌, ◌==◌, ◌++◌, false, List, [], length, position, Ok, IfOk};
+ghost use Rattle.std.specs.Prelude.{◌≡◌, ℕ, ◌+◌, ◌<◌, ◌≤◌, ◌==◌, ◌++◌, true, false, List, [], length, position, Ok, IfOk};
 ghost use Rattle.watched.specs.Streams.{Reading};
 ghost use Rattle.reference_machine.specs.Network.{Network};
 ghost use Rattle.reference_machine.specs.Machine.{nothing};
-ghost use Rattle.log_replay.specs.Replaying.{IsReplay, beginning, is_read_fault};
+ghost use Rattle.log_replay.specs.Replaying.{IsReplay, beginning, is_read_fault, most_bytes, most_lines};
 ghost use Rattle.log_replay.specs.Reading.{IsAt};
 ghost use Rattle.log_replay.specs.Progress.{Comes, IsNext, IsTakenLine, IsAdvance, work_left};
 ghost use Rattle.log_replay.specs.declared.place.Next.TheVariants.{Line, Part};
@@ -44,6 +44,14 @@ impl Progress {
     }
 }
 
+/// Whether a line may have so many bytes.
+fn is_short(length: usize) -> bool
+    ensures short { result ≡ true → length ≤ most_bytes }
+    ensures long { result ≡ false → most_bytes < length }
+{
+    length <= MOST_BYTES
+}
+
 /// What stands at the head of the bytes that are left, after so many lines.
 fn next_line(pending: &LineBuffer<CAPACITY>, lines: u64) -> Next
     ensures { IsNext pending.now lines result }
@@ -53,7 +61,7 @@ fn next_line(pending: &LineBuffer<CAPACITY>, lines: u64) -> Next
         return Next::TooMany;
     }
     match pending.line_feed_at() {
-        Some(end) if end <= MOST_BYTES => Next::Line(end),
+        Some(end) if is_short(end) => Next::Line(end),
         None if bytes.len() < CAPACITY => Next::Part,
         _ => Next::TooLong,
     }
@@ -95,7 +103,7 @@ fn take_line<M: Machine>(
 /// What a log is whose input has ended.
 fn ending(progress: &Progress) -> Replayed
     requires next { IsNext progress.now.pending progress.now.lines Part }
-    requires few { progress.now.lines ≤ 16000000 }
+    requires few { progress.now.lines ≤ most_lines }
     ensures { (bytes : List ℕ) (i : Reading) (s : Network) → i.remaining ≡ Some [] →
         Comes bytes progress.now.pending progress.now.lines progress.now.checker s → IsReplay bytes (Ok result) i }
 {
@@ -115,7 +123,7 @@ fn read_on<R: Read>(
     input: &mut Input<R>,
 ) -> Result<Option<Replayed>, ReplayFault>
     requires next { IsNext progress.old.pending progress.old.lines Part }
-    requires few { progress.old.lines ≤ 16000000 }
+    requires few { progress.old.lines ≤ most_lines }
     requires reads { input.old.failed ≡ false }
     ensures reader { input.new.failed ≡ is_read_fault result }
     ensures advance { (bytes : List ℕ) (rest : List ℕ) (s : Network) → input.old.remaining ≡ Some rest →
@@ -142,14 +150,14 @@ pub(crate) fn advance<R: Read, M: Machine>(
     machine: &mut M,
 ) -> Result<Option<Replayed>, ReplayFault>
     requires reads { input.old.failed ≡ false }
-    requires few { progress.old.lines ≤ 16000000 }
+    requires few { progress.old.lines ≤ most_lines }
     requires each { progress.old.checker.entries ≤ progress.old.lines }
     ensures reader { input.new.failed ≡ is_read_fault result }
     ensures advance { (bytes : List ℕ) (rest : List ℕ) → input.old.remaining ≡ Some rest →
         Comes bytes (progress.old.pending ++ rest) progress.old.lines progress.old.checker (M.network machine.old) →
         IsAdvance bytes result progress.new.pending progress.new.lines progress.new.checker
         (M.network machine.new) input.new }
-    ensures few { IfOk result (λ verdict. verdict ≡ None → progress.new.lines ≤ 16000000) }
+    ensures few { IfOk result (λ verdict. verdict ≡ None → progress.new.lines ≤ most_lines) }
     ensures each { IfOk result (λ verdict. verdict ≡ None → progress.new.checker.entries ≤ progress.new.lines) }
     ensures smaller { IfOk result (λ verdict. verdict ≡ None →
         work_left progress.new.pending progress.new.lines < work_left progress.old.pending progress.old.lines) }

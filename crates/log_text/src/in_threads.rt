@@ -69,7 +69,7 @@ fn write_turn<W: Write, R: Threads + Sync>(
     ensures { Writes output.old (flat_map entry_text entries.now) result output.new }
 {
     match text_by_threads(rt, alloc, threads, entries) {
-        Ok(text) => output.write(&text),
-        Err(_) => write_entries(entries, output),
+        Some(text) => output.write(&text),
+        None => write_entries(entries, output),
     }
 }

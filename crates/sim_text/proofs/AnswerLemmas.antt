@@ -3,7 +3,7 @@ use Rattle.std.proofs.Common.{◌≡◌, ℕ, ◌+◌, ◌-◌, ◌<◌, ◌≤�
 use Rattle.std.specs.Str.Lines.{lines}
 use Rattle.std.specs.Io.KnownBytes.{Appends, Keeps}
 use Rattle.std.proofs.lemmas.List.{take_at, get_or_at, get_or-take, take_more, take_all, take_min, length_push, length-append, length-take-le}
-use Rattle.std.proofs.lemmas.List.Elements.{All-push, All-same}
+use Rattle.std.proofs.lemmas.List.Elements.{All-push}
 use Rattle.watched.specs.Streams.{Reading, Writing}
 use Rattle.watched.specs.Writing.{appends_both}
 use Rattle.reference_machine.specs.Network.{Network}

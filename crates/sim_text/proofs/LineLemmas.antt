@@ -1,5 +1,5 @@
 -- Which lines stand in bytes that are read piece by piece.
-use Rattle.std.proofs.Common.{◌≡◌, ℕ, ◌+◌, ◌-◌, ◌<◌, ◌≤◌, cond, eqb, ltb, false, ◌⊎◌, inl, inr, ⊎_elim, List, [], ◌∷◌, ◌++◌, length, take, drop, get_or, position, Some, None, All, refl, sym, ap, ◌∙◌, arith, append_assoc, append-nil, filter}
+use Rattle.std.proofs.Common.{◌≡◌, ℕ, ◌+◌, ◌-◌, ◌<◌, ◌≤◌, cond, eqb, ltb, false, ◌⊎◌, inl, inr, ⊎_elim, List, [], ◌∷◌, ◌++◌, length, take, drop, get_or, position, Some, None, refl, sym, ap, ◌∙◌, arith, append_assoc, append-nil, filter}
 use Rattle.std.specs.List.{slice_split, position_or_len}
 use Rattle.std.specs.Str.Lines.{lines, lines_of_parts, strip_carriage_return}
 use Rattle.watched.specs.LineFeeds.{is_line_feed, Whole, cut_at, no_cut}

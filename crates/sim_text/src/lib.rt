@@ -2,13 +2,14 @@
 #![tactic(auto)]
 
 mod answer;
-mod buffer;
 mod fault;
 mod line;
 mod script;
 mod script_run;
 mod serving;
+mod typist;
 
 pub use fault::ServeFault;
 pub use script_run::run_script;
 pub use serving::serve;
+pub use typist::{CAPACITY, Typist};

@@ -4,7 +4,7 @@ ghost use Rattle.std.specs.Prelude.{◌≡◌};
 ghost use Rattle.std.specs.Str.Lines.{strip_carriage_return};
 ghost use Rattle.sim_text.specs.Next.{IsNext};
 
-use crate::buffer::CAPACITY;
+use crate::typist::CAPACITY;
 use watched::LineBuffer;
 
 /// The most bytes of a line, its end not counted.

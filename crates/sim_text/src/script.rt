@@ -10,13 +10,13 @@ ghost use Rattle.sim_text.specs.declared.line.Next.TheVariants.{Line, Part};
 
 use crate::ServeFault;
 use crate::answer::answer_line;
-use crate::buffer::{CAPACITY, read_more};
 use crate::line::{MOST_BYTES, Next, next_line, without_carriage_return};
+use crate::typist::{CAPACITY, Typist};
 use reference_machine::Machine;
 use std::alloc::Global;
-use std::io::{Read, Write};
+use std::io::Write;
 use std::thread::Threads;
-use watched::{Input, LineBuffer, Output};
+use watched::{LineBuffer, Output};
 
 #[derive(Drop)]
 pub(crate) struct Script {
@@ -152,29 +152,30 @@ fn finish<W: Write, M: Machine>(
 }
 
 /// Reads more, once all that was written is sent on. False at the end, where the last line has been answered too.
-fn read_on<R: Read, W: Write, M: Machine>(
+fn read_on<I: Typist<W>, W: Write, M: Machine>(
     rt: &(impl Threads + Sync),
     alloc: Global,
     script: &mut Script,
-    input: &mut Input<R>,
+    input: &mut I,
     output: &mut Output<W>,
     machine: &mut M,
 ) -> Result<bool, ServeFault>
     requires next { IsNext script.old.pending script.old.answered Part }
     requires writes { output.old.failed ≡ false }
     requires some { output.old.held ≡ true → 0 < script.old.answered }
-    ensures reader { is_read_fault result ≡ false → input.new.failed ≡ input.old.failed }
+    ensures reader { is_read_fault result ≡ false → (I.reading input.new).failed ≡ (I.reading input.old).failed }
     ensures writer { output.new.failed ≡ is_write_fault result }
     ensures sent { output.new.failed ≡ false → output.new.held ≡ false }
-    ensures advance { (rest : List ℕ) → input.old.remaining ≡ Some rest →
+    ensures advance { (rest : List ℕ) → (I.reading input.old).remaining ≡ Some rest →
         IsAdvance (script.old.pending ++ rest) script.old.answered (M.network machine.old) output.old result
-        script.new.pending script.new.answered (M.network machine.new) output.new input.new }
+        script.new.pending script.new.answered (M.network machine.new) output.new (I.reading input.new) }
     ensures smaller { IfOk result (λ more. more ≡ true →
         work_left script.new.pending script.new.answered < work_left script.old.pending script.old.answered) }
 {
-    flush(script.answered, output)?;
-    let next = script.answered + 1;
-    let more = match read_more(&mut script.pending, input, output) {
+    let answered = script.answered;
+    flush(answered, output)?;
+    let next = answered + 1;
+    let more = match input.read_more(&mut script.pending, output) {
         Ok(more) => more,
         Err(_) => return Err(ServeFault::Read { line: next }),
     };
@@ -185,23 +186,23 @@ fn read_on<R: Read, W: Write, M: Machine>(
 }
 
 /// Answers a line that was read, or reads more. False at the end.
-pub(crate) fn advance<R: Read, W: Write, M: Machine>(
+pub(crate) fn advance<I: Typist<W>, W: Write, M: Machine>(
     rt: &(impl Threads + Sync),
     alloc: Global,
     script: &mut Script,
-    input: &mut Input<R>,
+    input: &mut I,
     output: &mut Output<W>,
     machine: &mut M,
 ) -> Result<bool, ServeFault>
     requires writes { output.old.failed ≡ false }
     requires some { output.old.held ≡ true → 0 < script.old.answered }
-    ensures reader { is_read_fault result ≡ false → input.new.failed ≡ input.old.failed }
+    ensures reader { is_read_fault result ≡ false → (I.reading input.new).failed ≡ (I.reading input.old).failed }
     ensures writer { output.new.failed ≡ is_write_fault result }
     ensures some { IfOk result (λ more. more ≡ true → output.new.held ≡ true → 0 < script.new.answered) }
     ensures sent { is_end result ≡ true → output.new.failed ≡ false → output.new.held ≡ false }
-    ensures advance { (rest : List ℕ) → input.old.remaining ≡ Some rest →
+    ensures advance { (rest : List ℕ) → (I.reading input.old).remaining ≡ Some rest →
         IsAdvance (script.old.pending ++ rest) script.old.answered (M.network machine.old) output.old result
-        script.new.pending script.new.answered (M.network machine.new) output.new input.new }
+        script.new.pending script.new.answered (M.network machine.new) output.new (I.reading input.new) }
     ensures smaller { IfOk result (λ more. more ≡ true →
         work_left script.new.pending script.new.answered < work_left script.old.pending script.old.answered) }
 {

@@ -5,32 +5,35 @@ ghost use Rattle.sim_text.specs.Serving.{IsServing, is_write_fault, is_read_faul
 
 use crate::ServeFault;
 use crate::script::{Script, advance};
+use crate::typist::Typist;
 use reference_machine::Machine;
 use std::alloc::Global;
-use std::io::{Read, Write};
+use std::io::Write;
 use std::thread::Threads;
-use watched::{Input, Output};
+use watched::Output;
 
 /// Answers each line of the input in turn, and says how many there were.
 ///
 /// Lines end with LF or CR LF, and a last line may lack its end. A line has at most 65,536 bytes, its end not counted,
-/// and a script at most 1,000,000 lines. All that was written is sent on before more is read, and at the end: then
-/// nothing is held back, unless the writer failed. Takes no memory beside that of the events and the machine.
-pub fn serve<R: Read, W: Write, M: Machine>(
+/// and a script at most 1,000,000 lines. All that was written is sent on before more is read, for which `Typist`
+/// asks, and at the end: then nothing is held back, unless the writer failed. Takes no memory beside that of the events
+/// and the machine.
+pub fn serve<I: Typist<W>, W: Write, M: Machine>(
     rt: &(impl Threads + Sync),
     alloc: Global,
-    input: &mut Input<R>,
+    input: &mut I,
     output: &mut Output<W>,
     machine: &mut M,
 ) -> Result<u64, ServeFault>
-    requires reads { input.old.failed ≡ false }
+    requires reads { (I.reading input.old).failed ≡ false }
     requires writes { output.old.failed ≡ false }
     requires shown { output.old.held ≡ false }
-    ensures reader { is_read_fault result ≡ false → input.new.failed ≡ false }
+    ensures reader { is_read_fault result ≡ false → (I.reading input.new).failed ≡ false }
     ensures writer { output.new.failed ≡ is_write_fault result }
     ensures sent { output.new.failed ≡ false → output.new.held ≡ false }
-    ensures served { IfSome input.old.remaining (λ bytes.
-        IsServing bytes (M.network machine.old) output.old result (M.network machine.new) output.new input.new) }
+    ensures served { IfSome (I.reading input.old).remaining (λ bytes.
+        IsServing bytes (M.network machine.old) output.old result
+        (M.network machine.new) output.new (I.reading input.new)) }
 {
     let mut script = Script::new();
     'lines: while advance(rt, alloc, &mut script, input, output, machine)? {}

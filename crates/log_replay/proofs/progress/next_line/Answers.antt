@@ -2,7 +2,7 @@ use Rattle.std.proofs.Common.{◌+◌, ◌<◌, [], ◌∷◌, length, take, dro
 use Rattle.std.proofs.lemmas.Bool.Decides.{nat_tests}
 use Rattle.std.proofs.lemmas.List.{length-take-le}
 use Rattle.watched.specs.LineFeeds.{cut_at, no_cut}
-use Rattle.log_replay.specs.declared.limits.TheConstants.{MOST_BYTES, MOST_LINES}
+use Rattle.log_replay.specs.Replaying.{most_bytes, most_lines}
 use Rattle.log_replay.proofs.Steps.{lacks_whole}
 use Rattle.log_replay.proofs.progress.next_line.Goals.{else-lines-ge-MOST_LINES-via-then-lines-ge-MOST_LINES+else-not-is_empty, else-lines-ge-MOST_LINES-via-else-lines-ge-MOST_LINES}
 use Rattle.log_replay.proofs.progress.next_line.Goals as goal
@@ -13,8 +13,8 @@ returns-in_default c =
     let end = c.in-Some.end in
     let at = cut_at pending end (sym c.line_feed_at.ensures ∙ c.in-Some.is) in
     let len = ap length c.as_slice-bytes.ensures in
-    let long : MOST_BYTES < length (take end pending) = omega (arith, length-take-le end pending (omega (arith, at.0)), c.if-end-le-MOST_BYTES.false) in
-    let few : c.args.lines < MOST_LINES = elim c.else-lines-ge-MOST_LINES.branch [
+    let long : most_bytes < length (take end pending) = omega (arith, length-take-le end pending (omega (arith, at.0)), c.is_short.ensures.long c.if-is_short.false) in
+    let few : c.args.lines < most_lines = elim c.else-lines-ge-MOST_LINES.branch [
       | else-lines-ge-MOST_LINES-via-then-lines-ge-MOST_LINES+else-not-is_empty w ↦ grind (arith, nat_tests)
       | else-lines-ge-MOST_LINES-via-else-lines-ge-MOST_LINES w ↦ grind (arith, nat_tests)
     ] in
@@ -24,8 +24,8 @@ pub returns-in_default-2 : goal.returns-in_default-2
 returns-in_default-2 c =
     let pending = c.args.pending.now in
     let len = ap length c.as_slice-bytes.ensures in
-    let long : MOST_BYTES < length pending = omega (arith, len, c.if-bytes-lt-CAPACITY.false) in
-    let few : c.args.lines < MOST_LINES = elim c.else-lines-ge-MOST_LINES.branch [
+    let long : most_bytes < length pending = omega (arith, len, c.if-bytes-lt-CAPACITY.false) in
+    let few : c.args.lines < most_lines = elim c.else-lines-ge-MOST_LINES.branch [
       | else-lines-ge-MOST_LINES-via-then-lines-ge-MOST_LINES+else-not-is_empty w ↦ grind (arith, nat_tests)
       | else-lines-ge-MOST_LINES-via-else-lines-ge-MOST_LINES w ↦ grind (arith, nat_tests)
     ] in

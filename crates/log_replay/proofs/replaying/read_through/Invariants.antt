@@ -1,4 +1,5 @@
 use Rattle.std.proofs.Common.{◌≡◌, ◌≤◌, false, ℕ, List, ◌++◌, Some}
+use Rattle.log_replay.specs.Replaying.{most_lines}
 use Rattle.log_replay.specs.Progress.{Comes, work_left}
 use Rattle.log_replay.proofs.replaying.read_through.Given as goal
 
@@ -7,7 +8,7 @@ use Rattle.log_replay.proofs.replaying.read_through.Given as goal
 abbrev pub invariant-lines : goal.invariant-lines
 invariant-lines g l = record {
   reader : l.input.failed ≡ false;
-  few : l.progress.lines ≤ 16000000;
+  few : l.progress.lines ≤ most_lines;
   each : l.progress.checker.entries ≤ l.progress.lines;
   known : (bytes : List ℕ) → l.fn.input.remaining ≡ Some bytes → (rest : List ℕ) × (l.input.remaining ≡ Some rest)
       × Comes bytes (l.progress.pending ++ rest) l.progress.lines l.progress.checker (g.M.Machine.network l.machine);
