@@ -4,9 +4,8 @@ use Rattle.std.specs.Option.{unwrap_or, option_map_or}
 use Rattle.net_prefix.specs.declared.addr.Addr.{Addr}
 use Rattle.net_prefix.specs.Prefix.{Prefix}
 use Rattle.path_attr.specs.declared.attr.Attr.{Attr}
-use Rattle.path_attr.specs.declared.communities.TheConstants.{NO_ADVERTISE, NO_EXPORT, NO_EXPORT_SUBCONFED}
 use Rattle.path_attr.specs.Attribute.{plain_attr}
-use Rattle.path_attr.specs.Communities.{carries, with_given}
+use Rattle.path_attr.specs.Communities.{no_export, no_advertise, no_export_subconfed, carries, with_given}
 use Rattle.path_attr.specs.Path.{prepended, prepended_times}
 use Rattle.route_policy.specs.declared.rule.Settings.{Settings}
 use Rattle.route_policy.specs.declared.rule.Action.{Action}
@@ -27,7 +26,7 @@ is_from u (FromPeer v) = v.0 == u.0
 -- the route stays where it is: at its router with NO_ADVERTISE; within its AS with NO_EXPORT, and, since there are no confederations (own),
 -- with NO_EXPORT_SUBCONFED alike (RFC 1997). Other communities mean nothing by themselves
 abbrev pub is_kept_back : Bool → List ℕ → Bool
-is_kept_back external cs = carries NO_ADVERTISE cs || (external && (carries NO_EXPORT cs || carries NO_EXPORT_SUBCONFED cs))
+is_kept_back external cs = carries no_advertise cs || (external && (carries no_export cs || carries no_export_subconfed cs))
 
 -- towards another AS: the own AS in front, once and once more for each prepend; the router as NEXT_HOP; no LOCAL_PREF,
 -- ORIGINATOR_ID or CLUSTER_LIST; ORIGIN as it is (RFC 4271, 5.1.1 to 5.1.5; RFC 4456, 8). (own) MED only where the export policy
