@@ -11,7 +11,7 @@ use Rattle.net_prefix.specs.declared.addr.Addr.{Addr}
 use Rattle.net_prefix.specs.Address.{addr_cmp}
 use Rattle.igp_cost.specs.Metric.{IsMetric}
 use Rattle.igp_cost.specs.Topology.{is_node, IsTopology}
-use Rattle.igp_cost.specs.declared.limits.TheConstants.{MAX_NODES}
+use Rattle.igp_cost.specs.Limits.{most_nodes}
 use Rattle.net_conf.specs.declared.tables.Ends.{Ends}
 use Rattle.net_conf.specs.declared.tables.Link.{Link}
 use Rattle.net_conf.specs.Configuration.{Configuration, node_at, has_node}
@@ -40,7 +40,7 @@ module _ (c : Configuration) where
 
   pub topology : IsSound c → IsStrictlySortedBy addr_cmp (keys_of c.nodes) → IsTopology (nodes_of c) (edges_of c)
   topology sound ascending = record {
-    size = subst (λ n. n ≤ MAX_NODES) (sym (length-map c.nodes (λ e. (e.0, e.1.asn)))) sound.size;
+    size = subst (λ n. n ≤ most_nodes) (sym (length-map c.nodes (λ e. (e.0, e.1.asn)))) sound.size;
     ascending = subst (IsStrictlySortedBy addr_cmp) (sym (keys_of-map_values (λ n. n.asn) c.nodes)) ascending;
     ends = ends_hold c.links sound.links;
   }

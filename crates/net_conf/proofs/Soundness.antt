@@ -13,7 +13,7 @@ use Rattle.std.proofs.lemmas.Bool.Decides.{nat_tests}
 use Rattle.net_prefix.specs.declared.addr.Addr.{Addr}
 use Rattle.net_prefix.specs.Address.{addr_cmp}
 use Rattle.igp_cost.specs.Metric.{IsMetric}
-use Rattle.igp_cost.specs.declared.limits.TheConstants.{MAX_NODES}
+use Rattle.igp_cost.specs.Limits.{most_nodes}
 use Rattle.net_conf.specs.declared.tables.Ends.{Ends}
 use Rattle.net_conf.specs.declared.tables.Link.{Link as TheLink}
 use Rattle.net_conf.specs.declared.tables.Node.{Node}
@@ -78,7 +78,7 @@ both_there true true is = (refl, refl)
 both_there true false is = absurd (true≢false is)
 both_there false q is = absurd (true≢false is)
 
-below_limit : (n : ℕ) → nat_le MAX_NODES n ≡ false → n < MAX_NODES
+below_limit : (n : ℕ) → nat_le most_nodes n ≡ false → n < most_nodes
 below_limit n is = grind (arith, nat_tests)
 
 -- the ends, the lower first, are the two
@@ -103,7 +103,7 @@ of_found a b es all found = All-contains AreApart (keys_of es) (ends_of a b) all
 
 module _ (c : Configuration) (sound : IsSound c) where
   -- a node more
-  with_node : (a : Addr) (n : Node) → length c.nodes < MAX_NODES → IsSound (record c { nodes = insert_entry addr_cmp c.nodes a n })
+  with_node : (a : Addr) (n : Node) → length c.nodes < most_nodes → IsSound (record c { nodes = insert_entry addr_cmp c.nodes a n })
   with_node a n room = record {
     size = omega (arith, one_longer addr_cmp a n c.nodes, room);
     links = λ k d lt. still (get_or (keys_of c.links) k d) (sound.links k d lt);
@@ -152,7 +152,7 @@ module _ (c : Configuration) (sound : IsSound c) where
 
   same_tables : (d : Configuration) → d.nodes ≡ c.nodes → d.links ≡ c.links → d.sessions ≡ c.sessions → IsSound d
   same_tables d nodes links sessions = record {
-    size = subst (λ n. length n ≤ MAX_NODES) (sym nodes) sound.size;
+    size = subst (λ n. length n ≤ most_nodes) (sym nodes) sound.size;
     links = subst (λ n. All (λ e. (is_some (lookup (is_at (addr_cmp e.low)) n) ≡ true) × (is_some (lookup (is_at (addr_cmp e.high)) n) ≡ true)) (keys_of d.links)) (sym nodes) (subst (λ l. All (HasEnds c) (keys_of l)) (sym links) sound.links);
     sessions = subst (λ n. All (λ e. (is_some (lookup (is_at (addr_cmp e.low)) n) ≡ true) × (is_some (lookup (is_at (addr_cmp e.high)) n) ≡ true)) (keys_of d.sessions)) (sym nodes) (subst (λ l. All (HasEnds c) (keys_of l)) (sym sessions) sound.sessions);
     links_apart = subst (λ l. All AreApart (keys_of l)) (sym links) sound.links_apart;
@@ -181,6 +181,10 @@ module _ (c : Configuration) (sound : IsSound c) where
   sound_edited (Clear a b Export) metric there two session room = same_tables _ refl refl refl
   sound_edited (Origin a p) metric there two session room = same_tables _ refl refl refl
   sound_edited (NoOrigin a p) metric there two session room = same_tables _ refl refl refl
+
+pub within_limits : (c : Configuration) (e : Edit) → refusal_of c e ≡ None → is_past_limit c e ≡ false
+unfolding refusal_of
+within_limits c e none = (all_fail (tests_of c e) none).1.1.1.1.1.1.1.1.1.1.1.1.1.1.0
 
 pub sound_after : (c : Configuration) (e : Edit) → IsSound c → HasMetric e → refusal_of c e ≡ None → IsSound (edited c e)
 unfolding refusal_of

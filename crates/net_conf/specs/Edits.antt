@@ -11,9 +11,9 @@ use Rattle.route_policy.specs.declared.rule.Rule.{Rule}
 use Rattle.route_policy.specs.declared.rule.Settings.{Settings}
 use Rattle.route_policy.specs.declared.rule.Action.{Action}
 use Rattle.route_policy.specs.declared.rule.Action.TheVariants.{Deny, Permit}
+use Rattle.igp_cost.specs.Limits.{most_nodes}
 use Rattle.route_policy.specs.Limits.{is_full}
-use Rattle.igp_cost.specs.declared.limits.TheConstants.{MAX_NODES}
-use Rattle.net_conf.specs.declared.limits.TheConstants.{MAX_LINKS, MAX_SESSIONS}
+use Rattle.net_conf.specs.Limits.{most_links, most_sessions}
 use Rattle.net_conf.specs.declared.tables.End.{End}
 use Rattle.net_conf.specs.declared.tables.Link.{Link as TheLink}
 use Rattle.net_conf.specs.declared.tables.PolicySide.{PolicySide}
@@ -158,10 +158,10 @@ rules_of c a b Export = export_rules c a b
 
 -- 19: there are as many routers and peers, links, sessions at an end, or rules in the policy as there may be (own)
 abbrev pub is_past_limit : Configuration → Edit → Bool
-is_past_limit c (Router a n) = nat_le MAX_NODES (length c.nodes)
-is_past_limit c (Virtual a n) = nat_le MAX_NODES (length c.nodes)
-is_past_limit c (Link a b m) = nat_le MAX_LINKS (length c.links)
-is_past_limit c (Join a b) = nat_le MAX_SESSIONS (session_count c a) || nat_le MAX_SESSIONS (session_count c b)
+is_past_limit c (Router a n) = nat_le most_nodes (length c.nodes)
+is_past_limit c (Virtual a n) = nat_le most_nodes (length c.nodes)
+is_past_limit c (Link a b m) = nat_le most_links (length c.links)
+is_past_limit c (Join a b) = nat_le most_sessions (session_count c a) || nat_le most_sessions (session_count c b)
 is_past_limit c (AddRule a b side rule) = is_full (rules_of c a b side)
 is_past_limit c _ = false
 

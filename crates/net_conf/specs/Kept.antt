@@ -1,6 +1,8 @@
 -- What is kept beside the tables, and what holds of every configuration that edits lead to. No public contract cites this file.
-use Rattle.std.specs.Prelude.{◌≡◌, ◌≤◌, ℕ, Bool, true, false, ◌==◌, nat_lt, List, ◌∷◌, ◌++◌, length, map, filter, Option, Some, None, option_map, IsTrue, All, if◌then◌else◌}
+use Rattle.std.specs.Prelude.{◌≡◌, ◌≤◌, ℕ, Bool, true, false, not, ◌==◌, nat_lt, List, ◌∷◌, ◌++◌, length, map, filter, Option, Some, None, option_map, IsTrue, All, if◌then◌else◌}
 use Rattle.std.proofs.Math.Bool.{beq}
+use Rattle.std.specs.Option.{unwrap_or}
+use Rattle.std.specs.List.{list_any}
 use Rattle.std.specs.Map.{keys_of, values_of, lookup}
 use Rattle.std.specs.Set.{remove_key}
 use Rattle.std.specs.BTreeMap.{is_at}
@@ -13,18 +15,19 @@ use Rattle.igp_cost.specs.Walks.{Nodes, Edges}
 use Rattle.igp_cost.specs.Topology.{is_node}
 use Rattle.igp_cost.specs.Trees.{Reached, source_of}
 use Rattle.igp_cost.specs.Stays.{WasTree}
-use Rattle.igp_cost.specs.declared.limits.TheConstants.{MAX_NODES}
+use Rattle.igp_cost.specs.Limits.{most_nodes}
 use Rattle.igp_cost.specs.declared.change.Change.{Change}
 use Rattle.igp_cost.specs.declared.change.Change.TheVariants.{Added, Removed, Changed}
 use Rattle.net_conf.specs.declared.site.SiteConf.{SiteConf}
 use Rattle.net_conf.specs.declared.site.SiteSession.{SiteSession}
+use Rattle.net_conf.specs.declared.tables.End.{End}
 use Rattle.net_conf.specs.declared.tables.Ends.{Ends}
 use Rattle.net_conf.specs.declared.tables.Link.{Link as TheLink}
 use Rattle.net_conf.specs.declared.edit.Edit.{Edit}
 use Rattle.net_conf.specs.declared.edit.SiteEffect.{SiteEffect}
 use Rattle.net_conf.specs.declared.edit.SiteEffect.TheVariants.{Costs, Origins, Session, NewSession, ClusterId, MedComparison, Other}
 use Rattle.net_conf.specs.declared.edit.Edit.TheVariants.{Router, Virtual, Link, Metric, Fail, Mend, Join, Stop, Start, Client, OwnNext, Cluster, MedAlways, Rule, Clear, Origin, NoOrigin}
-use Rattle.net_conf.specs.Configuration.{Configuration, ends_of, ends_session, link_between, is_reflector, cluster_id, compares_all_meds}
+use Rattle.net_conf.specs.Configuration.{Configuration, ends_of, end_cmp, ends_session, link_between, has_link_up, session_between, is_client, is_reflector, cluster_id, compares_all_meds, puts_itself}
 use Rattle.net_conf.specs.Edits.{refusal_of, edited, with_link, with_session}
 use Rattle.net_conf.specs.Costs.{costs_of, is_up, down_sessions}
 use Rattle.net_conf.specs.Sites.{session_of}
@@ -33,7 +36,7 @@ use Rattle.net_conf.specs.Concerned.{is_among, StaysAt}
 use Rattle.net_conf.specs.Configured.{AreApart, HasEnds}
 
 pub record IsSound (c : Configuration) : Type 0 where
-  pub size : length c.nodes ≤ MAX_NODES
+  pub size : length c.nodes ≤ most_nodes
   pub links : All (HasEnds c) (keys_of c.links)
   pub sessions : All (HasEnds c) (keys_of c.sessions)
   pub links_apart : All AreApart (keys_of c.links)
@@ -187,8 +190,18 @@ site_from d e r Other s = router_site d r
 
 -- WHAT AN EDIT TOUCHES
 
--- it asks for a setting of a router that is there already
+-- the end is among them
+abbrev pub has_end : End → List End → Bool
+has_end e es = list_any (is_at (end_cmp e)) es
+
+-- it asks for what is so already: a state of a link or a session, or a setting of a router
 abbrev pub has_setting : Configuration → Edit → Bool
+has_setting c (Fail a b) = not (has_link_up c a b)
+has_setting c (Mend a b) = has_link_up c a b
+has_setting c (Stop a b) = not (unwrap_or (session_between c a b) true)
+has_setting c (Start a b) = unwrap_or (session_between c a b) false
+has_setting c (Client a b on) = beq (is_client c a b) on
+has_setting c (OwnNext a b on) = beq (puts_itself c a b) on
 has_setting c (MedAlways a on) = beq (compares_all_meds c a) on
 has_setting c _ = false
 

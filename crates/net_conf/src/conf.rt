@@ -187,8 +187,8 @@ impl Conf {
         self.made(rt, alloc, edit).map_err(|_| Refusal::Memory)
     }
 
-    /// The same, of an edit that is not refused: it is not checked again. Where the setting of a router is there
-    /// already, it takes no memory.
+    /// The same, of an edit that is not refused: it is not checked again. Where it asks for what is so already, a state
+    /// of a link or a session or a setting of a router, it takes no memory.
     pub fn made<R: Threads + Sync>(
         &self,
         rt: &R,

@@ -1,5 +1,5 @@
-//! How much a configuration holds (own): limits that refusals cite. There may be as many routers and virtual peers as
-//! nodes of a graph.
+//! How much a configuration holds: `specs/Limits.antt`. There may be as many routers and virtual peers as nodes of a
+//! graph.
 
 /// How many links there may be.
 pub const MAX_LINKS: usize = 16384;

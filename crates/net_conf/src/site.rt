@@ -6,7 +6,7 @@ ghost use Rattle.net_conf.specs.Sites.{peer_in};
 use crate::conf::Conf;
 use crate::kept::ConfSessions;
 use crate::refusal::Refusal;
-use crate::tables::{ConfTables, Ends};
+use crate::tables::{ConfTables, Ends, Node};
 use igp_cost::Tree;
 use net_prefix::{Addr, Prefix};
 use path_attr::Asn;
@@ -138,19 +138,19 @@ impl Conf {
 
     /// The router's own part of the configuration. It is refused where there is no router, where a virtual peer stands,
     /// and for want of memory.
+    #[tactic(auto, unfolding(crate::specs::Sites::site_of))]
     pub fn site(&self, alloc: Global, router: Addr) -> Result<SiteConf, Refusal>
         ensures { IsSite self.now router result }
     {
-        if !self.has_node(router) {
+        let Some(node) = self.sessions.tables().node(router) else {
             return Err(Refusal::NoRouter);
-        }
+        };
         if self.is_virtual(router) {
             return Err(Refusal::BadEnd);
         }
-        match self.site_at(alloc, router) {
-            Ok(Some(site)) => Ok(site),
-            Ok(None) | Err(_) => Err(Refusal::Memory),
-        }
+        self.sessions
+            .site_of_node(alloc, router, node)
+            .map_err(|_| Refusal::Memory)
     }
 
     /// What the router or peer at the address sees of the configuration, where there is one.
@@ -169,8 +169,9 @@ impl Conf {
 }
 
 impl ConfSessions {
-    ghost use Rattle.std.specs.Prelude.{◌≡◌, map, IfOk};
-    ghost use Rattle.net_conf.specs.Sites.{session_of, sessions_of, site_of};
+    ghost use Rattle.std.specs.Prelude.{◌≡◌, Some, map, IfOk};
+    ghost use Rattle.net_conf.specs.Configuration.{node_at};
+    ghost use Rattle.net_conf.specs.Sites.{session_of, sessions_of, site_at, site_of};
     ghost use Rattle.net_conf.specs.RouterSites.{router_site};
 
     /// What the router or peer at the address sees of the configuration, where there is one.
@@ -182,10 +183,18 @@ impl ConfSessions {
     ) -> Result<Option<SiteConf>, AllocError>
         ensures { IfOk result (λ site. site ≡ site_of self.now router) }
     {
-        let Some(node) = self.tables().node(router) else {
-            return Ok(None);
-        };
-        Ok(Some(SiteConf {
+        match self.tables().node(router) {
+            Some(node) => Ok(Some(self.site_of_node(alloc, router, node)?)),
+            None => Ok(None),
+        }
+    }
+
+    /// What the router or peer sees of the configuration, whose node is this one.
+    fn site_of_node(&self, alloc: Global, router: Addr, node: Node) -> Result<SiteConf, AllocError>
+        requires { node_at self.now router ≡ Some node }
+        ensures { IfOk result (λ site. site ≡ site_at self.now router node) }
+    {
+        Ok(SiteConf {
             me: router,
             asn: node.asn,
             cluster: self.tables().cluster_id(router),
@@ -194,7 +203,7 @@ impl ConfSessions {
             origins: self.tables().shared_origins(alloc, router)?,
             sessions: SharedSeq::of(alloc, self.sessions_of(alloc, router)?)?,
             costs: self.costs(alloc, router)?,
-        }))
+        })
     }
 
     /// The router's own part of the configuration, where there is a router: none where a virtual peer stands.

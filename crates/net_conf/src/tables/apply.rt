@@ -1,12 +1,13 @@
 //! What an edit changes.
 
-ghost use Rattle.std.specs.Prelude.{◌≡◌, ◌∷◌, ◌++◌, [], true, IfOk, OnOk, OnErr};
+ghost use Rattle.std.specs.Prelude.{◌≡◌, ◌∷◌, ◌++◌, [], true, false, not, IfOk, OnOk, OnErr};
 ghost use Rattle.std.specs.BTreeMap.{insert_entry};
 ghost use Rattle.std.specs.BTreeSet.{insert_key};
 ghost use Rattle.net_prefix.specs.Address.{addr_cmp};
+ghost use Rattle.route_policy.specs.Limits.{is_full};
 ghost use Rattle.net_conf.specs.Configuration.{end_cmp, origination_cmp, link_between, rules_at};
-ghost use Rattle.net_conf.specs.Edits.{with_link, with_link_changed, with_metric, with_state, with_session, switched, router_switched, with_rule, without_rules, with_rule_of, without_rules_of, edited};
-ghost use Rattle.net_conf.specs.Kept.{has_setting};
+ghost use Rattle.net_conf.specs.Edits.{with_link, with_link_changed, with_metric, with_state, with_session, switched, router_switched, with_rule, without_rules, with_rule_of, without_rules_of, rules_of, is_past_limit, edited};
+ghost use Rattle.net_conf.specs.Kept.{has_end, has_setting};
 
 use crate::edit::Edit;
 use crate::tables::conf_tables::{ConfTables, policy_at};
@@ -19,21 +20,35 @@ use shared_map::{SharedMap, SharedSet};
 use std::alloc::{AllocError, Global};
 
 impl ConfTables {
-    /// Whether the edit asks for a setting of a router that is there already: it changes nothing then. It takes no
-    /// memory.
+    /// Whether the edit asks for what is so already: it changes nothing then. It takes no memory.
     pub fn has_setting(&self, edit: &Edit) -> bool
         ensures is { result ≡ has_setting self.now edit.now }
         ensures same { result ≡ true → edited self.now edit.now ≡ self.now }
     {
         self.orders();
+        self.is_so(edit)
+    }
+
+    /// The same: a state of a link or a session, or a setting of a router.
+    fn is_so(&self, edit: &Edit) -> bool
+        ensures { result ≡ has_setting self.now edit.now }
+    {
         match *edit {
+            Edit::Fail(one, other) => !self.has_link_up(one, other),
+            Edit::Mend(one, other) => self.has_link_up(one, other),
+            Edit::Stop(one, other) => !self.session(one, other).unwrap_or(true),
+            Edit::Start(one, other) => self.session(one, other).unwrap_or(false),
+            Edit::Client(router, peer, on) => self.is_client(router, peer) == on,
+            Edit::OwnNext(router, peer, on) => self.puts_itself(router, peer) == on,
             Edit::MedAlways(router, on) => self.compares_all_meds(router) == on,
             _ => false,
         }
     }
 
-    /// Makes the edit, whether or not it is to be refused. An error changes nothing.
+    /// Makes the edit, which is past no limit, whether or not it is to be refused for another reason. An error changes
+    /// nothing.
     pub fn apply(&mut self, alloc: Global, edit: &Edit) -> Result<(), AllocError>
+        requires { is_past_limit self.old edit.now ≡ false }
         ensures ok { OnOk result (self.new ≡ edited self.old edit.now) }
         ensures err { OnErr result (self.new ≡ self.old) }
     {
@@ -186,6 +201,7 @@ impl ConfTables {
         side: PolicySide,
         rule: Rule,
     ) -> Result<(), AllocError>
+        requires { is_full (rules_of self.old end.router end.peer side) ≡ false }
         ensures ok { OnOk result (self.new ≡ with_rule_of self.old end.router end.peer side rule) }
         ensures err { OnErr result (self.new ≡ self.old) }
     {
@@ -206,9 +222,10 @@ impl ConfTables {
     }
 }
 
-/// Adds the end to the set, or takes it out. An error changes nothing.
+/// Adds the end to the set, or takes it out; where that is so already, it takes no memory. An error changes nothing.
 fn switch(alloc: Global, ends: &mut SharedSet<End>, end: End, on: bool) -> Result<(), AllocError>
     ensures ok { OnOk result (ends.new ≡ switched on end ends.old) }
+    ensures change { OnErr result (has_end end ends.old ≡ not on) }
     ensures err { OnErr result (ends.new ≡ ends.old) }
 {
     if on {
@@ -218,13 +235,14 @@ fn switch(alloc: Global, ends: &mut SharedSet<End>, end: End, on: bool) -> Resul
     }
 }
 
-/// Adds a rule to the policy of the end. An error changes nothing.
+/// Adds a rule to the policy of the end, which has room for it. An error changes nothing.
 fn append(
     alloc: Global,
     policies: &mut SharedMap<End, Policy>,
     end: End,
     rule: Rule,
 ) -> Result<(), AllocError>
+    requires { is_full (rules_at policies.old end) ≡ false }
     ensures ok { OnOk result (policies.new ≡ with_rule end rule policies.old) }
     ensures err { OnErr result (policies.new ≡ policies.old) }
 {
@@ -239,11 +257,10 @@ fn longer(
     end: End,
     rule: Rule,
 ) -> Result<Policy, AllocError>
+    requires { is_full (rules_at policies.now end) ≡ false }
     ensures { IfOk result (λ p. p ≡ rules_at policies.now end ++ rule ∷ []) }
 {
     let mut policy = policy_at(alloc, policies, end)?;
-    match policy.add(rule) {
-        Ok(()) => Ok(policy),
-        Err(_) => Err(AllocError),
-    }
+    policy.append(rule)?;
+    Ok(policy)
 }

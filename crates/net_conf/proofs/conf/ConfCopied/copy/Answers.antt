@@ -7,5 +7,5 @@ use Rattle.net_conf.proofs.conf.ConfCopied.copy.Goals as goal
 
 pub invariant_of-result : goal.invariant_of-result
 invariant_of-result c r =
-    let same : c.in_ok-sites.sites ≡ c.self.inside.sites = c.in_ok-sites.ensures in
+    let same : c.in_ok-sites.sites ≡ c.self.inside.sites = c.in_ok-sites.ensures.ok in
     ap (lookup (is_at (addr_cmp r))) same ∙ c.self.invariant r ∙ ap (λ x. site_kept x r) (sym c.in_ok-copy.ensures)

@@ -33,4 +33,4 @@ returns-in_ok-down c =
     let linked = subst (λ x. IsLinked x d a b) (sym c.self.view_is) c.requires.linked in
     let was : c.as_slice.result.now ≡ down_sessions s = c.as_slice.ensures.value ∙ c.self.invariant in
     let is : c.in_ok-down.down.items ≡ down_sessions d = c.in_ok-down.ensures ∙ ap (filter (is_down d)) was ∙ left_down s d a b linked (c.turn_with_link.ensures.down (λ _. up)) in
-    IfOk-weaker c.of.result (λ set. set ≡ c.in_ok-down.down.items) (λ set. AreDown d set) (λ set same. same ∙ is) c.of.ensures
+    IfOk-weaker c.of.result (λ set. set ≡ c.in_ok-down.down.items) (λ set. AreDown d set) (λ set same. same ∙ is) c.of.ensures.ok

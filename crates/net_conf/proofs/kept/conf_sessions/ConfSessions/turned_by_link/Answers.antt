@@ -20,7 +20,7 @@ returns-then-has_link_up-was_up c =
     let after : c.has_link_up.result ≡ has_link_up d a b = c.has_link_up.ensures ∙ ap (λ x. has_link_up x a b) c.tables-2.ensures in
     let same : has_link_up d a b ≡ has_link_up s a b = sym after ∙ one_state _ _ c.if-has_link_up-was_up.true ∙ before in
     let stay : (x y : Addr) → is_up d x y ≡ is_up s x y = all_stay s d (c.turn_with_link.ensures.down (λ up. same ∙ up)) (c.turn_with_link.ensures.up (λ up. sym same ∙ up)) in
-    let down : c.in_ok-down.down ≡ down_sessions d = c.in_ok-down.ensures ∙ c.self.invariant ∙ sym (same_down s d (same_sessions s d a b linked) stay) in
+    let down : c.in_ok-down.down ≡ down_sessions d = c.in_ok-down.ensures.ok ∙ c.self.invariant ∙ sym (same_down s d (same_sessions s d a b linked) stay) in
     subst (λ x. IsTurned x d c.args.moved.now.keys c.in_ok-down.down c.new-turned.result.keys) c.self.view_is
     (turned_is s d a b linked c.args.moved.now.keys c.new-turned.result.keys c.in_ok-down.down moved down (λ r out u. stay u r))
 

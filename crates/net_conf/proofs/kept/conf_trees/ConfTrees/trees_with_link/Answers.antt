@@ -55,7 +55,7 @@ returns-in_ok-trees-in-None-clause-trees g c r =
     let linked = subst (λ x. IsLinked x d a b) (sym c.self.view_is) c.requires.linked in
     let is : edge_change (ends_of a b) (metric_up s a b) (metric_up d a b) ≡ None = sym c.change_to.ensures ∙ c.in-None.is in
     let edges = edges_same s d a b c.self.invariant.0 c.requires.sound c.orders.ensures.links linked is in
-    let same : c.in_ok-trees-in-None.trees ≡ c.self.inside.trees = c.in_ok-trees-in-None.ensures in
+    let same : c.in_ok-trees-in-None.trees ≡ c.self.inside.trees = c.in_ok-trees-in-None.ensures.ok in
     ap (lookup (is_at (addr_cmp r))) same ∙ kept_still s d c.self.inside.trees (stay_with_link s d a b linked edges) c.self.invariant.1 r
 
 pub returns-in_ok-trees-in-None-clause-moved : goal.returns-in_ok-trees-in-None-clause-moved

@@ -16,7 +16,7 @@ pub returns-then-ends_session-2 : goal.returns-then-ends_session-2
 returns-then-ends_session-2 c r =
     let s = c.self.inside.tables in
     let joined = subst (λ x. IsJoined x c.args.tables.now c.args.one c.args.other) (sym c.self.view_is) c.requires.joined in
-    let same : c.in_ok-trees.trees ≡ c.self.inside.trees = c.in_ok-trees.ensures in
+    let same : c.in_ok-trees.trees ≡ c.self.inside.trees = c.in_ok-trees.ensures.ok in
     let first : ends_session s c.args.one ≡ true = ap (λ x. ends_session x c.args.one) c.self.view_is ∙ sym c.ends_session.ensures ∙ c.if-ends_session.true in
     let second : ends_session s c.args.other ≡ true = ap (λ x. ends_session x c.args.other) c.self.view_is ∙ sym c.ends_session-then-ends_session.ensures ∙ c.if-ends_session-2.true in
     ap (lookup (is_at (addr_cmp r))) same
@@ -40,7 +40,7 @@ add_missing-requires-clause-right c t found =
     let d = c.args.tables.now in
     let a = c.args.one in
     let joined = subst (λ x. IsJoined x d a c.args.other) (sym c.self.view_is) c.requires.joined in
-    let same : c.in_ok-trees.trees ≡ c.self.inside.trees = c.in_ok-trees.ensures in
+    let same : c.in_ok-trees.trees ≡ c.self.inside.trees = c.in_ok-trees.ensures.ok in
     right_still s d a c.args.other joined a t (sym (c.self.invariant.1 a) ∙ sym (ap (lookup (is_at (addr_cmp a))) same) ∙ found)
     ∙ sym (ap (λ g. tree_of g.nodes g.edges a) c.in_ok-graph.ensures)
 
@@ -51,7 +51,7 @@ add_missing-requires-2-clause-right c t found =
     let a = c.args.one in
     let b = c.args.other in
     let joined = subst (λ x. IsJoined x d a b) (sym c.self.view_is) c.requires.joined in
-    let same : c.in_ok-trees.trees ≡ c.self.inside.trees = c.in_ok-trees.ensures in
+    let same : c.in_ok-trees.trees ≡ c.self.inside.trees = c.in_ok-trees.ensures.ok in
     let graph : tree_of c.in_ok-graph.graph.nodes c.in_ok-graph.graph.edges b ≡ costs_of d b = ap (λ g. tree_of g.nodes g.edges b) c.in_ok-graph.ensures in
     let first = ap (λ x. cond (is_at (addr_cmp b) a) (Some x) (lookup (is_at (addr_cmp b)) c.in_ok-trees.trees)) graph in
     let kept = ap (cond (is_at (addr_cmp b) a) (Some (costs_of d b))) (ap (lookup (is_at (addr_cmp b))) same ∙ c.self.invariant.1 b) in
@@ -65,7 +65,7 @@ returns c r =
     let a = c.args.one in
     let b = c.args.other in
     let joined = subst (λ x. IsJoined x d a b) (sym c.self.view_is) c.requires.joined in
-    let same : c.in_ok-trees.trees ≡ c.self.inside.trees = c.in_ok-trees.ensures in
+    let same : c.in_ok-trees.trees ≡ c.self.inside.trees = c.in_ok-trees.ensures.ok in
     let graph : tree_of c.in_ok-graph.graph.nodes c.in_ok-graph.graph.edges r ≡ costs_of d r = ap (λ g. tree_of g.nodes g.edges r) c.in_ok-graph.ensures in
     c.in_ok-add_missing-2.ensures r
     ∙ ap (cond (is_at (addr_cmp r) b) (Some (tree_of c.in_ok-graph.graph.nodes c.in_ok-graph.graph.edges r))) (c.in_ok-add_missing.ensures r)
