@@ -1,6 +1,6 @@
 //! A set in chunks that its owners share.
 
-ghost use Rattle.std.specs.Prelude.{◌≡◌, ◌↔◌, ◌+◌, ◌-◌, ◌≤◌, ◌++◌, [], length, IsTrue, IfOk, OnOk, OnErr, true, false};
+ghost use Rattle.std.specs.Prelude.{◌≡◌, ◌↔◌, ◌+◌, ◌-◌, ◌<◌, ◌≤◌, ◌++◌, [], length, IsTrue, IfOk, OnOk, OnErr, true, false};
 ghost use Rattle.std.specs.List.{list_any, list_all};
 ghost use Rattle.std.specs.List.Sorted.{IsStrictlySortedBy};
 ghost use Rattle.std.specs.Set.{remove_key};
@@ -74,10 +74,14 @@ impl<K: Ord> ChunkedSet<K> {
         holds(self.chunks.as_slice(), key)
     }
 
-    /// One owner more of the same set. It takes no memory; the only fault is that 2^63 owners share the set.
+    /// One owner more of the same set. It takes no memory; the only fault is that 2^63 owners share a set with keys.
     pub fn share(&self) -> Result<Self, AllocError>
-        ensures { IfOk result (λ other. other ≡ self.now) }
+        ensures ok { IfOk result (λ other. other ≡ self.now) }
+        ensures some { OnErr result (0 < length self.now) }
     {
+        if self.is_empty() {
+            return Ok(ChunkedSet::new());
+        }
         Ok(ChunkedSet {
             len: self.len,
             chunks: self.chunks.share()?,
@@ -89,8 +93,12 @@ impl<K: Copy + Ord> ChunkedSet<K> {
     /// The set of these keys, from now on shared. No keys take no memory.
     pub fn of(alloc: Global, keys: Vec<K>) -> Result<Self, AllocError>
         requires { IsStrictlySortedBy K.cmp keys.items }
-        ensures { IfOk result (λ set. set ≡ keys.items) }
+        ensures ok { IfOk result (λ set. set ≡ keys.items) }
+        ensures some { OnErr result (0 < length keys.items) }
     {
+        if keys.is_empty() {
+            return Ok(ChunkedSet::new());
+        }
         let chunks = chunks_of(alloc, &keys)?;
         Ok(ChunkedSet {
             len: keys.len(),

@@ -80,15 +80,16 @@ impl<K: Ord, V> SharedMap<K, V> {
         self.get(key).is_some()
     }
 
-    /// One owner more of the same map. It takes no memory; the only fault is that 2^63 owners share the map.
+    /// One owner more of the same map. It takes no memory; the only fault is that 2^63 owners share a map with entries.
     pub fn share(&self) -> Result<Self, AllocError>
-        ensures { IfOk result (λ other. other ≡ self.now) }
+        ensures ok { IfOk result (λ other. other ≡ self.now) }
+        ensures some { OnErr result (0 < length self.now) }
     {
         match &self.entries {
-            Some(entries) => Ok(SharedMap {
+            Some(entries) if !entries.is_empty() => Ok(SharedMap {
                 entries: Some(Arc::try_clone(entries)?),
             }),
-            None => Ok(SharedMap { entries: None }),
+            _ => Ok(SharedMap { entries: None }),
         }
     }
 }

@@ -1,6 +1,6 @@
 //! A set that its owners share.
 
-ghost use Rattle.std.specs.Prelude.{◌≡◌, ◌↔◌, [], length, true, false, IsTrue, IfOk, OnOk, OnErr};
+ghost use Rattle.std.specs.Prelude.{◌≡◌, ◌<◌, ◌↔◌, [], length, true, false, IsTrue, IfOk, OnOk, OnErr};
 ghost use Rattle.std.specs.List.{list_any};
 ghost use Rattle.std.specs.List.Sorted.{IsStrictlySortedBy};
 ghost use Rattle.std.specs.Set.{remove_key};
@@ -77,15 +77,16 @@ impl<K: Ord> SharedSet<K> {
         }
     }
 
-    /// One owner more of the same set. It takes no memory; the only fault is that 2^63 owners share the set.
+    /// One owner more of the same set. It takes no memory; the only fault is that 2^63 owners share a set with keys.
     pub fn share(&self) -> Result<Self, AllocError>
-        ensures { IfOk result (λ other. other ≡ self.now) }
+        ensures ok { IfOk result (λ other. other ≡ self.now) }
+        ensures some { OnErr result (0 < length self.now) }
     {
         match &self.keys {
-            Some(keys) => Ok(SharedSet {
+            Some(keys) if !keys.is_empty() => Ok(SharedSet {
                 keys: Some(Arc::try_clone(keys)?),
             }),
-            None => Ok(SharedSet { keys: None }),
+            _ => Ok(SharedSet { keys: None }),
         }
     }
 }
@@ -94,7 +95,8 @@ impl<K: Ord + Drop> SharedSet<K> {
     /// The set of these keys, from now on shared. No keys take no memory.
     pub fn of(alloc: Global, keys: Vec<K>) -> Result<Self, AllocError>
         requires { IsStrictlySortedBy K.cmp keys.items }
-        ensures { IfOk result (λ set. set ≡ keys.items) }
+        ensures ok { IfOk result (λ set. set ≡ keys.items) }
+        ensures some { OnErr result (0 < length keys.items) }
     {
         if keys.is_empty() {
             return Ok(SharedSet { keys: None });
