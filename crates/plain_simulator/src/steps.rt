@@ -8,7 +8,7 @@ ghost use Rattle.reference_machine.specs.Machine.{step, edit_step, with_queues, 
 
 use crate::queues;
 use crate::state::{State, with_sent};
-use net_conf::{Conf, Edit, Refusal};
+use net_conf::{Conf, Edit, EditedConf, Refusal};
 use path_attr::Attr;
 use reference_machine::{
     Queue, RouteKey, ask_refusal, delivery_refusal, fed_message, feed_refusal,
@@ -127,11 +127,8 @@ fn after_edit<R: Threads + Sync>(
     requires { refusal_of state.now.conf edit.now ≡ None }
     ensures { IfOk result (λ later. later ≡ after_edit state.now edit.now) }
 {
-    let mut conf = state.conf.copy(alloc)?;
-    if conf.edit(rt, alloc, edit).is_err() {
-        drop(conf);
-        return Err(AllocError);
-    }
+    let EditedConf { conf, concerned } = state.conf.made(rt, alloc, edit)?;
+    drop(concerned);
     let Ok(queues) = with_queues(alloc, &state.queues, edit) else {
         drop(conf);
         return Err(AllocError);
