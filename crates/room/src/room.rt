@@ -279,10 +279,7 @@ impl<S: Selector + Drop, T: PrefixTable<Cell<S>> + Drop, L: Ledger> Room<S, T, L
         ensures same { OnErr result (self.new ≡ self.old) }
         ensures left { OnErr result (seat.new ≡ seat.old) }
     {
-        if !self.history.makes_space(&mut seat.notes) {
-            drop((event, plan));
-            return Err(AllocError);
-        }
+        self.history.make_space(&mut seat.notes)?;
         let edits = edits_in(&event);
         let Ok(draft) = Draft::of(self.alloc, seat.number, event, plan.reply()) else {
             drop(plan);
@@ -317,10 +314,7 @@ impl<S: Selector + Drop, T: PrefixTable<Cell<S>> + Drop, L: Ledger> Room<S, T, L
         ensures same { OnErr result (self.new ≡ self.old) }
         ensures left { OnErr result (seat.new ≡ seat.old) }
     {
-        if !self.history.makes_space(&mut seat.notes) {
-            drop(event);
-            return Err(AllocError);
-        }
+        self.history.make_space(&mut seat.notes)?;
         let reply = Reply::Refused(refusal);
         let Ok(draft) = Draft::of(self.alloc, seat.number, event, &reply) else {
             drop(reply);

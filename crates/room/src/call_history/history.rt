@@ -1,13 +1,13 @@
 //! The history of all calls.
 
-ghost use Rattle.std.specs.Prelude.{◌≡◌, ◌+◌, ◌<◌, ◌≤◌, ◌∷◌, ◌++◌, ◌↔◌, ◌⊎◌, [], true, false, length, vec_len, vec_capacity, IsTrue};
+ghost use Rattle.std.specs.Prelude.{◌≡◌, ◌+◌, ◌<◌, ◌≤◌, ◌∷◌, ◌++◌, ◌↔◌, ◌⊎◌, [], length, vec_len, vec_capacity, IsTrue, OnOk, OnErr};
 ghost use Rattle.reference_machine.specs.Histories.{calls_of};
 ghost use Rattle.room.specs.Written.{HistoryBook};
 
 use crate::call_history::agreement::agrees;
 use crate::call_history::draft::Draft;
 use sim_event::{Call, Entry};
-use std::alloc::Global;
+use std::alloc::{AllocError, Global};
 use std::marker::Model;
 
 /// The calls that were made, the first first. The numbers of their seats stand in a list of their own beside them, so
@@ -61,27 +61,29 @@ impl History {
         entries
     }
 
-    /// Makes space for one call more, here and in the notes. False for want of memory, and only where there was none
-    /// here or in the notes. Where there is space, all calls and that one can be counted in 64 bits.
-    pub fn makes_space(&mut self, notes: &mut Vec<Call>) -> bool
+    /// Makes space for one call more, here and in the notes. It fails for want of memory, and only where there was no
+    /// space here or in the notes. Where there is space, all calls and that one can be counted in 64 bits.
+    pub fn make_space(&mut self, notes: &mut Vec<Call>) -> Result<(), AllocError>
         ensures entries { self.new.entries ≡ self.old.entries }
         ensures notes { notes.new.items ≡ notes.old.items }
-        ensures here { result ≡ true → 1 ≤ self.new.space }
-        ensures in_notes { result ≡ true → vec_len notes.new < vec_capacity notes.new }
-        ensures few { result ≡ true → length self.new.entries < 18446744073709551615 }
-        ensures full { result ≡ false → (self.old.space ≡ 0) ⊎ (vec_len notes.old ≡ vec_capacity notes.old) }
+        ensures here { OnOk result (1 ≤ self.new.space) }
+        ensures in_notes { OnOk result (vec_len notes.new < vec_capacity notes.new) }
+        ensures few { OnOk result (length self.new.entries < 18446744073709551615) }
+        ensures full { OnErr result ((self.old.space ≡ 0) ⊎ (vec_len notes.old ≡ vec_capacity notes.old)) }
     {
-        self.reserve() && notes.reserve(1).is_ok()
+        self.reserve()?;
+        notes.reserve(1)
     }
 
-    /// Makes space for one call more. False for want of memory, and only where there was none.
-    fn reserve(&mut self) -> bool
+    /// Makes space for one call more. It fails for want of memory, and only where there was none.
+    fn reserve(&mut self) -> Result<(), AllocError>
         ensures entries { self.new.entries ≡ self.old.entries }
-        ensures space { result ≡ true → 1 ≤ self.new.space }
-        ensures few { result ≡ true → length self.new.entries < 18446744073709551615 }
-        ensures full { result ≡ false → self.old.space ≡ 0 }
+        ensures space { OnOk result (1 ≤ self.new.space) }
+        ensures few { OnOk result (length self.new.entries < 18446744073709551615) }
+        ensures full { OnErr result (self.old.space ≡ 0) }
     {
-        self.entries.reserve(1).is_ok() && self.callers.reserve(1).is_ok()
+        self.entries.reserve(1)?;
+        self.callers.reserve(1)
     }
 
     /// Writes the call down, here and in the notes, where there is space.

@@ -251,7 +251,7 @@ impl<S: Chosen + Drop, T: PrefixTable<Cell<S>> + Drop, L: Ledger> Room<S, T, L> 
         ensures left { OnErr result (IsUnchanged self.old seat.old self.new seat.new) }
     {
         self.engine_facts();
-        if !self.history.makes_space(&mut seat.notes) {
+        if self.history.make_space(&mut seat.notes).is_err() {
             return Err(outcome);
         }
         let direction = job.direction();
