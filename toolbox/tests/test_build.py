@@ -115,10 +115,16 @@ class Building(Case):
         for again in (worked_on, built):
             self.assertEqual(again.calls[0][-4:], (*KEPT, "-o", again.rlib))
 
-    def test_what_nothing_waits_for_is_proved_behind_the_rest(self):
+    def test_what_nothing_waits_for_yet_is_proved_behind_the_rest(self):
+        """side, for which top waits, is not; another, which stands on base alone too, is, and so is last over it."""
         made = self.tower()
+        made += [Library(self.folder, "other", 2, [made[0]]), Library(self.folder, "peak", 90, [made[3]])]
+        made += [Library(self.folder, "cap", 1, [made[5], made[4]])]
+        for it in made:
+            it.order = made[0].order
         self.proved(made)
-        self.assertEqual({it.name: it.calls[0][:3] for it in made if it.calls[0][0] != "rattle"}, {"side": ("nice", "-n", "10")})
+        behind = {it.name: it.calls[0][:3] for it in made if it.calls[0][0] != "rattle"}
+        self.assertEqual(behind, {"other": ("nice", "-n", "10")})
 
     def test_what_is_not_proved_is_told_and_nothing_above_it_is_tried(self):
         libraries = self.tower(low=True)
