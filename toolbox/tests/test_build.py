@@ -124,7 +124,7 @@ class Building(Case):
             it.order = made[0].order
         self.proved(made)
         behind = {it.name: it.calls[0][:3] for it in made if it.calls[0][0] != "rattle"}
-        self.assertEqual(behind, {"other": ("nice", "-n", "10")})
+        self.assertEqual(behind, {"other": ("nice", "-n", "3")})
 
     def test_what_is_not_proved_is_told_and_nothing_above_it_is_tried(self):
         libraries = self.tower(low=True)
