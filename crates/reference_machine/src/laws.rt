@@ -17,8 +17,9 @@ pub fn longest_match_is_longest()
     ensures law { LongestMatchLaw }
 {}
 
-/// The NEXT_HOP of a route that a router has chosen, and that is not its own, has a first hop: what has none is excluded.
-/// So a router that has a chosen route forwards by it, or has reached its own prefix; `onward` is never asked for no hop.
+/// The NEXT_HOP of a route that a router has chosen, and that is not its own, has a first hop: what has none is
+/// excluded. So a router that has a chosen route forwards by it, or has reached its own prefix, and `onward` is never
+/// asked for no hop.
 pub fn chosen_routes_lead_onward()
     ensures law { OnwardLaw }
 {}

@@ -14,8 +14,8 @@ pub fn sessions_agree()
     ensures quiet { QuietLaw }
 {}
 
-/// Each route that came over a session, received or on its way, has a path that is empty or begins with a sequence;
-/// from another AS it begins with a sequence whose first number is the sender's AS, and inside an AS that AS is not in it.
+/// Each route that came over a session, received or on its way, has a path that is empty or begins with a sequence:
+/// from another AS with one whose first number is the sender's AS; and inside an AS that AS is not in it.
 /// Two routes that a router considers have one neighbouring AS just where `same_neighbour` says so, whether or not the
 /// router's own AS stands for none.
 pub fn paths_begin_with_senders()
@@ -23,8 +23,8 @@ pub fn paths_begin_with_senders()
     ensures neighbours { NeighbourLaw }
 {}
 
-/// Each route that came from another AS has its sender as NEXT_HOP; inside an AS it has the router that put it there, or
-/// a peer of that router in another AS.
+/// Each route that came from another AS has its sender as NEXT_HOP; inside an AS it has the router that put it there,
+/// or a peer of that router in another AS.
 /// So a router that gets a route with itself as NEXT_HOP is its ORIGINATOR_ID, and chooses no such route but its own.
 pub fn next_hops_are_as_put()
     ensures law { NextHopLaw }
