@@ -1,5 +1,5 @@
 -- A team that was run on its files, or whose files were not opened.
-use Rattle.std.proofs.Common.{◌≡◌, ℕ, List, [], ◌∷◌, None, map, refl, ap, inr}
+use Rattle.std.proofs.Common.{◌≡◌, ℕ, List, [], ◌∷◌, None, refl, ap, inr}
 use Rattle.clap.specs.Words.{Text}
 use Rattle.watched.specs.Streams.{Writing}
 use Rattle.reply_text.specs.declared.ending.RunFault.TheVariants.{NoMemory}
@@ -18,6 +18,7 @@ closed [] = []
 closed (name ∷ names) = record { name = name; bytes = None } ∷ closed names
 
 closed_named : (names : List Text) → AreNamed names (closed names)
+unfolding closed
 closed_named [] = refl
 closed_named (name ∷ names) = ap (λ more. name ∷ more) (closed_named names)
 
@@ -25,5 +26,3 @@ closed_named (name ∷ names) = ap (λ more. name ∷ more) (closed_named names)
 pub unopened : (names : List Text) (o errors : Writing) (status : ℕ) (errors' : Writing)
     → IsTold errors (fault_text NoMemory) errors' → status ≡ fault_status NoMemory → IsTeamPlayed names o errors status o errors'
 unopened names o errors status errors' told is = record { files = closed names; named = closed_named names; run = inr (inr (is, refl, told)) }
-
-pub ruleset rows = (played, unopened)

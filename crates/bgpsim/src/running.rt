@@ -154,7 +154,7 @@ fn replay_log<R: Read + Drop, W: Write, E: Write>(
 }
 
 /// Runs the team, and writes its log.
-#[tactic(auto, using(crate::proofs::Unopened::rows))]
+#[tactic(auto, using(crate::proofs::Unopened::played))]
 fn play_team<
     L: Ledger + Send + Sync,
     H: AllocGlobal + Files + RandomSource + Threads + Wait + Sync,

@@ -77,13 +77,7 @@ pub fn run_team<
     W: Write,
     E: Write + Send,
     R: Threads + Wait + Sync,
->(
-    rt: &R,
-    alloc: Global,
-    team: Team<F>,
-    output: &mut Output<W>,
-    errors: &mut Output<E>,
-) -> u8
+>(rt: &R, alloc: Global, team: Team<F>, output: &mut Output<W>, errors: &mut Output<E>) -> u8
     requires name { team.blank.name ≡ L.name }
     requires ledger { team.blank.parts ≡ L.parts }
     requires parts { team.blank.parts ≡ 256 }
@@ -123,13 +117,7 @@ fn play<
     W: Write,
     E: Write + Send,
     R: Threads + Wait + Sync,
->(
-    rt: &R,
-    alloc: Global,
-    team: ReadyTeam,
-    output: &mut Output<W>,
-    errors: &mut Output<E>,
-) -> u8
+>(rt: &R, alloc: Global, team: ReadyTeam, output: &mut Output<W>, errors: &mut Output<E>) -> u8
     requires name { team.blank.name ≡ L.name }
     requires ledger { team.blank.parts ≡ L.parts }
     requires parts { team.blank.parts ≡ 256 }
@@ -159,12 +147,7 @@ fn recorded<
     L: Ledger + Send + Sync,
     E: Write + Send,
     R: Threads + Wait + Sync,
->(
-    rt: &R,
-    alloc: Global,
-    team: ReadyTeam,
-    errors: &mut Output<E>,
-) -> Result<Record, RunFault>
+>(rt: &R, alloc: Global, team: ReadyTeam, errors: &mut Output<E>) -> Result<Record, RunFault>
     requires name { team.blank.name ≡ L.name }
     requires ledger { team.blank.parts ≡ L.parts }
     requires parts { team.blank.parts ≡ 256 }

@@ -5,8 +5,8 @@ use Rattle.team_run.specs.TeamRun.{AreOfScripts}
 use Rattle.team_run.proofs.TeamHistories.{length_blank, team_history}
 use Rattle.team_run.proofs.team.recorded.Goals as goal
 
-pub at_desk-requires-clause-enough : goal.at_desk-requires-clause-enough
-at_desk-requires-clause-enough g c = omega (arith, ap length c.in-Ok.ensures.seats, length_blank (c.len-engineers.result + c.args.team.settings.workers))
+pub at_desk-seats-requires-clause-enough : goal.at_desk-seats-requires-clause-enough
+at_desk-seats-requires-clause-enough g c = omega (arith, ap length c.in-Ok.ensures.seats, length_blank (c.len-engineers.result + c.args.team.settings.workers))
 
 pub returns-in-Ok-seats-clause-calls : goal.returns-in-Ok-seats-clause-calls
 returns-in-Ok-seats-clause-calls g c =
