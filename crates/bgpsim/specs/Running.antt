@@ -1,5 +1,5 @@
 -- What the program does: what the words of its command line ask for, on three streams, and with which exit status (own).
-use Rattle.std.specs.Prelude.{◌≡◌, ◌⊎◌, ℕ, List, [], Option, Result, Ok, Err, IfOk, MatchResult}
+use Rattle.std.specs.Prelude.{◌≡◌, ◌⊎◌, ℕ, List, [], map, Option, Result, Ok, Err, IfOk, MatchResult}
 use Rattle.clap.specs.Words.{Text, FailsBy, fault_of, kind_of}
 use Rattle.clap.specs.declared.error.Error.{Error}
 use Rattle.clap.specs.declared.error.kind.ErrorKind.{ErrorKind}
@@ -53,16 +53,21 @@ IsServed bytes o errors status o' errors' = (end : Network) × (i' : Reading) ×
 abbrev pub IsReplayed : Option (List ℕ) → Writing → Writing → ℕ → Writing → Writing → Type 0
 IsReplayed bytes o errors status o' errors' = (i' : Reading) × IsReplayRun bytes o errors status i' o' errors'
 
--- a team was run on some files
-pub record IsTeamPlayed (o errors : Writing) (status : ℕ) (o' errors' : Writing) : Type 0 where
+-- the files of these names, in their order
+abbrev pub AreNamed : List Text → List Source → Type 0
+AreNamed names files = map (λ (file : Source). file.name) files ≡ names
+
+-- a team was run on the files of these names
+pub record IsTeamPlayed (names : List Text) (o errors : Writing) (status : ℕ) (o' errors' : Writing) : Type 0 where
   pub files : List Source
+  pub named : AreNamed names files
   pub run : IsTeamRun files o errors status o' errors'
 
 -- what was asked for was run
 abbrev pub IsRunOf : Choice → Option (List ℕ) → Writing → Writing → ℕ → Writing → Writing → Type 0
 IsRunOf Script bytes o errors status o' errors' = IsServed bytes o errors status o' errors'
 IsRunOf Replay bytes o errors status o' errors' = IsReplayed bytes o errors status o' errors'
-IsRunOf (ForTeam team) bytes o errors status o' errors' = IsTeamPlayed o errors status o' errors'
+IsRunOf (ForTeam team) bytes o errors status o' errors' = IsTeamPlayed (map (λ file. file.now) team.files.items) o errors status o' errors'
 
 -- ---- the program
 

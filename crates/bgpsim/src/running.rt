@@ -5,7 +5,7 @@ ghost use Rattle.std.specs.Process.{exit_status};
 ghost use Rattle.clap.specs.Words.{kind_of};
 ghost use Rattle.reply_text.specs.Ending.{IsTold};
 ghost use Rattle.bgpsim.specs.CommandLine.{IsTeamWithin, IsWithin};
-ghost use Rattle.bgpsim.specs.Running.{shown_status, shown_text, IsPrinted, IsProgramRun, IsReplayed, IsRunOf, IsServed, IsShown, IsTeamPlayed};
+ghost use Rattle.bgpsim.specs.Running.{shown_status, shown_text, AreNamed, IsPrinted, IsProgramRun, IsReplayed, IsRunOf, IsServed, IsShown, IsTeamPlayed};
 
 use crate::command_line::{Choice, Team, choose};
 use cell_engine::Cell;
@@ -27,7 +27,7 @@ use std::random::RandomSource;
 use std::sync::Wait;
 use std::sync::ledger::{Blank, Ledger};
 use std::thread::Threads;
-use team_run::{ScriptFile, Settings, run_team};
+use team_run::{self, ScriptFile, Settings, run_team};
 use watched::{Input, Output};
 
 /// The machine that runs scripts: cells that keep groups of one neighbouring AS, in tries.
@@ -154,7 +154,7 @@ fn replay_log<R: Read + Drop, W: Write, E: Write>(
 }
 
 /// Runs the team, and writes its log.
-#[tactic(auto, using(crate::proofs::Unopened::rows))]
+#[tactic(auto, using(crate::proofs::Unopened::played))]
 fn play_team<
     L: Ledger + Send + Sync,
     H: AllocGlobal + Files + RandomSource + Threads + Wait + Sync,
@@ -167,24 +167,27 @@ fn play_team<
     requires team { IsTeamWithin team.now }
     requires calm { streams.old.output.failed ≡ false }
     requires shown { streams.old.output.held ≡ false }
-    ensures { IsTeamPlayed streams.old.output streams.old.errors result streams.new.output streams.new.errors }
+    ensures { IsTeamPlayed (map (λ file. file.now) team.now.files.items)
+        streams.old.output streams.old.errors result streams.new.output streams.new.errors }
 {
     let alloc = rt.alloc();
     let Ok(files) = opened(rt, alloc, team.files.as_slice()) else {
         return end_by(&RunFault::NoMemory, &mut streams.errors);
     };
-    let settings = Settings {
-        workers: team.workers as u16,
-        turns: team.turns,
-        is_terminal: streams.is_terminal,
+    let team = team_run::Team {
+        blank,
+        keys: drawn_keys(rt),
+        settings: Settings {
+            workers: team.workers as u16,
+            turns: team.turns,
+            is_terminal: streams.is_terminal,
+        },
+        files,
     };
     run_team::<GroupCell, TrieTable<Cell<GroupCell>>, L, _, _, _, _>(
         rt,
         alloc,
-        drawn_keys(rt),
-        blank,
-        settings,
-        files,
+        team,
         &mut streams.output,
         &mut streams.errors,
     )
@@ -201,7 +204,8 @@ fn opened<R: Files>(
     alloc: Global,
     names: &[&str],
 ) -> Result<Vec<ScriptFile<R::File>>, AllocError>
-    ensures { IfOk result (λ files. vec_len files ≡ length names.now) }
+    ensures named { IfOk result (λ files. AreNamed (map (λ name. name.now) names.now) files.items) }
+    ensures count { IfOk result (λ files. vec_len files ≡ length names.now) }
 {
     let mut files = Vec::new(alloc);
     for name in names {

@@ -31,6 +31,14 @@ pub called_event : (seat new : SeatBook) (line : List ℕ) (event : Event) (repl
 called_event seat new line event reply means memory is =
     inr (inl (event, reply, means, memory, refl, is ∙ ap (λ b. cond b seat (with_call seat event reply)) memory))
 
+-- it was, or there was none, which is told
+pub called_or_not : (seat new : SeatBook) (line : List ℕ) (event : Event) (reply : Reply) (told : Option Refusal) → Means line event → told ≡ cond (is_memory reply) (Some Memory) None → new ≡ noted seat event reply → IsCalled seat line told new
+called_or_not seat new line event reply told means tells is = by (is_memory reply) refl
+  where
+    by : (b : Bool) → is_memory reply ≡ b → IsCalled seat line told new
+    by true memory = subst (λ t. IsCalled seat line t new) (sym (tells ∙ ap (λ b. cond b (Some Memory) None) memory)) (called_without_memory seat new line event reply means memory is)
+    by false memory = subst (λ t. IsCalled seat line t new) (sym (tells ∙ ap (λ b. cond b (Some Memory) None) memory)) (called_event seat new line event reply means memory is)
+
 -- the line was refused before
 pub called_refused : (seat new : SeatBook) (line : List ℕ) (r : Refusal) → IsReading line (Err r) → new ≡ seat → IsCalled seat line (Some r) new
 called_refused seat new line Syntax h is = inr (inr (inl (h, refl, is)))

@@ -1,6 +1,6 @@
 //! The threads of a team: one for each engineer, and those of the workers.
 
-ghost use Rattle.std.specs.Prelude.{IfOk, IfSome};
+ghost use Rattle.std.specs.Prelude.{◌++◌, ◌∷◌, [], IfOk};
 ghost use Rattle.desk.specs.Desks.{AllWorked};
 ghost use Rattle.team_run.specs.Playing.{AreBack, HasPlayed};
 
@@ -100,12 +100,11 @@ impl<
         let Some(engineer) = engineers.pop() else {
             return Ok(self.work_all(workers));
         };
-        let (seats, last) = thread::scope(
+        thread::scope(
             thread::scope_env(),
             self.rt,
-            |scope| -> (Result<Vec<Seat<L>>, AllocError>, Option<Seat<L>>)
-                ensures { IfOk result.0 (λ seats. AreBack engineers.items workers.items seats.items)
-                    × IfSome result.1 (HasPlayed engineer) }
+            |scope| -> Result<Vec<Seat<L>>, AllocError>
+                ensures { IfOk result (λ seats. AreBack (engineers.items ++ engineer ∷ []) workers.items seats.items) }
             {
                 let promise = HasCalledScript(Snapshot::of(&engineer));
                 let job = move || -> Seat<L>
@@ -113,20 +112,21 @@ impl<
                 { self.work(engineer) };
                 match scope.spawn_with(promise, job) {
                     Ok(handle) => {
-                        let seats = self.run(engineers, workers);
-                        (seats, Some(handle.join(self.rt)))
+                        let others = self.run(engineers, workers);
+                        let last = handle.join(self.rt);
+                        let mut seats = others?;
+                        seats.push(last)?;
+                        Ok(seats)
                     }
                     Err(refused) => {
                         drop(refused);
                         self.end_one();
-                        (self.run(engineers, workers), None)
+                        let _ = self.run(engineers, workers);
+                        Err(AllocError)
                     }
                 }
             },
-        );
-        let mut seats = seats?;
-        seats.push(last.ok_or(AllocError)?)?;
-        Ok(seats)
+        )
     }
 
     /// The workers' threads.

@@ -1,6 +1,6 @@
 //! An engineer: a script whose lines are called from a seat, from the first to the last.
 
-ghost use Rattle.std.specs.Prelude.{◌≡◌, ◌↔◌, IsTrue, IfSome};
+ghost use Rattle.std.specs.Prelude.{◌≡◌, ◌↔◌, Some, None, IsTrue, IfSome, if◌then◌else◌};
 ghost use Rattle.std.specs.Option.{option_map};
 ghost use Rattle.room.specs.Books.{is_memory};
 ghost use Rattle.team_run.specs.Playing.{HasPlayed, IsCalled};
@@ -100,27 +100,19 @@ fn call_line<
     ensures { IsCalled seat.old line.now result seat.new }
 {
     match read_line(alloc, line) {
-        Ok(Some(event)) => {
-            let reply = desk.call(rt, seat, event);
-            if wants_memory(&reply) {
-                return Some(Refusal::Memory);
-            }
-            None
-        }
+        Ok(Some(event)) => want_of_memory(&desk.call(rt, seat, event)),
         Ok(None) => None,
         Err(refusal) => Some(refusal),
     }
 }
 
-/// Whether a call was refused for want of memory.
-fn wants_memory(reply: &Reply) -> bool
-    ensures { result ≡ is_memory reply.now }
+/// The refusal of a call, if it was refused for want of memory.
+fn want_of_memory(reply: &Reply) -> Option<Refusal>
+    ensures { result ≡ if is_memory reply.now then Some Refusal.Memory else None }
 {
     match reply {
-        Reply::Refused(refusal) => is_of_memory(*refusal),
-        Reply::Done => false,
-        Reply::Took(_, _) => false,
-        Reply::Report(_) => false,
+        Reply::Refused(refusal) if is_of_memory(*refusal) => Some(*refusal),
+        Reply::Refused(_) | Reply::Done | Reply::Took(_, _) | Reply::Report(_) => None,
     }
 }
 

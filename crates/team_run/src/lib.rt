@@ -9,4 +9,4 @@ mod team;
 mod told;
 
 pub use scripts::ScriptFile;
-pub use team::{Settings, run_team};
+pub use team::{Settings, Team, run_team};

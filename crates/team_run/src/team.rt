@@ -42,7 +42,29 @@ pub struct Settings {
     pub is_terminal: bool,
 }
 
-/// Runs a team on the files, each the script of an engineer, from the empty network, its machine under these keys: a
+/// A team: on what it works, how, and on which files.
+#[derive(Drop)]
+pub struct Team<F: Read> {
+    /// The ledger of its calls, with a part for each seat that there may be.
+    pub blank: Blank,
+    /// The keys of its machine, if there are any.
+    pub keys: Option<RandomState>,
+    /// How it is run.
+    pub settings: Settings,
+    /// The script of each engineer: 1 to 64.
+    pub files: Vec<ScriptFile<F>>,
+}
+
+/// A team whose scripts were read.
+#[derive(Drop)]
+struct ReadyTeam {
+    blank: Blank,
+    keys: Option<RandomState>,
+    settings: Settings,
+    scripts: Vec<Script>,
+}
+
+/// Runs a team on its files, each the script of an engineer, from the empty network, its machine under its keys: a
 /// thread calls the lines of each script in turn, and the workers' threads deliver what waits, until the engineers have
 /// ended and no message waits, or their turns have. The log of all calls goes to the output. What makes no call is told
 /// on the third stream, and so is a fault; its own failure is passed over. The exit status: 0 done, 3 a file was not
@@ -55,36 +77,39 @@ pub fn run_team<
     W: Write,
     E: Write + Send,
     R: Threads + Wait + Sync,
->(
-    rt: &R,
-    alloc: Global,
-    keys: Option<RandomState>,
-    blank: Blank,
-    settings: Settings,
-    files: Vec<ScriptFile<F>>,
-    output: &mut Output<W>,
-    errors: &mut Output<E>,
-) -> u8
-    requires name { blank.name ≡ L.name }
-    requires ledger { blank.parts ≡ L.parts }
-    requires parts { blank.parts ≡ 256 }
-    requires some { 1 ≤ vec_len files }
-    requires most { vec_len files ≤ 64 }
-    requires workers { 1 ≤ settings.workers }
-    requires hands { settings.workers ≤ 64 }
+>(rt: &R, alloc: Global, team: Team<F>, output: &mut Output<W>, errors: &mut Output<E>) -> u8
+    requires name { team.blank.name ≡ L.name }
+    requires ledger { team.blank.parts ≡ L.parts }
+    requires parts { team.blank.parts ≡ 256 }
+    requires some { 1 ≤ vec_len team.files }
+    requires most { vec_len team.files ≤ 64 }
+    requires workers { 1 ≤ team.settings.workers }
+    requires hands { team.settings.workers ≤ 64 }
     requires calm { output.old.failed ≡ false }
     requires shown { output.old.held ≡ false }
-    ensures run { IsTeamRun files.items output.old errors.old result output.new errors.new }
+    ensures run { IsTeamRun team.files.items output.old errors.old result output.new errors.new }
 {
+    let Team {
+        blank,
+        keys,
+        settings,
+        files,
+    } = team;
     match read_scripts(alloc, files) {
         Ok(scripts) => {
-            play::<S, T, L, W, E, R>(rt, alloc, keys, blank, settings, scripts, output, errors)
+            let team = ReadyTeam {
+                blank,
+                keys,
+                settings,
+                scripts,
+            };
+            play::<S, T, L, W, E, R>(rt, alloc, team, output, errors)
         }
         Err(fault) => end_by(&fault, errors),
     }
 }
 
-/// Runs a team on scripts that were read. The exit status.
+/// Runs a team on its scripts. The exit status.
 fn play<
     S: Selector + Send + Sync + Drop,
     T: PrefixTable<Cell<S>> + Drop + Send,
@@ -92,63 +117,53 @@ fn play<
     W: Write,
     E: Write + Send,
     R: Threads + Wait + Sync,
->(
-    rt: &R,
-    alloc: Global,
-    keys: Option<RandomState>,
-    blank: Blank,
-    settings: Settings,
-    scripts: Vec<Script>,
-    output: &mut Output<W>,
-    errors: &mut Output<E>,
-) -> u8
-    requires name { blank.name ≡ L.name }
-    requires ledger { blank.parts ≡ L.parts }
-    requires parts { blank.parts ≡ 256 }
-    requires some { 1 ≤ vec_len scripts }
-    requires most { vec_len scripts ≤ 64 }
-    requires workers { 1 ≤ settings.workers }
-    requires hands { settings.workers ≤ 64 }
+>(rt: &R, alloc: Global, team: ReadyTeam, output: &mut Output<W>, errors: &mut Output<E>) -> u8
+    requires name { team.blank.name ≡ L.name }
+    requires ledger { team.blank.parts ≡ L.parts }
+    requires parts { team.blank.parts ≡ 256 }
+    requires some { 1 ≤ vec_len team.scripts }
+    requires most { vec_len team.scripts ≤ 64 }
+    requires workers { 1 ≤ team.settings.workers }
+    requires hands { team.settings.workers ≤ 64 }
     requires calm { output.old.failed ≡ false }
     requires shown { output.old.held ≡ false }
-    ensures { IsPlayed scripts.items output.old result output.new errors.new }
+    ensures { IsPlayed team.scripts.items output.old result output.new errors.new }
 {
-    let record = match recorded::<S, T, L, E, R>(
-        rt, alloc, keys, blank, settings, scripts, errors,
-    ) {
+    let workers = team.settings.workers;
+    let record = match recorded::<S, T, L, E, R>(rt, alloc, team, errors) {
         Ok(record) => record,
         Err(fault) => return end_by(&fault, errors),
     };
-    match write_record(rt, alloc, settings.workers, &record, output) {
+    match write_record(rt, alloc, workers, &record, output) {
         Ok(()) => SUCCESS,
         Err(fault) => end_by(&fault, errors),
     }
 }
 
-/// The record of a team on scripts that were read.
+/// The record of a team on its scripts.
 fn recorded<
     S: Selector + Send + Sync + Drop,
     T: PrefixTable<Cell<S>> + Drop + Send,
     L: Ledger + Send + Sync,
     E: Write + Send,
     R: Threads + Wait + Sync,
->(
-    rt: &R,
-    alloc: Global,
-    keys: Option<RandomState>,
-    blank: Blank,
-    settings: Settings,
-    scripts: Vec<Script>,
-    errors: &mut Output<E>,
-) -> Result<Record, RunFault>
-    requires name { blank.name ≡ L.name }
-    requires ledger { blank.parts ≡ L.parts }
-    requires parts { blank.parts ≡ 256 }
-    requires most { vec_len scripts ≤ 64 }
-    requires hands { settings.workers ≤ 64 }
-    ensures calls { IfOk result (AreOfScripts 0 scripts.items) }
+>(rt: &R, alloc: Global, team: ReadyTeam, errors: &mut Output<E>) -> Result<Record, RunFault>
+    requires name { team.blank.name ≡ L.name }
+    requires ledger { team.blank.parts ≡ L.parts }
+    requires parts { team.blank.parts ≡ 256 }
+    requires some { 1 ≤ vec_len team.scripts }
+    requires most { vec_len team.scripts ≤ 64 }
+    requires workers { 1 ≤ team.settings.workers }
+    requires hands { team.settings.workers ≤ 64 }
+    ensures calls { IfOk result (AreOfScripts 0 team.scripts.items) }
     ensures fault { IfErr result IsOfPlay }
 {
+    let ReadyTeam {
+        blank,
+        keys,
+        settings,
+        scripts,
+    } = team;
     let engineers = scripts.len() as u16;
     let Ok((desk, seats)) = opened::<S, T, L>(alloc, keys, engineers, settings.workers, blank)
     else {
@@ -159,7 +174,16 @@ fn recorded<
         drop((desk, seats, scripts));
         return Err(RunFault::NoMemory);
     };
-    let seats = at_desk(rt, alloc, &desk, &told, scripts, seats, settings.turns);
+    let at_work = AtomicU64::new(u64::from(engineers));
+    let crew = Crew {
+        rt,
+        alloc,
+        desk: &desk,
+        told: &told,
+        at_work: &at_work,
+        turns: settings.turns,
+    };
+    let seats = at_desk(&crew, scripts, seats);
     told.show();
     match seats {
         Ok(seats) => closed(rt, desk, seats),
@@ -170,21 +194,27 @@ fn recorded<
     }
 }
 
-/// A desk with a seat for each engineer, then one for each worker, and with a shard for each worker.
+/// A desk with a seat for each engineer, then one for each worker, and with a shard for each worker. Of both there are
+/// no more than a desk may have, so the only fault is want of memory.
 fn opened<S: Selector + Drop, T: PrefixTable<Cell<S>> + Drop, L: Ledger>(
     alloc: Global,
     keys: Option<RandomState>,
     engineers: u16,
     workers: u16,
     blank: Blank,
-) -> Result<(Desk<S, T, L>, Vec<Seat<L>>), OpenFault>
+) -> Result<(Desk<S, T, L>, Vec<Seat<L>>), AllocError>
     requires ledger { IsDeskLedger blank.name blank.parts L.name L.parts }
     requires most { engineers ≤ 64 }
+    requires some { 1 ≤ workers }
     requires hands { workers ≤ 64 }
     ensures seats { IfOk result (λ made. made.1.items ≡ blank_seats (engineers + workers)) }
     ensures shards { IfOk result (λ made. made.0.shards ≡ workers) }
 {
-    Desk::open(alloc, keys, engineers + workers, u64::from(workers), blank)
+    match Desk::open(alloc, keys, engineers + workers, u64::from(workers), blank) {
+        Ok(made) => Ok(made),
+        Err(OpenFault::Memory) => Err(AllocError),
+        Err(OpenFault::Seats | OpenFault::Shards) => unreachable!(),
+    }
 }
 
 /// All threads at the desk, from the first call to the last. The seats come back: the workers', and then those of the
@@ -196,28 +226,16 @@ fn at_desk<
     E: Write + Send,
     R: Threads + Wait + Sync,
 >(
-    rt: &R,
-    alloc: Global,
-    desk: &Desk<S, T, L>,
-    told: &Told<'_, E>,
+    crew: &Crew<'_, '_, S, T, L, E, R>,
     scripts: Vec<Script>,
     seats: Vec<Seat<L>>,
-    turns: u64,
 ) -> Result<Vec<Seat<L>>, AllocError>
     requires most { vec_len scripts ≤ 64 }
+    requires enough { vec_len scripts ≤ vec_len seats }
     ensures { IfOk result (λ back. AreBack (engineers_of 1 scripts.items seats.items)
         (drop (length scripts.items) seats.items) back.items) }
 {
-    let (engineers, workers) = seated(alloc, scripts, seats)?;
-    let at_work = AtomicU64::new(engineers.len() as u64);
-    let crew = Crew {
-        rt,
-        alloc,
-        desk,
-        told,
-        at_work: &at_work,
-        turns,
-    };
+    let (engineers, workers) = seated(crew.alloc, scripts, seats)?;
     crew.run(engineers, workers)
 }
 
@@ -228,13 +246,14 @@ fn seated<L: Ledger>(
     seats: Vec<Seat<L>>,
 ) -> Result<(Vec<Engineer<L>>, Vec<Seat<L>>), AllocError>
     requires most { vec_len scripts ≤ 64 }
+    requires enough { vec_len scripts ≤ vec_len seats }
     ensures engineers { IfOk result (λ made. made.0.items ≡ engineers_of 1 scripts.items seats.items) }
     ensures workers { IfOk result (λ made. made.1.items ≡ drop (length scripts.items) seats.items) }
 {
     let mut engineers = Vec::new(alloc);
     let mut seats = seats.into_iter();
     for script in scripts {
-        let seat = seats.next().ok_or(AllocError)?;
+        let seat = seats.next().unwrap();
         let file = engineers.len() as u64 + 1;
         engineers.push(Engineer { file, script, seat })?;
     }
