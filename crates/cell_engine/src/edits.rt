@@ -36,6 +36,7 @@ use prefix_table::PrefixTable;
 use route_select::Selector;
 use seq::Seq;
 use session_queue::Direction;
+use shared_map::ChunkedSet;
 use std::alloc::{AllocError, Global};
 use std::marker::Model;
 use std::sync::Arc;
@@ -52,7 +53,7 @@ pub struct Edited<S: Selector> {
 #[derive(Drop)]
 struct Parts<S: Selector> {
     conf: Arc<Conf>,
-    directions: Seq<Direction>,
+    directions: ChunkedSet<Direction>,
     edits: Seq<CellEdit<S>>,
 }
 
@@ -86,7 +87,7 @@ impl<S: Selector> Edited<S> {
 fn boxed<S: Selector + Drop>(
     alloc: Global,
     made: EditedConf,
-    directions: Seq<Direction>,
+    directions: ChunkedSet<Direction>,
     edits: Seq<CellEdit<S>>,
 ) -> Result<Edited<S>, AllocError>
     ensures { IfOk result (λ edited. edited ≡ record { conf = made.conf; directions = directions; edits = edits }) }
@@ -146,7 +147,7 @@ impl<S: Selector + Send + Sync + Drop, T: PrefixTable<Cell<S>> + Drop> State<S, 
         rt: &R,
         edit: &Edit,
         made: &EditedConf,
-    ) -> Result<(Seq<Direction>, Seq<CellEdit<S>>), AllocError>
+    ) -> Result<(ChunkedSet<Direction>, Seq<CellEdit<S>>), AllocError>
         requires { ConcernsAlone self.now.conf made.now.conf made.now.concerned.keys }
         ensures directions { IfOk result (λ moves. moves.0 ≡ with_directions edit.now self.now.directions) }
         ensures edits { IfOk result (λ moves.
@@ -154,7 +155,7 @@ impl<S: Selector + Send + Sync + Drop, T: PrefixTable<Cell<S>> + Drop> State<S, 
             self.now.tables) }
     {
         let edits = self.edits_by(rt, edit.scope(), made)?;
-        match directions_after(self.alloc, self.directions.as_slice(), edit) {
+        match directions_after(self.alloc, &self.directions, edit) {
             Ok(directions) => Ok((directions, edits)),
             Err(_) => {
                 drop(edits);

@@ -26,8 +26,8 @@ use net_prefix::{Addr, Prefix};
 use prefix_table::PrefixTable;
 use route_select::Chosen;
 pub use router_test::is_router_again;
-use seq::Seq;
 use session_queue::{Direction, Queues};
+use shared_map::ChunkedSet;
 use std::alloc::{AllocError, Global};
 use std::hash::RandomState;
 use std::marker::Model;
@@ -40,7 +40,7 @@ pub struct State<S: Chosen, T: PrefixTable<Cell<S>>> {
     pub(crate) conf: HeldConf,
     pub(crate) tables: RouterTables<Cell<S>, HopTable<S, T>>,
     /// Those of all sessions.
-    pub(crate) directions: Seq<Direction>,
+    pub(crate) directions: ChunkedSet<Direction>,
     pub(crate) queues: Queues,
 }
 
@@ -73,7 +73,7 @@ impl<S: Chosen, T: PrefixTable<Cell<S>>> State<S, T> {
             alloc,
             conf: HeldConf::new(alloc),
             tables: RouterTables::new(alloc),
-            directions: Seq::new(alloc),
+            directions: ChunkedSet::new(),
             queues: Queues::new(alloc, keys),
         }
     }
