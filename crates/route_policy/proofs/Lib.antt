@@ -1,1 +1,2 @@
 mod Comparing
+pub mod MarkedPaths

@@ -4,3 +4,4 @@ pub mod Judging
 pub mod Sameness
 pub mod SameLaws
 pub mod Faults
+pub mod Marks

@@ -6,6 +6,7 @@ ghost use Rattle.route_policy.specs.Limits.{most_rules, is_full};
 ghost use Rattle.route_policy.specs.Sameness.{same_policy};
 ghost use Rattle.route_policy.specs.declared.policy.AddFault.TheVariants.{Limit};
 
+use crate::marks::MarkedRoute;
 use crate::rule::{Action, Rule};
 use net_prefix::Prefix;
 use path_attr::Attr;
@@ -17,6 +18,11 @@ use std::marker::Model;
 
 /// The most rules that a policy takes.
 pub const MAX_RULES: usize = 256;
+
+/// From so many numbers of a path, and so many rules, on marks of the numbers are sooner there than looks at each.
+const WORTH_MARKS: u64 = 16;
+
+const WORTH_RULES: usize = 8;
 
 /// Why a rule is not added.
 #[derive(Clone, Copy, Debug, PartialEq, Eq)]
@@ -158,13 +164,36 @@ pub fn judge(policy: &Policy, prefix: Prefix, attr: &Attr) -> Action
     first_action(policy.rules(), prefix, attr).unwrap_or(Action::PLAIN_PERMIT)
 }
 
-/// The action of the first rule that a route to the prefix with these attributes matches.
+/// The action of the first rule that a route to the prefix with these attributes matches. A long path is looked through
+/// once, and again only for a rule about an AS that it may hold.
 fn first_action(rules: &[Rule], prefix: Prefix, attr: &Attr) -> Option<Action>
+    ensures { result ≡ option_map (λ r. r.act) (find (λ r. matches r.cond prefix attr.now) rules.now) }
+{
+    if attr.path.number_count() < WORTH_MARKS || rules.len() < WORTH_RULES {
+        first_of(rules, prefix, attr)
+    } else {
+        first_of_marked(rules, prefix, attr)
+    }
+}
+
+/// The same, by a look at the route for each rule.
+fn first_of(rules: &[Rule], prefix: Prefix, attr: &Attr) -> Option<Action>
     ensures { result ≡ option_map (λ r. r.act) (find (λ r. matches r.cond prefix attr.now) rules.now) }
 {
     rules
         .iter()
         .find(|r| r.cond.matches(prefix, attr))
+        .map(|r| r.act)
+}
+
+/// The same, by marks of the numbers of the path.
+fn first_of_marked(rules: &[Rule], prefix: Prefix, attr: &Attr) -> Option<Action>
+    ensures { result ≡ option_map (λ r. r.act) (find (λ r. matches r.cond prefix attr.now) rules.now) }
+{
+    let route = MarkedRoute::of(attr);
+    rules
+        .iter()
+        .find(|r| route.matches(r.cond, prefix))
         .map(|r| r.act)
 }
 
