@@ -87,7 +87,7 @@ impl ConfTables {
                 self.origins.insert(alloc, Origination { router, prefix })
             }
             Edit::NoOrigin(router, prefix) => {
-                self.origins.remove(alloc, &Origination { router, prefix })
+                self.origins.remove(alloc, Origination { router, prefix })
             }
         }
     }

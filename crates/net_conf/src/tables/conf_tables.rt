@@ -7,6 +7,7 @@ ghost use Rattle.net_prefix.specs.Address.{addr_cmp};
 ghost use Rattle.net_conf.specs.Configuration.{unconfigured, node_at, has_node, is_virtual, as_of, is_external, link_between, has_link, has_link_up, session_between, has_session, session_count, is_client, is_reflector, cluster_id, compares_all_meds, puts_itself, rules_at, import_rules, export_rules, originates, origins_of, end_of};
 ghost use Rattle.net_conf.specs.Configured.{IsInOrder};
 
+use crate::tables::originations::Originations;
 use crate::tables::{End, Ends, Kind, Link, Node, Origination};
 use net_prefix::{Addr, Prefix};
 use path_attr::Asn;
@@ -30,7 +31,7 @@ pub struct ConfTables {
     pub(crate) exports: SharedMap<End, Policy>,
     pub(crate) clusters: SharedMap<Addr, Addr>,
     pub(crate) med_always: SharedSet<Addr>,
-    pub(crate) origins: ChunkedSet<Origination>,
+    pub(crate) origins: Originations,
 }
 
 impl Model for ConfTables {
@@ -67,7 +68,7 @@ impl ConfTables {
             exports: SharedMap::new(),
             clusters: SharedMap::new(),
             med_always: SharedSet::new(),
-            origins: ChunkedSet::new(),
+            origins: Originations::new(),
         }
     }
 
@@ -218,32 +219,21 @@ impl ConfTables {
     pub fn originates(&self, router: Addr, prefix: Prefix) -> bool
         ensures { result ≡ originates self.now router prefix }
     {
-        self.origins.contains(&Origination { router, prefix })
+        self.origins.contains(Origination { router, prefix })
     }
 
     /// The prefixes that the router originates, in order.
     pub fn origins_of(&self, alloc: Global, router: Addr) -> Result<Vec<Prefix>, AllocError>
         ensures { IfOk result (λ v. v.items ≡ origins_of self.now router) }
     {
-        let origins = self.origins.keys(alloc)?;
-        origins
-            .iter()
-            .filter(|o| o.router == router)
-            .map(|o| o.prefix)
-            .collect(alloc)
+        self.origins.of(router)?.keys(alloc)
     }
 
-    /// The same, as a set to share.
-    pub(crate) fn shared_origins(
-        &self,
-        alloc: Global,
-        router: Addr,
-    ) -> Result<ChunkedSet<Prefix>, AllocError>
+    /// The same, as one owner more of the set of them.
+    pub(crate) fn shared_origins(&self, router: Addr) -> Result<ChunkedSet<Prefix>, AllocError>
         ensures { IfOk result (λ set. set ≡ origins_of self.now router) }
     {
-        self.orders();
-        let origins = self.origins_of(alloc, router)?;
-        ChunkedSet::of(alloc, origins)
+        self.origins.of(router)
     }
 
     /// The router's policy for what comes in from the peer.
@@ -298,7 +288,7 @@ type Sessions = (SharedMap<Ends, bool>, SharedSet<End>, SharedSet<End>);
 type Policies = (
     SharedMap<End, Policy>,
     SharedMap<End, Policy>,
-    ChunkedSet<Origination>,
+    Originations,
 );
 
 impl ConfTables {
