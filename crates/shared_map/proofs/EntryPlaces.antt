@@ -225,22 +225,25 @@ module _ {K V : Type 0} where
 
     pub put_are : (q : K) (v : V) (at : ℕ) (es : List (K × V)) (new : List (List (K × V))) → IsPlace cmp cs q at → slice_get cs at ≡ Some es → new ≡ set cs at (insert_entry cmp es q v) → AreEntryChunks cmp new
     put_are q v at es new place is same =
-        subst (AreEntryChunks cmp) (sym same)
-        (full_set cs at (insert_entry cmp es q v) (put_has_key cmp es q v) are.0,
-        subst (IsStrictlySortedBy cmp) (same_keys (set cs at (insert_entry cmp es q v))) (entries_in_order cmp total q v (entries_in cs) (entries_in (set cs at (insert_entry cmp es q v))) (place.put v es is) in_order))
+        subst (AreEntryChunks cmp) (sym same) (
+          full_set cs at (insert_entry cmp es q v) (put_has_key cmp es q v) are.0,
+          subst (IsStrictlySortedBy cmp) (same_keys (set cs at (insert_entry cmp es q v))) (entries_in_order cmp total q v (entries_in cs) (entries_in (set cs at (insert_entry cmp es q v))) (place.put v es is) in_order),
+        )
 
     pub taken_are : (q : K) (at : ℕ) (es : List (K × V)) (new : List (List (K × V))) → IsPlace cmp cs q at → slice_get cs at ≡ Some es → 1 < length es → new ≡ set cs at (remove_entry (is_at (cmp q)) es) → AreEntryChunks cmp new
     taken_are q at es new place is many same =
-        subst (AreEntryChunks cmp) (sym same)
-        (full_set cs at (remove_entry (is_at (cmp q)) es) (left_has_key (is_at (cmp q)) es many) are.0,
-        subst (IsStrictlySortedBy cmp) (same_keys (set cs at (remove_entry (is_at (cmp q)) es))) (entries_left_in_order cmp (is_at (cmp q)) (entries_in cs) (entries_in (set cs at (remove_entry (is_at (cmp q)) es))) (place.taken es is) in_order))
+        subst (AreEntryChunks cmp) (sym same) (
+          full_set cs at (remove_entry (is_at (cmp q)) es) (left_has_key (is_at (cmp q)) es many) are.0,
+          subst (IsStrictlySortedBy cmp) (same_keys (set cs at (remove_entry (is_at (cmp q)) es))) (entries_left_in_order cmp (is_at (cmp q)) (entries_in cs) (entries_in (set cs at (remove_entry (is_at (cmp q)) es))) (place.taken es is) in_order),
+        )
 
     pub halved_are : (at : ℕ) (c front back : List (K × V)) (new : List (List (K × V))) → slice_get cs at ≡ Some c → at < length cs → front ++ back ≡ c → 0 < length front → 0 < length back → new ≡ set (insert cs (suc at) back) at front → AreEntryChunks cmp new
     halved_are at c front back new is lt whole some some' same =
         let cut : List (List (K × V)) = set (insert cs (suc at) back) at front in
-        subst (AreEntryChunks cmp) (sym same)
-        (full_halved cs at front back lt (has_key_from front some) (has_key_from back some') are.0,
-        subst (IsStrictlySortedBy cmp) (ap keys_of (sym (halved cs at c front back is whole)) ∙ same_keys cut) in_order)
+        subst (AreEntryChunks cmp) (sym same) (
+          full_halved cs at front back lt (has_key_from front some) (has_key_from back some') are.0,
+          subst (IsStrictlySortedBy cmp) (ap keys_of (sym (halved cs at c front back is whole)) ∙ same_keys cut) in_order,
+        )
 
     -- the chunk of an entry alone is left out
     pub removed_entries : (q : K) (at : ℕ) (es : List (K × V)) (new : List (List (K × V))) → IsPlace cmp cs q at → slice_get cs at ≡ Some es → remove_entry (is_at (cmp q)) es ≡ [] → new ≡ remove cs at → entries_in new ≡ remove_entry (is_at (cmp q)) (entries_in cs)
@@ -251,6 +254,7 @@ module _ {K V : Type 0} where
         ∙ place.taken es is
 
     pub removed_are : (q : K) (at : ℕ) (es : List (K × V)) (new : List (List (K × V))) → IsPlace cmp cs q at → slice_get cs at ≡ Some es → remove_entry (is_at (cmp q)) es ≡ [] → new ≡ remove cs at → AreEntryChunks cmp new
-    removed_are q at es new place is none same =
-        (ap (λ x. list_all has_key (map keys_of x)) same ∙ full_remove cs at are.0,
-        subst (IsStrictlySortedBy cmp) (same_keys new) (entries_left_in_order cmp (is_at (cmp q)) (entries_in cs) (entries_in new) (removed_entries q at es new place is none same) in_order))
+    removed_are q at es new place is none same = (
+      ap (λ x. list_all has_key (map keys_of x)) same ∙ full_remove cs at are.0,
+      subst (IsStrictlySortedBy cmp) (same_keys new) (entries_left_in_order cmp (is_at (cmp q)) (entries_in cs) (entries_in new) (removed_entries q at es new place is none same) in_order),
+    )

@@ -13,7 +13,7 @@ use net_prefix::{Addr, Prefix};
 use path_attr::Asn;
 use route_policy::{Policy, Rule};
 use seq::Copied;
-use shared_map::{ChunkedSet, SharedMap, SharedSet};
+use shared_map::{ChunkedMap, ChunkedSet, SharedMap, SharedSet};
 use std::alloc::{AllocError, Global};
 use std::marker::Model;
 
@@ -27,8 +27,8 @@ pub struct ConfTables {
     pub(crate) sessions: SharedMap<Ends, bool>,
     pub(crate) clients: SharedSet<End>,
     pub(crate) own_next: SharedSet<End>,
-    pub(crate) imports: SharedMap<End, Policy>,
-    pub(crate) exports: SharedMap<End, Policy>,
+    pub(crate) imports: ChunkedMap<End, Policy>,
+    pub(crate) exports: ChunkedMap<End, Policy>,
     pub(crate) clusters: SharedMap<Addr, Addr>,
     pub(crate) med_always: SharedSet<Addr>,
     pub(crate) origins: Originations,
@@ -64,8 +64,8 @@ impl ConfTables {
             sessions: SharedMap::new(),
             clients: SharedSet::new(),
             own_next: SharedSet::new(),
-            imports: SharedMap::new(),
-            exports: SharedMap::new(),
+            imports: ChunkedMap::new(),
+            exports: ChunkedMap::new(),
             clusters: SharedMap::new(),
             med_always: SharedSet::new(),
             origins: Originations::new(),
@@ -81,8 +81,8 @@ impl ConfTables {
         let _ = self.sessions.as_slice();
         let _ = self.clients.as_slice();
         let _ = self.own_next.as_slice();
-        let _ = self.imports.as_slice();
-        let _ = self.exports.as_slice();
+        self.imports.order();
+        self.exports.order();
         let _ = self.clusters.as_slice();
         let _ = self.med_always.as_slice();
         self.origins.order();
@@ -264,7 +264,7 @@ impl ConfTables {
 /// The policy of the end; the one without rules where there is none.
 pub(crate) fn policy_at(
     alloc: Global,
-    policies: &SharedMap<End, Policy>,
+    policies: &ChunkedMap<End, Policy>,
     end: End,
 ) -> Result<Policy, AllocError>
     ensures { IfOk result (λ p. p ≡ rules_at policies.now end) }
@@ -286,8 +286,8 @@ type Sessions = (SharedMap<Ends, bool>, SharedSet<End>, SharedSet<End>);
 
 /// The policies for what comes in and for what goes out, and who originates what.
 type Policies = (
-    SharedMap<End, Policy>,
-    SharedMap<End, Policy>,
+    ChunkedMap<End, Policy>,
+    ChunkedMap<End, Policy>,
     Originations,
 );
 

@@ -14,7 +14,7 @@ ghost use Rattle.net_conf.specs.Originations.{originations_in, prefixes_at};
 use crate::tables::Origination;
 use net_prefix::{Addr, Prefix};
 use seq::Copied;
-use shared_map::{ChunkedSet, SharedMap};
+use shared_map::{ChunkedMap, ChunkedSet};
 use std::alloc::{AllocError, Global};
 use std::marker::Model;
 
@@ -22,7 +22,7 @@ use std::marker::Model;
 /// its site shares.
 #[derive(Drop)]
 pub(crate) struct Originations {
-    routers: SharedMap<Addr, ChunkedSet<Prefix>>,
+    routers: ChunkedMap<Addr, ChunkedSet<Prefix>>,
 }
 
 impl Model for Originations {
@@ -45,7 +45,7 @@ impl Originations {
         ensures { result ≡ [] }
     {
         Originations {
-            routers: SharedMap::new(),
+            routers: ChunkedMap::new(),
         }
     }
 
@@ -60,7 +60,7 @@ impl Originations {
     pub(crate) fn contains(&self, origination: Origination) -> bool
         ensures { result ≡ list_any (is_at (origination_cmp origination)) self.now }
     {
-        let _ = self.routers.as_slice();
+        self.routers.order();
         match self.routers.get(&origination.router) {
             Some(prefixes) => prefixes.contains(&origination.prefix),
             None => false,
@@ -75,7 +75,11 @@ impl Originations {
     }
 
     /// Puts the prefix to those of the router. An error changes nothing.
-    pub(crate) fn insert(&mut self, alloc: Global, origination: Origination) -> Result<(), AllocError>
+    pub(crate) fn insert(
+        &mut self,
+        alloc: Global,
+        origination: Origination,
+    ) -> Result<(), AllocError>
         ensures ok { OnOk result (self.new ≡ insert_key origination_cmp self.old origination) }
         ensures err { OnErr result (self.new ≡ self.old) }
     {
@@ -85,7 +89,11 @@ impl Originations {
     }
 
     /// Takes the prefix from those of the router. An error changes nothing.
-    pub(crate) fn remove(&mut self, alloc: Global, origination: Origination) -> Result<(), AllocError>
+    pub(crate) fn remove(
+        &mut self,
+        alloc: Global,
+        origination: Origination,
+    ) -> Result<(), AllocError>
         ensures ok { OnOk result (self.new ≡ remove_key (is_at (origination_cmp origination)) self.old) }
         ensures err { OnErr result (self.new ≡ self.old) }
     {
@@ -106,13 +114,13 @@ impl Originations {
 
 /// The prefixes of the router, as one owner more of their set.
 fn prefixes_at(
-    routers: &SharedMap<Addr, ChunkedSet<Prefix>>,
+    routers: &ChunkedMap<Addr, ChunkedSet<Prefix>>,
     router: Addr,
 ) -> Result<ChunkedSet<Prefix>, AllocError>
     ensures set { IfOk result (λ set. set ≡ prefixes_at routers.now router) }
     ensures ordered { IsStrictlySortedBy addr_cmp (keys_of routers.now) }
 {
-    let _ = routers.as_slice();
+    routers.order();
     match routers.get(&router) {
         Some(prefixes) => prefixes.share(),
         None => Ok(ChunkedSet::new()),
@@ -122,7 +130,7 @@ fn prefixes_at(
 /// Gives the router these prefixes; with none it is not kept. An error changes nothing.
 fn set_prefixes(
     alloc: Global,
-    routers: &mut SharedMap<Addr, ChunkedSet<Prefix>>,
+    routers: &mut ChunkedMap<Addr, ChunkedSet<Prefix>>,
     router: Addr,
     prefixes: ChunkedSet<Prefix>,
 ) -> Result<(), AllocError>

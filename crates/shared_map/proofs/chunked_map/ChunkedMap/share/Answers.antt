@@ -6,7 +6,7 @@ use Rattle.shared_map.proofs.EntryPlaces.{some_entry}
 use Rattle.shared_map.proofs.chunked_map.ChunkedMap.share.Goals as goal
 
 pub returns-in_err-try_clone-in-Some-clause-some : goal.returns-in_err-try_clone-in-Some-clause-some
-returns-in_err-try_clone-in-Some-clause-some g c = 
+returns-in_err-try_clone-in-Some-clause-some g c =
     let cs = items_shown c.self.inside.chunks in
     let here : (length (items_shown (Some c.in-Some.chunks)) == 0) ≡ false = cc (c.is_empty.ensures, c.if-not-is_empty.true, c.deref.ensures) in
     let some : (length cs == 0) ≡ false = ap (λ o. length (items_shown o) == 0) c.in-Some.is ∙ here in

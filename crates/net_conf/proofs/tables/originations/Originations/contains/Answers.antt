@@ -15,7 +15,7 @@ returns-in-Some c =
     let own : c.in-Some.prefixes.now ≡ prefixes_at es o.router = ap (λ x. unwrap_or (option_copied x) []) (sym c.in-Some.is) ∙ ap (λ x. unwrap_or x []) c.get.ensures in
     c.contains.ensures
     ∙ ap (list_any (is_at (prefix_cmp o.prefix))) own
-    ∙ found_prefix o.router es c.as_slice.ensures.ordered o.prefix
+    ∙ found_prefix o.router es c.order.ensures o.prefix
     ∙ ap (list_any (is_at (origination_cmp o))) c.self.view_is
 
 pub returns-in-None : goal.returns-in-None
@@ -24,5 +24,5 @@ returns-in-None c =
     let o = c.args.origination in
     let own : [] ≡ prefixes_at es o.router = ap (λ x. unwrap_or (option_copied x) []) (sym c.in-None.is) ∙ ap (λ x. unwrap_or x []) c.get.ensures in
     ap (list_any (is_at (prefix_cmp o.prefix))) own
-    ∙ found_prefix o.router es c.as_slice.ensures.ordered o.prefix
+    ∙ found_prefix o.router es c.order.ensures o.prefix
     ∙ ap (list_any (is_at (origination_cmp o))) c.self.view_is
