@@ -1,6 +1,6 @@
 -- What the trees that move change of those that are carried over.
-use Rattle.std.proofs.Common.{◌≡◌, ℕ, ◌+◌, ◌<◌, Bool, true, false, cond, ◌||◌, List, [], ◌∷◌, ◌++◌, map, fold, take, length, get_or, Option, Some, None, option_map, is_some, All, refl, sym, ap, ◌∙◌, arith}
-use Rattle.std.specs.List.{list_any}
+use Rattle.std.proofs.Common.{◌≡◌, ℕ, zero, suc, ◌+◌, ◌<◌, Bool, true, false, cond, ◌||◌, List, [], ◌∷◌, ◌++◌, map, fold, take, length, get_or, Option, Some, None, option_map, is_some, All, refl, sym, ap, ◌∙◌, arith}
+use Rattle.std.specs.List.{AllByRecursion, list_any}
 use Rattle.std.specs.Option.{option_or}
 use Rattle.std.specs.List.Sorted.{IsStrictlySortedBy}
 use Rattle.std.specs.Map.{keys_of, lookup}
@@ -8,7 +8,8 @@ use Rattle.std.specs.BTreeMap.{insert_entry, is_at}
 use Rattle.std.specs.BTreeSet.{insert_key}
 use Rattle.std.proofs.lemmas.Bool.{true≢false}
 use Rattle.std.proofs.lemmas.Cmp.{eq_by_cmp_equiv}
-use Rattle.std.proofs.lemmas.List.{map-append}
+use Rattle.std.proofs.lemmas.List.{map-append, append-nil, take_more}
+use Rattle.std.proofs.lemmas.List.Concat.{flat_map-append}
 use Rattle.std.proofs.lemmas.List.Elements.{All-cons, All-head, All-tail, All-push}
 use Rattle.std.proofs.lemmas.List.Folds.{list_any_more, list_any-append}
 use Rattle.std.proofs.lemmas.Map.Entries.{lookup_from_place}
@@ -17,6 +18,7 @@ use Rattle.std.proofs.lemmas.Option.{slice_get-get_or}
 use Rattle.net_prefix.specs.declared.addr.Addr.{Addr}
 use Rattle.net_prefix.specs.Address.{addr_cmp}
 use Rattle.net_prefix.specs.Orders.{addr_exact, addr_total}
+use Rattle.shared_map.specs.EntryChunks.{entries_in}
 use Rattle.igp_cost.specs.declared.change.Change.{Change}
 use Rattle.igp_cost.specs.Topology.{Topology}
 use Rattle.igp_cost.specs.Trees.{Reached, source_of, tree_of}
@@ -62,6 +64,33 @@ pub was_at : (change : Change) (nodes : Nodes) (edges : Edges) (es : List (Addr 
 was_at change nodes edges es sorted were i d lt =
     let e = get_or es i d in
     were e.0 e.1 (lookup_from_place (eq_by_cmp_equiv addr_total) es i e.0 e.1 (IsDistinct-from_sorted addr_cmp (keys_of es) sorted) (slice_get-get_or es i d lt))
+
+-- what holds at each position holds of all, and of all of each chunk
+pub all_from_each : {X : Type 0} (P : X → Type 0) (xs : List X) → ((i : ℕ) (d : X) → i < length xs → P (get_or xs i d)) → AllByRecursion P xs
+all_from_each P [] each = tt
+all_from_each P (x ∷ xs) each = (each 0 x (omega arith), all_from_each P xs (λ i d lt. each (suc i) d (omega arith)))
+
+pub each_from_all : {X : Type 0} (P : X → Type 0) (xs : List X) (i : ℕ) (d : X) → AllByRecursion P xs → i < length xs → P (get_or xs i d)
+each_from_all P [] i d all lt = absurd (omega arith)
+each_from_all P (x ∷ xs) zero d all lt = all.0
+each_from_all P (x ∷ xs) (suc i) d all lt = each_from_all P xs i d all.1 (omega arith)
+
+all_front : {X : Type 0} (P : X → Type 0) (xs ys : List X) → AllByRecursion P (xs ++ ys) → AllByRecursion P xs
+all_front P [] ys all = tt
+all_front P (x ∷ xs) ys all = (all.0, all_front P xs ys all.1)
+
+all_back : {X : Type 0} (P : X → Type 0) (xs ys : List X) → AllByRecursion P (xs ++ ys) → AllByRecursion P ys
+all_back P [] ys all = all
+all_back P (x ∷ xs) ys all = all_back P xs ys all.1
+
+pub all_of_chunk : {K V : Type 0} (P : K × V → Type 0) (cs : List (List (K × V))) (i : ℕ) (d : List (K × V)) → AllByRecursion P (entries_in cs) → i < length cs → AllByRecursion P (get_or cs i d)
+all_of_chunk P [] i d all lt = absurd (omega arith)
+all_of_chunk P (c ∷ cs) zero d all lt = all_front P c (entries_in cs) all
+all_of_chunk P (c ∷ cs) (suc i) d all lt = all_of_chunk P cs i d (all_back P c (entries_in cs) all) (omega arith)
+
+-- the entries of one chunk more
+pub one_chunk_more : {K V : Type 0} (cs : List (List (K × V))) (i : ℕ) (d : List (K × V)) → i < length cs → entries_in (take (i + 1) cs) ≡ entries_in (take i cs) ++ get_or cs i d
+one_chunk_more cs i d lt = ap entries_in (take_more cs i d lt) ∙ flat_map-append (λ es. es) (take i cs) (get_or cs i d ∷ []) ∙ ap (λ es. entries_in (take i cs) ++ es) (append-nil (get_or cs i d))
 
 found_behind : {K V : Type 0} (test : K → Bool) (es : List (K × V)) (k : K) (v : V) → lookup test (es ++ (k, v) ∷ []) ≡ option_or (lookup test es) (cond (test k) (Some v) None)
 found_behind test [] k v = refl

@@ -12,6 +12,7 @@ pub mod Peers
 pub mod RouterLaws
 pub mod OthersStay
 pub mod Originated
+pub mod ByRouter
 pub mod Concerns
 pub mod NodeConcerns
 pub mod SessionConcerns

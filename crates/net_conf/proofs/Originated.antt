@@ -27,7 +27,7 @@ use Rattle.net_conf.specs.Sites.{site_at, site_of}
 use Rattle.net_conf.proofs.KeptTrees.{same_address, equal_when}
 use Rattle.net_conf.proofs.OthersStay.{origination, origination_exact, origins_alone}
 
-origination_total : IsTotalOrder origination_cmp
+pub origination_total : IsTotalOrder origination_cmp
 origination_total = then_total (on_total (λ o. o.router) addr_total) (on_total (λ o. o.prefix) prefix_total)
 
 -- two addresses that are the same compare as equal
@@ -55,21 +55,6 @@ module _ (r : Addr) where
     where
       by : (b : Bool) → (x.router.0 == r.0) ≡ b → AllByRecursion (λ q. prefix_cmp p q ≡ Less) (originated xs) → AllByRecursion (λ q. prefix_cmp p q ≡ Less) (map (λ (o : Origination). o.prefix) (cond b (x ∷ filter (λ o. o.router.0 == r.0) xs) (filter (λ o. o.router.0 == r.0) xs)))
       by true at rest = (sym (by_prefix p x at) ∙ h.0, rest)
-      by false at rest = rest
-
-  -- all of the router's are above its own that is below them
-  above_own : (k : Origination) (os : List Origination) → (k.router.0 == r.0) ≡ true → AllByRecursion (λ o. origination_cmp k o ≡ Less) os → AllByRecursion (λ q. prefix_cmp k.prefix q ≡ Less) (originated os)
-  above_own k os at h =
-      let same : origination r k.prefix ≡ k = ap (λ a. origination a k.prefix) (sym (same_address k.router r at)) in
-      all_above k.prefix os (subst (λ x. AllByRecursion (λ o. origination_cmp x o ≡ Less) os) (sym same) h)
-
-  pub originated_in_order : (os : List Origination) → IsStrictlySortedBy origination_cmp os → IsStrictlySortedBy prefix_cmp (originated os)
-  unfolding IsStrictlySortedBy
-  originated_in_order [] h = tt
-  originated_in_order (x ∷ xs) h = by (x.router.0 == r.0) refl (originated_in_order xs h.1)
-    where
-      by : (b : Bool) → (x.router.0 == r.0) ≡ b → IsStrictlySortedBy prefix_cmp (originated xs) → IsStrictlySortedBy prefix_cmp (map (λ (o : Origination). o.prefix) (cond b (x ∷ filter (λ o. o.router.0 == r.0) xs) (filter (λ o. o.router.0 == r.0) xs)))
-      by true at rest = (above_own x xs at h.0, rest)
       by false at rest = rest
 
   -- ONE MORE

@@ -1,6 +1,7 @@
 pub mod Limits
 pub mod Refusals
 pub mod Configuration
+pub mod Originations
 pub mod Edits
 pub mod Costs
 pub mod Sites

@@ -15,7 +15,7 @@ use igp_cost::Tree;
 use net_prefix::{Addr, Prefix};
 use path_attr::Asn;
 use seq::Copied;
-use shared_map::SharedMap;
+use shared_map::ChunkedMap;
 use std::alloc::{AllocError, Global};
 use std::collections::BTreeSet;
 use std::marker::Model;
@@ -27,7 +27,7 @@ use std::thread::Threads;
 #[derive(Drop)]
 pub struct Conf {
     pub(crate) sessions: ConfSessions,
-    pub(crate) sites: SharedMap<Addr, SharedSite>,
+    pub(crate) sites: ChunkedMap<Addr, SharedSite>,
 }
 
 /// What an edit makes.
@@ -57,7 +57,7 @@ impl Conf {
     {
         Conf {
             sessions: ConfSessions::new(),
-            sites: SharedMap::new(),
+            sites: ChunkedMap::new(),
         }
     }
 

@@ -200,7 +200,7 @@ impl ConfSessions {
             cluster: self.tables().cluster_id(router),
             reflector: self.tables().is_reflector(router),
             med_always: self.tables().compares_all_meds(router),
-            origins: self.tables().shared_origins(alloc, router)?,
+            origins: self.tables().shared_origins(router)?,
             sessions: SharedSeq::of(alloc, self.sessions_of(alloc, router)?)?,
             costs: self.costs(alloc, router)?,
         })

@@ -1,10 +1,12 @@
 //! The configuration itself, as plain tables of the rows that stand here: look-ups (`conf_tables`), the tests that an
-//! edit has to pass (`checks`), what it does to the tables (`apply`), and the graph of the links that are up (`graph`).
+//! edit has to pass (`checks`), what it does to the tables (`apply`), who originates what (`originations`), and the
+//! graph of the links that are up (`graph`).
 
 mod apply;
 mod checks;
 mod conf_tables;
 mod graph;
+mod originations;
 
 pub use conf_tables::ConfTables;
 use igp_cost::Metric;

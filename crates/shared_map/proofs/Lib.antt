@@ -1,3 +1,4 @@
 pub mod Halving
 pub mod InOrder
 pub mod Splits
+pub mod EntryPlaces

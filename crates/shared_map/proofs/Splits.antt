@@ -37,12 +37,12 @@ module _ {X : Type 0} (P : X → Type 0) where
   all_back (x ∷ xs) ys h = all_back xs ys h.1
 
 module _ {K : Type 0} (cmp : K → K → Ordering) where
-  sorted_front : (xs ys : List K) → IsStrictlySortedBy cmp (xs ++ ys) → IsStrictlySortedBy cmp xs
+  pub sorted_front : (xs ys : List K) → IsStrictlySortedBy cmp (xs ++ ys) → IsStrictlySortedBy cmp xs
   unfolding IsStrictlySortedBy
   sorted_front [] ys h = tt
   sorted_front (x ∷ xs) ys h = (all_front (λ y. cmp x y ≡ Less) xs ys h.0, sorted_front xs ys h.1)
 
-  sorted_back : (xs ys : List K) → IsStrictlySortedBy cmp (xs ++ ys) → IsStrictlySortedBy cmp ys
+  pub sorted_back : (xs ys : List K) → IsStrictlySortedBy cmp (xs ++ ys) → IsStrictlySortedBy cmp ys
   unfolding IsStrictlySortedBy
   sorted_back [] ys h = h
   sorted_back (x ∷ xs) ys h = sorted_back xs ys h.1
@@ -72,13 +72,13 @@ module _ {K : Type 0} (cmp : K → K → Ordering) where
     all_over q k (y ∷ ys) less h = (total.trans q k y less h.0, all_over q k ys less h.1)
 
     -- where the first chunk does not begin by the key, all keys are above it
-    above_from : (q : K) (c : List K) (cs : List (List K)) → has_key c ≡ true → IsStrictlySortedBy cmp (keys_in (c ∷ cs)) → starts_by cmp q c ≡ false → AllByRecursion (λ k. cmp q k ≡ Less) (keys_in (c ∷ cs))
+    pub above_from : (q : K) (c : List K) (cs : List (List K)) → has_key c ≡ true → IsStrictlySortedBy cmp (keys_in (c ∷ cs)) → starts_by cmp q c ≡ false → AllByRecursion (λ k. cmp q k ≡ Less) (keys_in (c ∷ cs))
     unfolding IsStrictlySortedBy
     above_from q [] cs full sorted starts = absurd (true≢false (sym full))
     above_from q (k ∷ ks) cs full sorted starts = let less = less_from (cmp q k) starts in (less, all_over q k (ks ++ keys_in cs) less sorted.0)
 
     -- where the next chunk begins by the key, all keys of this one are below it
-    below_next : (q : K) (c d : List K) (ds : List (List K)) → has_key d ≡ true → IsStrictlySortedBy cmp (c ++ keys_in (d ∷ ds)) → starts_by cmp q d ≡ true → AllByRecursion (λ k. cmp q k ≡ Greater) c
+    pub below_next : (q : K) (c d : List K) (ds : List (List K)) → has_key d ≡ true → IsStrictlySortedBy cmp (c ++ keys_in (d ∷ ds)) → starts_by cmp q d ≡ true → AllByRecursion (λ k. cmp q k ≡ Greater) c
     below_next q c [] ds full sorted starts = absurd (true≢false (sym full))
     below_next q c (k ∷ ks) ds full sorted starts = all_under q k c starts (below_head c k (ks ++ keys_in ds) sorted)
 
@@ -108,7 +108,7 @@ module _ {K : Type 0} (cmp : K → K → Ordering) where
       above = above;
     }
 
-    rest_are : (c : List K) (cs : List (List K)) → AreChunks cmp (c ∷ cs) → AreChunks cmp cs
+    pub rest_are : (c : List K) (cs : List (List K)) → AreChunks cmp (c ∷ cs) → AreChunks cmp cs
     rest_are c cs are = (second_so (has_key c) (list_all has_key cs) are.0, sorted_back c (keys_in cs) are.1)
 
     both_full : (c : List K) (cs : List (List K)) → has_key c ≡ true → list_all has_key cs ≡ true → list_all has_key (c ∷ cs) ≡ true

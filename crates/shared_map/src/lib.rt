@@ -3,8 +3,10 @@
 #![tactic(auto)]
 
 mod chunked;
+mod chunked_map;
 mod chunks;
 mod entries;
+mod entry_chunks;
 mod keys;
 mod map;
 mod position;
@@ -12,5 +14,6 @@ mod same_keys;
 mod set;
 
 pub use chunked::ChunkedSet;
+pub use chunked_map::ChunkedMap;
 pub use map::SharedMap;
 pub use set::SharedSet;

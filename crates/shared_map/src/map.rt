@@ -96,7 +96,7 @@ impl<K: Ord, V> SharedMap<K, V> {
 
 impl<K: Ord + Drop, V: Drop> SharedMap<K, V> {
     /// The map of these entries, from now on shared. No entries take no memory.
-    fn of(alloc: Global, entries: Vec<(K, V)>) -> Result<Self, AllocError>
+    pub(crate) fn of(alloc: Global, entries: Vec<(K, V)>) -> Result<Self, AllocError>
         requires { IsStrictlySortedBy K.cmp (keys_of entries.items) }
         ensures ok { IfOk result (λ map. map ≡ entries.items) }
         ensures some { OnErr result (0 < length entries.items) }

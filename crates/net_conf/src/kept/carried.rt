@@ -13,7 +13,7 @@ ghost use Rattle.net_conf.specs.MovedTrees.{with_tree, with_source};
 use crate::kept::moved_trees::{moved_trees, trees_after};
 use igp_cost::{Change, Graph, Tree};
 use net_prefix::Addr;
-use shared_map::SharedMap;
+use shared_map::ChunkedMap;
 use std::alloc::{AllocError, Global};
 use std::collections::BTreeSet;
 use std::thread::Threads;
@@ -21,7 +21,7 @@ use std::thread::Threads;
 /// The trees after an edit, and whose have moved.
 #[derive(Drop)]
 pub(crate) struct Carried {
-    pub(crate) trees: SharedMap<Addr, Tree>,
+    pub(crate) trees: ChunkedMap<Addr, Tree>,
     pub(crate) moved: BTreeSet<Addr>,
 }
 
@@ -33,7 +33,7 @@ pub(crate) fn carry_trees<R: Threads + Sync>(
     graph: &Graph,
     nodes: usize,
     change: &Change,
-    old: &SharedMap<Addr, Tree>,
+    old: &ChunkedMap<Addr, Tree>,
 ) -> Result<Carried, AllocError>
     requires were { WereTrees change.now graph.now.nodes graph.now.edges old.now }
     ensures trees { IfOk result (λ made. (r : Addr) →
@@ -42,7 +42,8 @@ pub(crate) fn carry_trees<R: Threads + Sync>(
     ensures moved { IfOk result (λ made. (r : Addr) → is_among r made.moved.keys ≡ false →
         lookup (is_at (addr_cmp r)) made.trees ≡ lookup (is_at (addr_cmp r)) old.now) }
 {
-    let moved = moved_trees(alloc, graph, nodes, change, old.as_slice())?;
+    old.order();
+    let moved = moved_trees(alloc, graph, nodes, change, old.chunks())?;
     let made = trees_after(rt, alloc, &moved, nodes)?;
     let carried = with_trees(alloc, old, made)?;
     Ok(carried)
@@ -51,7 +52,7 @@ pub(crate) fn carry_trees<R: Threads + Sync>(
 /// The trees, with these in the place of those of their sources, and whose these are.
 fn with_trees(
     alloc: Global,
-    old: &SharedMap<Addr, Tree>,
+    old: &ChunkedMap<Addr, Tree>,
     made: Vec<Tree>,
 ) -> Result<Carried, AllocError>
     ensures trees { IfOk result (λ carried. carried.trees ≡ fold with_tree old.now made.items) }

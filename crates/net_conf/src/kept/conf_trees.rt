@@ -9,7 +9,7 @@ use crate::tables::ConfTables;
 use igp_cost::Tree;
 use net_prefix::Addr;
 use seq::Copied;
-use shared_map::SharedMap;
+use shared_map::ChunkedMap;
 use std::alloc::{AllocError, Global};
 use std::marker::Model;
 
@@ -17,7 +17,7 @@ use std::marker::Model;
 #[derive(Drop)]
 pub(crate) struct ConfTrees {
     pub(crate) tables: ConfTables,
-    pub(crate) trees: SharedMap<Addr, Tree>,
+    pub(crate) trees: ChunkedMap<Addr, Tree>,
 }
 
 impl Model for ConfTrees {
@@ -38,7 +38,7 @@ impl ConfTrees {
     {
         ConfTrees {
             tables: ConfTables::new(),
-            trees: SharedMap::new(),
+            trees: ChunkedMap::new(),
         }
     }
 

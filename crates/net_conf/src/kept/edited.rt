@@ -17,7 +17,7 @@ use crate::tables::ConfTables;
 use igp_cost::{Graph, Tree, lone_node_moves_no_tree, one_edge_is_a_change, tree_of_is_a_tree};
 use net_prefix::Addr;
 use seq::Copied;
-use shared_map::SharedMap;
+use shared_map::ChunkedMap;
 use std::alloc::{AllocError, Global};
 use std::collections::BTreeSet;
 use std::thread::Threads;
@@ -114,7 +114,7 @@ impl ConfTrees {
         ensures moved { IfOk result (λ made. CostsStayBut self.now tables.now made.moved.keys) }
     {
         if self.trees.is_empty() {
-            let trees = SharedMap::new();
+            let trees = ChunkedMap::new();
             let moved = BTreeSet::new(alloc);
             return Ok(Carried { trees, moved });
         }
@@ -143,7 +143,7 @@ impl ConfTrees {
         tables: &ConfTables,
         one: Addr,
         other: Addr,
-    ) -> Result<SharedMap<Addr, Tree>, AllocError>
+    ) -> Result<ChunkedMap<Addr, Tree>, AllocError>
         requires joined { IsJoined self.now tables.now one other }
         requires sound { IsSound tables.now }
         ensures { IfOk result (λ trees. AreKept tables.now trees) }
@@ -163,7 +163,7 @@ impl ConfTrees {
         &self,
         edit: &Edit,
         tables: &ConfTables,
-    ) -> Result<SharedMap<Addr, Tree>, AllocError>
+    ) -> Result<ChunkedMap<Addr, Tree>, AllocError>
         requires passes { refusal_of self.now edit.now ≡ None }
         requires made { tables.now ≡ edited self.now edit.now }
         requires link { link_in edit.now ≡ None }
@@ -180,7 +180,7 @@ impl ConfTrees {
 /// Adds the tree of the node, where it is missing.
 fn add_missing(
     alloc: Global,
-    trees: &mut SharedMap<Addr, Tree>,
+    trees: &mut ChunkedMap<Addr, Tree>,
     graph: &Graph,
     addr: Addr,
 ) -> Result<(), AllocError>

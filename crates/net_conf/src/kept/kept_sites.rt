@@ -18,7 +18,7 @@ use crate::kept::shared_site::SharedSite;
 use crate::site::SiteConf;
 use net_prefix::Addr;
 use seq::Copied;
-use shared_map::SharedMap;
+use shared_map::ChunkedMap;
 use std::alloc::{AllocError, Global};
 use std::collections::BTreeSet;
 
@@ -78,7 +78,7 @@ impl Conf {
         after: &ConfSessions,
         concerned: &BTreeSet<Addr>,
         turned: &BTreeSet<Addr>,
-    ) -> Result<SharedMap<Addr, SharedSite>, AllocError>
+    ) -> Result<ChunkedMap<Addr, SharedSite>, AllocError>
         requires made { IsMadeBy self.now after.now edit.now turned.now.keys }
         requires concerned { ConcernsAlone self.now after.now concerned.now.keys }
         requires ends { EndsStayBut self.now after.now concerned.now.keys }
@@ -96,10 +96,10 @@ impl Conf {
         alloc: Global,
         edit: &Edit,
         after: &ConfSessions,
-        sites: SharedMap<Addr, SharedSite>,
+        sites: ChunkedMap<Addr, SharedSite>,
         routers: &[Addr],
         turned: &BTreeSet<Addr>,
-    ) -> Result<SharedMap<Addr, SharedSite>, AllocError>
+    ) -> Result<ChunkedMap<Addr, SharedSite>, AllocError>
         requires { IsMadeBy self.now after.now edit.now turned.now.keys }
         ensures { IfOk result (λ new. (r : Addr) →
             lookup (is_at (addr_cmp r)) new ≡ cond (is_among r routers.now) (site_kept after.now r)
@@ -118,7 +118,7 @@ impl Conf {
         alloc: Global,
         edit: &Edit,
         after: &ConfSessions,
-        sites: &mut SharedMap<Addr, SharedSite>,
+        sites: &mut ChunkedMap<Addr, SharedSite>,
         router: Addr,
         turned: &BTreeSet<Addr>,
     ) -> Result<(), AllocError>
@@ -134,7 +134,7 @@ impl Conf {
                 Ok(())
             }
             None => {
-                let _ = sites.as_slice();
+                sites.order();
                 sites.take_out(alloc, &router)?;
                 Ok(())
             }

@@ -1,16 +1,21 @@
 //! Trees that a change of the edges may move, and what they become.
 
-ghost use Rattle.std.specs.Prelude.{◌≡◌, ◌<◌, map, IfOk};
+ghost use Rattle.std.specs.Prelude.{◌≡◌, ◌<◌, ◌++◌, List, map, IfOk};
+ghost use Rattle.std.specs.List.{AllByRecursion};
 ghost use Rattle.std.specs.List.Sorted.{IsPermutation, IsStrictlySortedBy};
 ghost use Rattle.std.specs.Map.{keys_of};
 ghost use Rattle.std.specs.Thread.{IsSync};
+ghost use Rattle.net_prefix.specs.declared.addr.Addr.{Addr};
 ghost use Rattle.net_prefix.specs.Address.{addr_cmp};
-ghost use Rattle.net_conf.specs.Kept.{WereTrees};
+ghost use Rattle.igp_cost.specs.Trees.{Reached};
+ghost use Rattle.shared_map.specs.EntryChunks.{entries_in};
+ghost use Rattle.net_conf.specs.Kept.{WereTrees, WasTreeOf};
 ghost use Rattle.net_conf.specs.MovedTrees.{tree_after, AreMoved};
 
 use igp_cost::{Change, Graph, Tree};
 use net_prefix::Addr;
 use rayon::current_num_threads;
+use shared_map::SharedMap;
 use std::alloc::{AllocError, Global};
 use std::marker::Model;
 use std::thread::{Threads, join};
@@ -72,11 +77,11 @@ pub(crate) fn moved_trees<'a>(
     graph: &'a Graph,
     nodes: usize,
     change: &'a Change,
-    old: &'a [(Addr, Tree)],
+    old: &'a [SharedMap<Addr, Tree>],
 ) -> Result<Vec<MovedTree<'a>>, AllocError>
-    requires were { WereTrees change.now graph.now.nodes graph.now.edges old.now }
-    requires ordered { IsStrictlySortedBy addr_cmp (keys_of old.now) }
-    ensures { IfOk result (λ moved. AreMoved graph.now old.now moved.items) }
+    requires were { WereTrees change.now graph.now.nodes graph.now.edges (entries_in old.now) }
+    requires ordered { IsStrictlySortedBy addr_cmp (keys_of (entries_in old.now)) }
+    ensures { IfOk result (λ moved. AreMoved graph.now (entries_in old.now) moved.items) }
 {
     let mut moved = find_moved(alloc, graph, change, old)?;
     if is_worth_threads(moved.len(), nodes) {
@@ -90,24 +95,42 @@ fn find_moved<'a>(
     alloc: Global,
     graph: &'a Graph,
     change: &'a Change,
-    old: &'a [(Addr, Tree)],
+    old: &'a [SharedMap<Addr, Tree>],
 ) -> Result<Vec<MovedTree<'a>>, AllocError>
-    requires were { WereTrees change.now graph.now.nodes graph.now.edges old.now }
-    requires ordered { IsStrictlySortedBy addr_cmp (keys_of old.now) }
-    ensures { IfOk result (λ moved. AreMoved graph.now old.now moved.items) }
+    requires were { WereTrees change.now graph.now.nodes graph.now.edges (entries_in old.now) }
+    requires ordered { IsStrictlySortedBy addr_cmp (keys_of (entries_in old.now)) }
+    ensures { IfOk result (λ moved. AreMoved graph.now (entries_in old.now) moved.items) }
 {
     let mut moved = Vec::new(alloc);
+    for chunk in old {
+        moved = with_moved(graph, change, moved, chunk.as_slice())?;
+    }
+    Ok(moved)
+}
+
+/// These, and those of the trees from before the change that are not seen to stay.
+fn with_moved<'a>(
+    graph: &'a Graph,
+    change: &'a Change,
+    moved: Vec<MovedTree<'a>>,
+    old: &'a [(Addr, Tree)],
+) -> Result<Vec<MovedTree<'a>>, AllocError>
+    requires { AllByRecursion (λ e. WasTreeOf change.now graph.now.nodes graph.now.edges e.0 e.1) old.now }
+    ensures { IfOk result (λ with. (before : List (Addr × Reached)) →
+        AreMoved graph.now before moved.entry.items → AreMoved graph.now (before ++ old.now) with.items) }
+{
+    let mut with = moved;
     for entry in old {
         let tree = &entry.1;
         if !graph.keeps(tree, change) {
-            moved.push(MovedTree {
+            with.push(MovedTree {
                 graph,
                 change,
                 tree,
             })?;
         }
     }
-    Ok(moved)
+    Ok(with)
 }
 
 /// In how many pieces so many trees of so many nodes are made: one for each processor, and none of few labels.

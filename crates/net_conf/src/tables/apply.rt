@@ -16,7 +16,7 @@ use igp_cost::Metric;
 use net_prefix::Addr;
 use path_attr::Asn;
 use route_policy::{Policy, Rule};
-use shared_map::{SharedMap, SharedSet};
+use shared_map::{ChunkedMap, SharedSet};
 use std::alloc::{AllocError, Global};
 
 impl ConfTables {
@@ -87,7 +87,7 @@ impl ConfTables {
                 self.origins.insert(alloc, Origination { router, prefix })
             }
             Edit::NoOrigin(router, prefix) => {
-                self.origins.remove(alloc, &Origination { router, prefix })
+                self.origins.remove(alloc, Origination { router, prefix })
             }
         }
     }
@@ -238,7 +238,7 @@ fn switch(alloc: Global, ends: &mut SharedSet<End>, end: End, on: bool) -> Resul
 /// Adds a rule to the policy of the end, which has room for it. An error changes nothing.
 fn append(
     alloc: Global,
-    policies: &mut SharedMap<End, Policy>,
+    policies: &mut ChunkedMap<End, Policy>,
     end: End,
     rule: Rule,
 ) -> Result<(), AllocError>
@@ -253,7 +253,7 @@ fn append(
 /// The policy of the end, with a rule at its end.
 fn longer(
     alloc: Global,
-    policies: &SharedMap<End, Policy>,
+    policies: &ChunkedMap<End, Policy>,
     end: End,
     rule: Rule,
 ) -> Result<Policy, AllocError>

@@ -12,7 +12,7 @@ use crate::tables::{End, PolicySide};
 use igp_cost::MAX_NODES;
 use net_prefix::Addr;
 use route_policy::{Action, MAX_RULES, Policy, Settings};
-use shared_map::SharedMap;
+use shared_map::ChunkedMap;
 
 impl ConfTables {
     /// Whether the edit may be made: the first test that holds refuses it. It takes no memory.
@@ -292,7 +292,7 @@ fn sets_anything(settings: Settings) -> bool
 }
 
 /// How many rules the policy of the end has.
-fn count_at(policies: &SharedMap<End, Policy>, end: End) -> usize
+fn count_at(policies: &ChunkedMap<End, Policy>, end: End) -> usize
     ensures { result ≡ length (rules_at policies.now end) }
 {
     match policies.get(&end) {

@@ -7,12 +7,13 @@ ghost use Rattle.net_prefix.specs.Address.{addr_cmp};
 ghost use Rattle.net_conf.specs.Configuration.{unconfigured, node_at, has_node, is_virtual, as_of, is_external, link_between, has_link, has_link_up, session_between, has_session, session_count, is_client, is_reflector, cluster_id, compares_all_meds, puts_itself, rules_at, import_rules, export_rules, originates, origins_of, end_of};
 ghost use Rattle.net_conf.specs.Configured.{IsInOrder};
 
+use crate::tables::originations::Originations;
 use crate::tables::{End, Ends, Kind, Link, Node, Origination};
 use net_prefix::{Addr, Prefix};
 use path_attr::Asn;
 use route_policy::{Policy, Rule};
 use seq::Copied;
-use shared_map::{ChunkedSet, SharedMap, SharedSet};
+use shared_map::{ChunkedMap, ChunkedSet, SharedMap, SharedSet};
 use std::alloc::{AllocError, Global};
 use std::marker::Model;
 
@@ -26,11 +27,11 @@ pub struct ConfTables {
     pub(crate) sessions: SharedMap<Ends, bool>,
     pub(crate) clients: SharedSet<End>,
     pub(crate) own_next: SharedSet<End>,
-    pub(crate) imports: SharedMap<End, Policy>,
-    pub(crate) exports: SharedMap<End, Policy>,
+    pub(crate) imports: ChunkedMap<End, Policy>,
+    pub(crate) exports: ChunkedMap<End, Policy>,
     pub(crate) clusters: SharedMap<Addr, Addr>,
     pub(crate) med_always: SharedSet<Addr>,
-    pub(crate) origins: ChunkedSet<Origination>,
+    pub(crate) origins: Originations,
 }
 
 impl Model for ConfTables {
@@ -63,11 +64,11 @@ impl ConfTables {
             sessions: SharedMap::new(),
             clients: SharedSet::new(),
             own_next: SharedSet::new(),
-            imports: SharedMap::new(),
-            exports: SharedMap::new(),
+            imports: ChunkedMap::new(),
+            exports: ChunkedMap::new(),
             clusters: SharedMap::new(),
             med_always: SharedSet::new(),
-            origins: ChunkedSet::new(),
+            origins: Originations::new(),
         }
     }
 
@@ -80,8 +81,8 @@ impl ConfTables {
         let _ = self.sessions.as_slice();
         let _ = self.clients.as_slice();
         let _ = self.own_next.as_slice();
-        let _ = self.imports.as_slice();
-        let _ = self.exports.as_slice();
+        self.imports.order();
+        self.exports.order();
         let _ = self.clusters.as_slice();
         let _ = self.med_always.as_slice();
         self.origins.order();
@@ -218,32 +219,21 @@ impl ConfTables {
     pub fn originates(&self, router: Addr, prefix: Prefix) -> bool
         ensures { result ≡ originates self.now router prefix }
     {
-        self.origins.contains(&Origination { router, prefix })
+        self.origins.contains(Origination { router, prefix })
     }
 
     /// The prefixes that the router originates, in order.
     pub fn origins_of(&self, alloc: Global, router: Addr) -> Result<Vec<Prefix>, AllocError>
         ensures { IfOk result (λ v. v.items ≡ origins_of self.now router) }
     {
-        let origins = self.origins.keys(alloc)?;
-        origins
-            .iter()
-            .filter(|o| o.router == router)
-            .map(|o| o.prefix)
-            .collect(alloc)
+        self.origins.of(router)?.keys(alloc)
     }
 
-    /// The same, as a set to share.
-    pub(crate) fn shared_origins(
-        &self,
-        alloc: Global,
-        router: Addr,
-    ) -> Result<ChunkedSet<Prefix>, AllocError>
+    /// The same, as one owner more of the set of them.
+    pub(crate) fn shared_origins(&self, router: Addr) -> Result<ChunkedSet<Prefix>, AllocError>
         ensures { IfOk result (λ set. set ≡ origins_of self.now router) }
     {
-        self.orders();
-        let origins = self.origins_of(alloc, router)?;
-        ChunkedSet::of(alloc, origins)
+        self.origins.of(router)
     }
 
     /// The router's policy for what comes in from the peer.
@@ -274,7 +264,7 @@ impl ConfTables {
 /// The policy of the end; the one without rules where there is none.
 pub(crate) fn policy_at(
     alloc: Global,
-    policies: &SharedMap<End, Policy>,
+    policies: &ChunkedMap<End, Policy>,
     end: End,
 ) -> Result<Policy, AllocError>
     ensures { IfOk result (λ p. p ≡ rules_at policies.now end) }
@@ -296,9 +286,9 @@ type Sessions = (SharedMap<Ends, bool>, SharedSet<End>, SharedSet<End>);
 
 /// The policies for what comes in and for what goes out, and who originates what.
 type Policies = (
-    SharedMap<End, Policy>,
-    SharedMap<End, Policy>,
-    ChunkedSet<Origination>,
+    ChunkedMap<End, Policy>,
+    ChunkedMap<End, Policy>,
+    Originations,
 );
 
 impl ConfTables {

@@ -16,5 +16,5 @@ pub returns-in_ok-take_out-in-None : goal.returns-in_ok-take_out-in-None
 returns-in_ok-take_out-in-None c r =
     let old = lookup (is_at (addr_cmp r)) c.args.sites.now in
     ap (lookup (is_at (addr_cmp r))) c.in_ok-take_out-in-None.ensures.ok
-    ∙ site_taken c.args.router r c.args.sites.now c.as_slice.ensures.ordered
+    ∙ site_taken c.args.router r c.args.sites.now c.order.ensures
     ∙ ap (λ s. cond (is_at (addr_cmp c.args.router) r) s old) (sym c.in-None.is ∙ c.in_ok-site.ensures)

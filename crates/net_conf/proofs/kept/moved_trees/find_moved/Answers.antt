@@ -1,38 +1,27 @@
-use Rattle.std.proofs.Common.{◌≡◌, ◌∙◌, ◌+◌, ◌++◌, ◌∷◌, [], take, refl, sym, ap, subst}
-use Rattle.std.specs.Bool.{OnTrue}
-use Rattle.std.proofs.lemmas.List.{take_more}
+use Rattle.std.proofs.Common.{◌≡◌, ◌∙◌, ◌+◌, ◌++◌, List, take, get_or, sym, ap, subst}
+use Rattle.std.specs.List.{AllByRecursion}
 use Rattle.net_prefix.specs.declared.addr.Addr.{Addr}
-use Rattle.igp_cost.specs.Stays.{Stays}
-use Rattle.igp_cost.specs.Topology.{is_node}
-use Rattle.igp_cost.specs.Trees.{Reached, tree_of}
+use Rattle.igp_cost.specs.Trees.{Reached}
+use Rattle.shared_map.specs.EntryChunks.{entries_in}
 use Rattle.net_conf.specs.Kept.{WasTreeOf}
-use Rattle.net_conf.proofs.Carry.{was_at, one_stays, one_moves}
-use Rattle.net_conf.proofs.kept.moved_trees.find_moved.Goals.{then-not-keeps+in_ok-push, else-not-keeps}
+use Rattle.net_conf.specs.MovedTrees.{AreMoved}
+use Rattle.net_conf.proofs.Carry.{was_at, all_from_each, all_of_chunk, one_chunk_more}
 use Rattle.net_conf.proofs.kept.moved_trees.find_moved.Goals as goal
 
-pub invariant_of-push : goal.invariant_of-push
-invariant_of-push c =
-    let change = c.args.change.now in
-    let graph = c.args.graph.now in
-    let here = was_at change graph.nodes graph.edges c.args.old.now c.requires.ordered c.requires.were c.loop-entry.entry-index c.entry-item.result c.loop-entry-test.true in
-    let was = subst (λ (e : Addr × Reached). WasTreeOf change graph.nodes graph.edges e.0 e.1) (sym c.entry-item.is) here in
-    record { node = ap (is_node graph.nodes) was.source ∙ was.node; was = was.was }
-
-pub loop-entry-preserved : goal.loop-entry-preserved
-loop-entry-preserved c =
+pub with_moved-requires : goal.with_moved-requires
+with_moved-requires c =
     let change = c.args.change.now in
     let graph = c.args.graph.now in
     let old = c.args.old.now in
-    let at = c.loop-entry.entry-index in
-    let moved = c.loop-entry.moved.items in
-    let e : Addr × Reached = c.entry-item.result in
-    let here = was_at change graph.nodes graph.edges old c.requires.ordered c.requires.were at e c.loop-entry-test.true in
-    let was = subst (λ (y : Addr × Reached). WasTreeOf change graph.nodes graph.edges y.0 y.1) (sym c.entry-item.is) here in
-    let more : take (at + 1) old ≡ take at old ++ (e.0, e.1) ∷ [] = take_more old at e c.loop-entry-test.true ∙ ap (λ (y : Addr × Reached). take at old ++ y ∷ []) (sym c.entry-item.is) in
-    elim c.if-not-keeps.branch [
-      | then-not-keeps+in_ok-push w ↦ rw (w.moved-is, w.in_ok-push.ensures.items, more) (one_moves graph (take at old) moved e.0 (record { graph = graph; change = change; tree = e.1 }) c.loop-entry.invariant refl was.source)
-      | else-not-keeps w ↦
-          let stays = subst (λ b. OnTrue b (Stays change graph.nodes graph.edges e.1)) w.if-not-keeps.false c.keeps.ensures in
-          let tree = stays was.was.before was.was.changes was.was.was in
-          rw (w.moved-is, more) (one_stays graph (take at old) moved e.0 e.1 c.loop-entry.invariant (tree.whole ∙ ap (tree_of graph.nodes graph.edges) was.source))
-    ]
+    let P : Addr × Reached → Type 0 = λ e. WasTreeOf change graph.nodes graph.edges e.0 e.1 in
+    let all : AllByRecursion P (entries_in old) = all_from_each P (entries_in old) (λ i d lt. was_at change graph.nodes graph.edges (entries_in old) c.requires.ordered c.requires.were i d lt) in
+    subst (AllByRecursion P) (sym (c.as_slice.ensures.value ∙ c.chunk-item.is)) (all_of_chunk P old c.loop-chunk.chunk-index c.chunk-item.result all c.loop-chunk-test.true)
+
+pub loop-chunk-preserved : goal.loop-chunk-preserved
+loop-chunk-preserved c =
+    let old = c.args.old.now in
+    let at = c.loop-chunk.chunk-index in
+    let here : List (Addr × Reached) = c.chunk-item.result in
+    let more : entries_in (take (at + 1) old) ≡ entries_in (take at old) ++ c.as_slice.result.now =
+    one_chunk_more old at here c.loop-chunk-test.true ∙ ap (λ es. entries_in (take at old) ++ es) (sym (c.as_slice.ensures.value ∙ c.chunk-item.is)) in
+    subst (λ es. AreMoved c.args.graph.now es c.in_ok-moved.moved.items) (sym more) (c.in_ok-moved.ensures (entries_in (take at old)) c.loop-chunk.invariant)
