@@ -1,2 +1,3 @@
 pub mod Outlasting
+pub mod WorkerThreads
 pub mod Working

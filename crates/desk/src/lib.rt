@@ -8,6 +8,7 @@ mod guarded;
 mod receivers;
 mod scheduler;
 mod shard_waits;
+mod worker_threads;
 mod workers;
 
 pub use desk::{Desk, MAX_SEATS, MAX_SHARDS, OpenFault};

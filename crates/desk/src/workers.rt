@@ -1,6 +1,6 @@
 //! Worker threads at a desk.
 
-ghost use Rattle.std.specs.Prelude.{◌≡◌, ◌<◌, ◌≤◌, ◌%◌, ◌++◌, ℕ, List, All, length, vec_len, vec_capacity};
+ghost use Rattle.std.specs.Prelude.{◌≡◌, ◌<◌, ◌≤◌, ◌%◌, ◌++◌, ℕ, List, All, length};
 ghost use Rattle.room.specs.Jobs as taken;
 ghost use Rattle.room.specs.Jobs.{IsOfShard};
 ghost use Rattle.desk.specs.Desks.{AllWorked, IsWorked, IsWorkedAt};
@@ -11,12 +11,9 @@ use cell_engine::Cell;
 use prefix_table::PrefixTable;
 use room::{Done, Job, Jobs, Outcomes, Seat};
 use route_select::Selector;
-use std::snapshot::Snapshot;
 use std::sync::Wait;
-use std::sync::atomic::{AtomicBool, Ordering};
 use std::sync::ledger::Ledger;
-use std::thread;
-use std::thread::{Promise, Threads};
+use std::thread::Threads;
 
 /// How many turns a worker makes at once at most.
 const TURNS_AT_ONCE: u64 = 16;
@@ -56,7 +53,6 @@ pub fn run_workers<
 >(rt: &R, desk: &Desk<S, T, L>, seats: Vec<Seat<L>>, gate: &G, turns: u64) -> Vec<Seat<L>>
     ensures { AllWorked desk.now.shards turns seats.items result.items }
 {
-    desk.enter(rt, seats.len(), gate.may_hold());
     let crew = Crew {
         rt,
         desk,
@@ -68,79 +64,11 @@ pub fn run_workers<
 
 /// What the workers of one call have in common.
 #[derive(Clone, Copy)]
-struct Crew<'a, S: Selector, T: PrefixTable<Cell<S>>, L: Ledger, G: Gate, R: Wait> {
-    rt: &'a R,
-    desk: &'a Desk<S, T, L>,
-    gate: &'a G,
-    turns: u64,
-}
-
-/// What a thread hands back is the seat that it was given, after so many turns for the shard.
-#[derive(Drop)]
-struct SeatIsWorked<L: Ledger> {
-    shard: u64,
-    shards: u64,
-    turns: u64,
-    given: Snapshot<Seat<L>>,
-}
-
-impl<L: Ledger> Promise<Seat<L>> for SeatIsWorked<L> {
-    ghost use Rattle.desk.specs.Desks.{IsWorked};
-
-    ghost kept_by = { λ promise seat. IsWorked promise.shard promise.shards promise.turns promise.given.value seat };
-}
-
-impl<
-    'a,
-    S: Selector + Drop + Send,
-    T: PrefixTable<Cell<S>> + Drop + Send,
-    L: Ledger + Send + Sync,
-    G: Gate + Sync,
-    R: Threads + Wait + Sync,
-> Crew<'a, S, T, L, G, R> {
-    /// Starts a thread for the last seat, then those for the seats before it, and waits for all.
-    #[tactic(auto, using(crate::proofs::Working::rows))]
-    fn run(&self, mut seats: Vec<Seat<L>>) -> Vec<Seat<L>>
-        ensures each { AllWorked self.now.desk.now.shards self.now.turns seats.items result.items }
-        ensures len { vec_len result ≡ vec_len seats }
-        ensures capacity { vec_capacity result ≡ vec_capacity seats }
-    {
-        let Some(seat) = seats.pop() else {
-            return seats;
-        };
-        let worker = seats.len();
-        let left_out = AtomicBool::new(false);
-        let is_out = &left_out;
-        let (mut rest, last) = thread::scope(
-            thread::scope_env(),
-            self.rt,
-            |scope| -> (Vec<Seat<L>>, Seat<L>)
-                ensures { let crew = self.entry.now in
-                    AllWorked crew.desk.now.shards crew.turns seats.items result.0.items ×
-                    IsWorkedAt worker crew.desk.now.shards crew.turns seat result.1 ×
-                    (vec_len result.0 ≡ vec_len seats) × (vec_capacity result.0 ≡ vec_capacity seats) }
-            {
-                let promise = self.promise(worker, &seat);
-                let job = move || -> Seat<L>
-                    ensures { let crew = self.entry.now in
-                        IsWorkedAt worker crew.desk.now.shards crew.turns seat result }
-                { self.work(is_out, worker, seat) };
-                match scope.spawn_with(promise, job) {
-                    Ok(handle) => {
-                        let rest = self.run(seats);
-                        (rest, handle.join(self.rt))
-                    }
-                    Err(refused) => {
-                        is_out.store(true, Ordering::SeqCst);
-                        let last = (refused.value)();
-                        (self.run(seats), last)
-                    }
-                }
-            },
-        );
-        rest.push_reserved(last);
-        rest
-    }
+pub(crate) struct Crew<'a, S: Selector, T: PrefixTable<Cell<S>>, L: Ledger, G: Gate, R: Wait> {
+    pub(crate) rt: &'a R,
+    pub(crate) desk: &'a Desk<S, T, L>,
+    pub(crate) gate: &'a G,
+    pub(crate) turns: u64,
 }
 
 impl<'a, S: Selector + Drop, T: PrefixTable<Cell<S>> + Drop, L: Ledger, G: Gate, R: Wait> Crew<
@@ -152,41 +80,15 @@ impl<'a, S: Selector + Drop, T: PrefixTable<Cell<S>> + Drop, L: Ledger, G: Gate,
     R,
 > {
     /// The shard that the worker serves.
-    fn shard_of(&self, worker: usize) -> u64
+    pub(crate) fn shard_of(&self, worker: usize) -> u64
         ensures shard { result ≡ worker % self.now.desk.now.shards }
         ensures allowed { result < self.now.desk.now.shards }
     {
         worker as u64 % self.desk.shards()
     }
 
-    /// What is promised of the worker's seat.
-    fn promise(&self, worker: usize, seat: &Seat<L>) -> SeatIsWorked<L>
-        ensures shard { result.shard ≡ worker % self.now.desk.now.shards }
-        ensures shards { result.shards ≡ self.now.desk.now.shards }
-        ensures turns { result.turns ≡ self.now.turns }
-        ensures given { result.given.value ≡ seat.now }
-    {
-        SeatIsWorked {
-            shard: self.shard_of(worker),
-            shards: self.desk.shards(),
-            turns: self.turns,
-            given: Snapshot::of(seat),
-        }
-    }
-
-    /// A worker makes its turns, unless it is left out, and leaves.
-    fn work(&self, is_out: &AtomicBool, worker: usize, mut seat: Seat<L>) -> Seat<L>
-        ensures { IsWorkedAt worker self.now.desk.now.shards self.now.turns seat result }
-    {
-        if !is_out.load(Ordering::SeqCst) {
-            self.make_turns(worker, &mut seat);
-        }
-        self.desk.leave(self.rt);
-        seat
-    }
-
     /// All turns of a worker: one at first, then as many at once as `most_after` tells.
-    fn make_turns(&self, worker: usize, seat: &mut Seat<L>)
+    pub(crate) fn make_turns(&self, worker: usize, seat: &mut Seat<L>)
         ensures { IsWorkedAt worker self.now.desk.now.shards self.now.turns seat.old seat.new }
     {
         let shard = self.shard_of(worker);

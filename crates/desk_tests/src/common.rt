@@ -18,7 +18,7 @@ use std::process::Abort;
 use std::sync::Wait;
 use std::sync::ledger::{Blank, Ledger};
 use std::thread::Threads;
-use watched::{Input, Output};
+use watched::{Input, LineBuffer, Output};
 
 /// The cells that keep groups of one neighbouring AS.
 pub type Tries = TrieTable<Cell<GroupCell>>;
@@ -121,7 +121,8 @@ pub fn replayed<R: Threads + Sync>(rt: &R, alloc: Global, record: &Record) -> Op
     write_log(record.entries(), &mut output).ok()?;
     let log = output.into_inner();
     let mut machine: Sim<FilterCell, SortedTable<Cell<FilterCell>>> = Sim::new(alloc, None);
-    let found = replay(rt, alloc, &mut Input::new(log.as_slice()), &mut machine).ok();
+    let buffer = LineBuffer::new(alloc).ok()?;
+    let found = replay(rt, alloc, buffer, &mut Input::new(log.as_slice()), &mut machine).ok();
     drop(machine);
     found
 }

@@ -12,7 +12,7 @@ mod replay_run;
 mod replaying;
 mod verdict;
 
-pub use limits::{MOST_BYTES, MOST_LINES};
+pub use limits::{CAPACITY, MOST_BYTES, MOST_LINES};
 pub use replay_run::run_replay;
 pub use replaying::replay;
 pub use verdict::{ReplayFault, Replayed};

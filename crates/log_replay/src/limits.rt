@@ -7,4 +7,4 @@ pub const MOST_BYTES: usize = 1_048_576;
 pub const MOST_LINES: u64 = 16_000_000;
 
 /// Holds the longest line with its line feed.
-pub(crate) const CAPACITY: usize = 1_048_577;
+pub const CAPACITY: usize = 1_048_577;

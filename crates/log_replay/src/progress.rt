@@ -30,14 +30,15 @@ pub(crate) struct Progress {
 
 impl Progress {
     /// Before the first line.
-    pub(crate) fn new(alloc: Global) -> Self
+    pub(crate) fn new(alloc: Global, buffer: LineBuffer<CAPACITY>) -> Self
+        requires { buffer ≡ [] }
         ensures pending { result.pending ≡ [] }
         ensures lines { result.lines ≡ 0 }
         ensures at { IsAt result.checker nothing beginning }
         ensures entries { result.checker.entries ≡ 0 }
     {
         Progress {
-            pending: LineBuffer::new(),
+            pending: buffer,
             lines: 0,
             checker: Checker::new(alloc),
         }

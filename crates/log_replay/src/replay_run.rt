@@ -14,7 +14,7 @@ use reply_text::{DISAGREES, RunFault, SUCCESS, end_by, write_numbered};
 use std::alloc::Global;
 use std::io::{Read, Write};
 use std::thread::Threads;
-use watched::{Input, Output, WriterFailed};
+use watched::{Input, LineBuffer, Output, WriterFailed};
 
 /// Replays the log on the reader by a machine that begins with the empty network, writes what the log is found to be,
 /// and tells a fault on the third stream, whose own failure is passed over. The exit status: 0 the log agrees, 1 it
@@ -35,7 +35,10 @@ pub fn run_replay<M: Machine, R: Read, W: Write, E: Write>(
     ensures told_sent { errors.old.held ≡ false → errors.new.failed ≡ false → errors.new.held ≡ false }
     ensures run { IsReplayRun input.old.remaining output.old errors.old result input.new output.new errors.new }
 {
-    match replay(rt, alloc, input, machine) {
+    let Ok(buffer) = LineBuffer::new(alloc) else {
+        return end_by(&RunFault::NoMemory, errors);
+    };
+    match replay(rt, alloc, buffer, input, machine) {
         Ok(found) => answer(found, output, errors),
         Err(fault) => end_by(&run_fault(fault), errors),
     }

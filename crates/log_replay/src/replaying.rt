@@ -6,6 +6,7 @@ ghost use Rattle.log_replay.specs.Replaying.{IsReplay, beginning, is_read_fault}
 ghost use Rattle.log_replay.specs.Reading.{IsAt};
 ghost use Rattle.log_replay.specs.Exactness.{IsProof, IsFair};
 
+use crate::limits::CAPACITY;
 use crate::progress::{Progress, advance};
 use crate::verdict::{ReplayFault, Replayed};
 use command_text::one_meaning;
@@ -14,9 +15,9 @@ use reply_text::replies_are_lines;
 use std::alloc::Global;
 use std::io::Read;
 use std::thread::Threads;
-use watched::Input;
+use watched::{Input, LineBuffer};
 
-/// Reads a log line by line, runs each of its commands on the machine, which has done nothing yet, and compares each
+/// Reads a log line by line into the buffer, runs each of its commands on the machine, which has done nothing yet, and compares each
 /// line of the reply. Ends at the first line that differs or is bad, and else at the end of the input.
 ///
 /// It agrees just where the input is the log, of either version, of a legal history of so many calls, each command of
@@ -25,9 +26,11 @@ use watched::Input;
 pub fn replay<R: Read, M: Machine>(
     rt: &(impl Threads + Sync),
     alloc: Global,
+    buffer: LineBuffer<CAPACITY>,
     input: &mut Input<R>,
     machine: &mut M,
 ) -> Result<Replayed, ReplayFault>
+    requires empty { buffer ≡ [] }
     requires new { M.network machine.old ≡ nothing }
     requires reads { input.old.failed ≡ false }
     ensures reader { input.new.failed ≡ is_read_fault result }
@@ -37,7 +40,7 @@ pub fn replay<R: Read, M: Machine>(
     // And each such log does.
     ensures complete { IfSome input.old.remaining (λ bytes. IsFair bytes result) }
 {
-    let mut progress = Progress::new(alloc);
+    let mut progress = Progress::new(alloc, buffer);
     let result = read_through(rt, alloc, &mut progress, input, machine);
     one_meaning();
     replies_are_lines();

@@ -12,7 +12,7 @@ use sim_text::serve;
 use std::alloc::Global;
 use std::process::Abort;
 use std::thread::Threads;
-use watched::{Input, Output};
+use watched::{Input, LineBuffer, Output};
 
 /// Lines, and the reply to each.
 type Lines = &'static [(&'static str, &'static str)];
@@ -41,7 +41,8 @@ fn asked<M: Machine>(
     let mut written = Vec::new(alloc);
     let mut input = Input::new(lines.as_bytes());
     let mut output = Output::new(&mut written);
-    let served = serve(rt, alloc, &mut input, &mut output, machine);
+    let buffer = LineBuffer::new(alloc).expect(rt, "memory");
+    let served = serve(rt, alloc, buffer, &mut input, &mut output, machine);
     drop(output);
     assert!(rt; served.is_ok());
     written

@@ -26,12 +26,13 @@ pub(crate) struct Script {
 }
 
 impl Script {
-    pub(crate) fn new() -> Self
+    pub(crate) fn new(buffer: LineBuffer<CAPACITY>) -> Self
+        requires { buffer ≡ [] }
         ensures pending { result.pending ≡ [] }
         ensures answered { result.answered ≡ 0 }
     {
         Script {
-            pending: LineBuffer::new(),
+            pending: buffer,
             answered: 0,
         }
     }

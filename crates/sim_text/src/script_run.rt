@@ -12,11 +12,11 @@ use reply_text::{RunFault, SUCCESS, end_by};
 use std::alloc::Global;
 use std::io::{Read, Write};
 use std::thread::Threads;
-use watched::{Input, Output};
+use watched::{Input, LineBuffer, Output};
 
 /// Serves the script on the reader to the writer, by a machine that begins with the empty network, and tells a fault on
 /// the third stream, whose own failure is passed over. Nothing is held back at the end, on a stream that did not fail.
-/// The exit status: 0 done, 3 read fault, 4 write fault.
+/// The exit status: 0 done, 3 read fault, 4 write fault, 5 no memory to begin.
 pub fn run_script<M: Machine, R: Read, W: Write, E: Write>(
     rt: &(impl Threads + Sync),
     alloc: Global,
@@ -34,7 +34,10 @@ pub fn run_script<M: Machine, R: Read, W: Write, E: Write>(
     ensures run { IsScriptRun input.old.remaining output.old errors.old result
         (M.network machine.new) input.new output.new errors.new }
 {
-    let served = serve(rt, alloc, input, output, machine);
+    let Ok(buffer) = LineBuffer::new(alloc) else {
+        return end_by(&RunFault::NoMemory, errors);
+    };
+    let served = serve(rt, alloc, buffer, input, output, machine);
     end(&served, errors)
 }
 

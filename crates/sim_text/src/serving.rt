@@ -1,18 +1,18 @@
 //! Serving a script.
 
-ghost use Rattle.std.specs.Prelude.{◌≡◌, false, IfSome};
+ghost use Rattle.std.specs.Prelude.{◌≡◌, false, [], IfSome};
 ghost use Rattle.sim_text.specs.Serving.{IsServing, is_write_fault, is_read_fault};
 
 use crate::ServeFault;
 use crate::script::{Script, advance};
-use crate::typist::Typist;
+use crate::typist::{CAPACITY, Typist};
 use reference_machine::Machine;
 use std::alloc::Global;
 use std::io::Write;
 use std::thread::Threads;
-use watched::Output;
+use watched::{LineBuffer, Output};
 
-/// Answers each line of the input in turn, and says how many there were.
+/// Answers each line of the input in turn, read into the buffer, and says how many there were.
 ///
 /// Lines end with LF or CR LF, and a last line may lack its end. A line has at most 65,536 bytes, its end not counted,
 /// and a script at most 1,000,000 lines. All that was written is sent on before more is read, for which `Typist`
@@ -21,10 +21,12 @@ use watched::Output;
 pub fn serve<I: Typist<W>, W: Write, M: Machine>(
     rt: &(impl Threads + Sync),
     alloc: Global,
+    buffer: LineBuffer<CAPACITY>,
     input: &mut I,
     output: &mut Output<W>,
     machine: &mut M,
 ) -> Result<u64, ServeFault>
+    requires empty { buffer ≡ [] }
     requires reads { (I.reading input.old).failed ≡ false }
     requires writes { output.old.failed ≡ false }
     requires shown { output.old.held ≡ false }
@@ -35,7 +37,7 @@ pub fn serve<I: Typist<W>, W: Write, M: Machine>(
         IsServing bytes (M.network machine.old) output.old result
         (M.network machine.new) output.new (I.reading input.new)) }
 {
-    let mut script = Script::new();
+    let mut script = Script::new(buffer);
     'lines: while advance(rt, alloc, &mut script, input, output, machine)? {}
     Ok(script.answered)
 }

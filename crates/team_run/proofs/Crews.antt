@@ -1,40 +1,79 @@
--- The seats of a team that come back.
-use Rattle.std.proofs.Common.{◌≡◌, ℕ, List, [], ◌∷◌, ◌++◌, sym, ap, ◌∙◌, append_assoc, append-nil}
+-- The threads of engineers, and the seats of a team that come back.
+use Rattle.std.proofs.Common.{◌≡◌, ℕ, List, [], ◌∷◌, ◌++◌, refl, sym, ap, subst, ◌∙◌, append_assoc, append-nil}
+use Rattle.core.specs.declared.thread.PromisedHandle.{PromisedHandle}
 use Rattle.std.specs.List.{AllZip}
 use Rattle.room.specs.Books.{SeatBook}
 use Rattle.desk.specs.Desks.{AllWorked}
+use Rattle.team_run.specs.declared.crew.HasCalledScript.{HasCalledScript}
+use Rattle.team_run.specs.EngineerThreads.{AreToPlay, IsToPlay}
 use Rattle.team_run.specs.Playing.{AreBack, Engineering, HasPlayed}
 
--- there are no engineers
-pub back_of_workers : (shards turns : ℕ) (workers seats : List SeatBook) → AllWorked shards turns workers seats → AreBack [] workers seats
-back_of_workers shards turns workers seats work = record {
-  worked = seats;
+zip_push : {X Y : Type 0} (R : X → Y → Type 0) (xs : List X) (ys : List Y) (x : X) (y : Y) → AllZip R xs ys → R x y → AllZip R (xs ++ x ∷ []) (ys ++ y ∷ [])
+zip_push R [] [] x y all one = (one, tt)
+zip_push R (a ∷ xs) (b ∷ ys) x y all one = (all.0, zip_push R xs ys x y all.1 one)
+zip_push R [] (b ∷ ys) x y all one = absurd all
+zip_push R (a ∷ xs) [] x y all one = absurd all
+
+-- one thread more
+pub to_play_push : (engineers : List Engineering) (threads : List (PromisedHandle SeatBook HasCalledScript)) (engineer : Engineering) (thread : PromisedHandle SeatBook HasCalledScript)
+    → AreToPlay engineers threads → IsToPlay engineer thread → AreToPlay (engineers ++ engineer ∷ []) (threads ++ thread ∷ [])
+to_play_push engineers threads engineer thread all one = zip_push IsToPlay engineers threads engineer thread all one
+
+-- the first engineers have ended, and their seats are back, behind others; the other engineers are to come
+pub record Coming (engineers : List Engineering) (threads : List (PromisedHandle SeatBook HasCalledScript)) (before back : List SeatBook) : Type 0 where
+  pub done : List Engineering
+  pub left : List Engineering
+  pub played : List SeatBook
+  pub parts : engineers ≡ done ++ left
+  pub behind : back ≡ before ++ played
+  pub play : AllZip HasPlayed done played
+  pub to_play : AreToPlay left threads
+
+pub coming_all : (engineers : List Engineering) (threads : List (PromisedHandle SeatBook HasCalledScript)) (before : List SeatBook) → AreToPlay engineers threads → Coming engineers threads before before
+coming_all engineers threads before all = record {
+  done = [];
+  left = engineers;
   played = [];
-  together = sym (append-nil seats);
-  shards = shards;
-  turns = turns;
-  work = work;
+  parts = refl;
+  behind = sym (append-nil before);
   play = tt;
+  to_play = all;
 }
 
-played_push : (engineers : List Engineering) (seats : List SeatBook) (engineer : Engineering) (seat : SeatBook)
-    → AllZip HasPlayed engineers seats → HasPlayed engineer seat → AllZip HasPlayed (engineers ++ engineer ∷ []) (seats ++ seat ∷ [])
-played_push [] [] engineer seat all one = (one, tt)
-played_push (e ∷ engineers) (s ∷ seats) engineer seat all one = (all.0, played_push engineers seats engineer seat all.1 one)
-played_push [] (s ∷ seats) engineer seat all one = absurd all
-played_push (e ∷ engineers) [] engineer seat all one = absurd all
+next_of : (engineers done left : List Engineering) (thread : PromisedHandle SeatBook HasCalledScript) (threads : List (PromisedHandle SeatBook HasCalledScript)) (before back played : List SeatBook) (seat : SeatBook)
+    → engineers ≡ done ++ left → back ≡ before ++ played → AllZip HasPlayed done played → AreToPlay left (thread ∷ threads) → HasPlayed thread.promise.0.value seat
+    → Coming engineers threads before (back ++ seat ∷ [])
+next_of engineers done [] thread threads before back played seat parts behind play all joined = absurd all
+next_of engineers done (engineer ∷ left) thread threads before back played seat parts behind play all joined =
+    let one : List Engineering = engineer ∷ [] in
+    let last : List SeatBook = seat ∷ [] in
+    record {
+      done = done ++ one;
+      left = left;
+      played = played ++ last;
+      parts = parts ∙ sym (append_assoc done one left);
+      behind = ap (λ ss. ss ++ last) behind ∙ append_assoc before played last;
+      play = zip_push HasPlayed done played engineer seat play (subst (λ (e : Engineering). HasPlayed e seat) all.0 joined);
+      to_play = all.1;
+    }
 
--- one engineer more
-pub back_push : (engineers : List Engineering) (workers seats : List SeatBook) (engineer : Engineering) (seat : SeatBook)
-    → AreBack engineers workers seats → HasPlayed engineer seat → AreBack (engineers ++ engineer ∷ []) workers (seats ++ seat ∷ [])
-back_push engineers workers seats engineer seat back one = record {
-  worked = back.worked;
-  played = back.played ++ seat ∷ [];
-  together = ap (λ ss. ss ++ seat ∷ []) back.together ∙ append_assoc back.worked back.played (seat ∷ []);
-  shards = back.shards;
-  turns = back.turns;
-  work = back.work;
-  play = played_push engineers back.played engineer seat back.play one;
-}
+-- one seat more is back
+pub coming_next : (engineers : List Engineering) (thread : PromisedHandle SeatBook HasCalledScript) (threads : List (PromisedHandle SeatBook HasCalledScript)) (before back : List SeatBook) (seat : SeatBook)
+    → Coming engineers (thread ∷ threads) before back → HasPlayed thread.promise.0.value seat → Coming engineers threads before (back ++ seat ∷ [])
+coming_next engineers thread threads before back seat so joined =
+    next_of engineers so.done so.left thread threads before back so.played seat so.parts so.behind so.play so.to_play joined
 
-pub ruleset rows = (back_of_workers, back_push)
+none_left : (engineers done left : List Engineering) (played : List SeatBook) → engineers ≡ done ++ left → AllZip HasPlayed done played → AreToPlay left [] → AllZip HasPlayed engineers played
+none_left engineers done [] played parts play none = subst (λ es. AllZip HasPlayed es played) (sym (parts ∙ append-nil done)) play
+none_left engineers done (engineer ∷ left) played parts play none = absurd none
+
+-- all are back
+pub coming_none : (engineers : List Engineering) (before back : List SeatBook) → Coming engineers [] before back
+    → (played : List SeatBook) × (back ≡ before ++ played) × AllZip HasPlayed engineers played
+coming_none engineers before back so = (so.played, so.behind, none_left engineers so.done so.left so.played so.parts so.play so.to_play)
+
+-- those of the workers, and then those of the engineers
+pub back_of : (shards turns : ℕ) (engineers : List Engineering) (workers worked played seats : List SeatBook) → AllWorked shards turns workers worked → seats ≡ worked ++ played → AllZip HasPlayed engineers played
+    → AreBack engineers workers seats
+back_of shards turns engineers workers worked played seats work together play =
+    record { worked = worked; played = played; together = together; shards = shards; turns = turns; work = work; play = play }

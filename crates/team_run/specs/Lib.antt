@@ -1,3 +1,4 @@
+pub mod EngineerThreads
 pub mod Playing
 pub mod Scripts
 pub mod Sources

@@ -10,7 +10,7 @@ use Rattle.command_text.specs.Lines.{IsSilent, IsFault, Means}
 use Rattle.reference_machine.specs.Histories.{IsLegal, calls_of}
 use Rattle.reply_text.specs.declared.ending.RunFault.{RunFault}
 use Rattle.reply_text.specs.declared.ending.RunFault.TheVariants.{Unwritten, NoMemory, BookDiffers}
-use Rattle.reply_text.specs.Ending.{success, read_fault, write_fault, no_memory, fault_text, unread_text, IsTold}
+use Rattle.reply_text.specs.Ending.{success, read_fault, write_fault, no_memory, fault_text, unread_text, IsTold, IsWithoutMemory}
 use Rattle.log_text.specs.Logs.{log_text}
 use Rattle.team_run.specs.Sources.{Source, AreRead, IsFirstUnread}
 
@@ -76,11 +76,7 @@ IsPlayed scripts o status o' errors' =
 abbrev pub IsUnread : List Source → Writing → Writing → ℕ → Writing → Writing → Type 0
 IsUnread files o errors status o' errors' = (status ≡ read_fault) × (o' ≡ o) × (name : List ℕ) × IsFirstUnread files name × IsTold errors (unread_text name) errors'
 
--- nothing was written, since there was no memory for the scripts, and that alone was told
-abbrev pub IsWithoutMemory : Writing → Writing → ℕ → Writing → Writing → Type 0
-IsWithoutMemory o errors status o' errors' = (status ≡ no_memory) × (o' ≡ o) × IsTold errors (fault_text NoMemory) errors'
-
--- a team was run: its scripts were read and played, or not all were read
+-- a team was run: its scripts were read and played, or not all were read, or there was no memory for them
 abbrev pub IsTeamRun : List Source → Writing → Writing → ℕ → Writing → Writing → Type 0
 IsTeamRun files o errors status o' errors' =
     ((scripts : List (List ℕ)) × AreRead files scripts × IsPlayed scripts o status o' errors')

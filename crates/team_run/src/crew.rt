@@ -1,8 +1,11 @@
 //! The threads of a team: one for each engineer, and those of the workers.
 
-ghost use Rattle.std.specs.Prelude.{◌++◌, ◌∷◌, [], IfOk};
+ghost use Rattle.std.specs.Prelude.{◌≡◌, ◌≤◌, ◌++◌, List, [], vec_len, vec_capacity, IfOk};
+ghost use Rattle.std.specs.List.{AllZip};
+ghost use Rattle.room.specs.Books.{SeatBook};
 ghost use Rattle.desk.specs.Desks.{AllWorked};
-ghost use Rattle.team_run.specs.Playing.{AreBack, HasPlayed};
+ghost use Rattle.team_run.specs.EngineerThreads.{AreToPlay, IsToPlay};
+ghost use Rattle.team_run.specs.Playing.{AreBack, Engineering, HasPlayed};
 
 use crate::engineer::{Engineer, play};
 use crate::told::Told;
@@ -17,7 +20,7 @@ use std::sync::Wait;
 use std::sync::atomic::{AtomicU64, Ordering};
 use std::sync::ledger::Ledger;
 use std::thread;
-use std::thread::{Promise, Threads};
+use std::thread::{Promise, PromisedHandle, Scope, Threads};
 
 /// After how many jobs a worker tells anew how far the team is.
 const JOBS_BETWEEN: u64 = 1_000;
@@ -56,6 +59,24 @@ impl<L: Ledger> Promise<Seat<L>> for HasCalledScript<L> {
     ghost kept_by = { λ promise seat. HasPlayed promise.0.value seat };
 }
 
+/// The thread of an engineer.
+type EngineerThread<L> = PromisedHandle<Seat<L>, HasCalledScript<L>>;
+
+/// The seats of engineers, once all have ended, behind others.
+fn join_all<L: Ledger, R: Threads>(
+    rt: &R,
+    threads: Vec<EngineerThread<L>>,
+    mut seats: Vec<Seat<L>>,
+) -> Result<Vec<Seat<L>>, AllocError>
+    ensures { IfOk result (λ back. (engineers : List Engineering) → AreToPlay engineers threads.items →
+        (played : List SeatBook) × (back.items ≡ seats.items ++ played) × AllZip HasPlayed engineers played) }
+{
+    for thread in threads {
+        seats.push(thread.join(rt))?;
+    }
+    Ok(seats)
+}
+
 /// What the threads of a team have in common.
 #[derive(Clone, Copy)]
 pub(crate) struct Crew<
@@ -86,47 +107,69 @@ impl<
     E: Write + Send,
     R: Threads + Wait + Sync,
 > Crew<'a, 'e, S, T, L, E, R> {
-    /// Starts a thread for the last engineer, then those for the engineers before, then those of the workers, and waits
-    /// for all. The seats of all come back, those of the workers first. An engineer whose thread cannot be started has
-    /// ended; this is want of memory, as is none for the seats.
-    #[tactic(auto, using(crate::proofs::Crews::rows))]
+    /// Starts a thread for each engineer, and those of the workers, and waits for all. The seats of all come back, those
+    /// of the workers first. An engineer whose thread cannot be started has ended; this is want of memory, as is none
+    /// for the threads or the seats. All threads are started from one frame, so that this thread's stack does not grow
+    /// with their number.
     pub(crate) fn run(
         &self,
-        mut engineers: Vec<Engineer<L>>,
+        engineers: Vec<Engineer<L>>,
         workers: Vec<Seat<L>>,
     ) -> Result<Vec<Seat<L>>, AllocError>
         ensures { IfOk result (λ seats. AreBack engineers.items workers.items seats.items) }
     {
-        let Some(engineer) = engineers.pop() else {
-            return Ok(self.work_all(workers));
-        };
+        let threads = Vec::with_capacity(self.alloc, engineers.len())?;
         thread::scope(
             thread::scope_env(),
             self.rt,
             |scope| -> Result<Vec<Seat<L>>, AllocError>
-                ensures { IfOk result (λ seats. AreBack (engineers.items ++ engineer ∷ []) workers.items seats.items) }
+                ensures { IfOk result (λ seats. AreBack engineers.items workers.items seats.items) }
             {
-                let promise = HasCalledScript(Snapshot::of(&engineer));
-                let job = move || -> Seat<L>
-                    ensures { HasPlayed engineer result }
-                { self.work(engineer) };
-                match scope.spawn_with(promise, job) {
-                    Ok(handle) => {
-                        let others = self.run(engineers, workers);
-                        let last = handle.join(self.rt);
-                        let mut seats = others?;
-                        seats.push(last)?;
-                        Ok(seats)
-                    }
-                    Err(refused) => {
-                        drop(refused);
-                        self.end_one();
-                        let _ = self.run(engineers, workers);
-                        Err(AllocError)
-                    }
-                }
+                let threads = self.start_all(scope, engineers, threads);
+                let seats = self.work_all(workers);
+                join_all(self.rt, threads?, seats)
             },
         )
+    }
+
+    /// A thread for each engineer. Where one cannot be started the others are, and none is joined.
+    fn start_all<'s, Q>(
+        &'s self,
+        scope: &'s Scope<'s, Q>,
+        engineers: Vec<Engineer<L>>,
+        mut threads: Vec<EngineerThread<L>>,
+    ) -> Result<Vec<EngineerThread<L>>, AllocError>
+        requires none { threads.items ≡ [] }
+        requires room { vec_len engineers ≤ vec_capacity threads }
+        ensures { IfOk result (λ threads. AreToPlay engineers.items threads.items) }
+    {
+        let mut outcome = Ok(());
+        for engineer in engineers {
+            match self.start(scope, engineer) {
+                Ok(thread) => threads.push_reserved(thread),
+                Err(error) => {
+                    self.end_one();
+                    outcome = Err(error);
+                }
+            }
+        }
+        outcome?;
+        Ok(threads)
+    }
+
+    /// Starts the thread of an engineer.
+    fn start<'s, Q>(
+        &'s self,
+        scope: &'s Scope<'s, Q>,
+        engineer: Engineer<L>,
+    ) -> Result<EngineerThread<L>, AllocError>
+        ensures { IfOk result (λ thread. IsToPlay engineer thread) }
+    {
+        let promise = HasCalledScript(Snapshot::of(&engineer));
+        let job = move || -> Seat<L>
+            ensures { HasPlayed engineer result }
+        { self.work(engineer) };
+        Ok(scope.spawn_with(promise, job)?)
     }
 
     /// The workers' threads.

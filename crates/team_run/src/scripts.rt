@@ -1,6 +1,6 @@
 //! The engineers' scripts, read whole before a thread starts.
 
-ghost use Rattle.std.specs.Prelude.{◌≡◌, ◌⊎◌, ◌++◌, ◌∷◌, ◌<◌, ◌≤◌, ℕ, List, [], true, false, string_bytes, vec_len, IfOk, IfErr, OnOk};
+ghost use Rattle.std.specs.Prelude.{◌≡◌, ◌⊎◌, ◌++◌, ◌∷◌, ◌<◌, ◌≤◌, ℕ, List, [], true, false, length, string_bytes, vec_len, IfOk, IfErr, OnOk};
 ghost use Rattle.std.specs.Io.KnownBytes.{Consumes, IsAtEnd};
 ghost use Rattle.team_run.specs.Sources.{IsFit, IsRead, AreRead, IsWhole};
 ghost use Rattle.team_run.specs.Scripts.{IsFaultOf, IsFileFault, IsMeasured, IsReadingFault, IsUnfit, no_memory};
@@ -165,20 +165,21 @@ impl Measure {
     }
 }
 
-/// Reads some bytes more to the end of the script. False at the end of the input.
+/// Reads some bytes more, into the buffer, to the end of the script. False at the end of the input.
 fn read_on<F: Read>(
     reader: &mut Input<F>,
+    buffer: &mut [u8],
     script: &mut Vec<u8>,
     measure: &mut Measure,
 ) -> Result<bool, Unread>
+    requires { 0 < length buffer.old }
     ensures more { IfOk result (λ more. (bytes : List ℕ) × Consumes reader.old.remaining reader.new.remaining bytes
         × (script.new.items ≡ script.old.items ++ bytes) × (more ≡ false → IsAtEnd reader.new.remaining)) }
     ensures measured { OnOk result (IsMeasured script.old.items measure.old → IsMeasured script.new.items measure.new) }
     ensures fault { IfErr result (λ unread. unread ≡ Unread.Fault → IsMeasured script.old.items measure.old →
         (reader.new.failed ≡ true) ⊎ IsUnfit script.old.items reader.old.remaining) }
 {
-    let mut buffer = [0; AT_A_TIME];
-    let Ok(count) = reader.read(&mut buffer) else {
+    let Ok(count) = reader.read(buffer) else {
         return Err(Unread::Fault);
     };
     let bytes = &buffer[..count];
@@ -196,10 +197,12 @@ fn read_whole<F: Read>(alloc: Global, reader: &mut Input<F>) -> Result<Script, U
     ensures fault { IfErr result (λ unread. unread ≡ Unread.Fault →
         (reader.new.failed ≡ true) ⊎ IsUnfit [] reader.old.remaining) }
 {
+    let mut room = vec![in alloc; 0u8; AT_A_TIME]?;
+    let buffer = room.as_mut_slice();
     let mut script = Vec::new(alloc);
     let mut measure = Measure::new();
     for _ in 0..u64::MAX {
-        if !read_on(reader, &mut script, &mut measure)? {
+        if !read_on(reader, buffer, &mut script, &mut measure)? {
             return if measure.may_end() {
                 Ok(Script { bytes: script })
             } else {

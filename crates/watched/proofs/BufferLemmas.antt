@@ -1,11 +1,22 @@
 -- The bytes of a buffer, after a step of its start or a write behind its end.
 use Rattle.std.proofs.Common.{◌≡◌, ℕ, ◌+◌, ◌-◌, ◌≤◌, List, ◌++◌, length, take, drop, slice_range, refl, sym, ap, ◌∙◌, arith}
-use Rattle.std.proofs.lemmas.List.{take_at, drop_at, take-append-le, drop-append-le, drop-take, drop-drop, length-take-le, length-drop, append-nil}
+use Rattle.std.proofs.lemmas.List.{take_at, drop_at, take-take, take-append-le, drop-append-le, drop-take, drop-drop, length-take-le, length-drop, length-append, append-nil}
 use borrow.Rule.Slice.PartMut.{put_mid, post_of}
 use lib.Seq.{take-add}
 
+-- as many bytes are there
+long : (xs ys : List ℕ) (end k n : ℕ) → end ≤ length xs → n ≤ length ys → end + n ≤ length (put_mid end k xs ys)
+long xs ys end k n within fits =
+    omega (arith, length-append (take end xs) (ys ++ post_of end k xs), length-append ys (post_of end k xs), length-take-le end xs within)
+
+-- the first bytes of those that a vector of n bytes has where these were written over them
+shown : (xs ys : List ℕ) (n m : ℕ) → m ≤ n → m ≤ length xs → slice_range (take n (xs ++ ys)) 0 m ≡ slice_range xs 0 m
+shown xs ys n m few there =
+    let whole : m - 0 ≡ m = omega arith in
+    ap (λ j. take j (take n (xs ++ ys))) whole ∙ take-take m n (xs ++ ys) few ∙ take-append-le m xs ys there ∙ ap (λ j. take j xs) (sym whole)
+
 -- behind the bytes up to end, n bytes of ys
-pub grown : (xs ys : List ℕ) (start end k n : ℕ) → start ≤ end → end ≤ length xs → n ≤ length ys
+grown : (xs ys : List ℕ) (start end k n : ℕ) → start ≤ end → end ≤ length xs → n ≤ length ys
     → slice_range (put_mid end k xs ys) start (end + n) ≡ slice_range xs start end ++ take n ys
 grown xs ys start end k n ordered within fits =
     let front = length-take-le end xs within in
@@ -27,12 +38,20 @@ consumed xs start end count inside =
     sym (ap (λ j. drop count (take j (drop start xs))) parts ∙ drop-take count _ (drop start xs)
     ∙ ap (take (end - (start + count))) (drop-drop count start xs))
 
--- the bytes up to end stay
-pub kept : (xs ys : List ℕ) (start end k : ℕ) → start ≤ end → end ≤ length xs
-    → slice_range (put_mid end k xs ys) start end ≡ slice_range xs start end
-kept xs ys start end k ordered within =
-    let none : end ≡ end + 0 = omega arith in
-    ap (slice_range (put_mid end k xs ys) start) none ∙ grown xs ys start end k 0 ordered within (omega arith) ∙ append-nil _
+-- the same in a vector of that many bytes, over which these are written
+pub refilled : (xs ys old : List ℕ) (len held k n : ℕ) → held ≤ length xs → n ≤ length ys → held + n ≤ len
+    → slice_range (take len (put_mid held k xs ys ++ drop (length (put_mid held k xs ys)) old)) 0 (held + n) ≡ slice_range xs 0 held ++ take n ys
+refilled xs ys old len held k n within fits room =
+    let all = put_mid held k xs ys in
+    shown all (drop (length all) old) len (held + n) room (long xs ys held k n within fits) ∙ grown xs ys 0 held k n (omega arith) within fits
+
+-- the bytes that were there stay
+pub kept : (xs ys old : List ℕ) (len held k : ℕ) → held ≤ length xs → held ≤ len
+    → slice_range (take len (put_mid held k xs ys ++ drop (length (put_mid held k xs ys)) old)) 0 held ≡ slice_range xs 0 held
+kept xs ys old len held k within room =
+    let all = put_mid held k xs ys in
+    let none : held ≡ held + 0 = omega arith in
+    ap (slice_range (take len (all ++ drop (length all) old)) 0) none ∙ refilled xs ys old len held k 0 within (omega arith) (omega arith) ∙ append-nil _
 
 -- cut in two
 pub cut : (xs : List ℕ) (start mid end : ℕ) → start ≤ mid → mid ≤ end → slice_range xs start end ≡ slice_range xs start mid ++ slice_range xs mid end

@@ -1,9 +1,11 @@
 //! The bytes that were read and not yet taken, in a buffer of a fixed size, and where the first line among them ends.
+//! The buffer is made once, and stands on the heap: a line may be longer than a stack has room.
 
 ghost use Rattle.std.specs.Prelude.{◌≡◌, ℕ, ◌+◌, ◌-◌, ◌<◌, ◌≤◌, ◌==◌, List, [], ◌++◌, length, take, drop, slice_range, position, None, IfOk, OnOk, OnErr, true, false};
 ghost use Rattle.std.specs.Io.KnownBytes.{Consumes, IsAtEnd, Keeps};
 
 use crate::Input;
+use std::alloc::{AllocError, Global};
 use std::io;
 use std::io::Read;
 use std::marker::Model;
@@ -11,7 +13,7 @@ use std::marker::Model;
 /// A buffer of `N` bytes, as the bytes that it holds.
 #[derive(Drop)]
 pub struct LineBuffer<const N: usize> {
-    bytes: [u8; N],
+    bytes: Vec<u8>,
     start: usize,
     /// No line feed stands from `start` to here.
     searched: usize,
@@ -19,14 +21,14 @@ pub struct LineBuffer<const N: usize> {
 }
 
 impl<const N: usize> Model for LineBuffer<N> {
-    ghost use Rattle.std.specs.Prelude.{◌≡◌, ℕ, ◌≤◌, ◌==◌, false, List, slice_range, All};
+    ghost use Rattle.std.specs.Prelude.{◌≡◌, ℕ, ◌≤◌, ◌==◌, false, List, slice_range, vec_len, All};
 
     ghost Value = { List ℕ };
 
-    ghost view = { λ b. slice_range b.bytes b.start b.end };
+    ghost view = { λ b. slice_range b.bytes.items b.start b.end };
 
-    ghost invariant = { λ b. (b.start ≤ b.searched) × (b.searched ≤ b.end) × (b.end ≤ N)
-        × All (λ x. (x == 10) ≡ false) (slice_range b.bytes b.start b.searched) };
+    ghost invariant = { λ b. (b.start ≤ b.searched) × (b.searched ≤ b.end) × (b.end ≤ N) × (vec_len b.bytes ≡ N)
+        × All (λ x. (x == 10) ≡ false) (slice_range b.bytes.items b.start b.searched) };
 }
 
 /// The index of the first line feed.
@@ -49,23 +51,22 @@ fn move_to_front(bytes: &mut [u8], start: usize, end: usize)
 
 impl<const N: usize> LineBuffer<N> {
     /// The empty buffer.
-    pub fn new() -> Self
-        ensures { result ≡ [] }
+    pub fn new(alloc: Global) -> Result<Self, AllocError>
+        ensures { IfOk result (λ buffer. buffer ≡ []) }
     {
-        LineBuffer {
-            bytes: [0; N],
+        Ok(LineBuffer {
+            bytes: vec![in alloc; 0u8; N]?,
             start: 0,
             searched: 0,
             end: 0,
-        }
+        })
     }
 
     /// The bytes that it holds.
     pub fn as_slice(&self) -> &[u8]
         ensures { result.now ≡ self.now }
     {
-        let bytes = &self.bytes[..];
-        &bytes[self.start..self.end]
+        &self.bytes.as_slice()[self.start..self.end]
     }
 
     /// Forgets the first bytes.
@@ -81,8 +82,7 @@ impl<const N: usize> LineBuffer<N> {
     pub fn line_feed_at(&self) -> Option<usize>
         ensures { result ≡ position (λ b. b == 10) self.now }
     {
-        let bytes = &self.bytes[..];
-        let index = line_feed_in(&bytes[self.searched..self.end])?;
+        let index = line_feed_in(&self.bytes.as_slice()[self.searched..self.end])?;
         Some(self.searched - self.start + index)
     }
 
@@ -100,11 +100,11 @@ impl<const N: usize> LineBuffer<N> {
         ensures left { OnErr result (Keeps input.old.remaining input.new.remaining) }
     {
         let held = self.end - self.start;
-        move_to_front(&mut self.bytes, self.start, self.end);
+        let bytes = self.bytes.as_mut_slice();
+        move_to_front(bytes, self.start, self.end);
         self.start = 0;
         self.searched = held;
         self.end = held;
-        let bytes = &mut self.bytes[..];
         let count = input.read(&mut bytes[held..])?;
         self.end = held + count;
         Ok(count > 0)

@@ -8,7 +8,7 @@ use std::alloc::Global;
 use std::io::{self, Read, Write};
 use std::process::Abort;
 use std::thread::Threads;
-use watched::{Input, Output};
+use watched::{Input, LineBuffer, Output};
 
 /// What the second router's table shows once this many lines were taken.
 fn table_after(lines: usize) -> &'static str {
@@ -105,7 +105,8 @@ fn reader_fails<M: Machine + Drop>(
     let rest = script.as_bytes();
     let mut input = Input::new(Faltering { rest, reads_left });
     let mut output = Output::new(&mut written);
-    let served = serve(rt, alloc, &mut input, &mut output, &mut machine);
+    let buffer = LineBuffer::new(alloc).expect(rt, "memory");
+    let served = serve(rt, alloc, buffer, &mut input, &mut output, &mut machine);
     drop(output);
     let line = (lines as u64).saturating_add(1);
     assert_eq!(rt; served, Err(ServeFault::Read { line }));
@@ -136,7 +137,8 @@ fn cut_off<M: Machine>(
     let mut full = Full { taken, writes_left };
     let mut input = Input::new(script.as_bytes());
     let mut output = Output::new(&mut full);
-    let served = serve(rt, alloc, &mut input, &mut output, machine);
+    let buffer = LineBuffer::new(alloc).expect(rt, "memory");
+    let served = serve(rt, alloc, buffer, &mut input, &mut output, machine);
     drop(output);
     let Err(ServeFault::Write { line }) = served else {
         panic!(rt; "no write fault");

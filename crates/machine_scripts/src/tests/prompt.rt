@@ -8,7 +8,7 @@ use std::cell::Cell;
 use std::io::{self, Read, Write};
 use std::process::Abort;
 use std::thread::Threads;
-use watched::{Input, Output};
+use watched::{Input, LineBuffer, Output};
 
 /// Lines with one line of reply each.
 const LINES: [&str; 5] = [
@@ -78,7 +78,8 @@ fn is_answered_at_once<M: Machine + Drop>(
         held: 0,
         shown: &shown,
     });
-    let served = serve(rt, alloc, &mut input, &mut output, &mut machine);
+    let buffer = LineBuffer::new(alloc).expect(rt, "memory");
+    let served = serve(rt, alloc, buffer, &mut input, &mut output, &mut machine);
     assert_eq!(rt; served, Ok(5));
     assert_eq!(rt; shown.get(), 5);
 }

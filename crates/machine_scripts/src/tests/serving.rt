@@ -8,7 +8,7 @@ use std::io::{Read, Write};
 use std::process::Abort;
 use std::test::Fail;
 use std::thread::Threads;
-use watched::{Input, Output};
+use watched::{Input, LineBuffer, Output};
 
 /// A machine that no event may reach.
 #[derive(Drop)]
@@ -74,6 +74,7 @@ fn served<A: Abort + Threads + Sync, R: Read + Drop, W: Write + Drop>(
     serve(
         rt,
         alloc,
+        LineBuffer::new(alloc).expect(rt, "memory"),
         &mut Input::new(reader),
         &mut Output::new(writer),
         &mut Idle(rt),
