@@ -11,7 +11,7 @@ from .compare import Change, Way, compare
 from .language import address
 from .mistakes import CHANGED, Mistake
 from .orders import add_order, order_of
-from .outcome import Outcome
+from .outcome import Outcome, tried
 from .replies import Route
 from .run import Run, settled_otherwise, unsettled
 from .script import Line, read
@@ -31,15 +31,7 @@ def settled_base(lines: List[Line], chosen: argparse.Namespace) -> Tuple[Run, Se
 
 def changed(base: Run, lines: List[Line], chosen: argparse.Namespace) -> Tuple[Run, Watch, List[Settling]]:
     """The same network with the change."""
-    run = Run(order_of(chosen), chosen.most, tries_others=True)
-    run.repeat(base.lines)
-    watch, done = Watch(run), []
-    for line in lines:
-        run.check(line, watch.say(line))
-        if chosen.each and line.is_command:
-            done.append(run.settle())
-            watch.settled()
-    return run, watch, done + [run.settle()]
+    return tried(base, lines, order_of(chosen), chosen.most, chosen.each)
 
 
 # As JSON
