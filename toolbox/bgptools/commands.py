@@ -8,7 +8,7 @@ from .answers import Cost, Delivery, Message, Reason, Route
 from .mistakes import Mistake
 from .refusals import refused
 from .replies import Trace
-from .run import Run
+from .running import Running
 
 Word = Union[str, int]
 Path = Union[str, int, Sequence[int]]
@@ -16,13 +16,10 @@ Path = Union[str, int, Sequence[int]]
 OTHERWISE = {"self": "next_hop_self", "in": "received", "out": "advertised"}
 
 
-class Commands:
+class Commands(Running):
     """The commands. Where one wants an address, a name stands for it too; whether a word is right the program says.
 
     What is refused raises Refusal, and changes nothing."""
-
-    def __init__(self, run: Run) -> None:
-        self.run = run
 
     # What makes a network
 
@@ -110,12 +107,12 @@ class Commands:
 
         A path is that of the language, as `7,21`, or its AS numbers; communities are numbers in any order."""
         words: List[Word] = ["feed", self._at(virtual), self._at(router), kind, prefix]
+        numbers = sorted(set(map(str, comm)), key=lambda text: (len(text), text))
         if path is not None:
             words += [_path(path), origin, "-" if med is None else med]
         elif med is not None:
             words.append(med)
-        numbers = sorted({int(number) for number in comm})
-        self._ask(*words, *(["comm=" + ",".join(map(str, numbers))] if numbers else []))
+        self._ask(*words, *(["comm=" + ",".join(numbers)] if numbers else []))
 
     def deliver(self, sender: str, receiver: str) -> Delivery:
         """The receiver takes the message at the head of the queue from the sender."""

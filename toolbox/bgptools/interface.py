@@ -88,15 +88,8 @@ class Network(Commands):
         Commands.__init__(made, run)
         return made
 
-    def close(self) -> None:
-        """Ends the program."""
-        self.run.close()
-
     def __enter__(self) -> "Network":
         return self
-
-    def __exit__(self, *_: object) -> None:
-        self.close()
 
     def __repr__(self) -> str:
         counts = len(self.run.network.routers()), len(self.run.network.virtuals()), self.step
@@ -254,7 +247,7 @@ class Network(Commands):
             with after:
                 return effect_of(Outcome(compare(base, after, asked), watch, settled, done))
         finally:
-            if base is not self.run:
+            if base is not self._run:
                 base.close()
 
     def _named(self, line: Line) -> Line:

@@ -95,7 +95,7 @@ class Base(Case):
 
 class Calls(Base):
     def test_each_command_is_one_call(self):
-        calls = {name for name, _ in inspect.getmembers(commands.Commands, inspect.isfunction) if not name.startswith("_")}
+        calls = {name for name, made in vars(commands.Commands).items() if inspect.isfunction(made) and not name.startswith("_")}
         self.assertEqual(calls, {commands.OTHERWISE.get(name, name) for name in language.NAMES})
         self.assertEqual(len(calls), len(language.NAMES))
 
@@ -247,8 +247,30 @@ class Scripts(Base):
 
     def test_a_context_ends_the_program(self):
         with self.assertRaises(ZeroDivisionError), Network() as net:
+            process = net.run.program.process
             raise ZeroDivisionError
-        self.assertIsNotNone(net.run.program.process.poll())
+        self.assertIsNotNone(process.poll())
+        net.close()
+        with self.assertRaisesRegex(Mistake, "^the network was closed$"):
+            net.quiet()
+
+    def test_what_was_stopped_leaves_what_was_accepted(self):
+        """Ctrl-C before a reply is read, and a program that ends: the next question is not answered by what was left."""
+        net = self.network(TWO)
+
+        def stop():
+            raise KeyboardInterrupt
+
+        for _ in range(2):
+            net.run.program._line = stop
+            with self.assertRaises(KeyboardInterrupt):
+                net.origin("2.0.0.1", "20.0.0.0/8")
+            self.assertEqual(net.table("20.0.0.0/8"), [])
+            self.assertEqual((net.script(), net.quiet()), (TWO, False))
+        net.run.program.process.kill()
+        with self.assertRaisesRegex(Mistake, "the program ended before it had answered, by signal 9"):
+            net.settle()
+        self.assertEqual(len(net.settle().deliveries), 1)
 
     def test_more_lines_than_one_run_reads(self):
         kept = counted.MOST_LINES, counted.NEAR
