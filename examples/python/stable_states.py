@@ -1,5 +1,5 @@
-"""The stable states of two networks that do not settle in the fair order: two ASes that prefer each other (DISAGREE), and
-the route reflectors of RFC 3345, whose MED is compared within one neighbouring AS.
+"""The stable states of two networks that do not settle in the fair order: two ASes that prefer each other (DISAGREE),
+and the route reflectors of RFC 3345, where MED is compared within one neighbouring AS.
 
 Each is settled in 20 drawn orders, each on a copy; states are told with how often they came."""
 import pathlib

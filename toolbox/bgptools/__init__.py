@@ -6,12 +6,12 @@ import importlib
 from typing import TYPE_CHECKING
 
 if TYPE_CHECKING:
-    from .answers import Cost, Delivery, Explanation, Link, Message, Node, Reason, Route, Session, Settled
     from .effects import Effect, InBetween, RouteChange, Sent, WayChange
     from .interface import Network, Unsettled
     from .mistakes import Mistake
     from .refusals import Refusal
     from .replies import Trace
+    from .values import Cost, Delivery, Explanation, Link, Message, Node, Reason, Route, Session, Settled
 
 __version__ = "0.1.0"
 __all__ = ["Cost", "Delivery", "Effect", "Explanation", "InBetween", "Link", "Message", "Mistake", "Network", "Node",
@@ -20,7 +20,7 @@ __all__ = ["Cost", "Delivery", "Effect", "Explanation", "InBetween", "Link", "Me
 if not TYPE_CHECKING:
     def __getattr__(name: str) -> object:
         """A name of the interface. Its modules are loaded when it is asked for, so that a tool begins without them."""
-        for module in ("interface", "answers", "effects", "refusals", "replies") if name in __all__ else ():
+        for module in ("interface", "values", "effects", "refusals", "replies") if name in __all__ else ():
             found = getattr(importlib.import_module("." + module, __name__), name, None)
             if found is not None:
                 return found

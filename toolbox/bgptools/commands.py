@@ -3,12 +3,12 @@ from __future__ import annotations
 
 from typing import Iterable, List, Optional, Sequence, Union
 
-from . import answers, replies
-from .answers import Cost, Delivery, Message, Reason, Route
+from . import replies, values
 from .mistakes import Mistake
 from .refusals import refused
 from .replies import Trace
 from .running import Running
+from .values import Cost, Delivery, Message, Reason, Route
 
 Word = Union[str, int]
 Path = Union[str, int, Sequence[int]]
@@ -117,41 +117,41 @@ class Commands(Running):
     def deliver(self, sender: str, receiver: str) -> Delivery:
         """The receiver takes the message at the head of the queue from the sender."""
         way = self._at(sender), self._at(receiver)
-        return answers.delivery_of(*way, self._ask("deliver", *way)[0])
+        return values.delivery_of(*way, self._ask("deliver", *way)[0])
 
     # What asks
 
     def routes(self, router: str) -> List[Route]:
         """The router's Loc-RIB: its chosen routes in order of prefix."""
         router = self._at(router)
-        return answers.routes_of(router, self._ask("routes", router))
+        return values.routes_of(router, self._ask("routes", router))
 
     def best(self, router: str, prefix: str) -> Optional[Route]:
         """The route that the router chose for the prefix; None where it has none."""
         router = self._at(router)
         told = replies.best(self._ask("best", router, prefix))
-        return None if told is None else answers.route_of(router, str(told.source), told)
+        return None if told is None else values.route_of(router, str(told.source), told)
 
     def why(self, router: str, prefix: str) -> List[Reason]:
         """All its routes to the prefix, and why each was chosen or dropped: its own first, then by peer address."""
         router = self._at(router)
         reply = self._ask("why", router, prefix)
-        return answers.reasons_of(router, prefix, reply, router in self.run.network.med_always)
+        return values.reasons_of(router, prefix, reply, router in self.run.network.med_always)
 
     def received(self, router: str, peer: str) -> List[Route]:
         """What the router holds as received from the peer, before its import policy. In the language it is `in`."""
         router, peer = self._at(router), self._at(peer)
-        return answers.routes_of(router, self._ask("in", router, peer), peer)
+        return values.routes_of(router, self._ask("in", router, peer), peer)
 
     def advertised(self, router: str, peer: str) -> List[Route]:
         """What the router advertises to the peer, as routes of the peer. In the language it is `out`."""
         router, peer = self._at(router), self._at(peer)
-        return answers.routes_of(peer, self._ask("out", router, peer), router)
+        return values.routes_of(peer, self._ask("out", router, peer), router)
 
     def queue(self, sender: str, receiver: str) -> List[Message]:
         """The messages on their way from one to the other, the head first."""
         way = self._at(sender), self._at(receiver)
-        return [answers.message_of(*way, told) for told in self._ask("queue", *way)[:-1]]
+        return [values.message_of(*way, told) for told in self._ask("queue", *way)[:-1]]
 
     def quiet(self) -> bool:
         """Whether all queues are empty."""
@@ -160,7 +160,7 @@ class Commands(Running):
     def cost(self, router: str, to: str) -> Optional[Cost]:
         """The interior cost from the router to another, and the first hop; None where there is no way."""
         way = self._at(router), self._at(to)
-        return answers.cost_of(*way, self._ask("cost", *way)[0])
+        return values.cost_of(*way, self._ask("cost", *way)[0])
 
     def trace(self, router: str, address: str) -> Trace:
         """The routers that a packet from the router to the address passes; `end` is `reached`, `noroute` or `loop`."""

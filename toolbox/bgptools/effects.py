@@ -5,13 +5,13 @@ from dataclasses import dataclass, field
 from typing import Dict, Iterable, List, Optional, Tuple
 
 from . import compare, replies
-from .answers import Delivery, Message, Route, delivery_of, message_of, route_of
 from .network import Direction
 from .outcome import Outcome
 from .replies import Trace
 from .run import settled_otherwise, unsettled
 from .settling import Settling
 from .summary import text_of
+from .values import Delivery, Message, Route, delivery_of, message_of, route_of
 
 
 @dataclass(frozen=True)

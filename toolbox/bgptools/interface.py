@@ -17,8 +17,8 @@ from __future__ import annotations
 import os
 from typing import Iterable, List, Optional, Sequence, Tuple, Union
 
-from . import answers, copies, journal, output, replies
-from .answers import Explanation, Link, Node, Route, Session, Settled
+from . import copies, journal, output, replies, values
+from .between import Watch
 from .choice import Choice
 from .commands import Commands
 from .compare import compare
@@ -30,12 +30,14 @@ from .looking import Known
 from .mistakes import Mistake
 from .network import ends, pair
 from .orders import NAMES, Order, named
-from .outcome import Outcome, tried
+from .outcome import Outcome
 from .picture import dot_of
 from .run import Run, told_of, unsettled
 from .script import Line, lines_of, read
 from .settling import Settling
 from .steps import scene_of
+from .values import Explanation, Link, Node, Route, Session, Settled
+from .what_if import apply
 
 Lines = Union[str, Iterable[str]]
 GIVEN = "lines"
@@ -46,7 +48,7 @@ class Unsettled(Mistake):
     that was not seen), and who keeps choosing anew: prefixes, each with its routers."""
 
     def __init__(self, text: str, done: Settling):
-        super().__init__(text)
+        super().__init__(text.replace("--most N", "most=N"))
         self.deliveries, self.period, self.keeps_changing = deliveries_of(done), done.period, done.restless
 
 
@@ -164,7 +166,7 @@ class Network(Commands):
         """The chosen routes of all routers, in order of router and prefix; or those to one prefix."""
         routers = self.run.network.routers()
         found = zip(routers, self.run.ask("routes " + router for router in routers))
-        routes = [route for router, reply in found for route in answers.routes_of(router, reply)]
+        routes = [route for router, reply in found for route in values.routes_of(router, reply)]
         return [route for route in routes if prefix in (None, route.prefix)]
 
     def explain(self, router: str, prefix: str) -> List[Explanation]:
@@ -182,7 +184,7 @@ class Network(Commands):
         told = verdict(one, among, router, self.run.network)
         read = one.attributes and replies.Route(prefix, one.source, one.attributes)
         return Explanation(one.source, one.reason, told, by.source if by else None,
-                           answers.route_of(router, one.source, read) if read else None,
+                           values.route_of(router, one.source, read) if read else None,
                            None if one.is_excluded else one.cost)
 
     def picture(self, kind: str = "svg", prefix: Optional[str] = None, trace: Optional[Sequence[str]] = None, *,
@@ -243,8 +245,10 @@ class Network(Commands):
         changes = [self._named(line) for line in _script(lines)]
         base, settled = self._quiet(_order(order, seed), most)
         try:
-            after, watch, done = tried(base, changes, _order(order, seed), most, each)
-            with after:
+            with Run(_order(order, seed), most, tries_others=True) as after:
+                after.repeat(base.lines)
+                watch = Watch(after)
+                done = apply(watch, changes, each)
                 return effect_of(Outcome(compare(base, after, asked), watch, settled, done))
         finally:
             if base is not self._run:

@@ -1,31 +1,11 @@
 """What came of a change: the difference that it makes, and the messages on the way."""
 from __future__ import annotations
 
-from typing import List, Optional, Tuple
+from typing import List, Optional
 
 from .between import Watch
 from .compare import Difference
-from .orders import Order
-from .run import Run
-from .script import Line
 from .settling import Settling
-
-
-def tried(base: Run, lines: List[Line], order: Order, most: Optional[int], is_each: bool) -> Tuple[Run, Watch, List[Settling]]:
-    """The same network with a change: queues are emptied at its end, or after each of its commands."""
-    run = Run(order, most, tries_others=True)
-    try:
-        run.repeat(base.lines)
-        watch, done = Watch(run), []
-        for line in lines:
-            run.check(line, watch.say(line))
-            if is_each and line.is_command:
-                done.append(run.settle())
-                watch.settled()
-        return run, watch, done + [run.settle()]
-    except BaseException:
-        run.close()
-        raise
 
 
 class Outcome:

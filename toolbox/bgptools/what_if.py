@@ -11,7 +11,7 @@ from .compare import Change, Way, compare
 from .language import address
 from .mistakes import CHANGED, Mistake
 from .orders import add_order, order_of
-from .outcome import Outcome, tried
+from .outcome import Outcome
 from .replies import Route
 from .run import Run, settled_otherwise, unsettled
 from .script import Line, read
@@ -31,7 +31,21 @@ def settled_base(lines: List[Line], chosen: argparse.Namespace) -> Tuple[Run, Se
 
 def changed(base: Run, lines: List[Line], chosen: argparse.Namespace) -> Tuple[Run, Watch, List[Settling]]:
     """The same network with the change."""
-    return tried(base, lines, order_of(chosen), chosen.most, chosen.each)
+    run = Run(order_of(chosen), chosen.most, tries_others=True)
+    run.repeat(base.lines)
+    watch = Watch(run)
+    return run, watch, apply(watch, lines, chosen.each)
+
+
+def apply(watch: Watch, lines: List[Line], is_each: bool) -> List[Settling]:
+    """Makes a change in a quiet network: the deliveries that empty the queues after each of its commands, or at its end."""
+    run, done = watch.run, []
+    for line in lines:
+        run.check(line, watch.say(line))
+        if is_each and line.is_command:
+            done.append(run.settle())
+            watch.settled()
+    return done + [run.settle()]
 
 
 # As JSON

@@ -1,4 +1,4 @@
-"""The interface for Python: each command by its call says what the program says, and the tools' work as data is what they print."""
+"""The interface for Python: each call says what the program says, and as data the same as the tools."""
 import ast
 import dataclasses
 import doctest
@@ -6,13 +6,14 @@ import importlib.util
 import inspect
 import json
 import os
+import re
 import shutil
 import sys
 import unittest
 
 import bgptools
 from bgptools import (Cost, Delivery, Effect, Link, Message, Mistake, Network, Node, Reason, Refusal, Route, Session,
-                      Unsettled, answers, commands, counted, effects, interface, language)
+                      Unsettled, commands, counted, effects, interface, language, values)
 from common import TOP, TOOLBOX, Case, alone, program, tool
 
 LESSONS = TOOLBOX / "lessons"
@@ -41,14 +42,15 @@ def called(net, words):
 
 
 def shown(value):
-    return "-" if value is None or value == () else ",".join(map(str, value)) if isinstance(value, tuple) else str(value)
+    return "-" if value in (None, ()) else ",".join(map(str, value)) if isinstance(value, tuple) else str(value)
 
 
 def attributes(route):
     """A route's attributes as the program prints them."""
     told = [("path", route.path), ("origin", route.origin), ("next", route.next_hop), ("med", route.med),
             ("pref", route.preference), ("oid", route.originator), ("clusters", route.clusters)]
-    return " ".join("%s=%s" % (name, shown(value)) for name, value in told + [("comms", route.communities)] * bool(route.communities))
+    told += [("comms", route.communities)] if route.communities else []
+    return " ".join("%s=%s" % (name, shown(value)) for name, value in told)
 
 
 def reply(words, found):
@@ -69,7 +71,8 @@ def reply(words, found):
     elif name == "why":
         lines = ["%s %s" % (each.source, each.reason) for each in found]
     elif name == "queue":
-        lines = ["%s %s" % (each.kind, each.prefix) + (" " + attributes(each.route) if each.route else "") for each in found]
+        ends = [" " + attributes(each.route) if each.route else "" for each in found]
+        lines = ["%s %s%s" % (each.kind, each.prefix, end) for each, end in zip(found, ends)]
     else:
         sources = [" from " + each.source if name == "routes" else "" for each in found]
         lines = ["%s%s %s" % (each.prefix, source, attributes(each)) for each, source in zip(found, sources)]
@@ -95,7 +98,8 @@ class Base(Case):
 
 class Calls(Base):
     def test_each_command_is_one_call(self):
-        calls = {name for name, made in vars(commands.Commands).items() if inspect.isfunction(made) and not name.startswith("_")}
+        made = vars(commands.Commands)
+        calls = {name for name in made if inspect.isfunction(made[name]) and not name.startswith("_")}
         self.assertEqual(calls, {commands.OTHERWISE.get(name, name) for name in language.NAMES})
         self.assertEqual(len(calls), len(language.NAMES))
 
@@ -128,8 +132,9 @@ class Calls(Base):
         net.feed("7.0.0.1", "1.0.0.1", "update", "11.0.0.0/8", "7_{21,22}")
         net.feed("7.0.0.1", "1.0.0.1", "withdraw", "10.0.0.0/8")
         route = Route("1.0.0.1", "10.0.0.0/8", "7.0.0.1", "7,21", "egp", "7.0.0.1", 5, None, None, (), (2, 9, 65536))
-        self.assertEqual(net.queue("7.0.0.1", "1.0.0.1")[0], Message("7.0.0.1", "1.0.0.1", "update", "10.0.0.0/8", route))
-        self.assertEqual(net.queue("7.0.0.1", "1.0.0.1")[2], Message("7.0.0.1", "1.0.0.1", "withdraw", "10.0.0.0/8", None))
+        first, _, last = net.queue("7.0.0.1", "1.0.0.1")
+        self.assertEqual(first, Message("7.0.0.1", "1.0.0.1", "update", "10.0.0.0/8", route))
+        self.assertEqual(last, Message("7.0.0.1", "1.0.0.1", "withdraw", "10.0.0.0/8", None))
         self.assertEqual(net.deliver("7.0.0.1", "1.0.0.1"), Delivery("7.0.0.1", "1.0.0.1", "update", "10.0.0.0/8"))
         self.assertEqual(net.received("1.0.0.1", "7.0.0.1"), [route])
         self.assertEqual(net.routes("1.0.0.1"), [dataclasses.replace(route, preference=100)])
@@ -163,10 +168,11 @@ class Calls(Base):
             net.join("west", "3.0.0.1")
         told = fault.exception
         self.assertEqual((told.number, told.name, told.command), (9, "not-linked", "join 1.0.0.1 3.0.0.1"))
-        self.assertEqual(told.explanation, "west (1.0.0.1) is in AS 1 and 3.0.0.1 in AS 3: an external session needs a link between "
-                                           "them, `link 1.0.0.1 3.0.0.1 M`")
+        self.assertEqual(told.explanation, "west (1.0.0.1) is in AS 1 and 3.0.0.1 in AS 3: an external session needs a "
+                                           "link between them, `link 1.0.0.1 3.0.0.1 M`")
         self.assertEqual(str(told), "refused 9 not-linked: " + told.explanation)
-        self.assertIn("        -- %s\n" % told.explanation, tool("play", "-", given=(before + "join 1.0.0.1 3.0.0.1\n").encode()).stdout)
+        played = tool("play", "-", given=(before + told.command + "\n").encode(), status=1).stdout
+        self.assertIn("        -- %s\n" % told.explanation, played)
         self.assertEqual(net.script(), before)
 
     def test_what_is_no_word_is_a_mistake_and_no_other_command(self):
@@ -194,8 +200,10 @@ class Calls(Base):
         self.assertEqual(net.nodes()[1], Node("2.0.0.1", 2, False, "öst"))
         self.assertIn("\n# name 2.0.0.1 öst\n", net.script())
         self.assertEqual(net.at(net.step).nodes(), net.nodes())
-        for words, text in ((("1.0.0.1", "öst"), "the name öst is that of 2.0.0.1"), (("9.0.0.1", "x"), "there is no router or virtual peer 9.0.0.1"),
-                            (("1.0.0.1", "9.0.0.1"), "9.0.0.1 is an address"), (("1.0.0.1", "a b"), "a name is one word")):
+        for words, text in ((("1.0.0.1", "öst"), "the name öst is that of 2.0.0.1"),
+                            (("9.0.0.1", "x"), "there is no router or virtual peer 9.0.0.1"),
+                            (("1.0.0.1", "9.0.0.1"), "9.0.0.1 is an address"),
+                            (("1.0.0.1", "a b"), "a name is one word")):
             with self.assertRaisesRegex(Mistake, "^" + text):
                 net.name(*words)
 
@@ -203,11 +211,13 @@ class Calls(Base):
 class Scripts(Base):
     def test_a_refused_line_of_a_script_has_its_place(self):
         path = self.file("a.bgp", TWO + "# expect refused\nrouter 1.0.0.1 1\nfail 1.0.0.1 9.0.0.1\n")
-        for call, place in ((lambda: Network.load(path), "%s:8" % path), (lambda: Network.from_lines(path.read_text()), "lines:8"),
-                            (lambda: Network.from_lines(path.read_text().splitlines()), "lines:8")):
+        text = path.read_text()
+        for call, place in ((lambda: Network.load(path), "%s:8" % path), (lambda: Network.from_lines(text), "lines:8"),
+                            (lambda: Network.from_lines(text.splitlines()), "lines:8")):
             with self.assertRaises(Refusal) as fault:
                 call()
-            self.assertEqual(str(fault.exception), place + ": refused 2 no-router: there is no router or virtual peer 9.0.0.1")
+            told = place + ": refused 2 no-router: there is no router or virtual peer 9.0.0.1"
+            self.assertEqual(str(fault.exception), told)
         with self.assertRaisesRegex(Mistake, "it cannot be read"):
             Network.load(self.folder / "none")
 
@@ -242,8 +252,10 @@ class Scripts(Base):
             found = [line for question in asked for line in reply(question.split(), called(before, question.split()))]
             self.assertEqual(found, program("".join(line + "\n" for line in lines[:step] + asked))[-len(found):])
         for step in (-1, net.step + 1):
-            with self.assertRaisesRegex(Mistake, "^there is no step %d: the network has the steps 0 to %d$" % (step, net.step)):
+            with self.assertRaises(Mistake) as fault:
                 net.at(step)
+            told = "there is no step %d: the network has the steps 0 to %d" % (step, net.step)
+            self.assertEqual(str(fault.exception), told)
 
     def test_a_context_ends_the_program(self):
         with self.assertRaises(ZeroDivisionError), Network() as net:
@@ -255,7 +267,7 @@ class Scripts(Base):
             net.quiet()
 
     def test_what_was_stopped_leaves_what_was_accepted(self):
-        """Ctrl-C before a reply is read, and a program that ends: the next question is not answered by what was left."""
+        """Ctrl-C before a reply is read, and a program that ends: what was left answers no later question."""
         net = self.network(TWO)
 
         def stop():
@@ -286,15 +298,16 @@ class Scripts(Base):
 class Deliveries(Base):
     def test_an_order_is_the_tools(self):
         """The script of a network that was settled at its end is the one that the tool writes."""
+        path = TOP / "examples" / "two-reflectors.bgp"
         for words, how in (((), {}), (("--router",), {"order": "router"}), (("--order", "fair"), {"order": "fair"}),
-                           (("--seed", "3"), {"seed": 3}), (("--order", "drawn"), {"order": "drawn"}), (("--seed", "7"), {"order": "drawn", "seed": 7})):
-            path = TOP / "examples" / "two-reflectors.bgp"
+                           (("--seed", "3"), {"seed": 3}), (("--order", "drawn"), {"order": "drawn"}),
+                           (("--seed", "7"), {"order": "drawn", "seed": 7})):
             net = self.loaded(path)
             base = len(net.script().splitlines())
             done = self.keep(net.copy()).settle(**how), net.settle(**how)
             self.assertEqual(*done)
-            lines = [line for line in tool("settle", path, "--at-end", *words, status=0).stdout.splitlines() if line.startswith("deliver ")]
-            self.assertEqual([line for line in net.script().splitlines() if line.startswith("deliver ")], lines)
+            written = tool("settle", path, "--at-end", *words, status=0).stdout
+            self.assertEqual(*(re.findall("^deliver .*$", script, re.M) for script in (net.script(), written)))
             self.assertEqual(len(done[0].deliveries), net.step - base)
             self.assertTrue(net.quiet())
 
@@ -311,8 +324,10 @@ class Deliveries(Base):
                     ends.append(trial.best("left", "203.0.113.0/24").path)
         told = tool("settle", LESSONS / "disagree.bgp", "--at-end", "--states", "10", status=1).stdout
         for path, count in (("2,3", ends.count("2,3")), ("3", ends.count("3"))):
-            self.assertRegex(told, r"in %d of 10, as with --seed %d\n  [^\n]* path %s, " % (count, ends.index(path) + 1, path))
-        self.assertIn("\n%d of 10 did not settle, as with --seed %d: " % (ends.count("endless"), ends.index("endless") + 1), told)
+            seen = r"in %d of 10, as with --seed %d\n  [^\n]* path %s, " % (count, ends.index(path) + 1, path)
+            self.assertRegex(told, seen)
+        endless = ends.count("endless"), ends.index("endless") + 1
+        self.assertIn("\n%d of 10 did not settle, as with --seed %d: " % endless, told)
 
     def test_what_does_not_settle(self):
         net = self.loaded(LESSONS / "disagree.bgp")
@@ -320,8 +335,8 @@ class Deliveries(Base):
             net.settle()
         told = fault.exception
         self.assertEqual((told.period, told.keeps_changing), (8, {"203.0.113.0/24": ["1.0.0.1", "2.0.0.1"]}))
-        self.assertEqual(str(told), "in the fair order the same state comes back every 8 deliveries; 203.0.113.0/24 keeps changing at left "
-                                    "(1.0.0.1), right (2.0.0.1)")
+        self.assertEqual(str(told), "in the fair order the same state comes back every 8 deliveries; 203.0.113.0/24 "
+                                    "keeps changing at left (1.0.0.1), right (2.0.0.1)")
         self.assertEqual(["deliver %s %s" % (each.sender, each.receiver) for each in told.deliveries],
                          [line for line in net.script().splitlines() if line.startswith("deliver")])
         net = self.loaded(LESSONS / "disagree.bgp")
@@ -332,13 +347,16 @@ class Deliveries(Base):
 
     def test_at_most_so_many(self):
         net = self.network(TWO + "origin 1.0.0.1 20.0.0.0/8\n")
-        with self.assertRaisesRegex(Unsettled, "^in the fair order it is not quiet after 1 deliveries: --most N allows more$"):
+        with self.assertRaises(Unsettled) as fault:
             net.settle(most=1)
+        told = "in the fair order it is not quiet after 1 deliveries: most=N allows more"
+        self.assertEqual(str(fault.exception), told)
         self.assertEqual(net.settle().deliveries, (Delivery("1.0.0.1", "2.0.0.1", "update", "20.0.0.0/8"),))
 
     def test_one_order(self):
         net = self.network(TWO)
-        for words, text in ((("fairly",), "an order is fair or router or drawn, and not 'fairly'"), (("fair", 3), "one order is expected, and not drawn and fair")):
+        for words, text in ((("fairly",), "an order is fair or router or drawn, and not 'fairly'"),
+                            (("fair", 3), "one order is expected, and not drawn and fair")):
             with self.assertRaisesRegex(Mistake, "^" + text):
                 net.settle(*words)
 
@@ -356,14 +374,24 @@ class Changes(Base):
                 told = json.loads(tool("what-if", *words, "--json", status=1).stdout)
                 self.assertEqual(net.script(), before)
                 self.assertEqual(found.text, lesson.with_suffix(".what-if").read_text())
-                self.assertEqual((found.is_changed, found.is_settled, found.keeps_changing), (True, told["settled"], told["keeps_changing"]))
-                self.assertEqual([(each.router, each.kind, each.prefix, each.reason) for each in found.routes],
-                                 [(router, each["kind"], each["prefix"], each["reason"]) for router, changes in told["routers"].items() for each in changes])
-                self.assertEqual([(each.router, each.address, each.after.end) for each in found.forwarding],
-                                 [(each["router"], each["address"], each["after"]["end"]) for each in told["forwarding"]])
-                self.assertEqual([len(part) for part in (found.loops, found.black_holes, found.told, found.sent, found.in_between, found.deliveries)],
-                                 [len(told["loops"]), len(told["black_holes"]), sum(len(each["changes"]) for each in told["told"]),
-                                  sum(len(each["messages"]) for each in told["sent"]), len(told["in_between"]), told["messages"]])
+                self.same(found, told)
+
+    def same(self, found, told):
+        """An effect is what the tool tells as JSON."""
+        self.assertEqual((found.is_changed, found.is_settled, found.keeps_changing),
+                         (True, told["settled"], told["keeps_changing"]))
+        self.assertEqual([(each.router, each.kind, each.prefix, each.reason) for each in found.routes],
+                         [(router, each["kind"], each["prefix"], each["reason"])
+                          for router, changes in told["routers"].items() for each in changes])
+        for ways, others in ((found.forwarding, told["forwarding"]), (found.loops, told["loops"]),
+                             (found.black_holes, told["black_holes"])):
+            self.assertEqual([(each.router, each.address, each.before.routers, each.after.end) for each in ways],
+                             [(each["router"], each["address"], each["before"]["routers"], each["after"]["end"])
+                              for each in others])
+        self.assertEqual([len(part) for part in (found.told, found.sent, found.in_between, found.deliveries)],
+                         [sum(len(each["changes"]) for each in told["told"]),
+                          sum(len(each["messages"]) for each in told["sent"]), len(told["in_between"]),
+                          told["messages"]])
 
     def test_a_lost_link_by_hand(self):
         """Three ASes, each linked to the two others: what 1 and 3 told each other goes by 2."""
@@ -371,21 +399,28 @@ class Changes(Base):
         found = net.what_if(["fail 1.0.0.1 3.0.0.1"], trace=[("2.0.0.1", "198.51.100.1")])
         self.assertIsInstance(found, Effect)
         one = next(each for each in found.moved if each.router == "1.0.0.1")
-        self.assertEqual((one.prefix, one.before.path, one.after.path, one.after.source), ("203.0.113.0/24", "3", "2,3", "2.0.0.1"))
-        self.assertEqual((len(found.moved), found.lost, found.gained, found.sessions_down), (2, [], [], [("1.0.0.1", "3.0.0.1")]))
+        self.assertEqual((one.prefix, one.before.path, one.after.path, one.after.source),
+                         ("203.0.113.0/24", "3", "2,3", "2.0.0.1"))
+        self.assertEqual((len(found.moved), found.lost, found.gained), (2, [], []))
+        self.assertEqual((found.sessions_down, found.sessions_up), ([("1.0.0.1", "3.0.0.1")], []))
         way = next(each for each in found.forwarding if each.router == "3.0.0.1")
-        self.assertEqual((way.before.routers, way.after.routers), (["3.0.0.1", "1.0.0.1"], ["3.0.0.1", "2.0.0.1", "1.0.0.1"]))
+        self.assertEqual(way.before.routers, ["3.0.0.1", "1.0.0.1"])
+        self.assertEqual(way.after.routers, ["3.0.0.1", "2.0.0.1", "1.0.0.1"])
         self.assertEqual(found.asked[0].before, found.asked[0].after)
-        self.assertEqual([(each.line, each.command, each.message.kind, each.message.prefix) for each in found.sent],
-                         [(1, "fail 1.0.0.1 3.0.0.1", "withdraw", "203.0.113.0/24"), (1, "fail 1.0.0.1 3.0.0.1", "withdraw", "198.51.100.0/24")])
+        self.assertEqual({(each.line, each.command) for each in found.sent}, {(1, "fail 1.0.0.1 3.0.0.1")})
+        self.assertEqual([(each.message.sender, each.message.kind, each.message.prefix) for each in found.sent],
+                         [("1.0.0.1", "withdraw", "203.0.113.0/24"), ("3.0.0.1", "withdraw", "198.51.100.0/24")])
         self.assertFalse(net.quiet())
         self.assertFalse(net.what_if("# nothing\n").is_changed)
 
     def test_a_leak_in_between(self):
-        found = self.loaded(TOP / "examples/lessons/leaking-policy.bgp").what_if((LESSONS / "empty-policy.change").read_text())
+        net = self.loaded(TOP / "examples/lessons/leaking-policy.bgp")
+        found = net.what_if((LESSONS / "empty-policy.change").read_text())
         leaked = [each for each in found.in_between if each.kind == "leaked"]
-        self.assertEqual([(each.line, each.until, each.message.receiver, each.message.route.path) for each in leaked], [(3, 5, "8.0.0.1", "5,7")])
-        self.assertEqual([(each.router, each.before.path, each.after.path, each.after.source) for each in found.told], [("8.0.0.1", "5,5", "5,5,5,5", "5.0.0.1")])
+        self.assertEqual([(each.line, each.until, each.message.receiver, each.message.route.path) for each in leaked],
+                         [(3, 5, "8.0.0.1", "5,7")])
+        self.assertEqual([(each.router, each.before.path, each.after.path, each.after.source) for each in found.told],
+                         [("8.0.0.1", "5,5", "5,5,5,5", "5.0.0.1")])
 
     def test_mistakes(self):
         net = self.loaded(LESSONS / "many-prefixes.bgp")
@@ -410,11 +445,13 @@ class More(Base):
     def test_an_explanation(self):
         net = self.loaded(TOP / "examples" / "tour.bgp")
         chosen, lost = net.explain("5.0.0.1", "10.6.0.0/16")
-        self.assertEqual((chosen.source, chosen.reason, chosen.verdict, chosen.against, chosen.route.med, chosen.cost), ("7.0.0.1", "best", "chosen", None, 5, 1))
+        self.assertEqual((chosen.source, chosen.reason, chosen.verdict), ("7.0.0.1", "best", "chosen"))
+        self.assertEqual((chosen.against, chosen.route.med, chosen.cost), (None, 5, 1))
         self.assertEqual((lost.reason, lost.against, lost.verdict, lost.route.med),
                          ("med", "7.0.0.1", "lost by MED: 10 against 5 of 7.0.0.1, compared among routes of AS 7", 10))
         excluded = net.explain("5.0.0.1", "10.1.0.0/16")[0]
-        self.assertEqual((excluded.reason, excluded.cost, excluded.against, excluded.route.preference), ("loop", None, None, None))
+        self.assertEqual((excluded.reason, excluded.cost, excluded.against), ("loop", None, None))
+        self.assertIsNone(excluded.route.preference)
         with self.assertRaises(Refusal):
             net.explain("7.0.0.1", "10.1.0.0/16")
 
@@ -425,9 +462,12 @@ class More(Base):
         words = ("--settle", "--prefix", "203.0.113.0/24", "--trace", "east", "203.0.113.1")
         told = {"prefix": "203.0.113.0/24", "trace": ("east", "203.0.113.1")}
         self.assertEqual(net.picture("dot", **told), tool("draw", path, *words, status=0).stdout)
-        self.assertEqual(net.picture("dot", sessions=False, of="east", hops=1), tool("draw", path, "--settle", "--no-sessions", "--of", "east", status=0).stdout)
-        self.assertEqual(net.picture("dot", only=[5]), tool("draw", path, "--settle", "--only", "5", status=0).stdout)
-        for call, text in ((lambda: net.picture("png"), "a picture is `svg` or `dot`, and not 'png'"), (lambda: net.picture(prefix="x"), "--prefix x: ")):
+        near = {"sessions": False, "of": "east", "hops": 2}, ("--no-sessions", "--of", "east", "--hops", "2")
+        for how, chosen in (near, ({"only": [5]}, ("--only", "5"))):
+            drawn = tool("draw", path, "--settle", *chosen, status=0).stdout
+            self.assertEqual(net.picture("dot", **how), drawn)
+        for call, text in ((lambda: net.picture("png"), "a picture is `svg` or `dot`, and not 'png'"),
+                           (lambda: net.picture(prefix="x"), "--prefix x: ")):
             with self.assertRaisesRegex(Mistake, "^" + text):
                 call()
         if shutil.which("dot"):
@@ -435,21 +475,27 @@ class More(Base):
             self.assertEqual(net.picture(**told), (self.folder / "a.svg").read_text())
 
     def test_what_is_configured(self):
-        net = self.network(TWO + "virtual 7.0.0.1 7\nlink 7.0.0.1 1.0.0.1 4\njoin 7.0.0.1 1.0.0.1\nfail 1.0.0.1 2.0.0.1\nstop 1.0.0.1 7.0.0.1\n")
-        self.assertEqual(net.nodes(), [Node("1.0.0.1", 1, False, None), Node("2.0.0.1", 2, False, None), Node("7.0.0.1", 7, True, None)])
+        net = self.network(TWO + "virtual 7.0.0.1 7\nlink 7.0.0.1 1.0.0.1 4\njoin 7.0.0.1 1.0.0.1\n")
+        net.fail("1.0.0.1", "2.0.0.1")
+        net.stop("1.0.0.1", "7.0.0.1")
+        routers = [Node("1.0.0.1", 1, False, None), Node("2.0.0.1", 2, False, None)]
+        self.assertEqual(net.nodes(), routers + [Node("7.0.0.1", 7, True, None)])
         self.assertEqual(net.links(), [Link("1.0.0.1", "2.0.0.1", 10, False), Link("1.0.0.1", "7.0.0.1", 4, True)])
-        self.assertEqual(net.sessions(), [Session("1.0.0.1", "2.0.0.1", True, True, False), Session("1.0.0.1", "7.0.0.1", True, False, False)])
+        self.assertEqual(net.sessions(), [Session("1.0.0.1", "2.0.0.1", True, True, False),
+                                          Session("1.0.0.1", "7.0.0.1", True, False, False)])
 
     def test_tables_are_flat(self):
         """A cell of a table is a word, a number, nothing, or a row of these: as pandas and csv take it."""
         net = self.loaded(TOP / "examples" / "tour.bgp")
-        tables = [net.table(), net.nodes(), net.links(), net.sessions(), net.why("5.0.0.1", "10.3.0.0/16"), net.received("5.0.0.1", "7.0.0.1")]
+        tables = [net.table(), net.nodes(), net.links(), net.sessions(), net.why("5.0.0.1", "10.3.0.0/16"),
+                  net.received("5.0.0.1", "7.0.0.1")]
         for table in tables:
             self.assertGreater(len(table), 1)
             for row in map(dataclasses.asdict, table):
                 self.assertEqual({type(value) for value in row.values()} - {str, int, bool, type(None), tuple}, set())
         self.assertEqual([(each.router, each.prefix) for each in net.table()],
-                         [(node.address, each.prefix) for node in net.nodes() if not node.is_virtual for each in net.routes(node.address)])
+                         [(node.address, each.prefix) for node in net.nodes() if not node.is_virtual
+                          for each in net.routes(node.address)])
 
     @unittest.skipUnless(importlib.util.find_spec("pandas"), "pandas is not installed: apt-get install python3-pandas")
     def test_pandas_takes_a_table(self):
@@ -472,12 +518,13 @@ class Package(Base):
             from bgptools import Nothing  # noqa: F401
 
     def test_a_tool_begins_without_it(self):
-        asks = "import sys, bgptools.settle; print('bgptools.interface' in sys.modules); from bgptools import *; print(Network.__module__)"
+        asks = ("import sys, bgptools.settle; print('bgptools.interface' in sys.modules); "
+                "from bgptools import *; print(Network.__module__)")
         told = alone([sys.executable, "-B", "-c", asks], TOOLBOX)
         self.assertEqual((told.stdout, told.stderr), (b"False\nbgptools.interface\n", b""))
 
     def test_answers_do_not_change(self):
-        for module in (answers, effects):
+        for module in (effects, values):
             for name, made in inspect.getmembers(module, inspect.isclass):
                 if made.__module__ == module.__name__:
                     self.assertTrue(made.__dataclass_params__.frozen, name)
@@ -486,7 +533,7 @@ class Package(Base):
         here = os.getcwd()
         self.addCleanup(os.chdir, here)
         os.chdir(str(TOP))
-        for module in (interface, commands, answers, effects):
+        for module in (interface, commands, values, effects):
             self.assertEqual(doctest.testmod(module).failed, 0)
         told = doctest.testfile(str(TOP / "docs" / "PYTHON.md"), module_relative=False)
         self.assertGreater(told.attempted, 10)

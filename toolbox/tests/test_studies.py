@@ -15,16 +15,15 @@ OWNER = 64
 
 
 def paths(known, origins):
-    """The path by which each AS reaches a prefix of these ASes, where routes of customers are liked best, then those of peers, then those of
-    providers; then short ones, then those of the lower neighbour; and a route goes on to customers, or comes from one.
-
-    Each AS looks at what its neighbours have, again and again, until nothing changes."""
+    """The path by which each AS reaches a prefix of these ASes, where routes of customers are liked best, then those
+    of peers, then those of providers; then short ones, then those of the lower neighbour; and a route goes on to
+    customers, or comes from one. Each AS looks at what its neighbours have, again and again, until nothing changes."""
     found = {asn: (asn,) for asn in origins}
     while True:
         now = {}
         for asn in known.asns():
             ways = [(rank, found[other]) for rank, others in enumerate((known.customers, known.peers, known.providers))
-                    for other in others[asn] if other in found and asn not in found[other] and told(known, found[other], asn)]
+                    for other in others[asn] if other in found and told(known, found[other], asn)]
             best = min(ways, key=lambda way: (way[0], len(way[1]), way[1][0]), default=None)
             if asn in origins or best:
                 now[asn] = (asn,) if asn in origins else (asn,) + best[1]
@@ -34,14 +33,15 @@ def paths(known, origins):
 
 
 def told(known, path, to):
-    """Whether the first AS of a path tells it to a neighbour."""
-    return to in known.customers[path[0]] or len(path) == 1 or path[1] in known.customers[path[0]]
+    """Whether the first AS of a path tells it to a neighbour, which takes it."""
+    return to not in path and (to in known.customers[path[0]] or len(path) == 1 or path[1] in known.customers[path[0]])
 
 
 class Studies(Case):
     def printed(self, name):
         """What a study prints, which its file has."""
-        ran = alone([sys.executable, "-B", STUDIES / (name + ".py")], self.folder, PYTHONPATH=TOOLBOX, PROGRAM=os.environ["PROGRAM"])
+        called = [sys.executable, "-B", STUDIES / (name + ".py")]
+        ran = alone(called, self.folder, PYTHONPATH=TOOLBOX, PROGRAM=os.environ["PROGRAM"])
         self.assertEqual((ran.returncode, ran.stderr), (0, b""))
         self.assert_as_file(ran.stdout.decode(), STUDIES / (name + ".out"))
         return ran.stdout.decode()
@@ -49,14 +49,15 @@ class Studies(Case):
     def test_whom_each_hijack_catches(self):
         known = relations(str(STUDIES / "relationships.txt"))
         found = {asn: sum(path[-1] == asn for path in paths(known, (OWNER, asn)).values()) - 1 for asn in range(1, 51)}
-        wanted = ["AS %d catches %d of 62" % (asn, found[asn]) for asn in sorted(found, key=lambda asn: (-found[asn], asn))]
+        worst = sorted(found, key=lambda asn: (-found[asn], asn))
+        wanted = ["AS %d catches %d of 62" % (asn, found[asn]) for asn in worst]
         self.assertEqual(self.printed("hijacks").splitlines(), wanted)
         self.assertGreater(len(set(found.values())), 20)
 
     def test_the_stable_states(self):
-        """DISAGREE's two, by hand: one of the two ASes has the way that it likes, over the other. What `settle --states` says is how often.
-
-        In RFC 3345's network none is stable. With MED over all neighbours both reflectors have MED 0 of AS 6, and 1.0.0.2 keeps its own."""
+        """DISAGREE's two, by hand: one of the two ASes has the way that it likes, over the other. The tool says how
+        often. In RFC 3345's network none is stable; with MED over all neighbours both reflectors have MED 0 of AS 6,
+        and 1.0.0.2 keeps its own."""
         both = ("1.0.0.1 by 2,3; 2.0.0.1 by 3; 3.0.0.1 by -", "1.0.0.1 by 3; 2.0.0.1 by 1,3; 3.0.0.1 by -")
         lines = self.printed("stable_states").splitlines()
         at = lines.index("RFC 3345: 0 stable, in 20 drawn orders")
@@ -65,7 +66,8 @@ class Studies(Case):
         self.assertEqual(set(counts), {*both, "it does not settle"})
         told = tool("settle", TOOLBOX / "lessons" / "disagree.bgp", "--at-end", "--states", "20", status=1).stdout
         states = re.findall(r"in (\d+) of 20, as with --seed \d+\n.* path (2,3|3), ", told)
-        self.assertEqual({both[path == "3"]: int(count) for count, path in states}, {state: counts[state] for state in both})
+        self.assertEqual({both[path == "3"]: int(count) for count, path in states},
+                         {state: counts[state] for state in both})
         self.assertEqual(lines[at + 1:], [
             "  in 20: it does not settle",
             "RFC 3345, where both reflectors compare MED over all neighbours: 1 stable, in 20 drawn orders",
@@ -78,15 +80,17 @@ class Studies(Case):
             self.assertEqual(sorted(net.script().splitlines()), sorted(edits))
 
     def test_what_each_lost_link_does(self):
-        """By hand. Of the ring all packets leave by 5.0.0.3; 5.0.0.1 goes by 5.0.0.2, at cost 2. So without the link of these two it alone goes
-        otherwise, without the next one both do, and nobody needs that of 5.0.0.1 and 5.0.0.4. In the three ASes a link has a route at each
-        end, but for AS 2, which originates nothing: then at one end."""
-        wanted = ["drained-link.bgp"] + ["  %s: black holes %d, routes lost %d, moved 0, packets another way %d, messages %d" % row for row in (
-            ("5.0.0.3 - 7.0.0.1", 4, 4, 4, 3), ("5.0.0.2 - 5.0.0.3", 0, 0, 2, 0), ("5.0.0.1 - 5.0.0.2", 0, 0, 1, 0),
-            ("5.0.0.3 - 5.0.0.4", 0, 0, 1, 0), ("5.0.0.1 - 5.0.0.4", 0, 0, 0, 0))]
-        wanted += ["three-ases.bgp"] + ["  %s: black holes 0, routes lost 0, moved %d, packets another way %d, messages %d" % row for row in (
-            ("1.0.0.1 - 3.0.0.1", 2, 2, 2), ("1.0.0.1 - 2.0.0.1", 1, 1, 1), ("2.0.0.1 - 3.0.0.1", 1, 1, 1))]
-        self.assertEqual(self.printed("lost_links").splitlines(), wanted)
+        """By hand. Of the ring all packets leave by 5.0.0.3; 5.0.0.1 goes by 5.0.0.2, at cost 2. So without the link
+        of these two it alone goes otherwise, without the next one both do, and nobody needs that of 5.0.0.1 and
+        5.0.0.4. In the three ASes a link has a route at each end, but for AS 2, which originates nothing: at one."""
+        row = "  %s: black holes %d, routes lost %d, moved %d, packets another way %d, messages %d"
+        ring = (("5.0.0.3 - 7.0.0.1", 4, 4, 0, 4, 3), ("5.0.0.2 - 5.0.0.3", 0, 0, 0, 2, 0),
+                ("5.0.0.1 - 5.0.0.2", 0, 0, 0, 1, 0), ("5.0.0.3 - 5.0.0.4", 0, 0, 0, 1, 0),
+                ("5.0.0.1 - 5.0.0.4", 0, 0, 0, 0, 0))
+        ases = (("1.0.0.1 - 3.0.0.1", 0, 0, 2, 2, 2), ("1.0.0.1 - 2.0.0.1", 0, 0, 1, 1, 1),
+                ("2.0.0.1 - 3.0.0.1", 0, 0, 1, 1, 1))
+        self.assertEqual(self.printed("lost_links").splitlines(), [
+            "drained-link.bgp", *(row % each for each in ring), "three-ases.bgp", *(row % each for each in ases)])
 
     def test_the_document_names_each_study(self):
         text = (TOP / "docs" / "PYTHON.md").read_text()
