@@ -4,7 +4,7 @@ from __future__ import annotations
 from typing import List
 
 from .counted import is_accepted
-from .language import words_of
+from .language import is_silent, words_of
 from .mistakes import Mistake
 from .run import Run
 
@@ -28,9 +28,9 @@ def played(lines: List[str]) -> Run:
     """A new run of lines that another one accepted, as if each had been said by itself."""
     made = Run()
     try:
-        replies = made.program.say_all(lines)
-        for line, reply in zip(lines, replies):
-            _note(made, line, reply)
+        replies = iter(made.program.pour(lines))
+        for line in lines:
+            _note(made, line, [] if is_silent(line) else [next(replies)])
     except BaseException:
         made.close()
         raise

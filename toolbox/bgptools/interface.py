@@ -15,7 +15,7 @@
 from __future__ import annotations
 
 import os
-from typing import Iterable, List, Optional, Sequence, Tuple, Union
+from typing import Callable, Iterable, List, Optional, Sequence, Tuple, Union
 
 from . import copies, journal, output, replies, values
 from .between import Watch
@@ -66,18 +66,20 @@ class Network(Commands):
         """The network that a script ends with; `-` is standard input.
 
         A line that is refused, and not marked so, raises Refusal."""
-        return cls._of(read(os.fspath(path)))
+        lines = read(os.fspath(path))
+        return cls._made(lambda made: made.run.play(lines))
 
     @classmethod
     def from_lines(cls, lines: Lines) -> "Network":
-        """The network that the lines of a script make, or a text of such lines."""
-        return cls._of(_script(lines))
+        """The network that the lines of a script make, or a text of such lines; as `play` plays them."""
+        return cls._made(lambda made: made.play(lines))
 
     @classmethod
-    def _of(cls, lines: List[Line]) -> "Network":
+    def _made(cls, play: "Callable[[Network], None]") -> "Network":
+        """A network into which something was played."""
         made = cls()
         try:
-            made.run.play(lines)
+            play(made)
         except BaseException:
             made.close()
             raise

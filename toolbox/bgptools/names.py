@@ -48,6 +48,8 @@ class Names:
 
     def in_line(self, line: str) -> str:
         """A command with an address in the place of each name that stands where one is wanted."""
+        if not self.of:
+            return line
         parts = line.split(" ")
         places = [at for at, part in enumerate(parts) if part]
         words = [parts[at] for at in places]
