@@ -96,7 +96,10 @@ class Network(Commands):
         return self
 
     def __repr__(self) -> str:
-        counts = len(self.run.network.routers()), len(self.run.network.virtuals()), self.step
+        if self._run is None:
+            return "<Network: closed>"
+        known = self._run.network
+        counts = len(known.routers()), len(known.virtuals()), len(self._run.lines)
         return "<Network: %d routers, %d virtual peers, step %d>" % counts
 
     # Its script

@@ -265,6 +265,7 @@ class Scripts(Base):
         net.close()
         with self.assertRaisesRegex(Mistake, "^the network was closed$"):
             net.quiet()
+        self.assertEqual(repr(net), "<Network: closed>")
 
     def test_what_was_stopped_leaves_what_was_accepted(self):
         """Ctrl-C before a reply is read, and a program that ends: what was left answers no later question."""
@@ -310,6 +311,17 @@ class Deliveries(Base):
             self.assertEqual(*(re.findall("^deliver .*$", script, re.M) for script in (net.script(), written)))
             self.assertEqual(len(done[0].deliveries), net.step - base)
             self.assertTrue(net.quiet())
+
+    def test_a_step_settles_as_the_tool_settles_its_script(self):
+        net = self.loaded(TOP / "examples" / "two-reflectors.bgp")
+        net.settle()
+        for step in (net.step - 1, net.step - 3, net.step // 2):
+            before = net.at(step).script()
+            for seed in (1, 2):
+                with net.at(step) as trial:
+                    trial.settle(seed=seed)
+                    written = tool("settle", "-", "--at-end", "--seed", seed, given=before.encode(), status=0).stdout
+                    self.assertEqual(trial.script(), written)
 
     def test_each_seed_of_disagree_ends_as_with_the_tool(self):
         net = self.loaded(LESSONS / "disagree.bgp")
@@ -435,6 +447,14 @@ class Changes(Base):
             before = lesson.script().splitlines().index("rule 1.0.0.3 6.0.0.1 in any permit med=0")
             self.keep(lesson.at(before)).what_if([])
         self.assertEqual(len(net.what_if("stop west upstream").lost), 60)
+
+    def test_orders_and_each_are_the_tools(self):
+        base, change = LESSONS / "disagree.bgp", ["origin 3.0.0.1 20.0.0.0/8", "noorigin 3.0.0.1 20.0.0.0/8"]
+        for words, how in ((("--router",), {"order": "router"}), (("--seed", "4"), {"seed": 4}),
+                           (("--each", "--seed", "3"), {"each": True, "seed": 3})):
+            given = "".join(line + "\n" for line in change).encode()
+            told = tool("what-if", base, "-", *words, given=given).stdout
+            self.assertEqual(self.loaded(base).what_if(change, **how).text, told)
 
     def test_another_order_is_told(self):
         found = self.loaded(LESSONS / "disagree.bgp").what_if(["origin 3.0.0.1 20.0.0.0/8"])
