@@ -15,7 +15,7 @@
 from __future__ import annotations
 
 import os
-from typing import Callable, Iterable, List, Optional, Sequence, Tuple, Union
+from typing import Callable, Iterable, List, Optional, Tuple, Union
 
 from . import copies, journal, output, replies, values
 from .between import Watch
@@ -25,10 +25,10 @@ from .compare import compare
 from .drawing import Drawing
 from .effects import Effect, deliveries_of, effect_of
 from .explain import FILTERS, Explained, explain, verdict, winner
-from .language import by_address
+from .language import by_address, number
 from .looking import Known
 from .mistakes import Mistake
-from .network import ends, pair
+from .network import Direction, ends, pair
 from .orders import NAMES, Order, named
 from .outcome import Outcome
 from .picture import dot_of
@@ -192,7 +192,7 @@ class Network(Commands):
                            values.route_of(router, one.source, read) if read else None,
                            None if one.is_excluded else one.cost)
 
-    def picture(self, kind: str = "svg", prefix: Optional[str] = None, trace: Optional[Sequence[str]] = None, *,
+    def picture(self, kind: str = "svg", prefix: Optional[str] = None, trace: Optional[Direction] = None, *,
                 sessions: bool = True, only: Optional[Iterable[int]] = None, of: Optional[str] = None, hops: int = 1,
                 whole: bool = False) -> str:
         """What the tool `draw` draws, as the text of an `svg`, for which Graphviz is needed, or as `dot`.
@@ -202,7 +202,7 @@ class Network(Commands):
         if kind not in ("svg", "dot"):
             raise Mistake("a picture is `svg` or `dot`, and not %r" % kind)
         ases = None if only is None else ",".join(map(str, only))
-        choice = Choice(prefix, None if trace is None else list(trace), sessions, ases, of, hops, whole)
+        choice = Choice(prefix, None if trace is None else [trace[0], trace[1]], sessions, ases, of, hops, whole)
         view = choice.view(self.run.network)
         scene = scene_of(self.run, view, view.way, {}, Known())
         return dot_of(scene) if kind == "dot" else Drawing([scene]).svg(scene)
@@ -236,7 +236,7 @@ class Network(Commands):
             raise Unsettled(unsettled(done, names), done)
         return Settled(done.order.words, deliveries_of(done), told_of(done, names))
 
-    def what_if(self, lines: Lines, trace: Iterable[Tuple[str, str]] = (), *, order: Optional[str] = None,
+    def what_if(self, lines: Lines, trace: Iterable[Direction] = (), *, order: Optional[str] = None,
                 seed: Optional[int] = None, most: Optional[int] = None, each: bool = False) -> Effect:
         """What a change of these lines would do, as the tool `what-if` tells it; this network stays as it is.
 
@@ -282,6 +282,8 @@ def _order(name: Optional[str], seed: Optional[int]) -> Order:
     """The order of a name, or the drawn one of a seed."""
     if name not in (None, *NAMES):
         raise Mistake("an order is %s, and not %r" % (" or ".join(NAMES), name))
+    if seed is not None and number(str(seed)) is None:
+        raise Mistake("a seed is a number of 0 to 4294967295, and not %r" % (seed,))
     if seed is not None and name not in (None, "drawn"):
         raise Mistake("one order is expected, and not drawn and %s: a seed is for the drawn one" % name)
     return named(name or ("fair" if seed is None else "drawn"), seed)

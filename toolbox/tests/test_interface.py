@@ -14,7 +14,7 @@ import unittest
 import bgptools
 from bgptools import (Cost, Delivery, Effect, Link, Message, Mistake, Network, Node, Reason, Refusal, Route, Session,
                       Unsettled, commands, counted, effects, interface, language, values)
-from common import TOP, TOOLBOX, Case, alone, program, tool
+from common import DATA, TOP, TOOLBOX, Case, alone, program, tool
 
 LESSONS = TOOLBOX / "lessons"
 TWO = """router 1.0.0.1 1
@@ -312,6 +312,17 @@ class Deliveries(Base):
             self.assertEqual(len(done[0].deliveries), net.step - base)
             self.assertTrue(net.quiet())
 
+    def test_a_copy_delivers_as_the_network_would(self):
+        """Also where the network knows what its routers chose, and a drawn order depends on that."""
+        for seed in range(1, 6):
+            net = self.network((DATA / "ring.bgp").read_text())
+            net.settle()
+            other = self.keep(net.copy())
+            for each in (net, other):
+                each.noorigin("1.0.0.1", "10.1.0.0/16")
+                each.noorigin("1.0.0.4", "10.4.0.0/16")
+            self.assertEqual(other.settle(seed=seed), net.settle(seed=seed))
+
     def test_a_step_settles_as_the_tool_settles_its_script(self):
         net = self.loaded(TOP / "examples" / "two-reflectors.bgp")
         net.settle()
@@ -368,7 +379,9 @@ class Deliveries(Base):
     def test_one_order(self):
         net = self.network(TWO)
         for words, text in ((("fairly",), "an order is fair or router or drawn, and not 'fairly'"),
-                            (("fair", 3), "one order is expected, and not drawn and fair")):
+                            (("fair", 3), "one order is expected, and not drawn and fair"),
+                            (("drawn", -3), "a seed is a number of 0 to 4294967295, and not -3"),
+                            ((None, "x"), "a seed is a number of 0 to 4294967295, and not 'x'")):
             with self.assertRaisesRegex(Mistake, "^" + text):
                 net.settle(*words)
 
