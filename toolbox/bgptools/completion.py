@@ -5,10 +5,8 @@ import os
 from typing import Callable, Iterable, List, Sequence
 
 from .communities import WELL_KNOWN
-from .language import COMMUNITIES, FORMS, MATCHES, NAMES, SETTINGS, Form, words_of
+from .language import ADDRESSES, COMMUNITIES, FORMS, MATCHES, NAMES, SETTINGS, Form, words_of
 from .network import Direction, Network
-
-ADDRESSES = ("A", "B", "V", "R", "X", "D", "ID")
 
 
 class Completion:

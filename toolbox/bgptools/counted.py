@@ -7,6 +7,7 @@ from __future__ import annotations
 import sys
 from typing import Iterable, List, Optional
 
+from .language import is_silent
 from .mistakes import Mistake
 from .program import Program
 
@@ -50,9 +51,17 @@ class Counted(Program):
         """Gives it the lines that another run accepted, with the comments that were kept among them."""
         before = list(self.accepted)
         self.is_near = self.is_near or len(before) + len(lines) >= NEAR * MOST_LINES
-        for line, reply in zip(lines, self.say_all(lines)):
-            _check_again(line, reply)
+        if self.count + len(lines) > MOST_LINES:
+            self._renew()
+        _check_again(lines, self.pour(lines))
         self.accepted = before + list(lines)
+
+    def pour(self, lines: Iterable[str]) -> List[str]:
+        """The reply to each line that has one, of lines that one run can read."""
+        given = list(lines)
+        self.count += len(given)
+        self.count_of_all += len(given)
+        return super().pour(given)
 
     def keep(self, line: str) -> None:
         """Keeps a comment with what was accepted."""
@@ -72,15 +81,16 @@ class Counted(Program):
         if len(self.accepted) >= MOST_LINES:
             raise Mistake("with its deliveries the script has {:,} lines and more, and one run of the program reads no more".format(MOST_LINES))
         fresh = Program()
-        for line, reply in zip(self.accepted, fresh.say_all(self.accepted)):
-            _check_again(line, reply)
+        _check_again(self.accepted, fresh.pour(self.accepted))
         self.close()
         self.process, self.given, self.told = fresh.process, fresh.given, fresh.told
         self.count = len(self.accepted)
         self.count_of_all += self.count
 
 
-def _check_again(line: str, reply: List[str]) -> None:
+def _check_again(lines: List[str], replies: List[str]) -> None:
     """Ends with a mistake where a line is refused that was accepted in the same place, as want of memory may do."""
-    if reply and not is_accepted(reply):
-        raise Mistake("`%s` was accepted before, and now it is %s" % (line, reply[0]))
+    spoken = (line for line in lines if not is_silent(line))
+    for line, reply in zip(spoken, replies):
+        if not is_accepted([reply]):
+            raise Mistake("`%s` was accepted before, and now it is %s" % (line, reply))

@@ -187,8 +187,10 @@ def in_front(asn: int, times: int, text: str) -> str:
 
 _Kind = Tuple[Callable[[str], bool], str]
 _ADDRESS: _Kind = (lambda text: address(text) is not None, "an address, four numbers of 0 to 255 as in 1.0.0.1")
+# The words of a form that are addresses.
+ADDRESSES = ("A", "B", "V", "R", "X", "D", "ID")
 KINDS: Dict[str, _Kind] = {
-    **{name: _ADDRESS for name in ("A", "B", "V", "R", "X", "D", "ID")},
+    **{name: _ADDRESS for name in ADDRESSES},
     "P": (lambda text: prefix(text) is not None, "a prefix with no bit set behind its length, as in 10.0.0.0/8"),
     "N": (lambda text: number(text, 1) is not None, "an AS number, 1 to 4294967295"),
     "M": (lambda text: number(text, 1, 65535) is not None, "a metric, 1 to 65535"),

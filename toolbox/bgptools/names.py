@@ -4,7 +4,7 @@ from __future__ import annotations
 import re
 from typing import Dict, List
 
-from .language import address, readable
+from .language import ADDRESSES, FORMS, address, readable
 from .mistakes import Mistake
 
 MARK = re.compile(r" *# *name +([0-9.]+) +([^ ]+) *")
@@ -45,6 +45,20 @@ class Names:
         if len(found) > 1:
             raise Mistake("the name %s is that of %s; give the address" % (word, " and of ".join(found)))
         return found[0] if found else word
+
+    def in_line(self, line: str) -> str:
+        """A command with an address in the place of each name that stands where one is wanted."""
+        if not self.of:
+            return line
+        parts = line.split(" ")
+        places = [at for at, part in enumerate(parts) if part]
+        words = [parts[at] for at in places]
+        forms = [form.words for form in FORMS if words[:1] == form.words[:1]]
+        for at, *wants in zip(places, *forms):
+            if set(wants) & set(ADDRESSES):
+                found = self.address_of(readable(parts[at]))
+                parts[at] = parts[at] if address(found) is None else found
+        return " ".join(parts)
 
 
 def mark(where: str, name: str) -> str:

@@ -4,8 +4,9 @@ from __future__ import annotations
 from dataclasses import dataclass
 from typing import Callable, Dict, FrozenSet, List, Optional, Set, Tuple
 
-from .language import by_address
-from .names import Names
+from .language import address, by_address, readable
+from .mistakes import Mistake
+from .names import Names, mark
 
 Pair = FrozenSet[str]
 Direction = Tuple[str, str]
@@ -63,8 +64,8 @@ class Network:
         """The virtual peers in order of address."""
         return sorted((a for a, node in self.nodes.items() if node.is_virtual), key=by_address)
 
-    def is_router(self, address: str) -> bool:
-        return address in self.nodes and not self.nodes[address].is_virtual
+    def is_router(self, where: str) -> bool:
+        return where in self.nodes and not self.nodes[where].is_virtual
 
     def is_external(self, one: str, other: str) -> bool:
         """Whether two are in different ASes."""
@@ -82,6 +83,18 @@ class Network:
     def take(self, words: List[str]) -> None:
         """Makes an edit or a feed that the program has accepted."""
         _TAKES.get(words[0], lambda *_: None)(self, words)
+
+    def naming(self, where: str, name: str) -> str:
+        """The comment that gives a router or virtual peer a name, as the bytes of a script. Mistake where it may not have that."""
+        shown = readable(name)
+        if where not in self.nodes:
+            raise Mistake("there is no router or virtual peer %s" % readable(where))
+        if address(name) is not None:
+            raise Mistake("%s is an address, and is never taken for a name" % name)
+        others = [other for other, known in self.names.of.items() if known == shown and other != where]
+        if others:
+            raise Mistake("the name %s is that of %s" % (shown, others[0]))
+        return mark(where, name)
 
     def may_send(self, words: List[str]) -> Optional[Set[str]]:
         """The routers of which an accepted edit may have sent something; nothing where that is any.

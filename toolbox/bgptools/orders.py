@@ -4,7 +4,7 @@ from __future__ import annotations
 import argparse
 import functools
 import random
-from typing import Iterable, List
+from typing import Iterable, List, Optional
 
 from .language import by_address, number
 from .mistakes import Mistake
@@ -88,6 +88,11 @@ def add_order(parser: argparse.ArgumentParser) -> None:
     parser.add_argument("--seed", metavar="N", help="the drawn order of this number; the same number gives the same (1)")
 
 
+def named(name: str, seed: Optional[int] = None) -> Order:
+    """The order of a name, from its beginning; the drawn one of this number, or of 1."""
+    return Drawn(1 if seed is None else seed) if name == "drawn" else RouterByRouter() if name == "router" else Order()
+
+
 def order_of(chosen: argparse.Namespace) -> Order:
     """The order that was asked for."""
     seed = None if chosen.seed is None else number(chosen.seed)
@@ -96,5 +101,4 @@ def order_of(chosen: argparse.Namespace) -> Order:
     names = {name for name, is_asked in ((chosen.order, chosen.order), ("router", chosen.by_router), ("drawn", chosen.seed is not None)) if is_asked}
     if len(names) > 1:
         raise Mistake("one order is expected, and not %s" % " and ".join(sorted(names)))
-    name = names.pop() if names else "fair"
-    return Drawn(1 if seed is None else seed) if name == "drawn" else RouterByRouter() if name == "router" else Order()
+    return named(names.pop() if names else "fair", seed)

@@ -9,11 +9,11 @@ import tempfile
 from typing import Callable, Dict, List, Optional, Tuple
 
 from . import draw, explain, journal, output, what_if
-from .completion import ADDRESSES, Completion, complete_by
+from .completion import Completion, complete_by
 from .keyboard import Keyboard
 from .language import FORMS, QUESTIONS, Form, address, by_address, escaped, is_silent, readable, words_of
 from .mistakes import Mistake
-from .names import MARK, mark
+from .names import MARK
 from .network import Direction
 from .refusals import sentence
 from .replies import refusal
@@ -128,24 +128,13 @@ class Prompt:
 
     def command(self, line: str) -> None:
         """A line for the program."""
-        line = self._with_addresses(line)
+        line = self.run.network.names.in_line(line)
         reply = self._say(line)
         with self.keyboard.held():
             more = kept_back(self.run, words_of(line), reply)
         tell(PAD, reply + more, self.run.network.names)
         if refusal(reply):
             tell(PAD, ["-- " + sentence(line, refusal(reply), self.run.network)], self.run.network.names)
-
-    def _with_addresses(self, line: str) -> str:
-        """The line with an address in the place of each name."""
-        parts = line.split(" ")
-        places = [at for at, part in enumerate(parts) if part]
-        words = [parts[at] for at in places]
-        forms = [form.words for form in FORMS if words[:1] == form.words[:1]]
-        for at, *wants in zip(places, *forms):
-            if set(wants) & set(ADDRESSES):
-                parts[at] = self._address(parts[at])
-        return " ".join(parts)
 
     def _address(self, word: str) -> str:
         found = self.run.network.names.address_of(readable(word))
@@ -210,16 +199,8 @@ class Prompt:
 
     def name(self, words: List[str]) -> None:
         """Gives a name, by the comment of a script that does."""
-        names = self.run.network.names
         _expect(words, 3, 3, "name A N")
-        if words[1] not in self.run.network.nodes:
-            raise Mistake("there is no router or virtual peer %s" % readable(words[1]))
-        if address(words[2]) is not None:
-            raise Mistake("%s is an address, and is never taken for a name" % words[2])
-        others = [where for where, name in names.of.items() if name == readable(words[2]) and where != words[1]]
-        if others:
-            raise Mistake("the name %s is that of %s" % (readable(words[2]), others[0]))
-        self._say(mark(words[1], words[2]))
+        self._say(self.run.network.naming(words[1], words[2]))
 
     def load(self, words: List[str]) -> None:
         """Plays a script; a line that is refused, and not marked so, is told."""

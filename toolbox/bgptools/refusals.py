@@ -1,10 +1,25 @@
 """Refusals, each explained in a sentence that names the setting, session or router that it is about."""
 from __future__ import annotations
 
-from typing import Callable, Dict, List
+from typing import Callable, Dict, List, Optional
 
 from .language import as_path, fault, words_of
+from .mistakes import Mistake
 from .network import Network, pair
+
+
+class Refusal(Mistake):
+    """A command that the program refused: the command, the number and name of docs/LANGUAGE.md, and a sentence that explains it."""
+
+    def __init__(self, command: str, reply: str, explanation: str, file: Optional[str] = None, line: Optional[int] = None):
+        super().__init__("%s: %s" % (reply, explanation), file, line)
+        _, number, self.name = reply.split(" ")
+        self.command, self.number, self.explanation = command, int(number), explanation
+
+
+def refused(line: str, reply: List[str], network: Network) -> Refusal:
+    """The refusal of a line, explained with the names of routers, where the network is as it was configured then."""
+    return Refusal(line, reply[0], network.names.in_text(sentence(line, int(reply[0].split(" ")[1]), network)))
 
 
 def sentence(line: str, number: int, network: Network) -> str:

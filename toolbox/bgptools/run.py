@@ -10,7 +10,7 @@ from .mistakes import Mistake
 from .names import Names
 from .network import Direction, Network, pair
 from .orders import Drawn, Order, RouterByRouter
-from .refusals import sentence
+from .refusals import Refusal, sentence
 from .replies import refusal
 from .script import Line
 from .settling import Settler, Settling
@@ -81,6 +81,11 @@ class Run:
         replies = self.ask("routes " + router for router in self.network.routers())
         return hashlib.sha256("\n".join(line for reply in replies for line in reply).encode("latin-1")).hexdigest()
 
+    def follow(self, order: Order, most: Optional[int], tries_others: bool) -> None:
+        """Settles in this order from here on, with at most so many deliveries."""
+        self.order, self.most, self.tries_others, self.has_tried_all = order, most, tries_others, False
+        self.settler.order, self.settler.most = order, most
+
     def settle(self) -> Settling:
         """Delivers until all queues are empty, or never will be. What the run then has accepted are the deliveries that are told."""
         before = len(self.lines)
@@ -130,10 +135,10 @@ class Run:
         return done
 
     def check(self, line: Line, reply: List[str]) -> None:
-        """Ends with a mistake where a line was refused, and is not marked so."""
+        """Raises Refusal, a mistake, where a line was refused, and is not marked so."""
         number = refusal(reply)
         if number and line.expected not in (0, number):
-            raise Mistake("%s: %s" % (reply[0], sentence(line.text, number, self.network)), line.file, line.number)
+            raise Refusal(line.text, reply[0], sentence(line.text, number, self.network), line.file, line.number)
 
     def play(self, lines: List[Line]) -> None:
         """Plays a script. A line that is refused, and is not marked so, is a mistake."""

@@ -8,6 +8,7 @@ from unittest import mock
 from common import DATA, TOOLBOX, Case, inside
 
 from bgptools import counted
+from bgptools.mistakes import Mistake
 from bgptools.run import Run
 from bgptools.script import read
 
@@ -71,6 +72,24 @@ class Counted(Case):
             for number in range(44, 50):
                 run.say("router 1.0.0.%d 1" % number)
         self.assertEqual(told.getvalue(), "45 of the 50 lines are used that one script can hold\n")
+
+    def test_more_than_pipes_hold_is_given_while_it_is_answered(self):
+        lines = ["router 1.0.0.1 1"] + ["origin 1.0.0.1 10.0.0.0/8", "# name 1.0.0.1 x", "noorigin 1.0.0.1 10.0.0.0/8"] * 20000
+        with counted.Counted() as program:
+            program.give(lines)
+            self.assertEqual(program.say_all(["routes 1.0.0.1", "quiet"]), [["end 0"], ["yes"]])
+            self.assertEqual((program.accepted, program.count), (lines, 60003))
+
+    def test_what_is_given_again_and_refused_or_not_answered(self):
+        with counted.Counted() as program:
+            told = "^`origin 1.0.0.1 10.0.0.0/8` was accepted before, and now it is refused 14 origin-exists$"
+            with self.assertRaisesRegex(Mistake, told):
+                program.give(["router 1.0.0.1 1", "# name 1.0.0.1 x"] + ["origin 1.0.0.1 10.0.0.0/8"] * 2)
+        with counted.Counted() as program:
+            program.process.kill()
+            with self.assertRaisesRegex(Mistake, "the program ended before it had answered, by signal 9"):
+                program.give(["router 1.0.0.1 1"] * 100000)
+            self.assertEqual((program.is_torn, program.accepted), (True, []))
 
     def test_a_script_that_is_too_long_is_told_at_once(self):
         given = RING.read_text().count("\n")

@@ -135,6 +135,11 @@ class Pip(Case):
         told = alone([sys.executable, "-B", "-c", asks], self.folder, PYTHONPATH=site)
         self.assertEqual(told.stdout.decode(), "%s\n" % (site / "bgptools" / "settle.py"))
         self.assertTrue((site / "bgptools" / "py.typed").is_file())
+        asks = ("import sys; from bgptools import Network; "
+                "print(Network.from_lines(sys.stdin.read()).settle().deliveries[0].prefix)")
+        called = [sys.executable, "-B", "-c", asks]
+        told = alone(called, self.folder, SCRIPT, PYTHONPATH=site, PROGRAM=where.program())
+        self.assertEqual((told.stdout, told.stderr), (b"10.0.0.0/8\n", b""))
 
     @unittest.skipUnless(importlib.util.find_spec("pip"), "pip is not installed")
     def test_pip_installs_it_without_a_network(self):
