@@ -33,13 +33,19 @@ def changed(base: Run, lines: List[Line], chosen: argparse.Namespace) -> Tuple[R
     """The same network with the change."""
     run = Run(order_of(chosen), chosen.most, tries_others=True)
     run.repeat(base.lines)
-    watch, done = Watch(run), []
+    watch = Watch(run)
+    return run, watch, apply(watch, lines, chosen.each)
+
+
+def apply(watch: Watch, lines: List[Line], is_each: bool) -> List[Settling]:
+    """Makes a change in a quiet network: the deliveries that empty the queues after each of its commands, or at its end."""
+    run, done = watch.run, []
     for line in lines:
         run.check(line, watch.say(line))
-        if chosen.each and line.is_command:
+        if is_each and line.is_command:
             done.append(run.settle())
             watch.settled()
-    return run, watch, done + [run.settle()]
+    return done + [run.settle()]
 
 
 # As JSON
