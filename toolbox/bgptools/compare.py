@@ -2,7 +2,7 @@
 from __future__ import annotations
 
 from dataclasses import dataclass, field
-from typing import Callable, Dict, List, Optional, Set, Tuple
+from typing import Callable, Dict, Iterable, List, Optional, Set, Tuple
 
 from . import communities
 from .answers import Answers
@@ -100,7 +100,7 @@ def _changes(old: Dict[str, Route], new: Dict[str, Route]) -> List[Change]:
 def packets_of(before: Network, after: Network) -> List[Packet]:
     """Packets from each router that was there before to an address of each prefix."""
     everywhere = [r for r in before.routers() if after.is_router(r)]
-    return [(r, show_address(d)) for d in probes_of(after) for r in everywhere]
+    return [(r, show_address(d)) for d in probes_of(after.prefixes) for r in everywhere]
 
 
 def _tables(run: Answers) -> Dict[str, List[str]]:
@@ -190,9 +190,9 @@ def _ways(before: Answers, after: Answers, asked: List[Packet], is_all: bool) ->
     return found
 
 
-def probes_of(network: Network) -> List[int]:
+def probes_of(prefixes: Iterable[str]) -> List[int]:
     """An address of each prefix that is in no longer one, where there is such an address among the first, the last and the middle one."""
-    known = sorted(network.prefixes, key=by_prefix)
+    known = sorted(prefixes, key=by_prefix)
     found = []
     for one in filter(None, map(prefix, known)):
         size = 2 ** (32 - one[1])
