@@ -1,0 +1,122 @@
+"""What each change of a family does, each on its own: failures, pairs of them, hijacks, files, drawn orders; the worst first."""
+from __future__ import annotations
+
+import argparse
+import sys
+from typing import List, Optional, Tuple
+
+from . import output, sweep_table, trials
+from .mistakes import CHANGED, WRONG, Mistake
+from .network import Network
+from .parts import parts_of
+from .player import Job, Player, settled_job
+from .quiet import Quiet
+from .results import Results
+from .run import Run
+from .script import read
+from .sweep_table import Table
+from .sweeping import about, play_here, rows_of
+from .trials import Trial
+from .workers import processors
+
+
+def parser() -> argparse.ArgumentParser:
+    """The words of the command line."""
+    made = argparse.ArgumentParser(prog="sweep", description=(
+        "Plays BASE until all queues are empty, and then each change of a family on its own; tells in numbers what each does, the worst first. "
+        "The numbers are those of what-if: routes of all routers that are lost, moved and gained, packets that end in new black holes and loops, external neighbours told "
+        "otherwise, sessions that go down, and messages until it is quiet."),
+        epilog="Exit status: 0 no change loses a route or a packet, or keeps the network from settling; 1 one does; 2 a mistake, "
+               "as a change with a line that is refused: the others are told all the same.")
+    made.add_argument("base", metavar="BASE", help="the script of the network; it needs no deliveries")
+    families = made.add_argument_group("changes, of which any may be named")
+    families.add_argument("--fail-links", action="store_true", help="each link fails")
+    families.add_argument("--fail-routers", action="store_true", help="each router fails: its links do, and its sessions are stopped")
+    families.add_argument("--fail-sessions", action="store_true", help="each session is stopped")
+    families.add_argument("--pairs", action="store_true", help=(
+        "any two of the failures that are named, at once; without --fail-..: any two links"))
+    families.add_argument("--sample", type=int, metavar="N", help="so many of the pairs, drawn by lot")
+    families.add_argument("--seed", type=int, metavar="S", help="the lots of --sample: the same number gives the same pairs (1)")
+    families.add_argument("--hijack", metavar="PREFIX", action="append", default=[], help=(
+        "each AS in turn originates the prefix, at its router of the lowest address; may be given again"))
+    families.add_argument("--changes", metavar="FOLDER", help="each file of the folder is a change, any commands")
+    families.add_argument("--orders", type=int, metavar="N", help="BASE is settled in N drawn orders: which stable states are there")
+    told = made.add_mutually_exclusive_group()
+    told.add_argument("--json", action="store_true", help="tell it as JSON")
+    told.add_argument("--csv", action="store_true", help="tell it as CSV")
+    told.add_argument("--html", action="store_true", help="tell it as one page: a table to sort, and which change moves what at which router, with its what-if")
+    made.add_argument("-o", dest="out", metavar="FILE", help="write to this file, and not to standard output")
+    made.add_argument("--results", metavar="FILE", help="write each result to this file as it comes, a line of JSON each")
+    made.add_argument("--resume", action="store_true", help="go on with the file of --results")
+    made.add_argument("--order", choices=("fair", "router"), help="in which order messages are delivered, as of settle (fair)")
+    made.add_argument("--most", type=int, metavar="N", help="stop after so many deliveries")
+    made.add_argument("--jobs", type=int, metavar="N", help="work by N processes (as many as there are processors)")
+    made.add_argument("--by-prefix", type=int, metavar="N", help="play the network with N of its prefixes at a time, and put the numbers together")
+    made.add_argument("--scheduler", metavar="ADDRESS", help="work by the Dask cluster of this scheduler, as tcp://10.0.0.1:8786")
+    made.add_argument("--program", metavar="PATH", help="where the program is on the workers of --scheduler (where the tools find it there)")
+    return made
+
+
+def _check(chosen: argparse.Namespace) -> None:
+    """Ends with a mistake where words do not go together."""
+    singles = any(getattr(chosen, name) for name in trials.FAILURES)
+    for is_wrong, text in (
+            (not (singles or chosen.pairs or chosen.hijack or chosen.changes or chosen.orders is not None), "which changes? Name any of "
+             "--fail-links, --fail-routers, --fail-sessions, --pairs, --hijack, --changes, --orders"),
+            (chosen.sample is not None and not chosen.pairs, "--sample is for --pairs"),
+            (chosen.seed is not None and chosen.sample is None, "--seed is for --sample"),
+            (chosen.resume and chosen.results is None, "--resume wants --results FILE, to go on with it"),
+            (chosen.program is not None and chosen.scheduler is None, "--program is for --scheduler; here it is PROGRAM="),
+            (chosen.jobs is not None and chosen.scheduler is not None, "--jobs is for this machine, and --scheduler for others")):
+        if is_wrong:
+            raise Mistake(text)
+    for name in ("sample", "orders", "jobs", "by_prefix", "most"):
+        if getattr(chosen, name) is not None and getattr(chosen, name) < 1:
+            raise Mistake("--%s %d: a number of at least 1 is expected" % (name.replace("_", "-"), getattr(chosen, name)))
+
+
+def trials_of(network: Network, chosen: argparse.Namespace) -> List[Trial]:
+    """The changes that are asked for."""
+    found = [trial for name, family in trials.FAILURES.items() if getattr(chosen, name) for trial in family(network)]
+    if chosen.pairs:
+        found += trials.pairs(found or trials.links(network), chosen.sample, 1 if chosen.seed is None else chosen.seed)
+    found += [trial for to in chosen.hijack for trial in trials.hijacks(network, to)]
+    found += trials.files(chosen.changes) if chosen.changes else []
+    return found + trials.orders(chosen.orders or 0)
+
+
+def _jobs(chosen: argparse.Namespace) -> Tuple[List[Job], Optional[Quiet], Network]:
+    """The parts of the sweep; and the quiet network, where it is one part that is played here."""
+    lines = read(chosen.base)
+    words = argparse.Namespace(order=chosen.order, by_router=False, seed=None, most=chosen.most, base=chosen.base)
+    if chosen.by_prefix is None and chosen.scheduler is None:
+        job = settled_job(Job(lines, [], words, chosen.html))
+        player = Player(job)
+        player.close()
+        job.trials = trials_of(player.quiet.network, chosen)
+        return [job], player.quiet, player.quiet.network
+    with Run() as run:
+        run.play(lines)
+        found = trials_of(run.network, chosen)
+    parts = [lines] if chosen.by_prefix is None else parts_of(lines, chosen.by_prefix, True)
+    return [Job(part, found, words, chosen.html) for part in parts], None, run.network
+
+
+def main(words: Optional[List[str]] = None) -> int:
+    """The tool."""
+    chosen = parser().parse_args(words)
+    _check(chosen)
+    jobs, quiet, network = _jobs(chosen)
+    if not jobs[0].trials:
+        raise Mistake("the network has nothing of what is to be changed", chosen.base)
+    known = Results(chosen.results, about(jobs), chosen.resume)
+    try:
+        play_here(jobs, quiet, known, chosen.jobs or processors())
+    finally:
+        known.close()
+    table = Table(chosen.base, jobs[0].trials, rows_of(jobs, known), network.names)
+    for trial, found in (row for row in table.rows if row[1].mistake):
+        print("%s: %s" % (trial.title, found.mistake), file=sys.stderr)
+    form = sweep_table.json_of if chosen.json else sweep_table.csv_of if chosen.csv else sweep_table.text_of
+    output.write(form(table), chosen.out)
+    return WRONG if any(found.mistake for _, found in table.rows) else CHANGED if table.is_bad else 0
