@@ -78,14 +78,16 @@ class Difference:
 
 
 def compare(before: Answers, after: Answers, asked: List[Packet],
-            chosen: Optional[Callable[[Difference], List[Packet]]] = None) -> Difference:
+            chosen: Optional[Callable[[Difference], List[Packet]]] = None, has_reasons: bool = True) -> Difference:
     """What differs between two runs, and how the packets go that are asked for.
 
     Packets are followed from all routers to an address of each prefix; or, where it is given, those of `chosen`,
-    which is told what differs so far."""
+    which is told what differs so far. Why old routes lost is looked up where `has_reasons`."""
     found = Difference(came=[r for r in after.network.routers() if r not in before.network.nodes])
     _compare_sessions(before, after, found)
     _compare_routes(before, after, found)
+    if has_reasons:
+        _tell_why(before, after, found)
     _compare_told(before, after, found)
     packets = chosen(found) if chosen else packets_of(before.network, after.network)
     found.ways = _ways(before, after, packets, is_all=False)
@@ -112,8 +114,14 @@ def _compare_routes(before: Answers, after: Answers, found: Difference) -> None:
     old, new = _tables(before), _tables(after)
     for router in new:
         if new[router] != old.get(router, NO_ROUTES):
-            found.routers[router] = _changes(routes(old.get(router, NO_ROUTES)), routes(new[router]))
-    _tell_why(before, after, found)
+            found.routers[router] = _changes(*_differing(old.get(router, NO_ROUTES), new[router]))
+
+
+def _differing(old: List[str], new: List[str]) -> Tuple[Dict[str, Route], Dict[str, Route]]:
+    """The routes of two replies that are not in both."""
+    same = {*old} & {*new}
+    before, after = ([line for line in reply[:-1] if line not in same] + reply[-1:] for reply in (old, new))
+    return routes(before), routes(after)
 
 
 def _tell_why(before: Answers, after: Answers, found: Difference) -> None:

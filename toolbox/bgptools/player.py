@@ -73,7 +73,7 @@ class Attempt:
     def figures(self, settled: Settling) -> Figures:
         """What the change does."""
         after = After(self.run, self.quiet, self.touched)
-        difference = compare(self.quiet, after, [], after.packets)
+        difference = compare(self.quiet, after, [], after.packets, has_reasons=bool(self.watch))
         found = figures_of(difference, len(self.done.taken), self.done.is_settled)
         fed = {to for _, to in self.quiet.feeds}
         found.is_single = is_single_point(self.trial, self.quiet.network, fed, difference)
@@ -181,7 +181,7 @@ class Player:
         with Run(Drawn(trial.seed), self.job.chosen.most) as run:
             run.play(self.job.script)
             watch, done = Watch(run), run.settle()
-            difference = compare(self.quiet, run, [])
+            difference = compare(self.quiet, run, [], has_reasons=self.job.has_texts)
             found = figures_of(difference, len(done.taken), done.is_settled)
             found.state = run.state() if done.is_settled else ""
             if self.job.has_texts:

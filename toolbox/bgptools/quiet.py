@@ -2,6 +2,7 @@
 from __future__ import annotations
 
 import copy
+import functools
 import hashlib
 from typing import Dict, FrozenSet, Iterable, List, Optional, Set, Tuple
 
@@ -142,6 +143,7 @@ class After(Answers):
         return [(router, to) for router in self.quiet.routers if router in routers]
 
 
+@functools.lru_cache(maxsize=1 << 18)
 def _is_for(outer: str, to: str) -> bool:
     """Whether an address is in a prefix."""
     at = address(to)
