@@ -3,7 +3,7 @@ from __future__ import annotations
 
 import argparse
 import sys
-from typing import List, Optional, Tuple
+from typing import Callable, Dict, List, Optional, Tuple
 
 from . import output, sweep_table, trials
 from .mistakes import CHANGED, WRONG, Mistake
@@ -14,10 +14,14 @@ from .quiet import Quiet
 from .results import Results
 from .run import Run
 from .script import read
+from .sweep_page import page_of
 from .sweep_table import Table
 from .sweeping import about, play_here, rows_of
 from .trials import Trial
 from .workers import processors
+
+
+FORMS: Dict[str, Callable[[Table], str]] = {"json": sweep_table.json_of, "csv": sweep_table.csv_of, "html": page_of}
 
 
 def parser() -> argparse.ArgumentParser:
@@ -117,6 +121,6 @@ def main(words: Optional[List[str]] = None) -> int:
     table = Table(chosen.base, jobs[0].trials, rows_of(jobs, known), network.names)
     for trial, found in (row for row in table.rows if row[1].mistake):
         print("%s: %s" % (trial.title, found.mistake), file=sys.stderr)
-    form = sweep_table.json_of if chosen.json else sweep_table.csv_of if chosen.csv else sweep_table.text_of
+    form = next((form for name, form in FORMS.items() if getattr(chosen, name)), sweep_table.text_of)
     output.write(form(table), chosen.out)
     return WRONG if any(found.mistake for _, found in table.rows) else CHANGED if table.is_bad else 0
