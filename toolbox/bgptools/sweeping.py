@@ -3,45 +3,19 @@ from __future__ import annotations
 
 import hashlib
 import json
-import time
 from collections import deque
-from typing import Callable, Deque, Dict, List, Optional
+from typing import Deque, Dict, List, Optional
 
 from . import __version__
+from .clock import Clock
 from .figures import Figures, together
-from .output import Progress
 from .player import Job, Player, settled_job
 from .quiet import Quiet
 from .results import Results, Task
-from .workers import Workers
+from .workers import Doing, Workers
 
 
-class Clock:
-    """Tells how many tasks are done, and how long the others will take."""
-
-    def __init__(self, count: int, before: int) -> None:
-        self.count, self.before, self.done, self.began = count, before, before, time.monotonic()
-        self.progress = Progress()
-
-    def tell(self) -> None:
-        """One more is done."""
-        self.done += 1
-        took = time.monotonic() - self.began
-        left = took / (self.done - self.before) * (self.count - self.done)
-        bar = "#" * (24 * self.done // self.count)
-        self.progress.tell("[%-24s] %d of %d, about %s left" % (bar, self.done, self.count, span(left)))
-
-    def end(self) -> None:
-        self.progress.done()
-
-
-def span(seconds: float) -> str:
-    """A time as it is read."""
-    whole = int(seconds + 0.5)
-    return "%d:%02d:%02d" % (whole // 3600, whole // 60 % 60, whole % 60) if whole >= 3600 else "%d:%02d" % divmod(whole, 60)
-
-
-class Playing:
+class Playing(Doing[Task]):
     """What a worker does: it tries changes on one part of the network after another, each settled when it is first
     asked for. A network that was settled before the worker began is not settled again."""
 
@@ -54,11 +28,14 @@ class Playing:
 
     def _player(self, part: int) -> Player:
         if self.player is None or part != self.part:
-            if self.player:
-                self.player.close()
+            self.close()
             job = self.jobs[part]
             self.part, self.player = part, Player(job if job.settled else settled_job(job), self.quiet)
         return self.player
+
+    def close(self) -> None:
+        if self.player:
+            self.player.close()
 
 
 class Plan:
@@ -104,8 +81,7 @@ def play_here(jobs: List[Job], quiet: Optional[Quiet], known: Results, count: in
     """Does what is not known by so many processes of this machine."""
     tasks = tasks_of(jobs, known)
     plan, clock = Plan(tasks), Clock(len(jobs) * len(jobs[0].trials), len(known.known))
-    begin: Callable[[], Playing] = lambda: Playing(jobs, quiet)
-    with Workers[Task](min(count, len(tasks)), begin) as workers:
+    with Workers[Task](min(count, len(tasks)), lambda: Playing(jobs, quiet)) as workers:
         for task, figures in workers.results(plan.choose):
             known.add(task, figures)
             clock.tell()

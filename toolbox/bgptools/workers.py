@@ -4,14 +4,25 @@ from __future__ import annotations
 import multiprocessing
 import os
 import signal
+import time
 from multiprocessing.connection import Connection, wait
 from typing import Any, Callable, Dict, Generic, Iterator, List, Optional, Tuple, TypeVar, cast
 
 from .mistakes import Mistake
 
 Task = TypeVar("Task")
-# What a worker does with a task; it is made in the worker, and keeps there what it likes.
-Doing = Callable[[Task], Any]
+# So long a worker that is asked to end may still take, in seconds.
+PATIENCE = 1.0
+
+
+class Doing(Generic[Task]):
+    """What a worker does with each task. It is made in the worker, and keeps there what it likes."""
+
+    def __call__(self, task: Task) -> Any:
+        raise NotImplementedError
+
+    def close(self) -> None:
+        """There is no task any more."""
 
 
 def processors() -> int:
@@ -26,8 +37,8 @@ def _work(here: Connection, others: List[Connection], begin: Callable[[], Doing[
         signal.signal(number, signal.SIG_DFL)
     for other in others:
         other.close()
+    do = begin()
     try:
-        do = begin()
         while True:
             here.send((do(here.recv()), None))
     except (EOFError, BrokenPipeError, ConnectionResetError):
@@ -35,6 +46,8 @@ def _work(here: Connection, others: List[Connection], begin: Callable[[], Doing[
         pass
     except Mistake as mistake:
         here.send((None, mistake))
+    finally:
+        do.close()
 
 
 class Workers(Generic[Task]):
@@ -95,9 +108,12 @@ class Workers(Generic[Task]):
         """Ends the workers: those that work are stopped."""
         for here in self.here:
             here.close()
+        until = time.monotonic() + PATIENCE
         for process in self.processes:
-            process.terminate()
-            process.join()
+            process.join(max(0.0, until - time.monotonic()))
+            if process.is_alive():
+                process.terminate()
+                process.join()
 
     def __enter__(self) -> "Workers[Task]":
         return self
