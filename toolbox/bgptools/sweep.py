@@ -5,7 +5,7 @@ import argparse
 import sys
 from typing import Callable, Dict, List, Optional, Tuple
 
-from . import output, sweep_table, trials
+from . import cluster, output, sweep_table, trials
 from .mistakes import CHANGED, WRONG, Mistake
 from .network import Network
 from .parts import parts_of
@@ -110,12 +110,18 @@ def main(words: Optional[List[str]] = None) -> int:
     """The tool."""
     chosen = parser().parse_args(words)
     _check(chosen)
+    other = chosen.scheduler and cluster.interpreter()
+    if other:
+        cluster.go_on_with(other, sys.argv[1:] if words is None else words)
     jobs, quiet, network = _jobs(chosen)
     if not jobs[0].trials:
         raise Mistake("the network has nothing of what is to be changed", chosen.base)
     known = Results(chosen.results, about(jobs), chosen.resume)
     try:
-        play_here(jobs, quiet, known, chosen.jobs or processors())
+        if chosen.scheduler:
+            cluster.play_by(chosen.scheduler, chosen.program, jobs, known)
+        else:
+            play_here(jobs, quiet, known, chosen.jobs or processors())
     finally:
         known.close()
     table = Table(chosen.base, jobs[0].trials, rows_of(jobs, known), network.names)
