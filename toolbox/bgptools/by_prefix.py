@@ -10,7 +10,7 @@ from typing import Dict, List, Tuple
 
 from .clock import Clock
 from .orders import order_of
-from .parts import parts_of
+from .parts import Parts
 from .run import Run, unsettled
 from .script import Line
 from .workers import Doing, Workers, processors
@@ -56,7 +56,7 @@ class Settles(Doing[int]):
 
 def tables_of(lines: List[Line], chosen: argparse.Namespace) -> Tables:
     """The tables of a script that is settled with `by_prefix` of its prefixes at a time."""
-    parts = parts_of(lines, chosen.by_prefix, has_inner_together=False)
+    parts = Parts(lines, [], chosen.by_prefix, has_inner_together=False).of(lines)
     left, found = list(range(len(parts))), {}  # type: List[int], Dict[int, Part]
     clock = Clock(len(parts), 0)
     with Workers[int](min(chosen.jobs or processors(), len(parts)), lambda: Settles(parts, chosen)) as workers:

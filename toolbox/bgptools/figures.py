@@ -56,7 +56,7 @@ def figures_of(difference: Difference, messages: int, is_settled: bool) -> Figur
     """The numbers of a difference."""
     found = Figures(messages=messages, is_settled=is_settled, down=len(difference.down), packets=len(difference.ways),
                     black_holes=len(difference.black_holes), loops=len(difference.loops))
-    found.told = ["%s %s" % way for way in difference.told]
+    found.told = sorted("%s %s" % way for way in difference.told)
     for router, changes in difference.routers.items():
         for change in changes:
             found.routes.setdefault(router, [0, 0, 0, 0])[KINDS[change.kind]] += 1
@@ -93,7 +93,7 @@ def together(parts: List[Figures]) -> Figures:
                     down=max(part.down for part in parts))
     for name in ("moved", "lost", "gained", "black_holes", "loops", "packets", "messages"):
         setattr(found, name, sum(getattr(part, name) for part in parts))
-    found.told = list(dict.fromkeys(way for part in parts for way in part.told))
+    found.told = sorted({way for part in parts for way in part.told})
     for router, cell in (item for part in parts for item in part.routes.items()):
         found.routes[router] = [sum(both) for both in zip(cell, found.routes.get(router, [0, 0, 0, 0]))]
     found.state = hashlib.sha256(" ".join(part.state for part in parts).encode()).hexdigest() if parts[0].state else ""

@@ -33,18 +33,25 @@ def groups(prefixes: Iterable[str], count: int, has_inner_together: bool) -> Lis
     return found
 
 
-def parts_of(lines: List[Line], count: int, has_inner_together: bool) -> List[List[Line]]:
-    """The script once for each group of prefixes, with the lines that tell of these, and all that tell of none."""
-    if count < 1:
-        raise Mistake("--by-prefix %d: a number of at least 1 is expected" % count)
-    own = [prefix_of(line) for line in lines]
-    for line in (line for line in lines if line.is_command and line.words[0] == "deliver"):
-        raise Mistake("`%s`: in a script with deliveries of its own the messages of different prefixes meet in a queue; "
-                      "--by-prefix wants one without" % line.text.strip(" "), line.file, line.number)
-    found = groups((to for to in own if to), count, has_inner_together)
-    places: Dict[str, int] = {to: at for at, group in enumerate(found) for to in group}
-    parts: List[List[Line]] = [[] for _ in found]
-    for line, to in zip(lines, own):
-        for part in ([parts[places[to]]] if to else parts):
-            part.append(line)
-    return parts
+class Parts:
+    """Scripts by the groups of their prefixes. Mistake where the first has deliveries of its own."""
+
+    def __init__(self, lines: List[Line], changes: Iterable[Line], count: int, has_inner_together: bool) -> None:
+        if count < 1:
+            raise Mistake("--by-prefix %d: a number of at least 1 is expected" % count)
+        for line in (line for line in lines if line.is_command and line.words[0] == "deliver"):
+            raise Mistake("`%s`: in a script with deliveries of its own the messages of different prefixes meet in a queue; "
+                          "--by-prefix wants one without" % line.text.strip(" "), line.file, line.number)
+        named = {prefix_of(line) for line in [*lines, *changes]} - {""}
+        found = groups(named, count, has_inner_together)
+        self.count = len(found)
+        self.places: Dict[str, int] = {to: at for at, group in enumerate(found) for to in group}
+
+    def of(self, lines: Iterable[Line]) -> List[List[Line]]:
+        """The script once for each group, with the lines that tell of its prefixes, and all that tell of none."""
+        parts: List[List[Line]] = [[] for _ in range(self.count)]
+        for line in lines:
+            to = prefix_of(line)
+            for part in ([parts[self.places[to]]] if to else parts):
+                part.append(line)
+        return parts

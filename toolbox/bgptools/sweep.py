@@ -3,17 +3,18 @@ from __future__ import annotations
 
 import argparse
 import sys
+from dataclasses import dataclass, replace
 from typing import Callable, Dict, List, Optional, Tuple
 
 from . import cluster, output, sweep_table, trials
 from .mistakes import CHANGED, WRONG, Mistake
 from .network import Network
-from .parts import parts_of
+from .parts import Parts
 from .player import Job, Player, settled_job
 from .quiet import Quiet
 from .results import Results
 from .run import Run
-from .script import read
+from .script import Line, read
 from .sweep_page import page_of
 from .sweep_table import Table
 from .sweeping import about, play_here, rows_of
@@ -89,8 +90,18 @@ def trials_of(network: Network, chosen: argparse.Namespace) -> List[Trial]:
     return found + trials.orders(chosen.orders or 0)
 
 
-def _jobs(chosen: argparse.Namespace) -> Tuple[List[Job], Optional[Quiet], Network]:
-    """The parts of the sweep; and the quiet network, where it is one part that is played here."""
+@dataclass
+class Sweep:
+    """The changes and the network that they are tried on; `jobs` are its parts. It is quiet where it is one part that is
+    played here."""
+    trials: List[Trial]
+    network: Network
+    jobs: List[Job]
+    quiet: Optional[Quiet] = None
+
+
+def sweep_of(chosen: argparse.Namespace) -> Sweep:
+    """The sweep that is asked for."""
     lines = read(chosen.base)
     words = argparse.Namespace(order=chosen.order, by_router=False, seed=None, most=chosen.most, base=chosen.base)
     if chosen.by_prefix is None and chosen.scheduler is None:
@@ -98,12 +109,22 @@ def _jobs(chosen: argparse.Namespace) -> Tuple[List[Job], Optional[Quiet], Netwo
         player = Player(job)
         player.close()
         job.trials = trials_of(player.quiet.network, chosen)
-        return [job], player.quiet, player.quiet.network
+        return Sweep(job.trials, player.quiet.network, [job], player.quiet)
     with Run() as run:
         run.play(lines)
         found = trials_of(run.network, chosen)
-    parts = [lines] if chosen.by_prefix is None else parts_of(lines, chosen.by_prefix, True)
-    return [Job(part, found, words, chosen.html) for part in parts], None, run.network
+    return Sweep(found, run.network, [Job(part, changes, words, chosen.html)
+                                      for part, changes in _parts(lines, found, chosen.by_prefix)])
+
+
+def _parts(lines: List[Line], found: List[Trial], count: Optional[int]) -> List[Tuple[List[Line], List[Trial]]]:
+    """The script and the changes, by so many prefixes at a time: prefixes that contain one another stay together."""
+    if count is None:
+        return [(lines, found)]
+    parts = Parts(lines, [line for trial in found for line in trial.lines], count, has_inner_together=True)
+    changes = [parts.of(trial.lines) for trial in found]
+    return [(part, [replace(trial, lines=tuple(own[at])) for trial, own in zip(found, changes)])
+            for at, part in enumerate(parts.of(lines))]
 
 
 def main(words: Optional[List[str]] = None) -> int:
@@ -113,18 +134,18 @@ def main(words: Optional[List[str]] = None) -> int:
     other = chosen.scheduler and cluster.interpreter()
     if other:
         cluster.go_on_with(other, sys.argv[1:] if words is None else words)
-    jobs, quiet, network = _jobs(chosen)
-    if not jobs[0].trials:
+    asked = sweep_of(chosen)
+    if not asked.trials:
         raise Mistake("the network has nothing of what is to be changed", chosen.base)
-    known = Results(chosen.results, about(jobs), chosen.resume)
+    known = Results(chosen.results, about(asked.jobs), chosen.resume)
     try:
         if chosen.scheduler:
-            cluster.play_by(chosen.scheduler, chosen.program, jobs, known)
+            cluster.play_by(chosen.scheduler, chosen.program, asked.jobs, known)
         else:
-            play_here(jobs, quiet, known, chosen.jobs or processors())
+            play_here(asked.jobs, asked.quiet, known, chosen.jobs or processors())
     finally:
         known.close()
-    table = Table(chosen.base, jobs[0].trials, rows_of(jobs, known), network.names)
+    table = Table(chosen.base, asked.trials, rows_of(asked.jobs, known), asked.network.names)
     for trial, found in (row for row in table.rows if row[1].mistake):
         print("%s: %s" % (trial.title, found.mistake), file=sys.stderr)
     form = next((form for name, form in FORMS.items() if getattr(chosen, name)), sweep_table.text_of)

@@ -7,6 +7,7 @@ import json
 from typing import Any, Dict, List, Tuple
 
 from .figures import Figures
+from .language import by_address
 from .names import Names
 from .summary import count
 from .trials import ORDER, Trial
@@ -99,7 +100,7 @@ def _json_row(table: Table, place: int, trial: Trial, found: Figures) -> Dict[st
     return {"number": place, "change": trial.title, "kind": trial.kind, "commands": [line.text for line in trial.lines],
             "single_point": found.is_single, "settled": found.is_settled, **dict(zip(NUMBERS, numbers_of(found))),
             "packets": found.packets, "neighbours": told, "state": table.state_of(found) or None, "mistake": found.mistake or None,
-            "routers": {router: dict(zip(names, cell)) for router, cell in found.routes.items()}}
+            "routers": {router: dict(zip(names, found.routes[router])) for router in sorted(found.routes, key=by_address)}}
 
 
 def json_of(table: Table) -> str:
