@@ -5,6 +5,7 @@ from __future__ import annotations
 
 import importlib
 import importlib.util
+import logging
 import os
 import pathlib
 import pickle
@@ -107,6 +108,8 @@ def go_on_with(path: str, words: List[str]) -> None:
 def play_by(address: str, program: Optional[str], jobs: List[Job], known: Results) -> None:
     """Does what is not known by the cluster of the scheduler at this address."""
     dask = importlib.import_module(PACKAGE)
+    # That a worker died, and what is done again, is nothing for a reader of the table.
+    logging.getLogger(PACKAGE + ".client").setLevel(logging.ERROR)
     try:
         client = dask.Client(address, timeout=PATIENCE)
     except (OSError, ValueError, dask.TimeoutError) as error:
