@@ -2,14 +2,14 @@
 from __future__ import annotations
 
 from dataclasses import dataclass, field
-from typing import Dict, List, Optional, Set, Tuple
+from typing import Callable, Dict, Iterable, List, Optional, Set, Tuple
 
 from . import communities
+from .answers import Answers
 from .language import by_address, by_prefix, contains, prefix, show_address, words_of
 from .network import Direction, Network, Pair, pair
 from .output import Progress
 from .replies import Route, Trace, best, reasons, routes, trace
-from .run import Run
 
 REASONS = {
     "loop": "its path holds the AS of the router", "originator": "it came from this router", "cluster": "it has been in this cluster",
@@ -24,6 +24,11 @@ def reason_text(reason: str, is_med_always: bool) -> str:
     if reason == "med" and is_med_always:
         return "another has a lower MED, compared over all neighbours"
     return REASONS[reason]
+
+
+# A packet, by the router that it starts at and the address that it is for.
+Packet = Tuple[str, str]
+NO_ROUTES = ["end 0"]
 
 
 @dataclass
@@ -72,16 +77,21 @@ class Difference:
         return bool(self.routers or self.came or self.down or self.up or self.told or self.ways or any(way.before != way.after for way in self.asked))
 
 
-def compare(before: Run, after: Run, asked: List[Tuple[str, str]]) -> Difference:
-    """What differs between two runs, and how the packets go that are asked for."""
+def compare(before: Answers, after: Answers, asked: List[Packet],
+            chosen: Optional[Callable[[Difference], List[Packet]]] = None, has_reasons: bool = True) -> Difference:
+    """What differs between two runs, and how the packets go that are asked for.
+
+    Packets are followed from all routers to an address of each prefix; or, where it is given, those of `chosen`,
+    which is told what differs so far. Why old routes lost is looked up where `has_reasons`."""
     found = Difference(came=[r for r in after.network.routers() if r not in before.network.nodes])
     _compare_sessions(before, after, found)
     _compare_routes(before, after, found)
+    if has_reasons:
+        _tell_why(before, after, found)
     _compare_told(before, after, found)
-    everywhere = [r for r in before.network.routers() if after.network.is_router(r)]
-    probes = [(r, show_address(d)) for d in probes_of(after.network) for r in everywhere]
-    found.ways = [way for way in _ways(before, after, probes) if way.before != way.after]
-    found.asked = _ways(before, after, asked)
+    packets = chosen(found) if chosen else packets_of(before.network, after.network)
+    found.ways = _ways(before, after, packets, is_all=False)
+    found.asked = _ways(before, after, asked, is_all=True)
     return found
 
 
@@ -89,20 +99,32 @@ def _changes(old: Dict[str, Route], new: Dict[str, Route]) -> List[Change]:
     return [Change(p, old.get(p), new.get(p)) for p in sorted({*old, *new}, key=by_prefix) if old.get(p) != new.get(p)]
 
 
-def _tables(run: Run, routers: List[str]) -> Dict[str, Dict[str, Route]]:
-    return dict(zip(routers, map(routes, run.ask("routes " + router for router in routers))))
+def packets_of(before: Network, after: Network) -> List[Packet]:
+    """Packets from each router that was there before to an address of each prefix."""
+    everywhere = [r for r in before.routers() if after.is_router(r)]
+    return [(r, show_address(d)) for d in probes_of(after.prefixes) for r in everywhere]
 
 
-def _compare_routes(before: Run, after: Run, found: Difference) -> None:
-    old, new = (_tables(run, run.network.routers()) for run in (before, after))
-    for router in after.network.routers():
-        changes = _changes(old.get(router, {}), new[router])
-        if changes:
-            found.routers[router] = changes
-    _tell_why(before, after, found)
+def _tables(run: Answers) -> Dict[str, List[str]]:
+    routers = run.network.routers()
+    return dict(zip(routers, run.ask("routes " + router for router in routers)))
 
 
-def _tell_why(before: Run, after: Run, found: Difference) -> None:
+def _compare_routes(before: Answers, after: Answers, found: Difference) -> None:
+    old, new = _tables(before), _tables(after)
+    for router in new:
+        if new[router] != old.get(router, NO_ROUTES):
+            found.routers[router] = _changes(*_differing(old.get(router, NO_ROUTES), new[router]))
+
+
+def _differing(old: List[str], new: List[str]) -> Tuple[Dict[str, Route], Dict[str, Route]]:
+    """The routes of two replies that are not in both."""
+    same = {*old} & {*new}
+    before, after = ([line for line in reply[:-1] if line not in same] + reply[-1:] for reply in (old, new))
+    return routes(before), routes(after)
+
+
+def _tell_why(before: Answers, after: Answers, found: Difference) -> None:
     """By what each route that was chosen before loses now: as `why` says, or why it is not among what the router has."""
     asked = [(router, change, change.before.source) for router, changes in found.routers.items() for change in changes
              if change.before and change.before.source]
@@ -126,7 +148,7 @@ def _tell_why(before: Run, after: Run, found: Difference) -> None:
             change.reason = "%s does not tell it any more%s" % (shown, kept)
 
 
-def _kept_back(run: Run, router: str, peer: str, to: str) -> str:
+def _kept_back(run: Answers, router: str, peer: str, to: str) -> str:
     """The communities by which a router does not tell a peer the route that it chose; empty where it has none."""
     if not run.network.communities or not run.network.is_router(router):
         return ""
@@ -142,13 +164,13 @@ def _stopped(lines: List[str]) -> Set[Pair]:
     return {pair(words[1], words[2]) for words in map(words_of, lines) if words[0] in ("stop", "fail")}
 
 
-def _compare_sessions(before: Run, after: Run, found: Difference) -> None:
+def _compare_sessions(before: Answers, after: Answers, found: Difference) -> None:
     old, new = before.sessions_up(), after.sessions_up()
     found.down = [way for way in new if old.get(way, False) and not new[way]]
     found.up = [way for way in new if new[way] and not old.get(way, False)]
 
 
-def _compare_told(before: Run, after: Run, found: Difference) -> None:
+def _compare_told(before: Answers, after: Answers, found: Difference) -> None:
     """What virtual peers are told: they are the external neighbours that no router's table shows."""
     for router, peer in ((r, v) for v in after.network.virtuals() for r in sorted(after.network.peers.get(v, ()), key=by_address)):
         old, new = (routes(run.ask(["out %s %s" % (router, peer)])[0]) if peer in run.network.peers.get(router, ()) else {} for run in (before, after))
@@ -162,21 +184,23 @@ def _compare_told(before: Run, after: Run, found: Difference) -> None:
             found.told[router, peer] = changes
 
 
-def _ways(before: Run, after: Run, asked: List[Tuple[str, str]]) -> List[Way]:
+def _ways(before: Answers, after: Answers, asked: List[Packet], is_all: bool) -> List[Way]:
+    """How these packets go: all of them, or those whose way changed."""
     progress, found = Progress(), []
     for start in range(0, len(asked), 500):
         part = asked[start:start + 500]
         lines = ["trace %s %s" % each for each in part]
         for (router, to), old, new in zip(part, before.ask(lines), after.ask(lines)):
-            found.append(Way(router, to, trace(old), trace(new)))
+            if is_all or old != new:
+                found.append(Way(router, to, trace(old), trace(new)))
         progress.tell("%d of %d packets followed .." % (start, len(asked)))
     progress.done()
     return found
 
 
-def probes_of(network: Network) -> List[int]:
+def probes_of(prefixes: Iterable[str]) -> List[int]:
     """An address of each prefix that is in no longer one, where there is such an address among the first, the last and the middle one."""
-    known = sorted(network.prefixes, key=by_prefix)
+    known = sorted(prefixes, key=by_prefix)
     found = []
     for one in filter(None, map(prefix, known)):
         size = 2 ** (32 - one[1])

@@ -1,6 +1,7 @@
 """The command language, as docs/LANGUAGE.md has it: which commands there are, and what is wrong with a line that spells none."""
 from __future__ import annotations
 
+import functools
 import re
 from dataclasses import dataclass
 from typing import Callable, Dict, List, Optional, Tuple
@@ -108,6 +109,7 @@ def number(text: str, low: int = 0, high: int = 2 ** 32 - 1) -> Optional[int]:
     return int(text) if low <= int(text) <= high else None
 
 
+@functools.lru_cache(maxsize=65536)
 def address(text: str) -> Optional[int]:
     """The address that the text spells, as a number."""
     parts = [number(part, 0, 255) for part in text.split(".")]
@@ -121,6 +123,7 @@ def show_address(value: int) -> str:
     return ".".join(str(value >> shift & 255) for shift in (24, 16, 8, 0))
 
 
+@functools.lru_cache(maxsize=65536)
 def prefix(text: str) -> Optional[Tuple[int, int]]:
     """The prefix that the text spells: its address and its length."""
     first, slash, last = text.partition("/")

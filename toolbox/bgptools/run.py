@@ -2,13 +2,14 @@
 from __future__ import annotations
 
 import hashlib
-from typing import Dict, Iterable, List, Optional
+from typing import Iterable, List, Optional
 
+from .answers import Answers
 from .counted import Counted, check_length, is_accepted
 from .language import is_silent, words_of
 from .mistakes import Mistake
 from .names import Names
-from .network import Direction, Network, pair
+from .network import Network
 from .orders import Drawn, Order, RouterByRouter
 from .refusals import Refusal, sentence
 from .replies import refusal
@@ -18,7 +19,7 @@ from .settling import Settler, Settling
 DRAWN = 8
 
 
-class Run:
+class Run(Answers):
     """A program, what it was told, and where messages may wait.
 
     With `tries_others` a network that does not settle in the order of the run is tried in others. The program is another one then."""
@@ -61,20 +62,6 @@ class Run:
     def ask(self, questions: Iterable[str]) -> List[List[str]]:
         """The replies to questions, which change nothing."""
         return self.program.say_all(questions)
-
-    def sessions_up(self, sessions: Optional[List[Direction]] = None) -> Dict[Direction, bool]:
-        """Which sessions, of all or of these, are up: an external one by its link, an internal one where each end has
-        a cost to the other."""
-        found, asked = {}, []
-        for one, other in self.network.sessions() if sessions is None else sessions:
-            key = pair(one, other)
-            link = self.network.links.get(key)
-            found[one, other] = self.network.enabled[key] and (not self.network.is_external(one, other) or link is not None and link.is_up)
-            if found[one, other] and not self.network.is_external(one, other):
-                asked.append((one, other))
-        there, back = (self.ask("cost %s %s" % way for way in ways) for ways in (asked, [(b, a) for a, b in asked]))
-        found.update((way, ["none"] not in replies) for way, *replies in zip(asked, there, back))
-        return found
 
     def state(self) -> str:
         """The chosen routes of all routers, as a digest."""

@@ -6,6 +6,7 @@ import sys
 from typing import List, Optional
 
 from . import output
+from .by_prefix import tables_of
 from .language import ended
 from .mistakes import CHANGED, Mistake
 from .orders import add_order, order_of
@@ -13,6 +14,7 @@ from .run import Run, unsettled
 from .script import read
 from .states import look_for, text_of
 from .writing import settled
+
 
 def parser() -> argparse.ArgumentParser:
     """The words of the command line."""
@@ -28,6 +30,10 @@ def parser() -> argparse.ArgumentParser:
     made.add_argument("--states", type=int, metavar="N", help="write no script, but which stable states N drawn orders end in, and how often")
     made.add_argument("--most", type=int, metavar="N", help=(
         "stop after so many deliveries at one place (ten thousand and more, by the size of the network)"))
+    made.add_argument("--by-prefix", type=int, metavar="N", help=(
+        "write no script, but the chosen routes of all routers as `routes` replies them: the network is played with N of its prefixes at "
+        "a time, by several processes"))
+    made.add_argument("--jobs", type=int, metavar="N", help="so many processes of --by-prefix (as many as there are processors)")
     made.add_argument("-o", dest="out", metavar="FILE", help="write to this file, and not to standard output")
     return made
 
@@ -41,9 +47,26 @@ def _states(chosen: argparse.Namespace) -> int:
     return CHANGED if found.endless else 0
 
 
+def _tables(chosen: argparse.Namespace) -> int:
+    """The answer to --by-prefix."""
+    if chosen.jobs is not None and chosen.jobs < 1:
+        raise Mistake("--jobs %d: a number of at least 1 is expected" % chosen.jobs)
+    tables = tables_of(read(chosen.script), chosen)
+    for text in tables.endless:
+        print("%s: %s" % (chosen.script, text), file=sys.stderr)
+    if tables.endless:
+        return CHANGED
+    output.write_bytes(tables.content(), chosen.out)
+    return 0
+
+
 def main(words: Optional[List[str]] = None) -> int:
     """The tool."""
     chosen = parser().parse_args(words)
+    if chosen.by_prefix is None and chosen.jobs is not None or chosen.by_prefix is not None and chosen.states is not None:
+        raise Mistake("--jobs is for --by-prefix, and that goes not with --states")
+    if chosen.by_prefix is not None:
+        return _tables(chosen)
     if chosen.states is not None:
         return _states(chosen)
     with Run(order_of(chosen), chosen.most, tries_others=True) as run:

@@ -180,9 +180,9 @@ def text_of(outcome: Outcome, is_all: bool) -> str:
     lines = summary(difference) if is_long(difference) else []
     lines += _routers(difference, names, is_whole) + _sessions(difference, names, is_whole) + _told(difference, names, is_whole)
     lines += _ways("Forwarding that was asked for", difference.asked, names, True, True)
-    special = difference.loops + difference.black_holes + difference.asked
+    special = {(way.router, way.address) for way in difference.loops + difference.black_holes + difference.asked}
     for title, ways in (("New loops", difference.loops), ("New black holes", difference.black_holes),
-                        ("Forwarding that changed", [way for way in difference.ways if way not in special])):
+                        ("Forwarding that changed", [way for way in difference.ways if (way.router, way.address) not in special])):
         lines += _ways(title, ways, names, is_all, is_whole)
     lines += _between(outcome, names, is_all, is_whole)
     lines += [] if outcome.is_changed else ["Nothing changed."]
