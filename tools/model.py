@@ -576,17 +576,29 @@ def answer(net, line):
         return ["refused %d %s" % (r.number, NAMES[r.number])]
 
 
-def main():
+class ReadFault(Exception):
+    pass
+
+
+def play(text):
+    """The lines of the replies to a script, one after the other; ReadFault with the number of a line that is too long, or one too many."""
     net = Net()
     # A carriage return belongs to the end of a line only before a line feed, which the last line lacks.
-    *ended, last = sys.stdin.buffer.read().decode("latin-1").split("\n")
+    *ended, last = text.decode("latin-1").split("\n")
     lines = [line[:-1] if line.endswith("\r") else line for line in ended] + ([last] if last else [])
     for number, line in enumerate(lines, 1):
         if len(line) > 65536 or number > 1000000:
-            print("read fault at line %d" % number, file=sys.stderr)
-            return 3
-        for reply in answer(net, line):
+            raise ReadFault(number)
+        yield from answer(net, line)
+
+
+def main():
+    try:
+        for reply in play(sys.stdin.buffer.read()):
             print(reply)
+    except ReadFault as fault:
+        print("read fault at line %d" % fault.args[0], file=sys.stderr)
+        return 3
     return 0
 
 
