@@ -41,8 +41,9 @@ class Streams:
         self.library = library
 
     def environment(self, **settings: int) -> Dict[str, str]:
-        """READ and WRITE are the numbers of what fails, SHORT how many bytes each moves."""
-        names = {"read": "FAIL_READ", "write": "FAIL_WRITE", "short": "SHORT"}
+        """`read` and `write` are the numbers of what fails, a write and all later ones, but with `once`; `short` is how
+        many bytes each moves."""
+        names = {"read": "FAIL_READ", "write": "FAIL_WRITE", "short": "SHORT", "once": "ONCE"}
         return {**os.environ, "LD_PRELOAD": self.library, **{names[name]: str(n) for name, n in settings.items()}}
 
     def run(self, words: Sequence[str], given: bytes = b"", **settings: int) -> Ran:
@@ -100,13 +101,21 @@ def unreadable_files(streams: Streams, files: List[str]) -> Iterator[Tried]:
 
 # Writing
 
-def write_faults(streams: Streams, words: Sequence[str], text: bytes, whole: bytes) -> Iterator[Tried]:
-    """Each byte cannot be written, in turn."""
+def write_faults(streams: Streams, kind: str, text: bytes, whole: bytes) -> Iterator[Tried]:
+    """Each byte cannot be written, in turn, nor any later one; then it can, when it is tried once more."""
     def one(number: int) -> Tried:
-        ran = streams.run(words, text, write=number, short=1)
-        return told("%s, byte %d cannot be written" % (words[0], number), *well(ran, Ran(whole[:number - 1], WRITE_FAULT, 4)))
+        ran = streams.run([kind], text, write=number, short=1)
+        wanted = Ran(whole[:number - 1], WRITE_FAULT, 4)
+        return told("%s, byte %d cannot be written" % (kind, number), *well(ran, wanted))
+
+    def again(number: int) -> Tried:
+        ran = streams.run([kind], text, write=number, short=1, once=1)
+        is_prefix = whole.startswith(ran.out) and ran.out[-1:] in (b"", b"\n") and len(ran.out) >= number - 1
+        is_so = is_prefix and (ran.err, ran.status) == (WRITE_FAULT, 4)
+        return told("%s, byte %d cannot be written at first" % (kind, number), ran, is_so)
 
     yield from side_by_side(one, range(1, len(whole) + 1))
+    yield from side_by_side(again, range(1, len(whole) + 1))
 
 
 def whole_writes(streams: Streams, text: bytes, whole: bytes) -> Iterator[Tried]:
@@ -193,8 +202,8 @@ def tries(streams: Streams, folder: str) -> Iterator[Tried]:
     yield from read_faults(streams, "script", script, answered)
     yield from read_faults(streams, "replay", log, found)
     yield from unreadable_files(streams, files)
-    yield from write_faults(streams, ["script"], script, answered)
-    yield from write_faults(streams, ["replay"], log, found)
+    yield from write_faults(streams, "script", script, answered)
+    yield from write_faults(streams, "replay", log, found)
     yield from whole_writes(streams, script, answered)
     yield from team_writes(streams, files)
     yield from full_device(script, log, files)

@@ -1,5 +1,5 @@
-// For LD_PRELOAD. The read of the number FAIL_READ fails, of standard input and of files whose names end with `.engineer`, and the write of
-// the number FAIL_WRITE to standard output; with SHORT each moves so many bytes at most.
+// For LD_PRELOAD. The read of the number FAIL_READ fails, of standard input and of files whose names end with `.engineer`; and the write of
+// the number FAIL_WRITE to standard output, and each later one, but with ONCE. With SHORT each moves so many bytes at most.
 #define _GNU_SOURCE
 #include <errno.h>
 #include <stdio.h>
@@ -8,8 +8,9 @@
 #include <sys/syscall.h>
 #include <unistd.h>
 static long number(const char *name) { const char *n = getenv(name); return n ? atol(n) : 0; }
-static int fails(const char *which, long *count) {
-    return __atomic_add_fetch(count, 1, __ATOMIC_SEQ_CST) == number(which) ? (errno = EIO) : 0;
+static int fails(const char *which, long *count, int is_once) {
+    long first = number(which), n = __atomic_add_fetch(count, 1, __ATOMIC_SEQ_CST);
+    return first && (is_once ? n == first : n >= first) ? (errno = EIO) : 0;
 }
 static size_t some(size_t n) { size_t most = number("SHORT"); return most && most < n ? most : n; }
 static int is_given(int from) {
@@ -21,10 +22,10 @@ static int is_given(int from) {
 ssize_t read(int from, void *to, size_t n) {
     static long count;
     if (!is_given(from)) return syscall(SYS_read, from, to, n);
-    return fails("FAIL_READ", &count) ? -1 : syscall(SYS_read, from, to, some(n));
+    return fails("FAIL_READ", &count, 1) ? -1 : syscall(SYS_read, from, to, some(n));
 }
 ssize_t write(int to, const void *from, size_t n) {
     static long count;
     if (to != 1) return syscall(SYS_write, to, from, n);
-    return fails("FAIL_WRITE", &count) ? -1 : syscall(SYS_write, to, from, some(n));
+    return fails("FAIL_WRITE", &count, number("ONCE")) ? -1 : syscall(SYS_write, to, from, some(n));
 }
