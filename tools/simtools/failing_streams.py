@@ -27,8 +27,8 @@ from .running import Ran, run, side_by_side
 SOURCE = pathlib.Path(__file__).resolve().with_name("streams.c")
 SCRIPT = TOP / "cases" / "rows" / "first-path.bgp"
 TEAM = [TOP / "examples" / "team" / name for name in ("border.engineer", "interior.engineer")]
-TEXTS = ("--help", "-h", "--version", "-V", "help", "help script", "help replay", "help team", "script --help", "replay --help",
-         "team --help")
+TEXTS = ("--help", "-h", "--version", "-V", "help", "help script", "help replay", "help team", "script --help",
+         "replay --help", "team --help")
 WRITE_FAULT = b"write fault\n"
 # What was tried, and what is wrong: nothing, or a run.
 Tried = Tuple[str, object]
@@ -70,14 +70,17 @@ def told(name: str, ran: Ran, is_well: bool) -> Tried:
 
 def read_faults(streams: Streams, kind: str, text: bytes, whole: bytes) -> Iterator[Tried]:
     """A script or a log: as ever a byte at a time; and each byte, and then the end, cannot be read."""
-    yield told("%s, read and written a byte at a time" % kind, *well(streams.run([kind], text, short=1), Ran(whole, b"", 0)))
-    yield told("%s, no read fails" % kind, *well(streams.run([kind], text, short=1, read=len(text) + 2), Ran(whole, b"", 0)))
+    as_ever = Ran(whole, b"", 0)
+    yield told("%s, read and written a byte at a time" % kind, *well(streams.run([kind], text, short=1), as_ever))
+    behind = streams.run([kind], text, short=1, read=len(text) + 2)
+    yield told("%s, no read fails" % kind, *well(behind, as_ever))
 
     def one(number: int) -> Tried:
         before = text[:number - 1]
         answered = by_model(before[:before.rfind(b"\n") + 1]).out if kind == "script" else b""
         wanted = Ran(answered, b"read fault at line %d\n" % (before.count(b"\n") + 1), 3)
-        return told("%s, byte %d cannot be read" % (kind, number), *well(streams.run([kind], text, read=number, short=1), wanted))
+        ran = streams.run([kind], text, read=number, short=1)
+        return told("%s, byte %d cannot be read" % (kind, number), *well(ran, wanted))
 
     yield from side_by_side(one, range(1, len(text) + 2))
 
@@ -135,7 +138,8 @@ def team_writes(streams: Streams, files: List[str]) -> Iterator[Tried]:
     def one(number: int) -> Tried:
         ran = streams.run(["team", "--workers", "2", *files], write=number, short=1)
         is_part = len(ran.out) == number - 1 and "bgpsim log 2\n".startswith(ran.out[:13].decode("latin-1"))
-        return told("team, byte %d cannot be written" % number, ran, is_part and (ran.err, ran.status) == (WRITE_FAULT, 4))
+        is_so = is_part and (ran.err, ran.status) == (WRITE_FAULT, 4)
+        return told("team, byte %d cannot be written" % number, ran, is_so)
 
     # The deliveries and their replies take the same bytes in whatever order they come.
     size = len(streams.run(["team", "--workers", "2", *files]).out)
@@ -160,7 +164,8 @@ def full_device(script: bytes, log: bytes, files: List[str]) -> Iterator[Tried]:
 
 def closed_pipe(script: bytes, log: bytes, files: List[str]) -> Iterator[Tried]:
     """A pipe that nobody reads any more, and no output at all."""
-    for words, given in ((["script"], script), (["replay"], log), (["team", "--workers", "1", *files], b""), (["--help"], b"")):
+    for words, given in ((["script"], script), (["replay"], log), (["team", "--workers", "1", *files], b""),
+                         (["--help"], b"")):
         reader, writer = os.pipe()
         os.close(reader)
         ran = run([programs.bgpsim(), *words], given, stdout=writer)
@@ -180,7 +185,8 @@ def interrupted(script: bytes) -> Iterator[Tried]:
             out = ran.stdout.read(len(wanted))
             ran.send_signal(signal.SIGINT)
             out += ran.stdout.read()
-        yield told("script, Ctrl-C behind line %d" % count, *well(Ran(out, b"", ran.returncode), Ran(wanted, b"", -signal.SIGINT)))
+        ended = Ran(out, b"", ran.returncode)
+        yield told("script, Ctrl-C behind line %d" % count, *well(ended, Ran(wanted, b"", -signal.SIGINT)))
 
 
 def interrupted_team(folder: str) -> Iterator[Tried]:

@@ -1,10 +1,10 @@
 """Forges logs, and compares what `bgpsim replay` finds them to be with what the model does.
 
-    tools/forged-logs [--logs N] [--seed S]      N logs (300): of each random script, of the seeds from S (1) on, the log
-                                                 of version 2 and of version 1, or one under the header of the other, a
-                                                 dozen times with a byte, a line or a block of lines changed, put in,
-                                                 left out, swapped or moved; in half of those with other calls the
-                                                 number behind `end` is made right
+    tools/forged-logs [--logs N] [--seed S]    N logs (300): of each random script, of the seeds from S (1) on, the log
+                                               of version 2 and of version 1, or one under the header of the other, a
+                                               dozen times with a byte, a line or a block of lines changed, put in,
+                                               left out, swapped or moved; in half of them the number behind `end` is
+                                               made right
 
 The last line is `N passed, M failed`, a log being one; a part of the gate. PROGRAM= is another program than
 crates/bgpsim/out/bgpsim.
@@ -22,10 +22,11 @@ FORGED = 12
 # Lines of a script before its questions, so many that most kinds of replies stand in the log.
 LINES = 30
 BYTES = "\n\r =@#-.,/0129 \x00\t\x7f\xffabc"
-LINES_MORE = ("", " ", "=", "= ", "= ok", "= end 0", "= end 1", "@0 quiet", "= yes", "= no", "@0 router 1.0.0.1 1", "end", "end 0",
-              "end 01", "@00 quiet", "@256 quiet", "@0  quiet", "@0 # x", "#", "@0 med 1.0.0.1 always", "bgpsim log 1",
-              "bgpsim log 2", "= refused 1 syntax", "= refused 20 memory", "@0 deliver 1.0.0.1 2.0.0.1", "@1 quiet\r",
-              "@0 " + 4_089 * " " + "quiet", "@0 quiet" + 4_090 * " ", "@0 routes 1.0.0.1 " + 4_096 * "1", "= " + 70_000 * "x")
+LINES_MORE = ("", " ", "=", "= ", "= ok", "= end 0", "= end 1", "= yes", "= no", "= refused 1 syntax",
+              "= refused 20 memory", "@0 quiet", "@00 quiet", "@256 quiet", "@0  quiet", "@0 # x", "@1 quiet\r",
+              "@0 router 1.0.0.1 1", "@0 med 1.0.0.1 always", "@0 deliver 1.0.0.1 2.0.0.1", "end", "end 0", "end 01", "#", "bgpsim log 1",
+              "bgpsim log 2", "@0 " + 4_089 * " " + "quiet", "@0 quiet" + 4_090 * " ",
+              "@0 routes 1.0.0.1 " + 4_096 * "1", "= " + 70_000 * "x")
 Lines = List[str]
 Change = Callable[[random.Random, Lines], Lines]
 
@@ -52,7 +53,8 @@ def a_line(draw: random.Random, lines: Lines) -> Lines:
 def a_block(draw: random.Random, lines: Lines) -> Lines:
     """Some lines are left out, told twice, turned round, moved, or swapped with those behind them; mostly whole
     calls."""
-    places = [n for n, line in enumerate(lines) if not line.startswith("= ")] if draw.random() < 0.8 else range(len(lines))
+    are_whole = draw.random() < 0.8
+    places = [n for n, line in enumerate(lines) if not (are_whole and line.startswith("= "))] or [0]
     first, last, end = sorted(draw.choice(places) for _ in range(3))
     some, more, rest = lines[first:last], lines[last:end], lines[end:]
     return lines[:first] + draw.choice((more, some + some + more, some[::-1] + more, more + some)) + rest

@@ -29,11 +29,11 @@ Lines = List[str]
 
 
 class Row(NamedTuple):
-    """One thing of which there can be more: its name in the table; a script with so many of it, as lines; how many there
-    are by that; and two numbers for counting steps, and two for measuring memory, where it takes some."""
+    """One thing of which there can be more: its name in the table; a script with so many of it, as lines; how many
+    there are by that; and two numbers for counting steps, and two for measuring memory, where it takes some."""
     name: str
     script: Callable[[int], Lines]
-    count: Callable[[int], int]
+    units: Callable[[int], int]
     steps: Tuple[int, int]
     memory: Optional[Tuple[int, int]]
 
@@ -75,23 +75,35 @@ def long_paths(count: int) -> Lines:
     return ["feed %s %s update %s %s,%d igp -" % (FEEDER, HUB, prefix(0), path, n + 1) for n in range(count)]
 
 
+def queued(count: int) -> Lines:
+    """Messages of one queue, and questions for it."""
+    return star(0) + 100 * ["feed %s %s update %s 7 igp -" % (FEEDER, HUB, prefix(0))] + count * [
+        "queue %s %s" % (FEEDER, HUB)]
+
+
+def routers(count: int) -> Lines:
+    """Routers of as many ASes."""
+    return ["router 6.0.%d.%d %d" % (n >> 8, n & 255, n + 1) for n in range(count)]
+
+
+def links(count: int) -> Lines:
+    """Links between 100 routers."""
+    ends = [(a, a + step) for step in range(1, 60) for a in range(100 - step)]
+    return routers(100) + ["link 6.0.0.%d 6.0.0.%d 1" % pair for pair in ends[:count]]
+
+
 ROWS: Sequence[Row] = (
     Row("a message that is put into a queue", lambda n: star(PEERS) + heard(ROUTES) + turned(n, "deny"),
         lambda n: 2 * n * ROUTES * PEERS, (10, 20), (300, 1_300)),
-    Row("a route that an edit has a router decide anew, with one to choose from",
+    Row("a route that an edit has a router choose anew, from one",
         lambda n: star(1) + heard(200) + turned(n, "permit pref=5"), lambda n: 2 * n * 200, (5, 15), None),
-    Row("a feed, its delivery, and that it is told to one peer", lambda n: star(1) + heard(n), lambda n: n, (100, 300),
-        (5_000, 25_000)),
-    Row("a message that a question tells", lambda n: star(0) + ["feed %s %s update %s 7 igp -" % (FEEDER, HUB, prefix(0))] * 100
-        + n * ["queue %s %s" % (FEEDER, HUB)], lambda n: 100 * n, (10, 30), None),
-    Row("a router of an AS that a metric moves, for each router that moves in its costs",
-        lambda n: ring(40) + metrics(n), lambda n: 2 * n * 40 * 20, (5, 15), None),
-    Row("a router", lambda n: ["router 6.0.%d.%d %d" % (n >> 8, n & 255, n + 1) for n in range(n)], lambda n: n, (300, 600),
-        (1_000, 4_000)),
-    Row("a link between two of 100 routers of as many ASes",
-        lambda n: ["router 6.0.0.%d %d" % (a, a) for a in range(1, 101)] + [
-            "link 6.0.0.%d 6.0.0.%d 1" % (a, a + step) for step in range(1, 60) for a in range(1, 101 - step)][:n],
-        lambda n: n, (200, 600), (1_000, 4_000)),
+    Row("a feed, its delivery, and that it is told to one peer", lambda n: star(1) + heard(n), lambda n: n,
+        (100, 300), (5_000, 25_000)),
+    Row("a message that a question tells", queued, lambda n: 100 * n, (10, 30), None),
+    Row("a cost that a metric moves, at one router towards another", lambda n: ring(40) + metrics(n),
+        lambda n: 2 * n * 40 * 20, (5, 15), None),
+    Row("a router", routers, lambda n: n, (300, 600), (1_000, 4_000)),
+    Row("a link", links, lambda n: n, (200, 600), (1_000, 4_000)),
     Row("a path of 255 AS numbers that no other route has", lambda n: star(0) + long_paths(n), lambda n: n, (50, 150),
         (500, 2_500)),
 )
@@ -126,7 +138,7 @@ def shared(row: Row, numbers: Tuple[int, int], measured: Callable[[Lines], int])
     """What one more takes."""
     few, many = numbers
     taken = measured(row.script(many)) - measured(row.script(few))
-    return taken / (row.count(many) - row.count(few))
+    return taken / (row.units(many) - row.units(few))
 
 
 def of_row(row: Row) -> Tuple[str, float, Optional[float]]:

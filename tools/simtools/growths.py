@@ -16,8 +16,9 @@ TOLD = re.compile(rb"([0-9]+) ([0-9]+) ([0-9]+) ([01]) ([0-9]+)\n")
 
 
 class Copy(NamedTuple):
-    """What a copy of the program wrote, how many allocations were made at its first line, whether one of these was refused, and
-    the status that waiting for it gave. `before` is what the program itself had written since the last copy."""
+    """What a copy of the program wrote, how many allocations were made at its first line, whether one of these was
+    refused, and the status that waiting for it gave. `before` is what the program itself had written since the last
+    copy."""
     before: bytes
     out: bytes
     made: int
@@ -26,7 +27,8 @@ class Copy(NamedTuple):
 
 
 class Tried(NamedTuple):
-    """The copies, what the program itself wrote behind the last one, its exit status, and the rest of standard error."""
+    """The copies, what the program itself wrote behind the last one, its exit status, and the rest of standard
+    error."""
     copies: List[Copy]
     rest: bytes
     status: int

@@ -1,12 +1,12 @@
 """Scripts that nobody would write, compared with the model: what is answered, and that all later lines are.
 
-    tools/hostile-scripts [--scripts N] [--seed S]     of each of N seeds (30), from S (1) on: a random script, each of its
-                                                       commands followed by a copy that one byte is changed in, put into
-                                                       or left out of; a network that then gets a command of each form
-                                                       cut at each place; and lines of bytes and words drawn at random,
-                                                       with NULs, carriage returns and UTF-8. Then lines of 4,096, 4,097,
-                                                       65,536 and 65,537 bytes that begin or end about each place where
-                                                       a buffer may
+    tools/hostile-scripts [--scripts N] [--seed S]    of each of N seeds (30), from S (1) on: a random script, each of
+                                                      its commands followed by a copy that one byte is changed in, put
+                                                      into or left out of; a network that then gets a command of each
+                                                      form cut at each place; and lines of bytes and words drawn at
+                                                      random, with NULs, carriage returns and UTF-8. Then lines of
+                                                      4,096, 4,097, 65,536 and 65,537 bytes that begin or end about
+                                                      each place where a buffer may
 
 The last line is `N passed, M failed`, a script being one; a part of the gate. Of a script that differs the first line
 is told that is answered otherwise. PROGRAM= is another program than crates/bgpsim/out/bgpsim.
@@ -31,8 +31,8 @@ LONG = 4_000
 NETWORK = b"router 1.0.0.1 1\norigin 1.0.0.1 10.0.0.0/8\n"
 ASKED = b"quiet\nroutes 1.0.0.1\nrouter 1.0.0.1 1\n"
 SPARE = [bytes([n]) for n in range(256) if n != 10]
-ODD = [b"\0", b"\r", b"\t", b"\x0b", b"\x7f", b"\x80", b"\xa0", b"\xff", "é".encode(), "\u2028".encode(), "\ufeff".encode(),
-       b"\r\r", b"#", b"-", b"/", b".", b",", b"{", b"}", b"_", b"=", b"0", b"  "]
+ODD = [b"\0", b"\r", b"\t", b"\x0b", b"\x7f", b"\x80", b"\xa0", b"\xff", b"\r\r", b"#", b"-", b"/", b".", b",", b"{",
+       b"}", b"_", b"=", b"0", b"  ", *(letter.encode() for letter in ("é", "\u2028", "\ufeff"))]
 
 
 class Script(NamedTuple):

@@ -1,9 +1,9 @@
 """Refuses each growth of memory in turn, of each line of a script, of its log and of a team.
 
-    tools/refuse-growths                 the worked scripts of cases/, their logs, some of their teams and some growths of
-                                         edits that threads decide: a part of the gate
-    tools/refuse-growths --all           all of them
-    tools/refuse-growths [--all] PATH..  cases, or folders of them
+    tools/refuse-growths                   the worked scripts of cases/, their logs, some growths of their teams and of
+                                           edits that threads decide: a part of the gate
+    tools/refuse-growths --all             all growths of these
+    tools/refuse-growths [--all] PATH..    those of cases, or folders of them
 
 Of each line on the program and on the three machines the first allocation is refused, then the second, until a run
 meets none. Each time the line is answered as its case wants it, or `refused 20 memory`, and so only where an
@@ -79,7 +79,8 @@ def questions(lines: Iterable[bytes]) -> bytes:
     """All that can be asked of the network that the lines make."""
     words = [line.decode("latin-1").split() for line in lines]
     nodes = list(dict.fromkeys(one[1] for one in words if one[:1] in (["router"], ["virtual"]) and len(one) == 3))
-    ends = {pair for one in words if one[:1] == ["join"] and len(one) == 3 for pair in (tuple(one[1:]), tuple(one[:0:-1]))}
+    joins = [one[1:] for one in words if one[:1] == ["join"] and len(one) == 3]
+    ends = {pair for one, other in joins for pair in ((one, other), (other, one))}
     known = list(dict.fromkeys(w for one in words for w in one if "/" in w))
     asked = [question for node in nodes for question in asked_of(node, nodes, known)]
     asked += ["%s %s %s" % (kind, *pair) for pair in sorted(ends) for kind in ("in", "out", "queue")]
@@ -212,7 +213,7 @@ class Replay:
 # A team
 
 def team_faults(refusing: Refuser, case: Case, step: int, first: int) -> Came:
-    """What is wrong where an allocation is refused of a team whose one engineer has the script: each so many of them."""
+    """What is wrong where an allocation is refused, each so many, of a team whose one engineer has the script."""
     text = b"".join(case.lines).decode("latin-1")
     with tempfile.TemporaryDirectory() as folder:
         files = team_logs.written(folder, [text])

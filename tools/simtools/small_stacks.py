@@ -1,10 +1,10 @@
 """Runs bgpsim where the stack, or all memory, is small: it has to do its work, or to end with `memory`.
 
-    tools/small-stacks [--stack KB]     a part of the gate: with so many KB of stack (128) `script`, `replay` and `team` do
-                                        all that they do with more: long lines, long logs, edits that threads decide,
-                                        64 workers. And with less and less memory for all, a team of 64 workers, and a
-                                        script, are as ever or end with `memory` and status 5
-    tools/small-stacks --least          tells the least stack, in KB, in which each of these runs
+    tools/small-stacks [--stack KB]    a part of the gate: with so many KB of stack (128) `script`, `replay` and `team`
+                                       do all that they do with more: long lines, long logs, edits that threads decide,
+                                       64 workers. And with less and less memory for all a team of 64 workers is as ever
+                                       or ends with `memory` and status 5
+    tools/small-stacks --least         tells the least stack, in KB, in which each of the first runs
 
 What ends otherwise, as by a fault of memory, is told. The last line is `N passed, M failed`. PROGRAM= is another
 program than crates/bgpsim/out/bgpsim.
@@ -26,11 +26,12 @@ STACK = 128
 SIZES = range(20_000, 48_000, 500)
 # As much stack as is tried for the least; no run needs more.
 MOST = 16_384
-CASES = ("examples/tour", "cases/lines/65536-bytes-line-feed", "cases/lines/65536-bytes-no-end", "cases/logs/a-whole-tour",
-         "cases/logs/reply-of-1048576-bytes", "cases/logs/reply-of-1048577-bytes", "cases/threads/rules-over-2100-cells",
-         "cases/threads/trees-of-840-routers", "cases/command-line/help-of-team", "cases/command-line/team-of-65-files")
-NETWORK = ("router 1.0.0.1 1", "router 2.0.0.2 2", "router 3.0.0.1 3", "link 1.0.0.1 2.0.0.2 5", "link 1.0.0.1 3.0.0.1 5",
-           "join 1.0.0.1 2.0.0.2", "join 1.0.0.1 3.0.0.1", "origin 1.0.0.1 10.0.0.0/8")
+CASES = ("examples/tour", "cases/lines/65536-bytes-line-feed", "cases/lines/65536-bytes-no-end",
+         "cases/logs/a-whole-tour", "cases/logs/reply-of-1048576-bytes", "cases/logs/reply-of-1048577-bytes",
+         "cases/threads/rules-over-2100-cells", "cases/threads/trees-of-840-routers", "cases/command-line/help-of-team",
+         "cases/command-line/team-of-65-files")
+NETWORK = ("router 1.0.0.1 1", "router 2.0.0.2 2", "router 3.0.0.1 3", "link 1.0.0.1 2.0.0.2 5",
+           "link 1.0.0.1 3.0.0.1 5", "join 1.0.0.1 2.0.0.2", "join 1.0.0.1 3.0.0.1", "origin 1.0.0.1 10.0.0.0/8")
 METRICS = 1_000
 Limit = Callable[[], None]
 
@@ -113,16 +114,23 @@ def wrong_end(ran: Ran) -> Optional[str]:
 def little_memory(folder: str) -> Iterator[Work]:
     """Less and less memory for all: a team of four engineers and 64 workers."""
     files = team_logs.written(folder, metrics())
-    for size in SIZES:
-        yield Work("a team of 64 workers in %d KB of memory" % size,
-                   lambda limit, size=size: team_logs.team(  # type: ignore[misc]
-                       files, 64, preexec_fn=limited(resource.RLIMIT_AS, size * KB)), wrong_end)
+
+    def within(size: int) -> Work:
+        # Whatever stack the others have, this has as much as is usual.
+        limit = limited(resource.RLIMIT_AS, size * KB)
+        return Work("a team of 64 workers in %d KB of memory" % size,
+                    lambda _: team_logs.team(files, 64, preexec_fn=limit), wrong_end)
+
+    yield from map(within, SIZES)
 
 
 # All of it
 
 def tried(works: Sequence[Work], limit: Limit) -> Iterator[Optional[str]]:
-    return side_by_side(lambda work: work.wrong(work.run(limit)), works)
+    def one(work: Work) -> Optional[str]:
+        return work.wrong(work.run(limit))
+
+    return side_by_side(one, works)
 
 
 def try_all(size: int) -> int:

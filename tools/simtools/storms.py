@@ -32,8 +32,9 @@ def refused_lines(made: settling_networks.Script) -> List[str]:
     """Commands that the machine refuses, whenever they come once the network stands."""
     one, other = made.externals[0]
     peer, router, asn = made.peers[0]
-    return ["router %s 1" % one, "link %s %s 1" % (one, one), "link %s %s 1" % (one, other), "join %s %s" % (one, other),
-            "metric %s 250.0.0.1 7" % one, "client %s %s on" % (one, other), "noorigin %s 250.0.0.0/8" % one,
+    return ["router %s 1" % one, "link %s %s 1" % (one, one), "link %s %s 1" % (one, other),
+            "join %s %s" % (one, other), "client %s %s on" % (one, other), "metric %s 250.0.0.1 7" % one,
+            "noorigin %s 250.0.0.0/8" % one,
             "routes " + peer, "feed %s %s update 10.1.0.0/16 %d igp -" % (peer, router, asn + 1),
             "feed %s %s update 10.1.0.0/16 %s igp -" % (peer, router, ",".join(256 * [str(asn)])),
             "rule %s %s in any permit prepend=1" % (router, peer), "origin %s 10.1.0.0/16" % peer,
@@ -108,7 +109,8 @@ def other_end(log: str, net: model.Net) -> Optional[str]:
     script = "".join(line + "\n" for line in calls + asked).encode("latin-1")
     answered = run([programs.bgpsim(), "script"], script).out.decode("latin-1").split("\n")[:-1]
     wanted = [reply for question in asked for reply in model.answer(net, question)]
-    return None if answered[-len(wanted):] == wanted else "what can be asked at its end is answered otherwise by the model"
+    is_so = answered[-len(wanted):] == wanted
+    return None if is_so else "what can be asked at its end is answered otherwise by the model"
 
 
 def lost(storm: Storm, log: str, net: model.Net) -> Optional[str]:
@@ -125,8 +127,8 @@ def of_seed(seed: int) -> Optional[str]:
         files = team_logs.written(folder, storm.texts)
         ran = team_logs.team(files, storm.workers, storm.turns())
     log = ran.out.decode("latin-1")
-    return team_logs.wrong(storm.texts, storm.workers, ran, reading=reading) or lost(storm, log, reading.net) or other_end(
-        log, reading.net)
+    return (team_logs.wrong(storm.texts, storm.workers, ran, reading=reading) or lost(storm, log, reading.net)
+            or other_end(log, reading.net))
 
 
 def storm(seeds: range) -> int:

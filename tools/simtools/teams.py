@@ -5,12 +5,13 @@
                                                  and `bgpsim replay` find to agree; each engineer's calls in it have to
                                                  be the commands of the file, in order; the workers' are deliveries; and
                                                  each line that spells no command has to be told, in order
-    tools/teams storm [--teams N] [--seed S]     N storms (20), of the seeds from S (1) on: one engineer gives a link 200
-                                                 metrics, one stops and starts a session, one adds and clears rules, and
-                                                 mostly one tells routes of virtual peers, with lines between that are
-                                                 refused or spell nothing, against 1, 2, 8 or 64 workers. Beside what
-                                                 `agree` asks, no message is left where workers had turns for it, and
-                                                 the calls of the log, given to `bgpsim script`, come to the model's end
+    tools/teams storm [--teams N] [--seed S]     N storms (20), of the seeds from S (1) on: one engineer gives a link
+                                                 200 metrics, one stops and starts a session, one adds and clears
+                                                 rules, and mostly one tells routes of virtual peers, with lines
+                                                 between that are refused or spell nothing, against 1, 2, 8 or 64
+                                                 workers. Beside what `agree` asks, no message is left where workers
+                                                 had turns for it, and the calls of the log, given to `bgpsim script`,
+                                                 come to the model's end
     tools/teams faults                           a full device, threads that cannot be started, each allocation refused
                                                  in turn, and long logs, whose text several threads make; it needs cc
 
