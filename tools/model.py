@@ -142,6 +142,7 @@ class Net:
         self.received = {}   # (to, prefix, from): attributes
         self.queues = {}     # (from, to): list
         self.trees = {}
+        self.offered = {}    # what was offered after the last step
 
     # what follows from the configuration
 
@@ -309,14 +310,14 @@ class Net:
                             found[s, t, p] = a
         return found
 
-    def send(self, before):
-        after = self.offers()
+    def send(self):
+        before, after = self.offered, self.offers()
         for s, t, p in sorted(set(before) | set(after)):
             if before.get((s, t, p)) != after.get((s, t, p)) and self.up(s, t):
                 self.queues.setdefault((s, t), []).append((p, after.get((s, t, p))))
+        self.offered = after
 
     def edit(self, change):
-        before = self.offers()
         change()
         self.trees = {}
         for key in self.sessions:
@@ -326,7 +327,7 @@ class Net:
                 self.queues.pop((b, a), None)
                 for k in [k for k in self.received if (k[0], k[2]) in ((a, b), (b, a))]:
                     del self.received[k]
-        self.send(before)
+        self.send()
 
 
 def held(p, b):
@@ -525,13 +526,12 @@ def run(net, w, v):
         net.queues.setdefault((v[0], v[1]), []).append((v[2], a))
     elif w == "deliver":
         p, a = net.queues[v[0], v[1]][0]
-        before = net.offers()
         net.queues[v[0], v[1]].pop(0)
         if a is None:
             net.received.pop((v[1], p, v[0]), None)
         else:
             net.received[v[1], p, v[0]] = a
-        net.send(before)
+        net.send()
         return ["took %s %s" % (show_prefix(p), "withdraw" if a is None else "update")]
     elif w == "routes":
         chosen = [(p, net.best(v[0], p)) for p in net.prefixes(v[0])]
@@ -576,17 +576,29 @@ def answer(net, line):
         return ["refused %d %s" % (r.number, NAMES[r.number])]
 
 
-def main():
+class ReadFault(Exception):
+    pass
+
+
+def play(text):
+    """The lines of the replies to a script, one after the other; ReadFault with the number of a line that is too long, or one too many."""
     net = Net()
     # A carriage return belongs to the end of a line only before a line feed, which the last line lacks.
-    *ended, last = sys.stdin.buffer.read().decode("latin-1").split("\n")
+    *ended, last = text.decode("latin-1").split("\n")
     lines = [line[:-1] if line.endswith("\r") else line for line in ended] + ([last] if last else [])
     for number, line in enumerate(lines, 1):
         if len(line) > 65536 or number > 1000000:
-            print("read fault at line %d" % number, file=sys.stderr)
-            return 3
-        for reply in answer(net, line):
+            raise ReadFault(number)
+        yield from answer(net, line)
+
+
+def main():
+    try:
+        for reply in play(sys.stdin.buffer.read()):
             print(reply)
+    except ReadFault as fault:
+        print("read fault at line %d" % fault.args[0], file=sys.stderr)
+        return 3
     return 0
 
 

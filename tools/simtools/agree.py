@@ -53,12 +53,12 @@ def answer(who: str, words: Words, lines: List[bytes], earlier: int) -> List[str
     return said
 
 
-def account(seed: int, words: Words, lines: List[bytes]) -> str:
+def account(name: str, words: Words, lines: List[bytes]) -> str:
     """What is told of a script that differs."""
     number = first_difference(words, lines)
     earlier = len(played(MODEL, lines[:number - 1]).out)
     line = lines[number - 1].decode("latin-1").rstrip("\n")[:160]
-    said = ["seed %d, %s, line %d: %s" % (seed, words[-1], number, line)]
+    said = ["%s, line %d: %s" % (name, number, line)]
     said += answer("model", MODEL, lines[:number], earlier) + answer(words[-1], words, lines[:number], earlier)
     return "\n".join(said)
 
@@ -70,7 +70,7 @@ def compare(against: List[Words], generator: Any, seed: int) -> Tuple[int, List[
     for words in against:
         try:
             if played(words, lines) != want:
-                told.append(account(seed, words, lines))
+                told.append(account("seed %d, %s" % (seed, words[-1]), words, lines))
         except subprocess.TimeoutExpired:
             told.append("seed %d, %s: not ended after %d seconds" % (seed, words[-1], SECONDS))
     return len(lines), told

@@ -23,26 +23,12 @@ from . import commands
 from .networks import prefix, virtual_peer
 
 
-class Net(model.Net):  # type: ignore[misc]
-    """Keeps the offers after an event for before the next one."""
-
-    kept = last = None
-
-    def offers(self) -> Any:
-        self.last, self.kept = self.kept or super().offers(), None
-        return self.last
-
-    def send(self, before: Any) -> None:
-        super().send(before)
-        self.kept = self.last
-
-
 class Load:
     """A script in which so many prefixes of each kind are told, and a network for each kind."""
 
     def __init__(self, sizes: List[int]):
         self.sizes = sizes
-        self.nets = [Net() for _ in sizes]
+        self.nets = [model.Net() for _ in sizes]
         self.lines: List[str] = []
 
     def do(self, *lines: str) -> None:
@@ -69,7 +55,7 @@ class Load:
             self.lines += [line] * sum(delivered(net, ends, line) * size for net, size in zip(self.nets, self.sizes))
 
 
-def delivered(net: Net, ends: Tuple[int, int], line: str) -> int:
+def delivered(net: Any, ends: Tuple[int, int], line: str) -> int:
     """Delivers what waits in a direction; how many messages."""
     waiting = len(net.queues.get(ends, []))
     for _ in range(waiting):

@@ -22,7 +22,7 @@ import collections
 import random
 import re
 import sys
-from typing import Any, Iterator, List, Sequence, Tuple
+from typing import Any, Iterator, List, Optional, Sequence, Tuple
 
 import model
 
@@ -120,9 +120,9 @@ class Reading:
         return True
 
 
-def verdict(log: str) -> str:
-    """What the log is found to be."""
-    reading = Reading()
+def verdict(log: str, before: Optional[Reading] = None) -> str:
+    """What the log is found to be. With `before`, a reading that has read nothing, that is what reads it."""
+    reading = before or Reading()
     *lines, rest = log.split("\n")
     for number, line in enumerate(lines, 1):
         if number > MOST_LINES:

@@ -125,9 +125,10 @@ def difference(what: str, want: bytes, got: bytes) -> List[str]:
 
 
 def runs_of(case: pathlib.Path, machines: Sequence[str]) -> List[Run]:
-    """The runs of the case: by the program, and on the machines where it is a script; of threads, on one processor
-    too."""
-    by: List[Optional[str]] = [None, *(machines if words_of(case) == [b"script"] else ())]
+    """The runs of the case: by the program, and on the machines where it is a script whose words no file says; of
+    threads, on one processor too."""
+    is_for_all = words_of(case) == [b"script"] and read(case, ".args") is None
+    by: List[Optional[str]] = [None, *(machines if is_for_all else ())]
     alone = (False, True) if case.parent.name == "threads" else (False,)
     return [Run(case, machine, is_alone) for is_alone in alone for machine in by]
 

@@ -5,10 +5,17 @@
                                                  and `bgpsim replay` find to agree; each engineer's calls in it have to
                                                  be the commands of the file, in order; the workers' are deliveries; and
                                                  each line that spells no command has to be told, in order
+    tools/teams storm [--teams N] [--seed S]     N storms (20), of the seeds from S (1) on: one engineer gives a link
+                                                 200 metrics, one stops and starts a session, one adds and clears
+                                                 rules, and mostly one tells routes of virtual peers, with lines
+                                                 between that are refused or spell nothing, against 1, 2, 8 or 64
+                                                 workers. Beside what `agree` asks, no message is left where workers
+                                                 had turns for it, and the calls of the log, given to `bgpsim script`,
+                                                 come to the model's end
     tools/teams faults                           a full device, threads that cannot be started, each allocation refused
                                                  in turn, and long logs, whose text several threads make; it needs cc
 
-`agree` ends with `N teams, K differ`, and with exit 1 where one differs; `faults`, a part of the gate, with
+`agree` ends with `N teams, K differ`, and with exit 1 where one differs; `storm` and `faults`, parts of the gate, with
 `N passed, M failed`. PROGRAM= is another program than crates/bgpsim/out/bgpsim.
 """
 from __future__ import annotations
@@ -17,47 +24,25 @@ import collections
 import os
 import pathlib
 import random
-import re
 import resource
 import tempfile
 from typing import Any, Dict, Iterator, List, Optional, Sequence, Tuple
 
-from . import commands, logs, programs, random_scripts
-from .language import LONGEST_COMMAND
+from . import commands, logs, programs, random_scripts, storms
 from .programs import TOP
 from .refusing import Refuser, allocations, refuser
-from .running import Ran, run, side_by_side
+from .running import Ran, side_by_side
+from .team_logs import TOLD, lines_of, team, written, wrong
 
-TOLD = re.compile(r"file ([0-9]+) line ([0-9]+): refused (1 syntax|20 memory)")
-CALL = re.compile(r"@([0-9]+) (.*)")
 MISTAKES = ("", "# nothing", "router", "routes 1.0.0.300", "quiet now", "  quiet ", "quiet\r",
             "feed 7.0.0.1 9.0.0.1 update 10.0.0.0/8 7 igp - comm=6,5")
 # A user of whom no other process is.
 NOBODY = 61_234
-Numbers = Dict[int, List[int]]
 # What was tried, whether it went well, and what is told where it did not.
 Tried = Tuple[str, bool, Any]
 
 
-def team(files: List[str], workers: int, turns: Optional[int] = None, **more: Any) -> Ran:
-    """What a team ends with."""
-    words = ["bgpsim", "team", "--workers", str(workers)] + (["--turns", str(turns)] if turns else []) + files
-    return run(words, executable=programs.bgpsim(), **more)
-
-
-def lines_of(stream: bytes) -> List[str]:
-    return stream.decode("latin-1").splitlines()
-
-
-def written(folder: str, texts: List[str]) -> List[str]:
-    """The names of files with these texts."""
-    names = [os.path.join(folder, "%d.engineer" % number) for number in range(1, len(texts) + 1)]
-    for name, text in zip(names, texts):
-        pathlib.Path(name).write_bytes(text.encode("latin-1"))
-    return names
-
-
-# Whether a log is the team's
+# Teams that are drawn
 
 def dealt(script: str, engineers: int, draw: random.Random) -> List[str]:
     """The lines of the script, dealt out to so many engineers, some at a time; now and then one that spells nothing."""
@@ -70,78 +55,6 @@ def dealt(script: str, engineers: int, draw: random.Random) -> List[str]:
         if draw.random() < 0.05:
             texts[who].append(draw.choice(MISTAKES))
     return ["\n".join(lines) + draw.choice(("", "\n")) for lines in texts]
-
-
-def commands_of(text: str) -> Tuple[List[str], List[int]]:
-    """The commands of a script, and which of its lines spell none."""
-    found: List[str] = []
-    mistakes: List[int] = []
-    lines = text.split("\n")
-    for number, line in enumerate(lines[:-1] if lines[-1] == "" else lines, 1):
-        whole = line[:-1] if line.endswith("\r") and number < len(lines) else line
-        words = [word for word in whole.split(" ") if word]
-        if not words or words[0].startswith("#"):
-            continue
-        if len(whole) <= LONGEST_COMMAND and logs.is_command(" ".join(words)):
-            found.append(" ".join(words))
-        else:
-            mistakes.append(number)
-    return found, mistakes
-
-
-def calls_by_seat(log: str) -> Dict[int, List[str]]:
-    """The calls of the log, by their seats."""
-    calls: Dict[int, List[str]] = collections.defaultdict(list)
-    for call in filter(None, map(CALL.fullmatch, log.split("\n"))):
-        calls[int(call[1])].append(call[2])
-    return calls
-
-
-def told_by_file(lines: List[str]) -> Tuple[Numbers, Optional[str]]:
-    """The lines that were told to spell no command, by their files; and what else was told, if anything was."""
-    told: Numbers = collections.defaultdict(list)
-    for line in lines:
-        one = TOLD.fullmatch(line)
-        if not one or one[3] != "1 syntax":
-            return told, line
-        told[int(one[1])].append(int(one[2]))
-    return told, None
-
-
-def wrong_calls(texts: List[str], log: str, told: Numbers) -> Optional[str]:
-    """What is wrong with the calls of the engineers, and with what they were told, if anything is."""
-    calls = calls_by_seat(log)
-    for number, text in enumerate(texts):
-        found, mistakes = commands_of(text)
-        if calls[number] != found:
-            return "the calls of seat %d are not the commands of its file" % number
-        if told[number + 1] != mistakes:
-            return "of file %d it told the lines %s, and not %s" % (number + 1, told[number + 1], mistakes)
-    return None
-
-
-def strange_seats(log: str, engineers: int, workers: int) -> List[int]:
-    """The seats that no team of so many has, and those of workers with other calls than deliveries."""
-    return [seat for seat, calls in calls_by_seat(log).items() if seat >= engineers + workers
-            or seat >= engineers and not all(call.startswith("deliver ") for call in calls)]
-
-
-def wrong(texts: List[str], workers: int, ran: Ran) -> Optional[str]:
-    """What is wrong with the team's log and with what it told, if anything is; with ample memory."""
-    log = ran.out.decode("latin-1")
-    if ran.status != 0:
-        return "status %d: %s" % (ran.status, ran.err.decode("latin-1"))
-    if not log.startswith(logs.HEADERS[-1] + "\n"):
-        return "its header: %r" % log.split("\n", 1)[0]
-    by_model, by_program = logs.verdict(log), logs.replayed(log)
-    if not by_model.startswith("ok ") or by_model != by_program:
-        return "its log: %s, and by the model %s" % (by_program, by_model)
-    told, other = told_by_file(lines_of(ran.err))
-    if other is not None:
-        return "it told %r" % other
-    strange = strange_seats(log, len(texts), workers)
-    return wrong_calls(texts, log, told) or (
-        "seats %s made other calls than deliveries" % strange if strange else None)
 
 
 def of_seed(seed: int) -> Optional[str]:
@@ -260,10 +173,13 @@ def try_faults() -> int:
 def main(words: Sequence[str]) -> int:
     """The command."""
     asked = commands.parser(__doc__)
-    asked.add_argument("what", choices=("agree", "faults"))
+    asked.add_argument("what", choices=("agree", "faults", "storm"))
     asked.add_argument("--scripts", type=commands.number, default=100, metavar="N")
+    asked.add_argument("--teams", type=commands.number, default=20, metavar="N")
     asked.add_argument("--seed", type=int, default=1, metavar="S")
     given = asked.parse_args(words)
+    if given.what == "storm":
+        return commands.as_part(lambda: storms.storm(range(given.seed, given.seed + given.teams)))
     if given.what == "agree":
         return agree(range(given.seed, given.seed + given.scripts))
     return commands.as_part(try_faults)
