@@ -13,7 +13,7 @@ pub moved_trees-requires-clause-were : goal.moved_trees-requires-clause-were
 moved_trees-requires-clause-were g c = subst (λ es. WereTrees c.args.change.now c.args.graph.now.nodes c.args.graph.now.edges es) (sym c.chunks.ensures) c.requires.were
 
 pub moved_trees-requires-clause-ordered : goal.moved_trees-requires-clause-ordered
-moved_trees-requires-clause-ordered g c _ = subst (λ es. IsStrictlySortedBy addr_cmp (keys_of es)) (sym c.chunks.ensures) c.order.ensures
+moved_trees-requires-clause-ordered g c = subst (λ es. IsStrictlySortedBy addr_cmp (keys_of es)) (sym c.chunks.ensures) c.order.ensures
 
 pub returns-clause-trees : goal.returns-clause-trees
 returns-clause-trees g c r =
