@@ -69,11 +69,13 @@ none_left L engineers done (engineer ∷ left) played parts play none = absurd n
 
 -- all are back
 pub coming_none : (L : Type 0) (engineers : List Engineering) (before back : List SeatBook) → Coming {L = L} engineers [] before back
-    → (played : List SeatBook) × (back ≡ before ++ played) × AllZip HasPlayed engineers played
-coming_none L engineers before back so = (so.played, so.behind, none_left L engineers so.done so.left so.played so.parts so.play so.to_play)
-
--- those of the workers, and then those of the engineers
-pub back_of : (shards turns : ℕ) (engineers : List Engineering) (workers worked played seats : List SeatBook) → AllWorked shards turns workers worked → seats ≡ worked ++ played → AllZip HasPlayed engineers played
-    → AreBack engineers workers seats
-back_of shards turns engineers workers worked played seats work together play =
-    record { worked = worked; played = played; together = together; shards = shards; turns = turns; work = work; play = play }
+    → (shards turns : ℕ) (workers : List SeatBook) → AllWorked shards turns workers before → AreBack engineers workers back
+coming_none L engineers before back so shards turns workers work = record {
+  worked = before;
+  played = so.played;
+  together = so.behind;
+  shards = shards;
+  turns = turns;
+  work = work;
+  play = none_left L engineers so.done so.left so.played so.parts so.play so.to_play;
+}

@@ -1,7 +1,13 @@
 use Rattle.std.proofs.Common.{rules, ◌≡◌, ◌∷◌, ◌++◌, [], sym, subst, ◌∙◌}
 use Rattle.std.proofs.lemmas.List.{nil_from_length}
-use Rattle.team_run.proofs.Crews.{Coming, coming_next, coming_none}
+use Rattle.team_run.specs.EngineerThreads.{AreToPlay}
+use Rattle.team_run.proofs.Crews.{Coming, coming_all, coming_next, coming_none}
 use Rattle.team_run.proofs.crew.join_all.Goals as goal
+
+pub loop-thread-init : goal.loop-thread-init
+loop-thread-init g c =
+    let all : c.args.threads.items ≡ c.into_iter-thread-iterator.result.rest.items = search rules in
+    (tt, tt, λ engineers to_play. coming_all engineers _ c.args.seats.items (subst (λ ts. AreToPlay engineers ts) all to_play))
 
 pub loop-thread-preserved : goal.loop-thread-preserved
 loop-thread-preserved g c =
@@ -20,7 +26,7 @@ loop-thread-preserved g c =
     )
 
 pub returns : goal.returns
-returns g c = λ engineers all.
+returns g c = λ shards turns workers engineers work all.
     let rest = c.loop-thread.thread-iterator.rest in
     let none : rest.items ≡ [] = nil_from_length rest.items (sym rest.ok.0 ∙ c.in-None.ensures.steps.0) in
-    coming_none _ engineers c.args.seats.items c.loop-thread.seats.items (subst (λ ts. Coming engineers ts c.args.seats.items c.loop-thread.seats.items) none (c.loop-thread.invariant.2 engineers all))
+    coming_none _ engineers c.args.seats.items c.loop-thread.seats.items (subst (λ ts. Coming engineers ts c.args.seats.items c.loop-thread.seats.items) none (c.loop-thread.invariant.2 engineers all)) shards turns workers work
