@@ -1,6 +1,6 @@
 -- The threads of engineers, and the seats of a team that come back.
 use Rattle.std.proofs.Common.{◌≡◌, ℕ, List, [], ◌∷◌, ◌++◌, refl, sym, ap, subst, ◌∙◌, append_assoc, append-nil}
-use Rattle.core.specs.declared.thread.PromisedHandle.{PromisedHandle}
+use Rattle.std.specs.declared.thread.PromisedHandle.{PromisedHandle}
 use Rattle.std.specs.List.{AllZip}
 use Rattle.room.specs.Books.{SeatBook}
 use Rattle.desk.specs.Desks.{AllWorked}
@@ -15,12 +15,12 @@ zip_push R [] (b ∷ ys) x y all one = absurd all
 zip_push R (a ∷ xs) [] x y all one = absurd all
 
 -- one thread more
-pub to_play_push : (engineers : List Engineering) (threads : List (PromisedHandle SeatBook HasCalledScript)) (engineer : Engineering) (thread : PromisedHandle SeatBook HasCalledScript)
+pub to_play_push : {L : Type 0} (engineers : List Engineering) (threads : List (PromisedHandle SeatBook (HasCalledScript L))) (engineer : Engineering) (thread : PromisedHandle SeatBook (HasCalledScript L))
     → AreToPlay engineers threads → IsToPlay engineer thread → AreToPlay (engineers ++ engineer ∷ []) (threads ++ thread ∷ [])
 to_play_push engineers threads engineer thread all one = zip_push IsToPlay engineers threads engineer thread all one
 
 -- the first engineers have ended, and their seats are back, behind others; the other engineers are to come
-pub record Coming (engineers : List Engineering) (threads : List (PromisedHandle SeatBook HasCalledScript)) (before back : List SeatBook) : Type 0 where
+pub record Coming {L : Type 0} (engineers : List Engineering) (threads : List (PromisedHandle SeatBook (HasCalledScript L))) (before back : List SeatBook) : Type 0 where
   pub done : List Engineering
   pub left : List Engineering
   pub played : List SeatBook
@@ -29,7 +29,7 @@ pub record Coming (engineers : List Engineering) (threads : List (PromisedHandle
   pub play : AllZip HasPlayed done played
   pub to_play : AreToPlay left threads
 
-pub coming_all : (engineers : List Engineering) (threads : List (PromisedHandle SeatBook HasCalledScript)) (before : List SeatBook) → AreToPlay engineers threads → Coming engineers threads before before
+pub coming_all : {L : Type 0} (engineers : List Engineering) (threads : List (PromisedHandle SeatBook (HasCalledScript L))) (before : List SeatBook) → AreToPlay engineers threads → Coming engineers threads before before
 coming_all engineers threads before all = record {
   done = [];
   left = engineers;
@@ -40,7 +40,7 @@ coming_all engineers threads before all = record {
   to_play = all;
 }
 
-next_of : (engineers done left : List Engineering) (thread : PromisedHandle SeatBook HasCalledScript) (threads : List (PromisedHandle SeatBook HasCalledScript)) (before back played : List SeatBook) (seat : SeatBook)
+next_of : {L : Type 0} (engineers done left : List Engineering) (thread : PromisedHandle SeatBook (HasCalledScript L)) (threads : List (PromisedHandle SeatBook (HasCalledScript L))) (before back played : List SeatBook) (seat : SeatBook)
     → engineers ≡ done ++ left → back ≡ before ++ played → AllZip HasPlayed done played → AreToPlay left (thread ∷ threads) → HasPlayed thread.promise.0.value seat
     → Coming engineers threads before (back ++ seat ∷ [])
 next_of engineers done [] thread threads before back played seat parts behind play all joined = absurd all
@@ -58,22 +58,24 @@ next_of engineers done (engineer ∷ left) thread threads before back played sea
     }
 
 -- one seat more is back
-pub coming_next : (engineers : List Engineering) (thread : PromisedHandle SeatBook HasCalledScript) (threads : List (PromisedHandle SeatBook HasCalledScript)) (before back : List SeatBook) (seat : SeatBook)
+pub coming_next : {L : Type 0} (engineers : List Engineering) (thread : PromisedHandle SeatBook (HasCalledScript L)) (threads : List (PromisedHandle SeatBook (HasCalledScript L))) (before back : List SeatBook) (seat : SeatBook)
     → Coming engineers (thread ∷ threads) before back → HasPlayed thread.promise.0.value seat → Coming engineers threads before (back ++ seat ∷ [])
 coming_next engineers thread threads before back seat so joined =
     next_of engineers so.done so.left thread threads before back so.played seat so.parts so.behind so.play so.to_play joined
 
-none_left : (engineers done left : List Engineering) (played : List SeatBook) → engineers ≡ done ++ left → AllZip HasPlayed done played → AreToPlay left [] → AllZip HasPlayed engineers played
-none_left engineers done [] played parts play none = subst (λ es. AllZip HasPlayed es played) (sym (parts ∙ append-nil done)) play
-none_left engineers done (engineer ∷ left) played parts play none = absurd none
+none_left : (L : Type 0) (engineers done left : List Engineering) (played : List SeatBook) → engineers ≡ done ++ left → AllZip HasPlayed done played → AreToPlay {L = L} left [] → AllZip HasPlayed engineers played
+none_left L engineers done [] played parts play none = subst (λ es. AllZip HasPlayed es played) (sym (parts ∙ append-nil done)) play
+none_left L engineers done (engineer ∷ left) played parts play none = absurd none
 
 -- all are back
-pub coming_none : (engineers : List Engineering) (before back : List SeatBook) → Coming engineers [] before back
-    → (played : List SeatBook) × (back ≡ before ++ played) × AllZip HasPlayed engineers played
-coming_none engineers before back so = (so.played, so.behind, none_left engineers so.done so.left so.played so.parts so.play so.to_play)
-
--- those of the workers, and then those of the engineers
-pub back_of : (shards turns : ℕ) (engineers : List Engineering) (workers worked played seats : List SeatBook) → AllWorked shards turns workers worked → seats ≡ worked ++ played → AllZip HasPlayed engineers played
-    → AreBack engineers workers seats
-back_of shards turns engineers workers worked played seats work together play =
-    record { worked = worked; played = played; together = together; shards = shards; turns = turns; work = work; play = play }
+pub coming_none : (L : Type 0) (engineers : List Engineering) (before back : List SeatBook) → Coming {L = L} engineers [] before back
+    → (shards turns : ℕ) (workers : List SeatBook) → AllWorked shards turns workers before → AreBack engineers workers back
+coming_none L engineers before back so shards turns workers work = record {
+  worked = before;
+  played = so.played;
+  together = so.behind;
+  shards = shards;
+  turns = turns;
+  work = work;
+  play = none_left L engineers so.done so.left so.played so.parts so.play so.to_play;
+}

@@ -1,7 +1,6 @@
 //! The threads of a team: one for each engineer, and those of the workers.
 
-ghost use Rattle.std.specs.Prelude.{◌≡◌, ◌≤◌, ◌++◌, List, [], vec_len, vec_capacity, IfOk};
-ghost use Rattle.std.specs.List.{AllZip};
+ghost use Rattle.std.specs.Prelude.{◌≡◌, ◌≤◌, ℕ, List, [], vec_len, vec_capacity, IfOk};
 ghost use Rattle.room.specs.Books.{SeatBook};
 ghost use Rattle.desk.specs.Desks.{AllWorked};
 ghost use Rattle.team_run.specs.EngineerThreads.{AreToPlay, IsToPlay};
@@ -62,14 +61,15 @@ impl<L: Ledger> Promise<Seat<L>> for HasCalledScript<L> {
 /// The thread of an engineer.
 type EngineerThread<L> = PromisedHandle<Seat<L>, HasCalledScript<L>>;
 
-/// The seats of engineers, once all have ended, behind others.
+/// The seats of engineers, once all have ended, behind those of the workers.
 fn join_all<L: Ledger, R: Threads>(
     rt: &R,
     threads: Vec<EngineerThread<L>>,
     mut seats: Vec<Seat<L>>,
 ) -> Result<Vec<Seat<L>>, AllocError>
-    ensures { IfOk result (λ back. (engineers : List Engineering) → AreToPlay engineers threads.items →
-        (played : List SeatBook) × (back.items ≡ seats.items ++ played) × AllZip HasPlayed engineers played) }
+    ensures { IfOk result (λ back. (shards turns : ℕ) (workers : List SeatBook) (engineers : List Engineering) →
+        AllWorked shards turns workers seats.items → AreToPlay engineers threads.items →
+        AreBack engineers workers back.items) }
 {
     for thread in threads {
         seats.push(thread.join(rt))?;
@@ -118,18 +118,31 @@ impl<
     ) -> Result<Vec<Seat<L>>, AllocError>
         ensures { IfOk result (λ seats. AreBack engineers.items workers.items seats.items) }
     {
-        let threads = Vec::with_capacity(self.alloc, engineers.len())?;
         thread::scope(
             thread::scope_env(),
             self.rt,
             |scope| -> Result<Vec<Seat<L>>, AllocError>
                 ensures { IfOk result (λ seats. AreBack engineers.items workers.items seats.items) }
-            {
-                let threads = self.start_all(scope, engineers, threads);
-                let seats = self.work_all(workers);
-                join_all(self.rt, threads?, seats)
-            },
+            { self.run_within(scope, engineers, workers) },
         )
+    }
+
+    /// Starts the threads, those of the engineers in the scope, and waits for all.
+    fn run_within<'s, Q>(
+        &'s self,
+        scope: &'s Scope<'s, Q>,
+        engineers: Vec<Engineer<L>>,
+        workers: Vec<Seat<L>>,
+    ) -> Result<Vec<Seat<L>>, AllocError>
+        ensures { IfOk result (λ seats. AreBack engineers.items workers.items seats.items) }
+    {
+        let threads = Vec::with_capacity(self.alloc, engineers.len())?;
+        let started = self.start_all(scope, engineers, threads);
+        let seats = self.work_all(workers);
+        match started {
+            Ok(threads) => join_all(self.rt, threads, seats),
+            Err(error) => Err(error),
+        }
     }
 
     /// A thread for each engineer. Where one cannot be started the others are, and none is joined.
