@@ -84,7 +84,9 @@ class Commands(Case):
         self.assertEqual([pair for pair in named if not (TOP / pair[0]).exists()], [])
 
     def test_parts_of_the_gate_count_a_program_that_is_not_there_as_failed(self):
-        for call in ("run-cases cases/lines", "refuse-allocations cases/memory", "teams faults", "run-toolbox-tests"):
+        for call in ("run-cases cases/lines", "refuse-allocations cases/memory", "refuse-growths", "teams faults",
+                     "teams storm", "forged-logs", "hostile-scripts", "failing-streams", "small-stacks",
+                     "run-toolbox-tests"):
             with self.subTest(call=call):
                 name, *words = call.split()
                 ran = command("tools/" + name, *words, PROGRAM=NOWHERE)
@@ -95,7 +97,7 @@ class Commands(Case):
         for call in ("tools/agree --scripts 1", "tools/logs agree --scripts 1", "tools/logs refuse",
                      "tools/teams agree --scripts 1", "tools/refuse-allocations examples/hijack.bgp",
                      "tools/real-routers examples/hijack.bgp", "bench/loads table 1", "bench/edits mesh 1",
-                     "bench/teams reflect 1"):
+                     "bench/teams reflect 1", "tools/growth", "tools/small-stacks --least"):
             with self.subTest(call=call):
                 ran = command(*call.split(), PROGRAM=NOWHERE)
                 self.assertEqual((ran.returncode, ran.stdout, ran.stderr), (2, "", NOT_THERE))

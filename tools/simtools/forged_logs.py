@@ -24,8 +24,8 @@ LINES = 30
 BYTES = "\n\r =@#-.,/0129 \x00\t\x7f\xffabc"
 LINES_MORE = ("", " ", "=", "= ", "= ok", "= end 0", "= end 1", "= yes", "= no", "= refused 1 syntax",
               "= refused 20 memory", "@0 quiet", "@00 quiet", "@256 quiet", "@0  quiet", "@0 # x", "@1 quiet\r",
-              "@0 router 1.0.0.1 1", "@0 med 1.0.0.1 always", "@0 deliver 1.0.0.1 2.0.0.1", "end", "end 0", "end 01", "#", "bgpsim log 1",
-              "bgpsim log 2", "@0 " + 4_089 * " " + "quiet", "@0 quiet" + 4_090 * " ",
+              "@0 router 1.0.0.1 1", "@0 med 1.0.0.1 always", "@0 deliver 1.0.0.1 2.0.0.1", "end", "end 0",
+              "end 01", "#", "bgpsim log 1", "bgpsim log 2", "@0 " + 4_089 * " " + "quiet", "@0 quiet" + 4_090 * " ",
               "@0 routes 1.0.0.1 " + 4_096 * "1", "= " + 70_000 * "x")
 Lines = List[str]
 Change = Callable[[random.Random, Lines], Lines]

@@ -102,8 +102,8 @@ ROWS: Sequence[Row] = (
     Row("a message that a question tells", queued, lambda n: 100 * n, (10, 30), None),
     Row("a cost that a metric moves, at one router towards another", lambda n: ring(40) + metrics(n),
         lambda n: 2 * n * 40 * 20, (5, 15), None),
-    Row("a router", routers, lambda n: n, (300, 600), (1_000, 4_000)),
-    Row("a link", links, lambda n: n, (200, 600), (1_000, 4_000)),
+    Row("a router", routers, lambda n: n, (300, 600), None),
+    Row("a link", links, lambda n: n, (200, 600), None),
     Row("a path of 255 AS numbers that no other route has", lambda n: star(0) + long_paths(n), lambda n: n, (50, 150),
         (500, 2_500)),
 )

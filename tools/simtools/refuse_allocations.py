@@ -2,7 +2,7 @@
 
     tools/refuse-allocations SCRIPT [LINES [STEP]]        after ./bgpsim has built the program; it needs cc
     tools/refuse-allocations FOLDER                       each script of the folder, on the program and on the three
-                                                          machines, as the gate does
+                                                          machines
 
 With LINES only those that the last so many lines make, which is what a long script wants; with STEP each so many of
 them. PROGRAM= is another program than crates/bgpsim/out/bgpsim.
