@@ -17,8 +17,8 @@ use std::io::Read;
 use std::thread::Threads;
 use watched::{Input, LineBuffer};
 
-/// Reads a log line by line into the buffer, runs each of its commands on the machine, which has done nothing yet, and compares each
-/// line of the reply. Ends at the first line that differs or is bad, and else at the end of the input.
+/// Reads a log line by line into the buffer, runs each of its commands on the machine, which has done nothing yet, and
+/// compares each line of the reply. Ends at the first line that differs or is bad, and else at the end of the input.
 ///
 /// It agrees just where the input is the log, of either version, of a legal history of so many calls, each command of
 /// at most 4,096 bytes, in at most 16,000,000 lines of at most 1,048,576 bytes each; unless the reader failed, or
