@@ -122,7 +122,14 @@ pub fn replayed<R: Threads + Sync>(rt: &R, alloc: Global, record: &Record) -> Op
     let log = output.into_inner();
     let mut machine: Sim<FilterCell, SortedTable<Cell<FilterCell>>> = Sim::new(alloc, None);
     let buffer = LineBuffer::new(alloc).ok()?;
-    let found = replay(rt, alloc, buffer, &mut Input::new(log.as_slice()), &mut machine).ok();
+    let found = replay(
+        rt,
+        alloc,
+        buffer,
+        &mut Input::new(log.as_slice()),
+        &mut machine,
+    )
+    .ok();
     drop(machine);
     found
 }

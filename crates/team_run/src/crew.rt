@@ -107,8 +107,8 @@ impl<
     E: Write + Send,
     R: Threads + Wait + Sync,
 > Crew<'a, 'e, S, T, L, E, R> {
-    /// Starts a thread for each engineer, and those of the workers, and waits for all. The seats of all come back, those
-    /// of the workers first. An engineer whose thread cannot be started has ended; this is want of memory, as is none
+    /// Starts a thread for each engineer, and those of the workers, and waits for all. The seats of all come back, of
+    /// the workers first. An engineer whose thread cannot be started has ended; this is want of memory, as is none
     /// for the threads or the seats. All threads are started from one frame, so that this thread's stack does not grow
     /// with their number.
     pub(crate) fn run(
