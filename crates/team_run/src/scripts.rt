@@ -190,15 +190,18 @@ fn read_on<F: Read>(
     Ok(count > 0)
 }
 
-/// All bytes that the reader has, where they are a script.
-fn read_whole<F: Read>(alloc: Global, reader: &mut Input<F>) -> Result<Script, Unread>
+/// All bytes that the reader has, where they are a script. They are read through the buffer.
+fn read_through<F: Read>(
+    alloc: Global,
+    reader: &mut Input<F>,
+    buffer: &mut [u8],
+) -> Result<Script, Unread>
+    requires { 0 < length buffer.old }
     ensures whole { IfOk result (λ script. IsWhole reader.old.remaining script) }
     ensures fit { IfOk result (λ script. IsFit script) }
     ensures fault { IfErr result (λ unread. unread ≡ Unread.Fault →
         (reader.new.failed ≡ true) ⊎ IsUnfit [] reader.old.remaining) }
 {
-    let mut room = vec![in alloc; 0u8; AT_A_TIME]?;
-    let buffer = room.as_mut_slice();
     let mut script = Vec::new(alloc);
     let mut measure = Measure::new();
     for _ in 0..u64::MAX {
@@ -212,6 +215,17 @@ fn read_whole<F: Read>(alloc: Global, reader: &mut Input<F>) -> Result<Script, U
     }
     // No memory has room for so many bytes.
     Err(Unread::Memory)
+}
+
+/// All bytes that the reader has, where they are a script.
+fn read_whole<F: Read>(alloc: Global, reader: &mut Input<F>) -> Result<Script, Unread>
+    ensures whole { IfOk result (λ script. IsWhole reader.old.remaining script) }
+    ensures fit { IfOk result (λ script. IsFit script) }
+    ensures fault { IfErr result (λ unread. unread ≡ Unread.Fault →
+        (reader.new.failed ≡ true) ⊎ IsUnfit [] reader.old.remaining) }
+{
+    let mut buffer = vec![in alloc; 0u8; AT_A_TIME]?;
+    read_through(alloc, reader, buffer.as_mut_slice())
 }
 
 /// The script of a file of this name that could be opened.

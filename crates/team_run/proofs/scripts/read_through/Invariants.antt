@@ -1,7 +1,7 @@
 use Rattle.std.proofs.Common.{◌<◌, length}
 use Rattle.std.specs.Io.KnownBytes.{Consumes}
 use Rattle.team_run.specs.Scripts.{IsMeasured}
-use Rattle.team_run.proofs.scripts.read_whole.Given as goal
+use Rattle.team_run.proofs.scripts.read_through.Given as goal
 
 -- the script so far is what was read, and it was measured
 abbrev pub invariant-loop : goal.invariant-loop

@@ -1,9 +1,9 @@
-use Rattle.std.proofs.Common.{inl, inr, ⊎_elim, sym, subst}
+use Rattle.std.proofs.Common.{arith, inl, inr, ⊎_elim, sym, subst}
 use Rattle.std.specs.Io.KnownBytes.{Consumes}
 use Rattle.std.proofs.lemmas.Result.{err_from_is_err_and}
 use Rattle.team_run.proofs.Reading.{all_read, consumes_both}
 use Rattle.team_run.proofs.Limits.{unfit_at_end, unfit_whole}
-use Rattle.team_run.proofs.scripts.read_whole.Goals as goal
+use Rattle.team_run.proofs.scripts.read_through.Goals as goal
 
 pub returns-in_err-read_on-clause-fault : goal.returns-in_err-read_on-clause-fault
 returns-in_err-read_on-clause-fault g c =
@@ -27,4 +27,5 @@ loop-preserved g c =
     let more = c.in_ok-read_on.ensures.more in (
       subst (λ s. Consumes old new s) (sym more.2) (consumes_both old c.loop.reader.remaining new c.loop.script.items more.0 c.loop.invariant.0 more.1),
       c.in_ok-read_on.ensures.measured c.loop.invariant.1,
+      omega (arith, c.read_on.auto.buffer, c.loop.invariant.2),
     )
