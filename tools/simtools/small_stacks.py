@@ -23,7 +23,7 @@ from .running import Ran, run, side_by_side
 KB = 1_024
 STACK = 128
 # How much memory for all, in KB, a run is given, in turn.
-SIZES = range(20_000, 48_000, 500)
+SIZES = range(20_000, 48_000, 1_000)
 # As much stack as is tried for the least; no run needs more.
 MOST = 16_384
 CASES = ("examples/tour", "cases/lines/65536-bytes-line-feed", "cases/lines/65536-bytes-no-end",
