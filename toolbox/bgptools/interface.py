@@ -17,7 +17,7 @@ from __future__ import annotations
 import os
 from typing import Callable, Iterable, List, Optional, Tuple, Union
 
-from . import copies, journal, output, replies, values
+from . import copies, journal, language, output, replies, values
 from .between import Watch
 from .choice import Choice
 from .commands import Commands
@@ -169,6 +169,8 @@ class Network(Commands):
 
     def table(self, prefix: Optional[str] = None) -> List[Route]:
         """The chosen routes of all routers, in order of router and prefix; or those to one prefix."""
+        if prefix is not None and language.prefix(prefix) is None:
+            raise Mistake("a prefix is expected, as 10.0.0.0/8, and not %r" % prefix)
         routers = self.run.network.routers()
         found = zip(routers, self.run.ask("routes " + router for router in routers))
         routes = [route for router, reply in found for route in values.routes_of(router, reply)]

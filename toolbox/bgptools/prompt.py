@@ -128,13 +128,17 @@ class Prompt:
 
     def command(self, line: str) -> None:
         """A line for the program."""
-        line = self.run.network.names.in_line(line)
+        line = self._with_addresses(line)
         reply = self._say(line)
         with self.keyboard.held():
             more = kept_back(self.run, words_of(line), reply)
         tell(PAD, reply + more, self.run.network.names)
         if refusal(reply):
             tell(PAD, ["-- " + sentence(line, refusal(reply), self.run.network)], self.run.network.names)
+
+    def _with_addresses(self, line: str) -> str:
+        """The line with an address in the place of each name."""
+        return self.run.network.names.in_line(line)
 
     def _address(self, word: str) -> str:
         found = self.run.network.names.address_of(readable(word))

@@ -526,6 +526,9 @@ class More(Base):
             self.assertGreater(len(table), 1)
             for row in map(dataclasses.asdict, table):
                 self.assertEqual({type(value) for value in row.values()} - {str, int, bool, type(None), tuple}, set())
+        self.assertEqual(net.table("10.3.0.0/16"), [each for each in net.table() if each.prefix == "10.3.0.0/16"])
+        with self.assertRaisesRegex(Mistake, "^a prefix is expected, as 10.0.0.0/8, and not '10.3.0.0'$"):
+            net.table("10.3.0.0")
         self.assertEqual([(each.router, each.prefix) for each in net.table()],
                          [(node.address, each.prefix) for node in net.nodes() if not node.is_virtual
                           for each in net.routes(node.address)])
