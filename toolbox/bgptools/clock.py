@@ -28,4 +28,5 @@ class Clock:
 def span(seconds: float) -> str:
     """A time as it is read."""
     whole = int(seconds + 0.5)
-    return "%d:%02d:%02d" % (whole // 3600, whole // 60 % 60, whole % 60) if whole >= 3600 else "%d:%02d" % divmod(whole, 60)
+    hours, minutes, left = whole // 3600, whole // 60 % 60, whole % 60
+    return "%d:%02d:%02d" % (hours, minutes, left) if hours else "%d:%02d" % (minutes, left)

@@ -1,6 +1,6 @@
 """A sweep by the workers of a Dask cluster: a task for each change, which is done again where its worker dies.
 
-The cluster gets this package as a file, and each task's network as bytes. Only the program has to be on its machines."""
+The cluster gets this package as a file, and each network as bytes. Only the program has to be on its machines."""
 from __future__ import annotations
 
 import importlib
@@ -37,11 +37,12 @@ _lock = threading.Lock()
 # What is done on a worker
 
 def version_of(program: Optional[str]) -> Tuple[str, str, str]:
-    """The versions here of Python, of this package and of the program; in the place of the last what is wrong with it."""
+    """The versions here of Python, this package and the program; in the place of the last what is wrong with it."""
     try:
         path = program or where.program()
         ran = subprocess.run([path, "--version"], stdin=subprocess.DEVNULL, stdout=subprocess.PIPE, timeout=60)
-        told = ran.stdout.decode("latin-1").strip() if ran.returncode == 0 else "%s ends with status %d" % (path, ran.returncode)
+        told = ran.stdout.decode("latin-1").strip()
+        told = told if ran.returncode == 0 else "%s ends with status %d" % (path, ran.returncode)
     except Mistake as mistake:
         told = str(mistake)
     except (OSError, subprocess.TimeoutExpired) as error:
@@ -91,9 +92,9 @@ def interpreter() -> Optional[str]:
     neither has. Nothing where it is this one."""
     if importlib.util.find_spec(PACKAGE):
         return None
-    asked = subprocess.run([DEBIAN, "-c", "import " + PACKAGE], stderr=subprocess.DEVNULL) if os.access(DEBIAN, os.X_OK) else None
-    if asked and asked.returncode == 0 and os.path.realpath(DEBIAN) != os.path.realpath(sys.executable):
-        return DEBIAN
+    if os.access(DEBIAN, os.X_OK) and os.path.realpath(DEBIAN) != os.path.realpath(sys.executable):
+        if subprocess.run([DEBIAN, "-c", "import " + PACKAGE], stderr=subprocess.DEVNULL).returncode == 0:
+            return DEBIAN
     raise Mistake("--scheduler wants Dask, which neither %s nor %s has: %s" % (sys.executable, DEBIAN, HOW))
 
 
@@ -102,7 +103,8 @@ def go_on_with(path: str, words: List[str]) -> None:
     folders = [str(where.HERE.parent)] + [each for each in [os.environ.get("PYTHONPATH")] if each]
     sys.stdout.flush()
     flags = ["-B"] if sys.dont_write_bytecode else []
-    os.execve(path, [path, *flags, "-m", "bgptools", "sweep", *words], {**os.environ, "PYTHONPATH": os.pathsep.join(folders)})
+    surroundings = {**os.environ, "PYTHONPATH": os.pathsep.join(folders)}
+    os.execve(path, [path, *flags, "-m", "bgptools", "sweep", *words], surroundings)
 
 
 def play_by(address: str, program: Optional[str], jobs: List[Job], known: Results) -> None:
@@ -150,9 +152,10 @@ def _check_versions(client: Any, address: str, program: Optional[str]) -> None:
 
 def _gather(dask: Any, client: Any, program: Optional[str], jobs: List[Job], known: Results) -> None:
     tasks, digest = tasks_of(jobs, known), about(jobs)
-    settled = {part: client.submit(settle_there, pickle.dumps(jobs[part]), program, pure=False) for part in {task[0] for task in tasks}}
-    futures = {client.submit(play_there, settled[part], "%s %d" % (digest, part), number, program, pure=False): (part, number)
-               for part, number in tasks}
+    settled = {part: client.submit(settle_there, pickle.dumps(jobs[part]), program, pure=False)
+               for part in {task[0] for task in tasks}}
+    futures = {client.submit(play_there, settled[part], "%s %d" % (digest, part), number, program, pure=False):
+               (part, number) for part, number in tasks}
     clock = Clock(len(jobs) * len(jobs[0].trials), len(known.known))
     for future, found in dask.as_completed(list(futures), with_results=True):
         known.add(futures[future], Figures(**found))

@@ -91,11 +91,12 @@ def _new_mode() -> int:
 
 
 class Progress:
-    """Tells how far long work is, on standard error, where that is a terminal."""
+    """Tells how far long work is, on standard error, where that is a terminal. A process that works for another tells nothing."""
+    is_wanted = True
 
     def __init__(self) -> None:
         self.shown, self.last = False, time.monotonic()
-        self.asked = sys.stderr.isatty()
+        self.asked = self.is_wanted and sys.stderr.isatty()
 
     def tell(self, text: str) -> None:
         """Shows the text over the one before, at most five times a second."""

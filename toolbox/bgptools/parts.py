@@ -40,8 +40,8 @@ class Parts:
         if count < 1:
             raise Mistake("--by-prefix %d: a number of at least 1 is expected" % count)
         for line in (line for line in lines if line.is_command and line.words[0] == "deliver"):
-            raise Mistake("`%s`: in a script with deliveries of its own the messages of different prefixes meet in a queue; "
-                          "--by-prefix wants one without" % line.text.strip(" "), line.file, line.number)
+            raise Mistake("`%s`: in a script with deliveries of its own the messages of different prefixes meet in a "
+                          "queue; --by-prefix wants one without" % line.text.strip(" "), line.file, line.number)
         named = {prefix_of(line) for line in [*lines, *changes]} - {""}
         found = groups(named, count, has_inner_together)
         self.count = len(found)

@@ -110,7 +110,7 @@ class Attempt:
 
     def _holds(self, moved: Set[Direction]) -> bool:
         """Whether each end of a session holds what it held, where that may be otherwise: where a message came, or the
-        session was down. A session that comes and goes in a change is seen at none of its ends: then all are looked at."""
+        session was down. One that comes and goes in a change is seen at neither of its ends: then all are looked at."""
         names = {line.words[0] for line in self.trial.lines if line.is_command}
         ways = self.delivered | moved | {(b, a) for a, b in moved}
         if names & DOWN and names & UP:
@@ -166,7 +166,7 @@ class Player:
         quiet.follow(run, quiet.addresses(quiet.network.prefixes | _named(trial)))
 
     def _follow(self, addresses: List[str]) -> None:
-        """Packets to these addresses were followed in the quiet network; or are, where a change turned out to have other ones."""
+        """Packets to these addresses were followed in the quiet network; or are, where a change came to other ones."""
         if any(to not in self.quiet.passing for to in addresses):
             with self._fresh() as run:
                 self.quiet.follow(run, addresses)

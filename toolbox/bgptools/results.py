@@ -1,4 +1,4 @@
-"""A file of results: each stands there as a line of JSON as soon as it is known, once and whole, and a later run goes on with it."""
+"""A file of results: each stands there as a line of JSON as soon as it is known, once and whole; a run can go on."""
 from __future__ import annotations
 
 import fcntl
@@ -16,7 +16,7 @@ Task = Tuple[int, int]
 
 class Results:
     """What is known of each task. With a path it is kept in that file, whose first line says what the sweep is of: by
-    `about`, a digest. Mistake where the file is one of another sweep, or is there already and not to be gone on with."""
+    `about`, a digest. Mistake where the file is one of another sweep, or is there and not to be gone on with."""
 
     def __init__(self, path: Optional[str], about: str, is_resumed: bool) -> None:
         self.known: Dict[Task, Figures] = {}
@@ -67,7 +67,8 @@ class Results:
 
     def _check(self, found: Dict[str, Any]) -> None:
         if found != self.head:
-            raise Mistake("it has the results of another sweep: of another script, other changes or other words", self.path, 1)
+            raise Mistake("it has the results of another sweep: of another script, other changes or other words",
+                          self.path, 1)
 
     def add(self, task: Task, figures: Figures) -> None:
         """A result. One that is known already is left as it is."""

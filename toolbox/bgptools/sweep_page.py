@@ -1,4 +1,4 @@
-"""The changes of a sweep as one HTML page: a table to sort, a map of changes by routers, and the what-if of each change."""
+"""The changes of a sweep as one HTML page: a table to sort, a map of changes by routers, the what-if of each change."""
 from __future__ import annotations
 
 import html
@@ -23,7 +23,8 @@ def page_of(table: Table) -> str:
         "HEAD": "".join("<th><button>%s</button></th>" % (name or "remark") for name in COLUMNS),
         "ROWS": "\n".join(_row(table, place, row) for place, row in zip(table.places, table.rows)),
         "ROUTERS": "".join("<th><span>%s</span></th>" % shown(table.names.shown(router)) for router in routers),
-        "CELLS": "\n".join(_cells(table, place, row, routers) for place, row in zip(table.places, table.rows) if row[1].routes)}
+        "CELLS": "\n".join(_cells(table, place, row, routers)
+                           for place, row in zip(table.places, table.rows) if row[1].routes)}
     pieces = frame.split("%%")
     return "".join(values[piece] if number % 2 else piece for number, piece in enumerate(pieces))
 
@@ -43,7 +44,8 @@ def _change(place: int, row: Row) -> str:
 
 def _row(table: Table, place: int, row: Row) -> str:
     trial, found = row
-    cells: List[object] = ["yes" if found.is_single else "", "yes" if found.is_settled else "no", *numbers_of(found), remark(table, found)]
+    cells: List[object] = ["yes" if found.is_single else "", "yes" if found.is_settled else "no",
+                           *numbers_of(found), remark(table, found)]
     told = "".join('<td data-value="{0}">{0}</td>'.format(shown(str(cell))) for cell in cells)
     return '<tr%s><td data-value="%s"><a href="#c%d">%s</a></td>%s</tr>' % (
         ' class="single"' if found.is_single else "", shown(trial.title), place, shown(trial.title), told)
@@ -61,5 +63,6 @@ def _cell(table: Table, place: int, router: str, cell: Optional[Cell]) -> str:
     number = sum(cell[:DROPPED])
     level = 1 if number < 3 else 2 if number < 10 else 3
     told = ", ".join("%s %d" % (word, count) for word, count in zip(WORDS, cell) if count)
+    title = shown("%s: %s" % (table.names.shown(router), told))
     return '<td class="%s%d"><a href="#c%d" title="%s">%d</a></td>' % (
-        "l" if cell[LOST] or cell[DROPPED] else "m", level, place, shown("%s: %s" % (table.names.shown(router), told)), max(number, cell[DROPPED]))
+        "l" if cell[LOST] or cell[DROPPED] else "m", level, place, title, max(number, cell[DROPPED]))

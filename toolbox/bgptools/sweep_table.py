@@ -44,14 +44,17 @@ class Table:
         """How many changes there are, and what they do."""
         singles = sum(found.is_single for _, found in self.rows)
         endless = sum(not found.is_settled for _, found in self.rows)
-        lines = ["%s of %s: %s, %d that lose something, %d that %s not settle" % (
-            count(len(self.rows), "change"), self.base, count(singles, "single point of failure", "single points of failure"),
-            sum(found.is_bad and found.is_settled for _, found in self.rows), endless, "does" if endless == 1 else "do")]
-        if any(trial.kind == ORDER for trial, _ in self.rows):
-            orders = sum(trial.kind == ORDER for trial, _ in self.rows)
+        losing = sum(found.is_bad and found.is_settled for _, found in self.rows)
+        lines = ["%s of %s: %s, %d that %s something, %d that %s not settle" % (
+            count(len(self.rows), "change"), self.base,
+            count(singles, "single point of failure", "single points of failure"),
+            losing, "loses" if losing == 1 else "lose", endless, "does" if endless == 1 else "do")]
+        orders = sum(trial.kind == ORDER for trial, _ in self.rows)
+        if orders:
             lines.append("%s in %s" % (count(len(self.known), "stable state"), count(orders, "drawn order")))
             lines += ["  state %d: in %d of %d, as with order %d" % (
-                number, len(self.states[state]), orders, self.states[state][0]) for number, state in enumerate(self.known, 1)]
+                number, len(self.states[state]), orders, self.states[state][0])
+                for number, state in enumerate(self.known, 1)]
         return lines
 
 
@@ -78,7 +81,8 @@ def text_of(table: Table) -> str:
         if found.is_single != before and (found.is_single or before):
             lines.append("Single points of failure" if found.is_single else "Other changes")
         before = found.is_single
-        cells = [" %*s" % (len(title), "-" if found.mistake else number) for title, number in zip(TITLES, numbers_of(found))]
+        cells = [" %*s" % (len(title), "-" if found.mistake else number)
+                 for title, number in zip(TITLES, numbers_of(found))]
         lines.append(" ".join(["  %-*s" % (width, trial.title)] + cells + ["  " + remark(table, found)]).rstrip())
     return "\n".join(table.summary() + [""] + lines) + "\n"
 
@@ -89,8 +93,8 @@ def csv_of(table: Table) -> str:
     writer = csv.writer(made, lineterminator="\n")
     writer.writerow(["number", "change", "kind", "single_point", "settles", *NUMBERS, "packets", "state", "mistake"])
     for place, (trial, found) in zip(table.places, table.rows):
-        writer.writerow([place, trial.title, trial.kind, int(found.is_single), int(found.is_settled), *numbers_of(found),
-                         found.packets, table.state_of(found) or "", found.mistake])
+        writer.writerow([place, trial.title, trial.kind, int(found.is_single), int(found.is_settled),
+                         *numbers_of(found), found.packets, table.state_of(found) or "", found.mistake])
     return made.getvalue()
 
 
@@ -99,8 +103,9 @@ def _json_row(table: Table, place: int, trial: Trial, found: Figures) -> Dict[st
     names = ("moved", "lost", "gained", "packets_lost")
     return {"number": place, "change": trial.title, "kind": trial.kind, "commands": [line.text for line in trial.lines],
             "single_point": found.is_single, "settled": found.is_settled, **dict(zip(NUMBERS, numbers_of(found))),
-            "packets": found.packets, "neighbours": told, "state": table.state_of(found) or None, "mistake": found.mistake or None,
-            "routers": {router: dict(zip(names, found.routes[router])) for router in sorted(found.routes, key=by_address)}}
+            "packets": found.packets, "neighbours": told, "state": table.state_of(found) or None,
+            "mistake": found.mistake or None, "routers": {
+                router: dict(zip(names, found.routes[router])) for router in sorted(found.routes, key=by_address)}}
 
 
 def json_of(table: Table) -> str:

@@ -67,7 +67,8 @@ def about(jobs: List[Job]) -> str:
     """What tells a sweep from others, as a digest: scripts, changes and words."""
     told = [__version__, [[line.text for line in job.script] for job in jobs], jobs[0].has_texts,
             [jobs[0].chosen.order, jobs[0].chosen.most],
-            [[trial.kind, trial.title, trial.seed, [line.text for line in trial.lines]] for job in jobs for trial in job.trials]]
+            [[trial.kind, trial.title, trial.seed, [line.text for line in trial.lines]]
+             for job in jobs for trial in job.trials]]
     return hashlib.sha256(json.dumps(told).encode()).hexdigest()
 
 

@@ -93,7 +93,8 @@ def hijacks(network: Network, to: str) -> List[Trial]:
     firsts: Dict[int, str] = {}
     for router in network.routers():
         firsts.setdefault(network.nodes[router].asn, router)
-    return [_trial(HIJACK, "hijack of %s by AS %d at %s" % (to, asn, network.names.shown(router)), ["origin %s %s" % (router, to)])
+    shown = network.names.shown
+    return [_trial(HIJACK, "hijack of %s by AS %d at %s" % (to, asn, shown(router)), ["origin %s %s" % (router, to)])
             for asn, router in sorted(firsts.items()) if asn not in owners]
 
 
@@ -114,4 +115,5 @@ def orders(count: int) -> List[Trial]:
     return [Trial(ORDER, "order %d" % seed, seed=seed) for seed in range(1, count + 1)]
 
 
-FAILURES: Dict[str, Callable[[Network], List[Trial]]] = {"fail_links": links, "fail_routers": routers, "fail_sessions": sessions}
+FAILURES: Dict[str, Callable[[Network], List[Trial]]] = {
+    "fail_links": links, "fail_routers": routers, "fail_sessions": sessions}

@@ -11,7 +11,8 @@ Rules = Dict[Tuple[str, str, str], List[str]]
 def commands_back(now: Network, before: Network) -> Optional[List[str]]:
     """The commands that make what is configured now what it was before; none where it is so already, and nothing where
     no commands do: routers, links and sessions stay. Messages, and what was received, are not its business."""
-    if now.nodes != before.nodes or now.links.keys() != before.links.keys() or now.enabled.keys() != before.enabled.keys():
+    lasting = [(net.nodes, net.links.keys(), net.enabled.keys()) for net in (now, before)]
+    if lasting[0] != lasting[1]:
         return None
     return _links(now, before) + _sessions(now, before) + _settings(now, before) + _rules(now.rules, before.rules) + \
         _origins(now.origins, before.origins)

@@ -9,6 +9,7 @@ from multiprocessing.connection import Connection, wait
 from typing import Any, Callable, Dict, Generic, Iterator, List, Optional, Tuple, TypeVar, cast
 
 from .mistakes import Mistake
+from .output import Progress
 
 Task = TypeVar("Task")
 # So long a worker that is asked to end may still take, in seconds.
@@ -31,7 +32,8 @@ def processors() -> int:
 
 
 def _work(here: Connection, others: List[Connection], begin: Callable[[], Doing[Any]]) -> None:
-    """The body of a worker: replies to each task until there is none. Ctrl-C is for the tool, which then ends the tasks."""
+    """The body of a worker: replies to each task until there is none. Ctrl-C is for the tool, which then ends it."""
+    Progress.is_wanted = False
     signal.signal(signal.SIGINT, signal.SIG_IGN)
     for number in (signal.SIGTERM, signal.SIGHUP):
         signal.signal(number, signal.SIG_DFL)
