@@ -2,7 +2,7 @@
 has not computed, and what it prefers."""
 from __future__ import annotations
 
-from typing import Dict, Iterator, List, Set, Tuple
+from typing import Dict, List, Set, Tuple
 
 from .cbgp_network import Domain, Network
 from .cbgp_script import Picture
@@ -98,30 +98,31 @@ def _told(picture: Picture) -> Dict[str, Set[str]]:
 
 def _check_meds(source: Network, picture: Picture) -> None:
     """C-BGP has a missing MED as 4294967295; where routes with and without one meet, the choice may differ."""
-    found: Dict[Tuple[int, int], Set[bool]] = {}
+    made = picture.made
+    found: Dict[Tuple[int, int], List[Set[bool]]] = {}
     for one, other in _sessions(picture):
-        if picture.made.is_external(one, other):
-            key = (picture.made.nodes[one].asn, 0 if source.is_med_always else picture.made.nodes[other].asn)
-            found.setdefault(key, set()).update(_has_med(picture, one, other))
+        if made.is_external(one, other):
+            key = (made.nodes[one].asn, 0 if source.is_med_always else made.nodes[other].asn)
+            found.setdefault(key, []).append(_has_med(picture, one, other))
     for (asn, neighbour), kinds in sorted(found.items()):
-        if len(kinds) > 1:
-            lines = [line for both, line in picture.sessions.items()
-                     if {picture.made.nodes[each].asn for each in both} == {asn, neighbour or asn} or not neighbour]
-            source.tell(lines[0], "routes of %s come to AS %d with a MED and without; C-BGP takes a missing one for "
-                                  "4294967295, and here it is 0" % (
-                                      "AS %d" % neighbour if neighbour else "its neighbours", asn))
+        if len(kinds) > 1 and len(set().union(*kinds)) > 1:
+            line = next(line for both, line in picture.sessions.items()
+                        if asn in (asns := {made.nodes[each].asn for each in both}) and len(asns) > 1
+                        and (not neighbour or neighbour in asns))
+            source.tell(line, "routes of %s come to AS %d with a MED and without; C-BGP takes a missing one for "
+                              "4294967295, and here it is 0" % (
+                                  "AS %d" % neighbour if neighbour else "its neighbours", asn))
 
 
-def _has_med(picture: Picture, one: str, other: str) -> Iterator[bool]:
-    """Whether routes that a router takes over a session have a MED."""
-    fed = [words for (peer, here, _), words in picture.feeds.items() if (peer, here) == (other, one)]
-    for rules, rest in ((picture.made.rules.get((one, other, "in"), []), None),
-                        (picture.made.rules.get((other, one, "out"), []), None)):
-        kinds = {" med=" in rule for rule in rules if " permit" in rule} | ({False} if not rules or not rules[-1]
-                                                                          .startswith("any ") else set())
-        if kinds == {True}:
-            yield True
-            return
-        if True in kinds:
-            yield True
-    yield from ({words.split(" ")[2] != "-" for words in fed} if picture.made.nodes[other].is_virtual else {False})
+def _has_med(picture: Picture, one: str, other: str) -> Set[bool]:
+    """Whether routes that a router takes over a session have a MED, always, never or now and then."""
+    kinds: Set[bool] = set()
+    for rules in (picture.made.rules.get((one, other, "in"), []), picture.made.rules.get((other, one, "out"), [])):
+        here = {" med=" in rule for rule in rules if " permit" in rule}
+        here |= set() if rules and rules[-1].startswith("any ") else {False}
+        if here == {True}:
+            return here
+        kinds |= here & {True}
+    fed = {words.split(" ")[2] != "-" for (peer, here_, _), words in picture.feeds.items()
+           if (peer, here_) == (other, one)}
+    return kinds | (fed if picture.made.nodes[other].is_virtual else {False})

@@ -30,8 +30,9 @@ COUNTED: Dict[str, Dict[str, str]] = {
     "options": {"show-mode": LOGS, "msg-monitor": LOGS, "auto-create": LOGS, "show": SHOWS},
     "router": {"show": SHOWS, "assert": CHECKS, "debug": SHOWS, "record-route": SHOWS, "save": SHOWS, "rerun": LOGS,
                "start": LOGS},
-    "peer": {"show": SHOWS, "record": LOGS, "walton-limit": LOGS, "rescan": LOGS, "update-source": "sources of sessions",
-             "source": "sources of sessions", "softrestart": LOGS, "soft-restart": LOGS},
+    "peer": {"show": SHOWS, "record": LOGS, "walton-limit": LOGS, "rescan": LOGS,
+             "update-source": "sources of sessions", "source": "sources of sessions", "softrestart": LOGS,
+             "soft-restart": LOGS},
     "filter": {"show": SHOWS}, "map": {"show": SHOWS}, "rule": {"show": SHOWS},
     "sim": {"options": LOGS, "debug": LOGS, "event": SHOWS, "queue": SHOWS, "show": SHOWS},
 }
@@ -51,8 +52,8 @@ TOLD: Dict[str, Dict[str, str]] = {
     "router": {"load": "the table is not read; `from-rib` reads one",
                "stop": "the router goes on; write `stop ROUTER PEER` for its sessions"},
     "peer": {"next-hop": "the next hop is the session's, or the router with `next-hop-self`"},
-    "sim": {"stop": "deliveries go on until all queues are empty", "step": "deliveries go on until all queues are empty",
-            "clear": "messages that wait are delivered"},
+    "sim": {"stop": "deliveries go on until all queues are empty",
+            "step": "deliveries go on until all queues are empty", "clear": "messages that wait are delivered"},
 }
 
 
@@ -180,7 +181,8 @@ class Commands:
     def _domain(self, word: str) -> Domain:
         found = self._number(word, "domain")
         if found not in self.network.domains:
-            raise self.line.mistake("there is no domain %d: `net add domain %d igp` is expected before" % (found, found))
+            raise self.line.mistake("there is no domain %d: `net add domain %d igp` is expected before" % (
+                found, found))
         return self.network.domains[found]
 
     def _add_node(self, words: List[str]) -> None:
@@ -403,8 +405,8 @@ class Commands:
         """A record `BGP4|time|A|peer|AS|prefix|path|origin|next hop|preference|MED|communities`, or with W for A."""
         parts = text.split("|")
         if len(parts) < 6 or not parts[0].startswith(("BGP4", "TABLE_DUMP")) or parts[2] not in ("A", "W", "B"):
-            raise self.line.mistake("a record BGP4|time|A|peer|AS|prefix|path|origin|next hop|preference|MED|communities"
-                                    " or BGP4|time|W|peer|AS|prefix is expected")
+            raise self.line.mistake("a record BGP4|time|A|peer|AS|prefix|path|origin|next hop|preference|MED|"
+                                    "communities or BGP4|time|W|peer|AS|prefix is expected")
         where = self._prefix(parts[5])
         if not peer.is_up or "virtual" not in peer.flags:
             raise self.line.mistake("%s is no virtual peer that is up" % other)

@@ -232,8 +232,8 @@ class Converter:
         try:
             return rest[:same] + chosen(self.region(rule.about), inside[same:], rest[same:])
         except Unsayable as reason:
-            self.tell(rule.line, "%s: no rule is about %s, so it is left out; routes that it is about go on to the next "
-                                 "rule" % (rule.line.text, reason))
+            self.tell(rule.line, "%s: no rule is about %s, so it is left out; routes that it is about go on to the "
+                                 "next rule" % (rule.line.text, reason))
             return rest
 
     def _done(self, deed: Deed, rest: Rules[Action], rule: Rule) -> Rules[Action]:

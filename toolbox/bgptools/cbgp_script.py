@@ -1,4 +1,5 @@
-"""The script that C-BGP's network becomes: its routers, links, sessions and policies as the command language has them."""
+"""The script that C-BGP's network becomes: its routers, links, sessions and policies in the words of the command
+language."""
 from __future__ import annotations
 
 from typing import Dict, List, Optional, Set, Tuple
@@ -49,8 +50,8 @@ class Picture:
             if where in self.made.nodes:
                 pass
             elif asn is None:
-                source.tell(node.line, "%s: BGP does not run there, and neither its domain nor its links show an AS; it "
-                                       "is left out, and its links" % where)
+                source.tell(node.line, "%s: BGP does not run there, and neither its domain nor its links show an AS; "
+                                       "it is left out, and its links" % where)
             else:
                 self.made.nodes[where] = Made(asn, False)
             if where in self.made.nodes and node.name:
@@ -100,11 +101,9 @@ class Picture:
                                    "cost is 1" % link.line.text)
             return 1
         if here != there:
-            text = "%s: %s" % (line.text, "its other way has none; here the cost is that of both ways"
-                               if here is None or there is None else
-                               "its ways have the weights %d and %d; here the lower one is the cost of both" % (
-                                   here, there))
-            source.tell(line, text)
+            said = ("its other way has none; here the cost is that of both ways" if here is None or there is None else
+                    "its ways have the weights %d and %d; here the lower one is the cost of both" % (here, there))
+            source.tell(line, "%s: %s" % (line.text, said))
         cost = min(each for each in (here, there) if each is not None)
         if cost == 0:
             source.tell(line, "%s: a link inside an AS has a cost of 1 at least here" % line.text)
@@ -118,7 +117,8 @@ class Picture:
 
     def _border_metric(self, link: cbgp_network.Link) -> int:
         """The cost of a link between two ASes: that of the static routes over it."""
-        source, found = self.source, []
+        source = self.source
+        found: List[int] = []
         for one, other in ((link.one, link.other), (link.other, link.one)):
             static = source.route_to(one, other) if one in source.nodes else None
             found += [static.metric] if static is not None and self.made.is_router(one) else []
@@ -127,8 +127,8 @@ class Picture:
             source.tell(link.line, "%s: its ends are in one domain, and in two ASes; C-BGP computes ways over it, and "
                                    "here costs are counted inside an AS" % link.line.text)
         if len(set(found)) > 1:
-            source.tell(link.line, "%s: the static routes over it have the metrics %d and %d; here the lower one is its "
-                                   "cost" % (link.line.text, *found))
+            source.tell(link.line, "%s: the static routes over it have the metrics %d and %d; here the lower one is "
+                                   "its cost" % (link.line.text, found[0], found[1]))
         return max(min(found, default=1), 1)
 
     # Sessions
@@ -155,8 +155,8 @@ class Picture:
                                                "AS, and the session is left out" % (other, peer.asn, peer.asn))
             return False
         if not made.nodes.get(other) or not made.nodes[other].is_virtual and source.nodes[other].asn is None:
-            source.note(line, "%s: BGP runs on no such node, and it is no virtual peer; the session never comes up, and "
-                              "is left out" % line.text)
+            source.note(line, "%s: BGP runs on no such node, and it is no virtual peer; the session never comes up, "
+                              "and is left out" % line.text)
             return False
         if not made.nodes[other].is_virtual and "virtual" in peer.flags:
             source.tell(peer.flags["virtual"], "%s is a router of the script; it is none that is fed" % other)
@@ -178,8 +178,8 @@ class Picture:
         if pair(one, other) in self.made.links:
             return self._has_both(one, other, peer)
         if not self.made.nodes[other].is_virtual:
-            self.source.tell(peer.line, "%s: no link leads to it; here an external neighbour is at the other end of one,"
-                                        " and the session is left out" % peer.line.text)
+            self.source.tell(peer.line, "%s: no link leads to it; here an external neighbour is at the other end of "
+                                        "one, and the session is left out" % peer.line.text)
             return False
         self.source.tell(peer.line, "%s: no link leads to it; here it gets one, of cost 1" % peer.line.text)
         self.made.links[pair(one, other)] = Link(1)
@@ -214,7 +214,7 @@ class Picture:
         self._selves(where, outside, inside)
 
     def _selves(self, where: str, outside: List[Tuple[str, Peer]], inside: List[Tuple[str, Peer]]) -> None:
-        """`next-hop-self` at an external peer is about what comes from it; here all that a router tells inside counts."""
+        """`next-hop-self` at an external peer is about what comes from it, and here about all that is told inside."""
         marked = [(other, peer) for other, peer in outside if "next-hop-self" in peer.flags]
         if len(marked) == len(outside):
             self.made.selves.update((where, other) for other, _ in inside if marked)

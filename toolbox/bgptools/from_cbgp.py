@@ -15,6 +15,7 @@ from .mistakes import Mistake
 from .network import Network
 from .scripting import Feeds, commands
 
+HEAD = "# Preferences are C-BGP's and %d: a route to which nothing gives one has %d there, and %d here."
 RUN = "# sim run: here C-BGP delivers all that waits, and `settle` does"
 
 
@@ -41,12 +42,16 @@ class Translation:
         if not self.source.has_run:
             self.left.note(Place(files[-1], 0), "it has no `sim run`: C-BGP delivers nothing; `settle` does")
         if self.has_preference and self.source.preference != PREFERENCE:
-            self.lines.insert(0, "# Preferences are C-BGP's and %d: a route to which nothing gives one has %d there, and "
-                                 "%d here." % (PREFERENCE - self.source.preference, self.source.preference, PREFERENCE))
+            self.lines.insert(0, HEAD % (PREFERENCE - self.source.preference, self.source.preference, PREFERENCE))
 
     def _run(self, line: Line) -> None:
         self._write()
         self.lines.append(RUN)
+
+    def _line_of(self, where: str) -> Line:
+        """The line that says of a node or a virtual peer what it is."""
+        lines = [peer.line for (_, other), peer in self.source.peers.items() if other == where]
+        return self.source.nodes[where].line if where in self.source.nodes else lines[-1]
 
     def _write(self) -> None:
         """Writes what was changed since it was written before."""
@@ -54,8 +59,8 @@ class Translation:
         check(self.source, picture)
         for where, node in self.made.nodes.items():
             if picture.made.nodes.get(where) != node:
-                raise self.source.nodes[where].line.mistake("its AS is known behind a `sim run` only, and what it is "
-                                                            "cannot change; give it before")
+                raise self._line_of(where).mistake("what %s is, and its AS, cannot change behind a `sim run`; give "
+                                                   "them before" % where)
         self.lines += commands(self.made, picture.made, self.feeds, picture.feeds)
         self.made, self.feeds = picture.made, picture.feeds
         self.has_preference = self.has_preference or picture.sets_preference()
@@ -65,8 +70,8 @@ def parser() -> argparse.ArgumentParser:
     """The words of the command line."""
     made = argparse.ArgumentParser(prog="from-cbgp", description=(
         "Writes scripts of C-BGP as one script: nodes and links, weights, BGP routers with their peers, filters and "
-        "networks, and what virtual peers tell. Several are read as one after another; what they include is read in its "
-        "place. docs/TOOLBOX.md says what is taken over."),
+        "networks, and what virtual peers tell. Several are read as one after another; what they include is read in "
+        "its place. docs/TOOLBOX.md says what is taken over."),
         epilog="What is not taken over is told on standard error, as `FILE:LINE: not taken over: ..` with what comes "
         "of it; the last line counts those that decide no route, as `print` and `show`. "
                "Exit status: 0 nothing was left out that may decide a route; 1 the script is written, and something "

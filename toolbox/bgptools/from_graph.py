@@ -23,17 +23,18 @@ def graph_of(path: str, left: LeftOut) -> Graph:
 def parser() -> argparse.ArgumentParser:
     """The words of the command line."""
     made = argparse.ArgumentParser(prog="from-graph", description=(
-        "Writes a graph in GraphML or GML, as the Topology Zoo has them, as a script: a router a node, all in one AS, a "
-        "link for each two that edges join, sessions as a full mesh or by reflectors."),
-        epilog="What is not taken over is told on standard error, as `FILE:LINE: not taken over: ..`; the last line counts "
-        "attributes that decide no route. A router's address is 10.0.h.l, by its place in the file. "
+        "Writes a graph in GraphML or GML, as the Topology Zoo has them, as a script: a router a node, all in one AS, "
+        "a link for each two that edges join, sessions as a full mesh or by reflectors."),
+        epilog="What is not taken over is told on standard error, as `FILE:LINE: not taken over: ..`; the last line "
+        "counts attributes that decide no route. A router's address is 10.0.h.l, by its place in the file. "
                "Exit status: 0 nothing was left out that may decide a route; 1 the script is written, and something "
                "was; 2 a mistake, and nothing is written.")
     made.add_argument("file", metavar="FILE",
                       help="the graph; - is standard input; a name that ends with .gz or .bz2 is unpacked")
     made.add_argument("--as", dest="asn", default="64512", metavar="N", help="the AS of all routers (64512)")
     costs = made.add_mutually_exclusive_group()
-    costs.add_argument("--cost", metavar="ATTRIBUTE", help="the attribute of edges that is the cost of a link; else it is 1")
+    costs.add_argument("--cost", metavar="ATTRIBUTE",
+                       help="the attribute of edges that is the cost of a link; else it is 1")
     costs.add_argument("--speed", action="store_true", help="costs by LinkSpeedRaw, or LinkSpeed and LinkSpeedUnits: "
                        "100 Gbit/s by the speed, at least 1")
     made.add_argument("--reflectors", metavar="NUMBER", help="so many route reflectors, the nodes with the most links, "

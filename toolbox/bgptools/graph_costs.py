@@ -36,6 +36,10 @@ def _speed_of(edge: Edge) -> Optional[float]:
     return None if speed is None or not speed else max(1, FASTEST // speed)
 
 
+def _cost_by(attribute: str) -> Cost:
+    return lambda edge: positive(edge.attributes.get(attribute, ""))
+
+
 class Costs:
     """The links between each two nodes, each with its cost. What cannot be said is told, nodes by their names."""
 
@@ -44,7 +48,7 @@ class Costs:
         self.said = "speed" if is_by_speed else "`%s`" % attribute
         self.of: Optional[Cost] = _speed_of if is_by_speed else None
         if attribute is not None:
-            self.of = lambda edge: positive(edge.attributes.get(attribute, ""))
+            self.of = _cost_by(attribute)
         self.links: Dict[Pair, int] = {}
         self.edges: Dict[Pair, List[Edge]] = {}
         self.count_of_rounded = 0
@@ -64,8 +68,8 @@ class Costs:
         for name, count in sorted(has.items()):
             if name.lower() in COSTS and self.of is None:
                 line = next(edge.line for edge in self.graph.edges if name in edge.attributes)
-                self.graph.left.tell(self.graph.place(line), "`%s` of %d edges: each link has the cost 1; --cost %s takes "
-                                                             "it" % (name, count, name))
+                self.graph.left.tell(self.graph.place(line), (
+                    "`%s` of %d edges: each link has the cost 1; --cost %s takes it" % (name, count, name)))
 
     def _take(self, edge: Edge) -> None:
         left, at = self.graph.left, self.graph.place(edge.line)

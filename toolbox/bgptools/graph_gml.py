@@ -13,7 +13,6 @@ from .mistakes import Mistake
 
 TOKEN = re.compile(r'\s*(?:(?P<mark>[\[\]])|(?P<key>[A-Za-z_][A-Za-z0-9_.-]*)|(?P<text>"[^"]*")|'
                    r'(?P<number>[+-]?(?:[0-9]+\.?[0-9]*|\.[0-9]+)(?:[Ee][+-]?[0-9]+)?)(?![^\s\[\]]))')
-SPACES = re.compile(r"\s*")
 SPECIAL = ("NAN", "INF", "nan", "inf")
 
 
@@ -50,7 +49,7 @@ class Tokens:
         at, number, end = 0, 0, len(self.text.rstrip())
         while at < end:
             found = TOKEN.match(self.text, at)
-            begin = found.start(found.lastgroup or 0) if found else SPACES.match(self.text, at).end()  # type: ignore[union-attr]
+            begin = found.start(found.lastgroup or 0) if found else end - len(self.text[at:end].lstrip())
             while number < len(self.starts) and self.starts[number] <= begin:
                 number += 1
             if found is None:

@@ -77,9 +77,8 @@ class Reader:
     def _take(self, name: str, given: Dict[str, str], around: str) -> None:
         """An element inside another one; what is not known is left out, and told."""
         if name == "key" and around == "graphml":
-            self.keys[self._wanted(name, given, "id")] = Key(given.get("attr.name", given["id"]), given.get("for", "all"),
-                                                             None)
-            self.key = given["id"]
+            self.key = self._wanted(name, given, "id")
+            self.keys[self.key] = Key(given.get("attr.name", self.key), given.get("for", "all"), None)
         elif name == "graph" and around == "graphml" and not self.graphs:
             self.graphs, self.is_directed = 1, given.get("edgedefault") == "directed"
         elif name == "node" and around == "graph":
@@ -88,7 +87,8 @@ class Reader:
             self.here.append(node.attributes)
         elif name == "edge" and around == "graph":
             is_directed = {"true": True, "false": False}.get(given.get("directed", ""), self.is_directed)
-            edge = Edge(self._wanted(name, given, "source"), self._wanted(name, given, "target"), self.line, is_directed)
+            source, target = (self._wanted(name, given, each) for each in ("source", "target"))
+            edge = Edge(source, target, self.line, is_directed)
             self.graph.edges.append(edge)
             self.here.append(edge.attributes)
         elif name == "data" or name == "default" and around == "key":
@@ -106,7 +106,8 @@ class Reader:
         if name == "graph":
             left.tell(at, "a graph inside of a node, or a second one, of which nothing is read")
         elif name == "hyperedge":
-            left.tell(at, "a hyperedge joins more than two nodes, and a link two; it is left out. Make it edges, or a node")
+            left.tell(at, "a hyperedge joins more than two nodes, and a link two; it is left out. Make it edges, or a "
+                          "node")
         elif name in DESCRIPTIONS:
             left.count("descriptions and ports", at)
         else:
@@ -128,8 +129,8 @@ class Reader:
         elif name == "data":
             name = self.keys[self.key].name
             if self.here and name in self.here[-1]:
-                self.graph.left.note(self.graph.place(self.line), "`%s` stands here once more, and the last one counts" % (
-                    name[:60]))
+                self.graph.left.note(self.graph.place(self.line), (
+                    "`%s` stands here once more, and the last one counts" % name[:60]))
             if self.here:
                 self.here[-1][name] = "".join(self.said).strip()
             else:

@@ -89,8 +89,8 @@ class Writer:
         found = [key for key in self.names if name in (self.names[key], self.addresses[key])
                  or joined == self.names[key]] or [key for key in self.names if key == name]
         if len(found) != 1:
-            raise Mistake("%s %s: %s" % (word, name, "there is no such node" if not found else "there are several; give "
-                          "the address: " + ", ".join(self.addresses[key] for key in found)), self.graph.file)
+            several = "there are several; give the address: " + ", ".join(self.addresses[key] for key in found)
+            raise Mistake("%s %s: %s" % (word, name, several if found else "there is no such node"), self.graph.file)
         return found[0]
 
     # Attributes
@@ -101,13 +101,16 @@ class Writer:
             at = self.graph.place(node.line)
             shown = self.names[node.key]
             if node.attributes.get("hyperedge", "0") not in ("0", ""):
-                self.left.tell(at, "node %s stands for a hyperedge, which joins more than two; here it is a router" % shown)
+                self.left.tell(at, "node %s stands for a hyperedge, which joins more than two; here it is a router" % (
+                    shown))
             if node.attributes.get("Internal", "1") in ("0", "0.0"):
-                self.left.tell(at, "node %s is outside of the network (Internal 0); here it is a router of the AS" % shown)
+                self.left.tell(at, "node %s is outside of the network (Internal 0); here it is a router of the AS" % (
+                    shown))
         found: Dict[str, List[int]] = {}
-        for each in [*self.graph.nodes.values(), *self.graph.edges]:
-            for name in each.attributes:
-                found.setdefault(name, []).append(each.line)
+        all_of = [(node.line, node.attributes) for node in self.graph.nodes.values()]
+        for line, attributes in all_of + [(edge.line, edge.attributes) for edge in self.graph.edges]:
+            for name in attributes:
+                found.setdefault(name, []).append(line)
         for name, lines in found.items():
             self._tell_attribute(name, lines)
         self.left.counts.update({"attributes of the graph": self.graph.count_of_own} if self.graph.count_of_own else {})
