@@ -420,7 +420,7 @@ class Commands:
 
     def _route_words(self, peer: Peer, other: str, parts: List[str]) -> str:
         """The words of `feed` behind the prefix; empty where the route is not taken over, which is told."""
-        path, origin = path_of(parts[6]), ORIGINS.get(parts[7].upper())
+        path, origin = path_of(_with_sets(parts[6])), ORIGINS.get(parts[7].upper())
         med = "-" if parts[10] == "" else parts[10] if number(parts[10]) is not None else None
         if path is None or origin is None or med is None:
             raise self.line.mistake("a path as `1 2`, an origin IGP, EGP or INCOMPLETE and a MED are expected, and not "
@@ -475,3 +475,8 @@ class Commands:
                 rule.deeds = deeds_of(words[1], self.line)
             words = words[2:]
         return True
+
+
+def _with_sets(text: str) -> str:
+    """A path with each set as a dump has it: `1 {3 2}` and `1 [3 2]` are `1 {3,2}`."""
+    return re.sub(r"[\[{]([^\]}]*)[\]}]", lambda found: "{%s}" % ",".join(re.split(r"[ ,]+", found.group(1).strip())), text)
