@@ -5,6 +5,7 @@ from collections import Counter
 from dataclasses import dataclass, field
 from typing import Dict, List, Set, Tuple
 
+from .language import escaped
 from .left_out import LeftOut, Place
 from .mistakes import Mistake
 
@@ -43,7 +44,7 @@ class Graph:
 
     def mistake(self, text: str, line: int) -> Mistake:
         """What is wrong at a line."""
-        return Mistake(text, self.file, line)
+        return Mistake(escaped(text), self.file, line)
 
     def add_node(self, node: Node) -> None:
         """Raises Mistake where there is such a node."""

@@ -6,6 +6,7 @@ import math
 from typing import Callable, Dict, List, Optional, Tuple
 
 from .graph import Edge, Graph
+from .language import escaped
 from .mistakes import Mistake
 
 MOST = 65535
@@ -64,7 +65,7 @@ class Costs:
         has = self.graph.attributes_of_edges()
         if attribute is not None and self.graph.edges and attribute not in has:
             raise Mistake("--cost %s: no edge has this attribute; there are %s" % (
-                attribute, ", ".join(sorted(has)) or "none"), self.graph.file)
+                attribute, escaped(", ".join(sorted(has))) or "none"), self.graph.file)
         for name, count in sorted(has.items()):
             if name.lower() in COSTS and self.of is None:
                 line = next(edge.line for edge in self.graph.edges if name in edge.attributes)

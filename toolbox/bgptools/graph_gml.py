@@ -8,6 +8,7 @@ from dataclasses import dataclass, field
 from typing import Dict, Iterator, List, Tuple
 
 from .graph import Edge, Graph, Node
+from .language import escaped
 from .left_out import LeftOut
 from .mistakes import Mistake
 
@@ -54,7 +55,7 @@ class Tokens:
                 number += 1
             if found is None:
                 raise Mistake("a key, a number, a text in quotes or a bracket is expected, and not `%s`" % (
-                    self.text[begin:begin + 40].split("\n")[0]), self.file, number)
+                    escaped(self.text[begin:begin + 40].split("\n")[0])), self.file, number)
             at = found.end()
             yield found.lastgroup or "", found.group(found.lastgroup or 0), number
 
@@ -78,7 +79,7 @@ def blocks_of(content: bytes, file: str) -> Block:
             key = ""
         else:
             raise Mistake("%s is expected, and not `%s`" % ("a value of `%s`" % key[:40] if key else "a key or `]`",
-                                                           text[:40]), tokens.file, line)
+                                                           escaped(text[:40])), tokens.file, line)
     if key or len(stack) > 1:
         raise Mistake("the end of `%s` is missing" % (key or stack[-1].key)[:40], tokens.file,
                       line if key else stack[-1].line)

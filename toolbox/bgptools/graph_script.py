@@ -47,7 +47,7 @@ class Writer:
         self.origins = [(self._key(name, "--origin"), _prefix(where)) for name, where in wanted.origins]
         self._tell_names()
         self._tell_attributes()
-        costs = Costs(graph, wanted.cost, wanted.is_by_speed, self.names)
+        costs = Costs(graph, wanted.cost, wanted.is_by_speed, {key: self._shown(key) for key in graph.nodes})
         costs.tell_one_way()
         self.links = costs.links
         self._check_size(len(self.links) + len(wanted.externals), MOST_LINKS, "links")
@@ -73,6 +73,7 @@ class Writer:
         if nameless:
             self.left.note(self.graph.place(nodes[nameless[0]].line), "nodes without a name: %d; their ids stand" % (
                 len(nameless)))
+        self.count_of_names = Counter(self.names.values())
         first: Dict[str, str] = {}
         for key, name in self.names.items():
             before = first.setdefault(name, key)
@@ -82,6 +83,11 @@ class Writer:
                         name, nodes[before].line, self.addresses[before], self.addresses[key])))
             elif address(name) is not None:
                 self.left.note(self.graph.place(nodes[key].line), "the name %s is an address, and is left out" % name)
+
+    def _shown(self, key: str) -> str:
+        """A node as it is told: its name, with its address where others have the name, too."""
+        name = self.names[key]
+        return name if self.count_of_names[name] == 1 else "%s (%s)" % (name, self.addresses[key])
 
     def _key(self, name: str, word: str) -> str:
         """The node that a name, an id or an address stands for; raises Mistake."""
@@ -99,7 +105,7 @@ class Writer:
         """Counts the attributes that are known, tells those that are not, and nodes that are no routers of the AS."""
         for node in self.graph.nodes.values():
             at = self.graph.place(node.line)
-            shown = self.names[node.key]
+            shown = self._shown(node.key)
             if node.attributes.get("hyperedge", "0") not in ("0", ""):
                 self.left.tell(at, "node %s stands for a hyperedge, which joins more than two; here it is a router" % (
                     shown))
@@ -131,7 +137,7 @@ class Writer:
         for part in self.parts[1:]:
             self.left.note(self.graph.place(self.graph.nodes[part[0]].line), (
                 "no link joins node %s%s with the %d others: no session between them comes up" % (
-                    self.names[part[0]], " and %d more" % (len(part) - 1) if len(part) > 1 else "",
+                    self._shown(part[0]), " and %d more" % (len(part) - 1) if len(part) > 1 else "",
                     len(self.graph.nodes) - len(part))))
 
     # Sessions
@@ -170,7 +176,7 @@ class Writer:
             if len(part) > 1 and not set(part) & set(chosen):
                 chosen.append(max(part, key=lambda key: degrees[key]))
                 self.left.note(self.graph.place(self.graph.nodes[chosen[-1]].line), (
-                    "node %s is a reflector, too: no other one is in its part of the graph" % self.names[chosen[-1]]))
+                    "node %s is a reflector, too: no other one is in its part of the graph" % self._shown(chosen[-1])))
         return chosen
 
     def _clients(self, chosen: List[str], others: List[str]) -> List[Tuple[str, str]]:
@@ -178,8 +184,8 @@ class Writer:
         ways = {key: distances(self.links, key) for key in chosen}
         found: List[Tuple[str, str]] = []
         for key in others:
-            near = sorted((each for each in chosen if key in ways[each]), key=lambda each: ways[each][key])
-            found += [(each, key) for each in near[:2]]
+            near = sorted((each for each in chosen if key in ways[each]), key=lambda each: ways[each][key])[:2]
+            found += [(each, key) for each in chosen if each in near]
         return found
 
     # The script

@@ -8,6 +8,7 @@ from typing import List, NamedTuple, Optional, Set, Tuple
 from . import output
 from .counted import check_length
 from .frr_config import Told
+from .language import escaped
 from .mistakes import CHANGED, WRONG
 
 
@@ -27,11 +28,11 @@ class LeftOut:
 
     def tell(self, at: Place, text: str) -> None:
         """Tells what is not taken over and may decide a route, with what comes of it."""
-        self._take(Told(at.file, at.line, text, True))
+        self._take(Told(at.file, at.line, escaped(text), True))
 
     def note(self, at: Place, text: str) -> None:
         """Tells what is taken over and may surprise."""
-        self._take(Told(at.file, at.line, text, False))
+        self._take(Told(at.file, at.line, escaped(text), False))
 
     def count(self, kind: str, at: Place) -> None:
         """Counts what decides no route, once for a place."""
