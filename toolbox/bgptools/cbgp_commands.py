@@ -479,4 +479,5 @@ class Commands:
 
 def _with_sets(text: str) -> str:
     """A path with each set as a dump has it: `1 {3 2}` and `1 [3 2]` are `1 {3,2}`."""
-    return re.sub(r"[\[{]([^\]}]*)[\]}]", lambda found: "{%s}" % ",".join(re.split(r"[ ,]+", found.group(1).strip())), text)
+    return re.sub(r"[\[{]([^\]}]*)[\]}]", lambda found: "{%s}" % ",".join(re.split("[ ,]+", found.group(1).strip())),
+                  text)

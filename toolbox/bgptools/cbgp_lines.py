@@ -35,6 +35,11 @@ class Line:
         return Mistake("%s: %s" % (self.text, text), self.file, self.number)
 
 
+def named(path: str) -> str:
+    """A file as it is told."""
+    return "standard input" if path == "-" else path
+
+
 def words_of(text: str) -> List[str]:
     """The words of a line up to a comment. What is in quotes is one word, in which `\\"` is a quote; raises ValueError
     where a quote is not closed."""
@@ -80,8 +85,8 @@ class Scripts:
         for number, text in lines_in(path):
             self.count += 1
             if self.count > MOST_LINES:
-                raise Mistake("more than {:,} lines are read".format(MOST_LINES), path, number)
-            line = _line(path, number, text)
+                raise Mistake("more than {:,} lines are read".format(MOST_LINES), named(path), number)
+            line = _line(named(path), number, text)
             if line.words[:1] == ("include",):
                 yield from self._included(line, around + (os.path.realpath(path),))
             elif line.words:
@@ -100,8 +105,8 @@ class Scripts:
         yield from self.lines(chosen, around)
 
 
-def _line(path: str, number: int, text: str) -> Line:
+def _line(file: str, number: int, text: str) -> Line:
     try:
-        return Line("standard input" if path == "-" else path, number, tuple(words_of(text)))
+        return Line(file, number, tuple(words_of(text)))
     except ValueError as error:
-        raise Mistake("%s" % error, "standard input" if path == "-" else path, number) from None
+        raise Mistake("%s" % error, file, number) from None

@@ -72,7 +72,8 @@ class Reader:
     """Reads a predicate: `!` binds closest, then `&`, then `|`."""
 
     def __init__(self, text: str, line: Line) -> None:
-        self.line, self.text, self.tokens, self.depth = line, text, self._tokens(text), 0
+        self.line, self.text, self.depth = line, text, 0
+        self.tokens = self._tokens(text)
 
     def _tokens(self, text: str) -> List[str]:
         found: List[str] = []

@@ -7,7 +7,7 @@ from typing import List, Optional
 from . import cbgp_network
 from .cbgp_checks import check
 from .cbgp_commands import Commands
-from .cbgp_lines import Line, Scripts
+from .cbgp_lines import Line, Scripts, named
 from .cbgp_rules import PREFERENCE
 from .cbgp_script import Picture
 from .left_out import LeftOut, Place
@@ -33,7 +33,7 @@ class Translation:
             for line in scripts.lines(file):
                 reader.take(line)
         self._write()
-        self._end(files)
+        self._end([named(file) for file in files])
 
     def _end(self, files: List[str]) -> None:
         """What is said of the whole; raises Mistake where it has no router."""
@@ -87,4 +87,4 @@ def main(words: Optional[List[str]] = None) -> int:
     """The tool."""
     chosen = parser().parse_args(words)
     made = Translation(chosen.files)
-    return made.left.write(made.lines, chosen.files[0], chosen.out, chosen.strict)
+    return made.left.write(made.lines, named(chosen.files[0]), chosen.out, chosen.strict)
