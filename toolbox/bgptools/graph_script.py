@@ -150,10 +150,8 @@ class Writer:
             return [(one, other) for at, one in enumerate(keys) for other in keys[at + 1:]], []
         chosen = self._reflectors(self.wanted.reflectors)
         mesh = [(one, other) for at, one in enumerate(chosen) for other in chosen[at + 1:]]
-        clients = self._clients(chosen, [key for key in keys if key not in chosen])
-        self._check_sessions(max(Counter(each for both in mesh + clients for each in both).values(), default=0),
-                             "--reflectors with a greater number spreads them")
-        return mesh + clients, chosen
+        self._check_sessions(len(chosen) - 1, "fewer reflectors make fewer")
+        return mesh + self._clients(chosen, [key for key in keys if key not in chosen]), chosen
 
     def _check_sessions(self, count: int, advice: str) -> None:
         outside = max(Counter(key for key, _ in self.externals).values(), default=0)
@@ -180,11 +178,19 @@ class Writer:
         return chosen
 
     def _clients(self, chosen: List[str], others: List[str]) -> List[Tuple[str, str]]:
-        """Each other router is a client of all reflectors, or of the two nearest where these are more than two."""
+        """Each other router is a client of the two nearest reflectors that have room for it; raises Mistake where none
+        has."""
         ways = {key: distances(self.links, key) for key in chosen}
+        outside = Counter(key for key, _ in self.externals)
+        room = {key: MOST_SESSIONS - (len(chosen) - 1) - outside[key] for key in chosen}
         found: List[Tuple[str, str]] = []
         for key in others:
-            near = sorted((each for each in chosen if key in ways[each]), key=lambda each: ways[each][key])[:2]
+            known = [each for each in chosen if key in ways[each]]
+            near = sorted((each for each in known if room[each] > 0), key=lambda each: ways[each][key])[:2]
+            if known and not near:
+                raise Mistake("no reflector has room for %s: each has %d sessions at most; --reflectors with a greater "
+                              "number spreads them" % (self._shown(key), MOST_SESSIONS), self.graph.file)
+            room.update({each: room[each] - 1 for each in near})
             found += [(each, key) for each in chosen if each in near]
         return found
 

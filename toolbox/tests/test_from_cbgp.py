@@ -173,7 +173,7 @@ class Filters(Converted):
         self.assertEqual(self.rules('action "local-pref 50"', 'action "local-pref 60"'), ["any permit pref=60"])
         self.assertEqual(self.rules('match "prefix in 10/8" action "metric 1"', 'match "prefix is 10/8" action "metric 2"'), [
             "is 10.0.0.0/8 permit med=2", "under 10.0.0.0/8 permit med=1"])
-        self.assertEqual(self.rules('match "community is 1:1" action "metric 1"', 'match "path ^3( |$)" action deny'), [
+        self.assertEqual(self.rules('match "community is 1:1" action "metric 1"', 'match "path \\"^3( |$)\\"" action deny'), [
             "first 3 deny", "comm 65537 permit med=1"])
 
     def test_what_is_added_is_seen_by_later_rules(self):
@@ -326,7 +326,7 @@ class Differences(Converted):
                                 ("2 [9 7]|IGP||||1:2 7:1:1 1:1", "2_{7,9} igp - comm=65537,65538", "7:1:1")):
             made = self.convert(BASE + to % rest, status=1)
             self.assertIn(said, made.stderr)
-            self.assertEqual([line[37:] for line in made.stdout.split("\n") if line.startswith("feed ")],
+            self.assertEqual([line[28:] for line in made.stdout.split("\n") if line.startswith("feed ")],
                              [] if fed is None else ["10.0.0.0/8 " + fed])
 
     def test_strict(self):
