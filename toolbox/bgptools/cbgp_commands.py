@@ -1,140 +1,19 @@
-"""C-BGP's commands: what each line of a script makes of the network. A line that is not known is told."""
+"""C-BGP's commands of BGP: routers, peers, filters, and what virtual peers tell."""
 from __future__ import annotations
 
 import functools
-import re
-from typing import Callable, Dict, List
+from typing import Dict, List
 
-from .cbgp_lines import Line
-from .cbgp_network import Domain, Link, Network, Node, Peer, Static
-from .cbgp_rules import Reader, Rule, deeds_of, prefix_of
-from .from_rib import ORIGINS, communities_of, path_of
-from .language import address, number, show_prefix
-from .network import pair
-
-# A context: takes the words of a line, and says whether it knows them. With no word it is entered.
-Context = Callable[[List[str]], bool]
-WEIGHTS = 2 ** 32 - 1
-SHOWS, CHECKS, LOGS, PLACES = "shows", "checks", "logs and options", "places on a map"
-# What each line is counted as that begins so: it decides no route.
-COUNTED: Dict[str, Dict[str, str]] = {
-    "top": {"print": SHOWS, "show": SHOWS, "set": LOGS, "time": SHOWS, "pause": SHOWS, "define": LOGS,
-            "require": CHECKS, "chdir": LOGS, "cd": LOGS, "pwd": SHOWS, "ls": SHOWS},
-    "net": {"show": SHOWS, "export": SHOWS, "measure": SHOWS, "links": SHOWS},
-    "node": {"ping": SHOWS, "traceroute": SHOWS, "record-route": SHOWS, "show": SHOWS, "coord": PLACES,
-             "latitude": PLACES, "longitude": PLACES, "export": SHOWS},
-    "link": {"show": SHOWS, "capacity": "capacities", "bandwidth": "capacities", "delay": "delays"},
-    "domain": {"show": SHOWS, "check-deflection": CHECKS},
-    "bgp": {"show": SHOWS, "assert": CHECKS},
-    "as": {"show": SHOWS, "record-route": SHOWS},
-    "options": {"show-mode": LOGS, "msg-monitor": LOGS, "auto-create": LOGS, "show": SHOWS},
-    "router": {"show": SHOWS, "assert": CHECKS, "debug": SHOWS, "record-route": SHOWS, "save": SHOWS, "rerun": LOGS,
-               "start": LOGS},
-    "peer": {"show": SHOWS, "record": LOGS, "walton-limit": LOGS, "rescan": LOGS,
-             "update-source": "sources of sessions", "source": "sources of sessions", "softrestart": LOGS,
-             "soft-restart": LOGS},
-    "filter": {"show": SHOWS}, "map": {"show": SHOWS}, "rule": {"show": SHOWS},
-    "sim": {"options": LOGS, "debug": LOGS, "event": SHOWS, "queue": SHOWS, "show": SHOWS},
-}
-# What comes of leaving these out.
-TOLD: Dict[str, Dict[str, str]] = {
-    "net": {"ntf": "the links of the file are not read; give them as `net add link`",
-            "traffic": "there is no load of links"},
-    "node": {"tunnel": "there are no tunnels; packets follow the chosen routes",
-             "ipip-enable": "there are no tunnels; packets follow the chosen routes",
-             "iface": "a router has one address; links are of `net add link`",
-             "add": "a router has one address; links are of `net add link`",
-             "traffic": "there is no load of links"},
-    "bgp": {"topology": "its file is not read; `from-as-rel` reads AS relationships",
-            "cluster": "its setting is left out"},
-    "options": {"walton-limit": "one route is told to a peer", "walton-convergence": "one route is told to a peer",
-                "nlri": "routes are of prefixes"},
-    "router": {"load": "the table is not read; `from-rib` reads one",
-               "stop": "the router goes on; write `stop ROUTER PEER` for its sessions"},
-    "peer": {"next-hop": "the next hop is the session's, or the router with `next-hop-self`"},
-    "sim": {"stop": "deliveries go on until all queues are empty",
-            "step": "deliveries go on until all queues are empty", "clear": "messages that wait are delivered"},
-}
+from . import cbgp_records
+from .cbgp_filters import Reader, Rule, deeds_of
+from .cbgp_interior import Interior
+from .cbgp_network import Node, Peer
+from .cbgp_reading import Context
+from .language import number
 
 
-class Commands:
-    """Takes lines one after another. `run` is called for each `sim run`, with its line."""
-
-    def __init__(self, network: Network, run: Callable[[Line], None]) -> None:
-        self.network, self.run = network, run
-        self.line = Line("", 0, ())
-        self.stack: List[Context] = [self._top]
-
-    def take(self, line: Line) -> None:
-        """One line; raises Mistake where C-BGP would stop at it."""
-        self.line = line
-        if line.words == ("exit",) or line.words == ("quit",):
-            if len(self.stack) > 1:
-                self.stack.pop()
-            else:
-                self.network.note(line, "%s: nothing is open that it ends" % line.text)
-            return
-        before = list(self.stack)
-        for depth in range(len(before), 0, -1):
-            if before[depth - 1](list(line.words)):
-                if depth < len(before):
-                    self.stack = before[:depth] + self.stack[len(before):]
-                    self.network.note(line, "%s: it is none of what is open, which it is taken to end" % line.text)
-                return
-        self.network.tell(line, "%s: it is not known to from-cbgp" % line.text)
-
-    # Words
-
-    def _wanted(self, words: List[str], count: int, form: str) -> List[str]:
-        """So many words; raises Mistake with the form that is expected."""
-        if len(words) != count:
-            raise self.line.mistake("`%s` is expected" % form)
-        return words
-
-    def _address(self, word: str) -> str:
-        if address(word) is None:
-            raise self.line.mistake("`%s` is no address, four numbers of 0 to 255 as in 1.0.0.1" % word[:60])
-        return word
-
-    def _asn(self, word: str) -> int:
-        found = number(word, 1)
-        if found is None:
-            raise self.line.mistake("`%s` is no AS number, 1 to 4294967295" % word[:60])
-        return found
-
-    def _number(self, word: str, what: str, most: int = WEIGHTS) -> int:
-        found = number(word, 0, most)
-        if found is None:
-            raise self.line.mistake("`%s` is no %s, a number up to %d" % (word[:60], what, most))
-        return found
-
-    def _prefix(self, word: str) -> str:
-        """A prefix in its full form."""
-        found = prefix_of(word)
-        if found is None:
-            raise self.line.mistake("`%s` is no prefix, as 10.0.0.0/8" % word[:60])
-        return show_prefix(found)
-
-    def _node(self, word: str) -> Node:
-        if self._address(word) not in self.network.nodes:
-            raise self.line.mistake("there is no node %s: `net add node %s` is expected before" % (word, word))
-        return self.network.nodes[word]
-
-    def _known(self, context: str, words: List[str]) -> bool:
-        """Counts or tells a line that begins with a word of the tables."""
-        if words[0] in COUNTED.get(context, {}):
-            self.network.left.count(COUNTED[context][words[0]], self.line.place)
-        elif words[0] in TOLD.get(context, {}):
-            self.network.tell(self.line, "%s: %s" % (self.line.text, TOLD[context][words[0]]))
-        else:
-            return False
-        return True
-
-    def _enter(self, context: Context) -> bool:
-        self.stack.append(context)
-        return True
-
-    # Everything
+class Commands(Interior):
+    """Takes all commands. A line that is not known is told."""
 
     def _top(self, words: List[str]) -> bool:
         tables: Dict[str, Context] = {"net": self._net, "bgp": self._bgp, "sim": self._sim}
@@ -148,138 +27,6 @@ class Commands:
             self.network.has_run = True
             return True
         return self._known("sim", words)
-
-    # The network
-
-    def _net(self, words: List[str]) -> bool:
-        if words[0] == "add" and len(words) > 1:
-            adds = {"domain": self._add_domain, "node": self._add_node, "link": self._add_link}
-            if words[1] in adds:
-                adds[words[1]](words[2:])
-                return True
-            if words[1] in ("subnet", "iface"):
-                self.network.tell(self.line, "%s: there are no subnets and interfaces; a link has two ends" % (
-                    self.line.text))
-                return True
-            return False
-        if words[0] == "node" and len(words) > 1:
-            return self._in_node(self._node(words[1]), words[2:])
-        if words[0] == "domain" and len(words) > 1:
-            return self._in_domain(self._domain(words[1]), words[2:])
-        if words[0] == "link" and len(words) > 2:
-            return self._in_link(self._link(words[1], words[2]), words[1:3], words[3:])
-        return self._known("net", words)
-
-    def _add_domain(self, words: List[str]) -> None:
-        if not 1 <= len(words) <= 2 or words[1:] not in ([], ["igp"]):
-            raise self.line.mistake("`net add domain N igp` is expected")
-        found = self._number(words[0], "domain")
-        if found in self.network.domains:
-            raise self.line.mistake("there is a domain %d already" % found)
-        self.network.domains[found] = Domain(found, self.line)
-
-    def _domain(self, word: str) -> Domain:
-        found = self._number(word, "domain")
-        if found not in self.network.domains:
-            raise self.line.mistake("there is no domain %d: `net add domain %d igp` is expected before" % (
-                found, found))
-        return self.network.domains[found]
-
-    def _add_node(self, words: List[str]) -> None:
-        plain = [word for word in words if not word.startswith("--")]
-        where = self._address(self._wanted(plain, 1, "net add node A")[0])
-        if where in self.network.nodes:
-            raise self.line.mistake("there is a node %s already" % where)
-        self.network.nodes[where] = Node(where, self.line)
-
-    def _add_link(self, words: List[str]) -> None:
-        plain = [word for word in words if not word.startswith("--")]
-        if len(plain) < len(words):
-            self.network.left.count("capacities and delays", self.line.place)
-        if not 2 <= len(plain) <= 3:
-            raise self.line.mistake("`net add link A B`, with a delay in early versions, is expected")
-        one = self._node(plain[0]).address
-        if prefix_of(plain[1]) is not None:
-            self.network.tell(self.line, "%s: there are no subnets; a link has two ends" % self.line.text)
-            return
-        other = self._node(plain[1]).address
-        if one == other or pair(one, other) in self.network.links:
-            raise self.line.mistake("the two are one" if one == other else "the two have a link already")
-        delay = self._number(plain[2], "delay") if len(plain) > 2 else None
-        self.network.links[pair(one, other)] = Link(one, other, self.line, delay)
-        self.network.changed((one, other), self.line)
-
-    def _link(self, one: str, other: str) -> Link:
-        found = self.network.link(self._node(one).address, self._node(other).address)
-        if found is None:
-            raise self.line.mistake("the two have no link: `net add link %s %s` is expected before" % (one, other))
-        return found
-
-    def _in_link(self, link: Link, ends: List[str], words: List[str]) -> bool:
-        if not words:
-            return self._enter(functools.partial(self._in_link, link, ends))
-        one, other = ends
-        if words[0] == "igp-weight":
-            plain = [word for word in words[1:] if word not in ("--bidir", "--both")]
-            if plain[0:1] and plain[0].startswith("--tos"):
-                self.network.tell(self.line, "%s: a link has one weight, whatever the service" % self.line.text)
-                return True
-            weight = self._number(self._wanted(plain, 1, "net link A B igp-weight [--bidir] N")[0], "weight")
-            for way in [(one, other)] + ([(other, one)] if len(plain) < len(words) - 1 else []):
-                link.weights[way] = (weight, self.line)
-        elif words in (["up"], ["down"]):
-            link.is_up = words == ["up"]
-        else:
-            return self._known("link", words)
-        self.network.changed((one, other), self.line)
-        return True
-
-    def _in_domain(self, domain: Domain, words: List[str]) -> bool:
-        if not words:
-            return self._enter(functools.partial(self._in_domain, domain))
-        if words == ["compute"]:
-            domain.computed, domain.stale = self.line, None
-            domain.unscanned = self.line if self.network.has_run else None
-            return True
-        return self._known("domain", words)
-
-    def _in_node(self, node: Node, words: List[str]) -> bool:
-        if not words:
-            return self._enter(functools.partial(self._in_node, node))
-        if words[0] == "domain":
-            node.domain = self._domain(self._wanted(words, 2, "net node A domain N")[1]).number
-            self.network.changed((node.address,), self.line)
-        elif words[0] == "name":
-            node.name = self._wanted(words, 2, "net node A name NAME")[1]
-        elif words[0] == "spf-prefix":
-            found = prefix_of(self._prefix(self._wanted(words, 2, "net node A spf-prefix P")[1]))
-            node.reaches += [found] if found else []
-        elif words[0] == "route" and len(words) > 1:
-            return self._route(node, words[1], words[2:])
-        else:
-            return self._known("node", words)
-        return True
-
-    def _route(self, node: Node, verb: str, words: List[str]) -> bool:
-        """`route add P GATEWAY WAY N` or `P WAY N` in early versions, `--oif=WAY P N` in later ones."""
-        options = dict(word[2:].partition("=")[::2] for word in words if word.startswith("--"))
-        plain = [word for word in words if not word.startswith("--")]
-        if verb not in ("add", "del") or not plain:
-            return False
-        where = prefix_of(self._prefix(plain[0]))
-        assert where is not None
-        if verb == "del":
-            node.statics = [each for each in node.statics if each.where != where]
-            return True
-        way = options.get("oif") or options.get("gw") or (plain[-2] if len(plain) > 2 else "")
-        if len(plain) < 2 or len(plain) > 4 or not way:
-            raise self.line.mistake("`net node A route add P GATEWAY WAY N` or `route add --oif=WAY P N` is expected")
-        static = Static(where, way, self._number(plain[-1], "metric"), self.line)
-        node.statics.append(static)
-        if address(way) is None or self.network.link(node.address, way) is None:
-            self.network.note(self.line, "%s: packets follow the links, and %s is at the end of none" % (
-                self.line.text, way))
-        return True
 
     # BGP
 
@@ -316,8 +63,8 @@ class Commands:
             for one in inside:
                 for other in inside:
                     if one is not other:
-                        known = self.network.peers.setdefault((one.address, other.address), Peer(asn, self.line))
-                        known.is_up = True
+                        new = Peer(asn, self.line, is_up=True)
+                        self.network.peers.setdefault((one.address, other.address), new)
             return True
         if words == ["rescan"]:
             self._scanned(inside)
@@ -396,50 +143,21 @@ class Commands:
         elif words[0] == "filter" and words[1:2] and words[1] in ("in", "out"):
             return self._in_filter("filter", peer.filters[words[1]], words[2:])
         elif words[0] == "recv":
-            self._receive(node, other, peer, self._wanted(words, 2, 'peer P recv "BGP4|..."')[1])
+            self._receive(other, peer, self._wanted(words, 2, 'peer P recv "BGP4|..."')[1])
         else:
             return self._known("peer", words)
         return True
 
-    def _receive(self, node: Node, other: str, peer: Peer, text: str) -> None:
-        """A record `BGP4|time|A|peer|AS|prefix|path|origin|next hop|preference|MED|communities`, or with W for A."""
-        parts = text.split("|")
-        if len(parts) < 6 or not parts[0].startswith(("BGP4", "TABLE_DUMP")) or parts[2] not in ("A", "W", "B"):
-            raise self.line.mistake("a record BGP4|time|A|peer|AS|prefix|path|origin|next hop|preference|MED|"
-                                    "communities or BGP4|time|W|peer|AS|prefix is expected")
-        where = self._prefix(parts[5])
+    def _receive(self, other: str, peer: Peer, text: str) -> None:
+        """What a virtual peer tells, or takes back."""
+        record = cbgp_records.read(self.line, text)
         if not peer.is_up or "virtual" not in peer.flags:
             raise self.line.mistake("%s is no virtual peer that is up" % other)
-        if parts[2] == "W":
-            if peer.fed.pop(where, None) is None:
-                self.network.note(self.line, "it takes back %s, which %s has not told" % (where, other))
-            return
-        words = self._route_words(peer, other, (parts + [""] * 6)[:12])
-        if words:
-            peer.fed[where] = words
-
-    def _route_words(self, peer: Peer, other: str, parts: List[str]) -> str:
-        """The words of `feed` behind the prefix; empty where the route is not taken over, which is told."""
-        path, origin = path_of(_with_sets(parts[6])), ORIGINS.get(parts[7].upper())
-        med = "-" if parts[10] == "" else parts[10] if number(parts[10]) is not None else None
-        if path is None or origin is None or med is None:
-            raise self.line.mistake("a path as `1 2`, an origin IGP, EGP or INCOMPLETE and a MED are expected, and not "
-                                    "`%s`" % "|".join(parts[6:11])[:80])
-        comms, odd = communities_of(parts[11], self.line.file, self.line.number)
-        said = "the route of %s to %s" % (other, parts[5])
-        for is_wrong, text in (
-                (path.split("_")[0].split(",")[0] != str(peer.asn), "its path does not begin with AS %d" % peer.asn),
-                (len(re.findall("[0-9]+", path)) > 255, "its path has more than 255 AS numbers"),
-                (len(comms) > 32, "it has %d communities, and a route is fed with 32 at most" % len(comms))):
-            if is_wrong:
-                self.network.tell(self.line, "%s is left out: %s" % (said, text))
-                return ""
-        if odd:
-            self.network.tell(self.line, "%s is fed without %s: there are no large and extended communities" % (
-                said, " ".join(odd)))
-        if parts[8] not in (other, ""):
-            self.network.tell(self.line, "%s: its next hop is %s; here it is the peer" % (said, parts[8][:60]))
-        return "%s %s %s%s" % (path, origin, med, " comm=" + ",".join(map(str, comms)) if comms else "")
+        if not record.is_withdrawal:
+            words = cbgp_records.fed(self.network, self.line, record, peer, other)
+            peer.fed.update({record.where: words} if words else {})
+        elif peer.fed.pop(record.where, None) is None:
+            self.network.note(self.line, "it takes back %s, which %s has not told" % (record.where, other))
 
     # Filters
 
@@ -475,9 +193,3 @@ class Commands:
                 rule.deeds = deeds_of(words[1], self.line)
             words = words[2:]
         return True
-
-
-def _with_sets(text: str) -> str:
-    """A path with each set as a dump has it: `1 {3 2}` and `1 [3 2]` are `1 {3,2}`."""
-    return re.sub(r"[\[{]([^\]}]*)[\]}]", lambda found: "{%s}" % ",".join(re.split("[ ,]+", found.group(1).strip())),
-                  text)

@@ -4,8 +4,8 @@ from __future__ import annotations
 from dataclasses import dataclass, field
 from typing import Dict, List, Optional, Set, Tuple
 
+from .cbgp_filters import Rule
 from .cbgp_lines import Line
-from .cbgp_rules import Rule, prefix_of
 from .frr_policy import Prefix
 from .language import address, contains
 from .left_out import LeftOut

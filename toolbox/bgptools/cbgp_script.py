@@ -5,9 +5,10 @@ from __future__ import annotations
 from typing import Dict, List, Optional, Set, Tuple
 
 from . import cbgp_network
+from .cbgp_filters import Rule
 from .cbgp_lines import Line
 from .cbgp_network import Node, Peer
-from .cbgp_rules import PREFERENCE, Converter, Rule
+from .cbgp_rules import PREFERENCE, Converter
 from .frr_lists import Place, World
 from .frr_policy import MOST_RULES
 from .language import escaped
@@ -58,8 +59,12 @@ class Picture:
                 self.made.names.of[where] = "_".join(escaped(node.name).split())
 
     def _asn_of(self, node: Node) -> Optional[int]:
-        """The AS of a node without BGP: that of its domain, else of the nodes that it is linked to."""
+        """The AS of a node without BGP: that in which it is a peer, else of its domain, else of the nodes that it is
+        linked to."""
         source = self.source
+        said = {peer.asn for (_, other), peer in source.peers.items() if other == node.address}
+        if said:
+            return min(said)
         others = [each for each in source.nodes.values() if each.domain is not None and each.domain == node.domain]
         around = [source.nodes[each] for each in source.linked(node.address)]
         for found in ({each.asn for each in group} - {None} for group in (others, around)):

@@ -5,7 +5,7 @@ from collections import Counter
 from dataclasses import dataclass, field
 from typing import Dict, List, Optional, Tuple
 
-from .graph import Graph
+from .graph import Graph, Node
 from .graph_costs import COSTS, Costs, distances
 from .language import address, escaped, number, prefix, show_address
 from .mistakes import Mistake
@@ -104,14 +104,7 @@ class Writer:
     def _tell_attributes(self) -> None:
         """Counts the attributes that are known, tells those that are not, and nodes that are no routers of the AS."""
         for node in self.graph.nodes.values():
-            at = self.graph.place(node.line)
-            shown = self._shown(node.key)
-            if node.attributes.get("hyperedge", "0") not in ("0", ""):
-                self.left.tell(at, "node %s stands for a hyperedge, which joins more than two; here it is a router" % (
-                    shown))
-            if node.attributes.get("Internal", "1") in ("0", "0.0"):
-                self.left.tell(at, "node %s is outside of the network (Internal 0); here it is a router of the AS" % (
-                    shown))
+            self._tell_kind(node)
         found: Dict[str, List[int]] = {}
         all_of = [(node.line, node.attributes) for node in self.graph.nodes.values()]
         for line, attributes in all_of + [(edge.line, edge.attributes) for edge in self.graph.edges]:
@@ -120,6 +113,14 @@ class Writer:
         for name, lines in found.items():
             self._tell_attribute(name, lines)
         self.left.counts.update({"attributes of the graph": self.graph.count_of_own} if self.graph.count_of_own else {})
+
+    def _tell_kind(self, node: Node) -> None:
+        """Tells a node that is no router of the AS."""
+        at, shown = self.graph.place(node.line), self._shown(node.key)
+        if node.attributes.get("hyperedge", "0") not in ("0", ""):
+            self.left.tell(at, "node %s stands for a hyperedge, which joins more than two; here it is a router" % shown)
+        if node.attributes.get("Internal", "1") in ("0", "0.0"):
+            self.left.tell(at, "node %s is outside of the network (Internal 0); here it is a router of the AS" % shown)
 
     def _tell_attribute(self, name: str, lines: List[int]) -> None:
         tables = ((PLACES, "places"), (KINDS, "kinds"), (SPEEDS, "speeds"), (LINKS, "words of links"))

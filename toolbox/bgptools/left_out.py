@@ -44,8 +44,8 @@ class LeftOut:
             self.told.append(each)
 
     def _print(self, what: str) -> None:
-        """`what` are the things that are counted, in the plural."""
-        for each in self.told:
+        """By file and line; `what` are the things that are counted, in the plural."""
+        for each in sorted(self.told, key=lambda each: (each.file, each.line)):
             place = "%s:%d" % (each.file, each.line) if each.line else each.file
             print("%s: %s: %s" % (place, "not taken over" if each.decides else "note", each.text), file=sys.stderr)
         if self.counts:

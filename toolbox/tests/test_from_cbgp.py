@@ -130,6 +130,8 @@ class Commands(Converted):
                           "sim run", to + tells % ("W", ""))
         self.assertEqual(made, [fed + "-", RUN[:-1], "stop 1.0.0.1 2.0.0.1", RUN[:-1], "start 1.0.0.1 2.0.0.1",
                                 fed + "3", RUN[:-1], "feed 2.0.0.1 1.0.0.1 withdraw 10.0.0.0/8"])
+        made = self.after(to + tells % ("A", ""), "sim run", to + "down", to + "up", "sim run", to + "reset")
+        self.assertEqual(made, [fed + "-", RUN[:-1], "feed 2.0.0.1 1.0.0.1 withdraw 10.0.0.0/8", RUN[:-1]])
 
     def test_a_link_that_comes_back_is_fed_over_again(self):
         to, link = "bgp router 1.0.0.1 peer 2.0.0.1 ", "net link 1.0.0.1 2.0.0.1 "
@@ -197,6 +199,8 @@ class Filters(Converted):
     def test_own_routes(self):
         self.assertEqual(self.rules('match "path ^$" action "as-path prepend 2, metric 1"', way="out"), [
             "first 2 permit", "any permit med=1 prepend=2"])
+        self.assertEqual(self.rules('match "prefix in 10/8" action "as-path prepend 2"', 'action "as-path prepend 3"', way="out"), [
+            "under 10.0.0.0/8 permit prepend=5", "any permit prepend=3"])
 
     def test_what_no_rule_says(self):
         for line, way, said in (
