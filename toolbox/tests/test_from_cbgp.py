@@ -1,5 +1,5 @@
-"""from-cbgp: three scripts after C-BGP's documentation with what becomes of them, worked out by hand; what it tells, and
-mistakes."""
+"""from-cbgp: three scripts after C-BGP's documentation with what becomes of them, worked out by hand; what it tells,
+and mistakes."""
 from common import DATA, Case, inside, program, tool
 
 SCRIPTS = DATA / "cbgp"
@@ -151,11 +151,13 @@ class Commands(Converted):
         self.assertIn("join 1.0.0.1 1.0.0.2\nstop 1.0.0.1 1.0.0.2\n", made.stdout)
 
     def test_what_is_passed_over_is_counted(self):
-        lines = ["print \"x # y\\n\"", "show version # all", "bgp router 1.0.0.1 show rib *", "net node 1.0.0.1 ping 2.0.0.1",
+        lines = ["print \"x # y\\n\"", "show version # all", "bgp router 1.0.0.1 show rib *",
+                 "net node 1.0.0.1 ping 2.0.0.1",
                  "bgp assert peerings-ok", "sim options log-level everything", "net node 1.0.0.1 coord 1 2"]
         self.assertEqual(self.after(*lines), [])
-        self.assertEqual(self.told, "7 lines that decide no route were left out: shows 4, checks 1, logs and options 1, "
-                                    "places on a map 1\n")
+        self.assertEqual(self.told,
+                         "7 lines that decide no route were left out: shows 4, checks 1, logs and options 1, "
+                         "places on a map 1\n")
 
     def test_nodes_without_bgp(self):
         more = "net add node 1.0.0.3\nnet add node 9.0.0.1\nnet add node 9.0.0.2\nnet add link 9.0.0.1 9.0.0.2\n" \
@@ -173,14 +175,17 @@ class Filters(Converted):
         self.assertEqual(self.rules('action "local-pref 50"', 'action "metric 5"'), ["any permit pref=50 med=5"])
         self.assertEqual(self.rules('action "local-pref 50, accept"', 'action "metric 5"'), ["any permit pref=50"])
         self.assertEqual(self.rules('action "local-pref 50"', 'action "local-pref 60"'), ["any permit pref=60"])
-        self.assertEqual(self.rules('match "prefix in 10/8" action "metric 1"', 'match "prefix is 10/8" action "metric 2"'), [
+        self.assertEqual(self.rules('match "prefix in 10/8" action "metric 1"',
+                                    'match "prefix is 10/8" action "metric 2"'), [
             "is 10.0.0.0/8 permit med=2", "under 10.0.0.0/8 permit med=1"])
-        self.assertEqual(self.rules('match "community is 1:1" action "metric 1"', 'match "path \\"^3( |$)\\"" action deny'), [
+        self.assertEqual(self.rules('match "community is 1:1" action "metric 1"',
+                                    'match "path \\"^3( |$)\\"" action deny'), [
             "first 3 deny", "comm 65537 permit med=1"])
 
     def test_what_is_added_is_seen_by_later_rules(self):
         self.assertEqual(self.rules('match "prefix is 10/8" action "community add 1:1"',
-                                    'match "community is 1:1" action "deny"'), ["is 10.0.0.0/8 deny", "comm 65537 deny"])
+                                    'match "community is 1:1" action "deny"'), ["is 10.0.0.0/8 deny",
+                                                                                "comm 65537 deny"])
 
     def test_matches(self):
         for said, rules in (
@@ -190,8 +195,10 @@ class Filters(Converted):
                 ("prefix is 10/8 | community is 5", ["is 10.0.0.0/8 deny", "comm 5 deny"]),
                 ("prefix in 10/8 & prefix in 10.1/16", ["under 10.1.0.0/16 deny"]),
                 ("prefix in 10/8 & !prefix is 10/8", ["is 10.0.0.0/8 permit", "under 10.0.0.0/8 deny"]),
-                ("!(prefix in 10/8 | prefix in 11/8)", ["under 10.0.0.0/8 permit", "under 11.0.0.0/8 permit", "any deny"]),
-                ('path \\"(^| )7( |$)\\"', ["path 7 deny"]), ('path \\"^(7|8)( |$)\\"', ["first 7 deny", "first 8 deny"]),
+                ("!(prefix in 10/8 | prefix in 11/8)", ["under 10.0.0.0/8 permit", "under 11.0.0.0/8 permit",
+                                                        "any deny"]),
+                ('path \\"(^| )7( |$)\\"', ["path 7 deny"]), ('path \\"^(7|8)( |$)\\"', ["first 7 deny",
+                                                                                         "first 8 deny"]),
                 ('path \\"\\b7\\b\\"', ["path 7 deny"]), ('path \\".*\\"', ["any deny"])):
             with self.subTest(said=said):
                 self.assertEqual(self.rules('match "%s" action deny' % said), rules)
@@ -199,14 +206,16 @@ class Filters(Converted):
     def test_own_routes(self):
         self.assertEqual(self.rules('match "path ^$" action "as-path prepend 2, metric 1"', way="out"), [
             "first 2 permit", "any permit med=1 prepend=2"])
-        self.assertEqual(self.rules('match "prefix in 10/8" action "as-path prepend 2"', 'action "as-path prepend 3"', way="out"), [
+        self.assertEqual(self.rules('match "prefix in 10/8" action "as-path prepend 2"', 'action "as-path prepend 3"',
+                                    way="out"), [
             "under 10.0.0.0/8 permit prepend=5", "any permit prepend=3"])
 
     def test_what_no_rule_says(self):
         for line, way, said in (
                 ('match "path \\"_7_\\"" action deny', "in", "no rule is about the paths of `_7_`"),
                 ('match "path 7" action deny', "in", "no rule is about the paths of `7`"),
-                ('match "prefix in 10/8 & community is 1:1" action deny', "in", "under 10.0.0.0/8 and comm 1:1 at once"),
+                ('match "prefix in 10/8 & community is 1:1" action deny', "in",
+                 "under 10.0.0.0/8 and comm 1:1 at once"),
                 ('match "next-hop is 2.0.0.1" action deny', "in", "no rule is about a next hop"),
                 ('action "community strip"', "in", "community strip: no rule does so"),
                 ('action "community remove 1:1"', "out", "community remove 1:1: no rule does so"),
@@ -239,17 +248,19 @@ class Filters(Converted):
         self.assertIn("s.cli:21: not taken over: metric 5: a rule of an internal session sets nothing", made.stderr)
 
     def test_route_maps(self):
-        maps = "bgp route-map A add-rule match \"prefix is 10/8\" action %s\nbgp route-map B add-rule action \"call A\"\n"
+        maps = 'bgp route-map A add-rule match "prefix is 10/8" action %s\nbgp route-map B add-rule action "call A"\n'
         to = 'bgp router 1.0.0.1 peer 2.0.0.1 filter in add-rule action "%s B, deny"\n'
         for deed, how, rules in (("accept", "call", ["is 10.0.0.0/8 permit", "any deny"]),
                                  ("accept", "jump", []), ("deny", "jump", ["is 10.0.0.0/8 deny"])):
             made = self.convert(BASE + maps % deed + to % how, status=0)
             self.assertEqual([line[24:] for line in made.stdout.split("\n") if line.startswith("rule ")], rules)
-        made = self.convert(BASE + 'bgp route-map A add-rule action "call A"\n' + to.replace("B", "A") % "call", status=2)
+        made = self.convert(BASE + 'bgp route-map A add-rule action "call A"\n' + to.replace("B", "A") % "call",
+                            status=2)
         self.assertIn("call each other more than", made.stderr)
 
     def test_too_many_rules(self):
-        text = "".join('bgp router 1.0.0.1 peer 2.0.0.1 filter in add-rule match "prefix is %d.0.0.0/%d" action deny\n' % (
+        line = 'bgp router 1.0.0.1 peer 2.0.0.1 filter in add-rule match "prefix is %d.0.0.0/%d" action deny\n'
+        text = "".join(line % (
             at % 250, 8 + at // 250) for at in range(257))
         self.assertIn("takes 257 rules, and a policy has at most 256", self.convert(BASE + text, status=2).stderr)
 
@@ -264,7 +275,8 @@ class Differences(Converted):
         self.told_of(BASE.replace("net node 1.0.0.1 route add --oif=2.0.0.1 2.0.0.1/32 1\n", ""))
         self.assert_told(15, "1.0.0.1 has no route to 2.0.0.1")
         self.told_of(BASE.replace("  peer 2.0.0.1 next-hop-self\n", ""))
-        self.assert_told(16, "1.0.0.2 of AS 1 has no route to the next hop 2.0.0.1", "`rule 1.0.0.1 1.0.0.2 out first 2 deny`")
+        self.assert_told(16, "1.0.0.2 of AS 1 has no route to the next hop 2.0.0.1",
+                         "`rule 1.0.0.1 1.0.0.2 out first 2 deny`")
         self.told_of(BASE.replace("net domain 1 compute\n", ""))
         self.assert_told(1, "domain 1 is never computed")
         self.told_of(BASE.replace("net node 1.0.0.2 domain 1\n", ""))
@@ -292,7 +304,8 @@ class Differences(Converted):
         self.assertIn("link 1.0.0.1 1.0.0.2 6\n", self.convert(early, status=0).stdout)
 
     def test_own_routes_that_do_not_win(self):
-        more = 'bgp router 1.0.0.2 add network 10/8\nbgp router 1.0.0.1 peer 2.0.0.1 recv "BGP4|0|A|2.0.0.1|2|10/8|2|IGP|||"\n'
+        more = ('bgp router 1.0.0.2 add network 10/8\n'
+                'bgp router 1.0.0.1 peer 2.0.0.1 recv "BGP4|0|A|2.0.0.1|2|10/8|2|IGP|||"\n')
         self.told_of(BASE + more, status=0)
         self.told_of(BASE + more + 'bgp router 1.0.0.1 peer 2.0.0.1 filter in add-rule action "local-pref 1"\n')
         self.assert_told(21, "10.0.0.0/8 is told by others, too")
@@ -300,7 +313,8 @@ class Differences(Converted):
     def test_routes_with_and_without_a_med(self):
         second = BASE.replace("bgp add", "net add node 2.0.0.2\nnet add link 1.0.0.2 2.0.0.2\n"
                               "net node 1.0.0.2 route add --oif=2.0.0.2 2.0.0.2/32 1\nbgp add", 1)
-        second += "bgp router 1.0.0.2\nadd peer 2 2.0.0.2\npeer 2.0.0.2 virtual\npeer 2.0.0.2 next-hop-self\npeer 2.0.0.2 up\n"
+        second += ("bgp router 1.0.0.2\nadd peer 2 2.0.0.2\npeer 2.0.0.2 virtual\npeer 2.0.0.2 next-hop-self\n"
+                   "peer 2.0.0.2 up\n")
         one, two = ('recv "BGP4|0|A|2.0.0.%d|2|10/8|2|IGP||0|%%s|"\n' % at for at in (1, 2))
         to_one, to_two = "exit\nbgp router 1.0.0.1 peer 2.0.0.1 " + one, "peer 2.0.0.2 " + two
         self.told_of(second + to_two % "5" + to_one % "6", status=0)
@@ -313,7 +327,8 @@ class Differences(Converted):
         text += "bgp router 1.0.0.1\nadd peer 3 3.0.0.1\npeer 3.0.0.1 virtual\npeer 3.0.0.1 up\n"
         made = self.convert(text, status=1)
         self.assertNotIn("self", made.stdout)
-        self.assertIn("s.cli:21: not taken over: next-hop-self for what comes from 2.0.0.1, and not for other", made.stderr)
+        self.assertIn("s.cli:21: not taken over: next-hop-self for what comes from 2.0.0.1, and not for other",
+                      made.stderr)
 
     def test_peers_that_make_no_session(self):
         for line, said in (("add peer 1 5.5.5.5\n  peer 5.5.5.5 virtual", "is a virtual peer of AS 1 in AS 1 itself"),
@@ -350,15 +365,19 @@ class Mistakes(Converted):
     def test_each_has_its_line(self):
         to = "bgp router 1.0.0.1 peer 2.0.0.1 "
         for line, said in (
-                ("net add node 1.0.0", "`1.0.0` is no address"), ("net add node 1.0.0.1", "there is a node 1.0.0.1 already"),
+                ("net add node 1.0.0", "`1.0.0` is no address"), ("net add node 1.0.0.1",
+                                                                  "there is a node 1.0.0.1 already"),
                 ("net add link 1.0.0.1 4.0.0.1", "there is no node 4.0.0.1"), ("net add link 1.0.0.1", "is expected"),
                 ("net add link 1.0.0.1 1.0.0.1", "the two are one"), ("net add link 1.0.0.2 1.0.0.1", "a link already"),
                 ("net link 1.0.0.2 2.0.0.1 up", "have no link"), ("net link 1.0.0.1 1.0.0.2 igp-weight x", "no weight"),
                 ("net add domain 1 igp", "a domain 1 already"), ("net domain 2 compute", "there is no domain 2"),
-                ("net node 1.0.0.1 route add 10/8", "is expected"), ("net node 1.0.0.1 route add x --oif=1.0.0.2 1", "no prefix"),
-                ("bgp add router 0 2.0.0.1", "`0` is no AS number"), ("bgp add router 1 1.0.0.1", "BGP runs there already"),
+                ("net node 1.0.0.1 route add 10/8", "is expected"), ("net node 1.0.0.1 route add x --oif=1.0.0.2 1",
+                                                                     "no prefix"),
+                ("bgp add router 0 2.0.0.1", "`0` is no AS number"), ("bgp add router 1 1.0.0.1",
+                                                                      "BGP runs there already"),
                 ("bgp router 2.0.0.1", "BGP does not run there"), ("bgp router 1.0.0.1 add network 10/33", "no prefix"),
-                ("bgp router 1.0.0.1 add peer 2 2.0.0.1", "a peer already"), ("bgp router 1.0.0.1 peer 9.9.9.9 up", "no peer"),
+                ("bgp router 1.0.0.1 add peer 2 2.0.0.1", "a peer already"), ("bgp router 1.0.0.1 peer 9.9.9.9 up",
+                                                                              "no peer"),
                 ("bgp router 1.0.0.1 del network 10/8", "has no such network"), ("bgp options med x", "is expected"),
                 (to + 'filter in add-rule match "prefix is"', "a prefix is expected at the end"),
                 (to + 'filter in add-rule match "prefix near 10/8"', "`prefix near` is no match"),
@@ -367,8 +386,10 @@ class Mistakes(Converted):
                 (to + 'filter in add-rule match "prefix ge 10/8 7"', "a length of 8 to 32"),
                 (to + 'filter in add-rule match "community is 70000:1"', "`70000:1` is no community"),
                 (to + 'filter in add-rule action "local-pref x"', "a number is expected behind `local-pref`"),
-                (to + 'filter in add-rule action "drop"', "`drop` is no action"), (to + "filter in remove-rule 0", "is expected"),
-                (to + 'filter in add-rule action "call X"', "there is no route map `X`"), (to + 'recv "x"', "a record BGP4"),
+                (to + 'filter in add-rule action "drop"', "`drop` is no action"), (to + "filter in remove-rule 0",
+                                                                                   "is expected"),
+                (to + 'filter in add-rule action "call X"', "there is no route map `X`"), (to + 'recv "x"',
+                                                                                           "a record BGP4"),
                 (to + 'recv "BGP4|0|A|2.0.0.1|2|10/8|2|BGP|||"', "an origin IGP, EGP or INCOMPLETE"),
                 (to + 'recv "BGP4|0|A|2.0.0.1|2|10/8|2|IGP||||x"', "`x` is no community"),
                 ("bgp router 1.0.0.1 peer 1.0.0.2 " + 'recv "BGP4|0|W|1.0.0.2|1|10/8"', "no virtual peer that is up"),
@@ -387,7 +408,9 @@ class Mistakes(Converted):
         self.assertIn("s.cli:22: bgp add router 2 2.0.0.1: what 2.0.0.1 is, and its AS, cannot change", made.stderr)
 
     def test_too_many_sessions(self):
-        text = "".join("net add node 3.0.%d.%d\nbgp add router 1 3.0.%d.%d\n" % (at // 200, at % 200, at // 200, at % 200)
+        text = "".join("net add node 3.0.%d.%d\nbgp add router 1 3.0.%d.%d\n" % (at // 200, at % 200, at // 200,
+                                                                                 at % 200)
                        for at in range(256))
-        made = self.convert(BASE.replace("bgp domain 1 full-mesh", text + "bgp domain 1 full-mesh") + "sim run\n", status=2)
+        made = self.convert(BASE.replace("bgp domain 1 full-mesh", text + "bgp domain 1 full-mesh") + "sim run\n",
+                            status=2)
         self.assertIn("the network has 258 sessions at one of them, and one has at most 256", made.stderr)

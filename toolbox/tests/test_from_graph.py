@@ -124,15 +124,18 @@ class Costs(Converted):
 
     def test_of_an_attribute(self):
         for said, cost, status in (("7", 7, 0), ("7.4", 7, 0), ("7.5", 8, 0), ("0.2", 1, 0), ("65535", 65535, 0),
-                                   ("65536", 65535, 1), ("0", 1, 1), ("-3", 1, 1), ('"x"', 1, 1), ("NAN", 1, 1), ("INF", 1, 1),
+                                   ("65536", 65535, 1), ("0", 1, 1), ("-3", 1, 1), ('"x"', 1, 1), ("NAN", 1, 1),
+                                   ("INF", 1, 1),
                                    ('"1_0"', 1, 1)):
             with self.subTest(said=said):
                 self.assertEqual(self.link("0 1 w " + said, "--cost", "w", status=status), cost)
 
     def test_of_speeds(self):
         for said, cost, status in (('LinkSpeed "10" LinkSpeedUnits "G"', 10, 0), ("LinkSpeedRaw 155000000.0", 645, 0),
-                                   ('LinkSpeed "400" LinkSpeedUnits "G"', 1, 0), ('LinkSpeed "622" LinkSpeedUnits "M"', 160, 0),
-                                   ('LinkSpeed "64" LinkSpeedUnits "K"', 65535, 1), ('LinkSpeed "<1" LinkSpeedUnits "G"', 1, 1),
+                                   ('LinkSpeed "400" LinkSpeedUnits "G"', 1, 0), ('LinkSpeed "622" LinkSpeedUnits "M"',
+                                                                                  160, 0),
+                                   ('LinkSpeed "64" LinkSpeedUnits "K"', 65535, 1),
+                                   ('LinkSpeed "<1" LinkSpeedUnits "G"', 1, 1),
                                    ('LinkSpeedUnits "G"', 1, 1)):
             with self.subTest(said=said):
                 self.assertEqual(self.link("0 1 " + said, "--speed", status=status), cost)
@@ -140,23 +143,29 @@ class Costs(Converted):
     def test_what_looks_like_a_cost_is_told(self):
         for name in ("weight", "Metric", "cost"):
             made = self.convert(gml(2, "0 1 %s 5" % name), status=1)
-            self.assertIn("g.gml:5: not taken over: `%s` of 1 edges: each link has the cost 1; --cost %s" % (name, name),
+            self.assertIn("g.gml:5: not taken over: `%s` of 1 edges: each link has the cost 1; --cost %s" % (name,
+                                                                                                             name),
                           made.stderr)
 
     def test_ways_of_directed_edges(self):
         both = ("0 1 w 5", "1 0 w 5")
-        self.assertEqual(self.convert(gml(2, *both, more="directed 1"), "--cost", "w", status=0).stdout.count("link "), 1)
-        self.assertIn("g.gml:6: not taken over: another edge", self.convert(gml(2, *both), "--cost", "w", status=1).stderr)
+        self.assertEqual(self.convert(gml(2, *both, more="directed 1"), "--cost", "w", status=0).stdout.count("link "),
+                         1)
+        self.assertIn("g.gml:6: not taken over: another edge", self.convert(gml(2, *both), "--cost", "w",
+                                                                            status=1).stderr)
         made = self.convert(gml(2, "0 1 w 5", "1 0 w 6", more="directed 1"), "--cost", "w", status=1)
-        self.assertIn("g.gml:6: not taken over: the way from 1 to 0 has the cost 6, and the way back (line 5) 5", made.stderr)
+        self.assertIn("g.gml:6: not taken over: the way from 1 to 0 has the cost 6, and the way back (line 5) 5",
+                      made.stderr)
         made = self.convert(gml(2, "0 1", more="directed 1"), status=1)
         self.assertIn("g.gml:5: not taken over: edges that lead one way alone: 1", made.stderr)
 
 
 class Files(Converted):
     def test_names(self):
-        made = self.convert('graph [ node [ id 1 label "a&#10;b  c" ]\nnode [ id 2 label " " ]\nnode [ id 3 label "1.2.3.4" ]\n'
-                            'node [ id "x y" label "\x1b[2J" ]\nnode [ id 5 label "Ko\u0308ln" ] ]', status=0)
+        text = ('graph [ node [ id 1 label "a&#10;b  c" ]\nnode [ id 2 label " " ]\n'
+                'node [ id 3 label "1.2.3.4" ]\nnode [ id "x y" label "\x1b[2J" ]\n'
+                'node [ id 5 label "Ko\u0308ln" ] ]')
+        made = self.convert(text, status=0)
         self.assertEqual([line.split(" ")[3] for line in self.lines(made, "#")], [
             "a\\nb_c", "2", "\\x1b[2J", "Ko\u0308ln".encode().decode("latin-1")])
         self.assertIn("g.gml:3: note: the name 1.2.3.4 is an address, and is left out", made.stderr)
@@ -179,13 +188,15 @@ class Files(Converted):
         self.assertIn(" b\n", made.stdout)
 
     def test_graphml_that_is_not_read(self):
-        made = self.convert(HEAD + '<key id="d" for="node" attr.name="label"><default>no</default></key>\n<graph>'
-                            '<node id="1"><data key="d">a</data>\n<data key="d">b</data><graph id="in"><node id="1"/></graph>'
-                            '</node>\n<node id="2"><desc>x</desc></node><odd><node id="3"/></odd></graph>\n<graph/></graphml>',
-                            status=1, name="g.graphml")
+        text = (HEAD + '<key id="d" for="node" attr.name="label"><default>no</default></key>\n<graph>'
+                '<node id="1"><data key="d">a</data>\n<data key="d">b</data>'
+                '<graph id="in"><node id="1"/></graph></node>\n'
+                '<node id="2"><desc>x</desc></node><odd><node id="3"/></odd></graph>\n<graph/></graphml>')
+        made = self.convert(text, status=1, name="g.graphml")
         self.assertEqual(self.lines(made, "#"), ["# name 10.0.0.1 b", "# name 10.0.0.2 no"])
         for line, said in ((4, "note: `label` stands here once more"), (4, "not taken over: a graph inside of a node"),
-                           (5, "note: the element `odd` in `graph` is not read"), (6, "not taken over: a graph inside")):
+                           (5, "note: the element `odd` in `graph` is not read"), (6,
+                                                                                   "not taken over: a graph inside")):
             self.assertIn("g.graphml:%d: %s" % (line, said), made.stderr)
         self.assertIn("descriptions and ports 1", made.stderr)
 
@@ -201,9 +212,12 @@ class Files(Converted):
         for text, line, said in (
                 ("graph [\nnode [ id 1 ]\nnode [ id 1 ] ]", 3, "node 1 stands in line 2 already"),
                 ("graph [\nnode [ label 1 ] ]", 2, "`id` of the node is missing"),
-                (gml(1, "0 1"), 4, "there is no node 1"), ("graph [\nnode [ id 1 ]\nedge [ target 1 ] ]", 3, "`source` of"),
-                ("graph [\nnode [ id 1", 2, "the end of `node` is missing"), ("graph [\nnode [ id ] ]", 2, "a value of `id`"),
-                ("graph [\n\n5 ]", 3, "a key or `]` is expected"), ("graph [ x\n\"a\nb ]", 2, "a key, a number, a text"),
+                (gml(1, "0 1"), 4, "there is no node 1"), ("graph [\nnode [ id 1 ]\nedge [ target 1 ] ]", 3,
+                                                           "`source` of"),
+                ("graph [\nnode [ id 1", 2, "the end of `node` is missing"), ("graph [\nnode [ id ] ]", 2,
+                                                                              "a value of `id`"),
+                ("graph [\n\n5 ]", 3, "a key or `]` is expected"), ("graph [ x\n\"a\nb ]", 2,
+                                                                    "a key, a number, a text"),
                 ("graph", 1, "the end of `graph` is missing"), ("graph [ node [ id 1 ] ]\n]", 2, "a key or `]`"),
                 ("graph [\nnode [ id 1a ] ]", 2, "and not `1a ] ]`")):
             with self.subTest(text=text):
@@ -216,9 +230,11 @@ class Files(Converted):
         for text, line, said in (
                 (HEAD + "<graph>", 2, "it is no XML: no element found"), (HEAD + "</graph>", 2, "mismatched tag"),
                 (HEAD + "<graph>\n<node/></graph></graphml>", 3, "`id` of the node is missing"),
-                (HEAD + "<graph>\n<node id='1'/><edge source='1' target='2'/></graph></graphml>", 3, "there is no node 2"),
+                (HEAD + "<graph>\n<node id='1'/><edge source='1' target='2'/></graph></graphml>", 3,
+                 "there is no node 2"),
                 (HEAD + "<graph><node id='1'>\n<data key='d'/></node></graph></graphml>", 3, "`data` of the key `d`"),
-                ("<svg>\n</svg>", 1, "`graphml` is expected first"), ("<!DOCTYPE x [\n<!ENTITY y 'z'>]><graphml/>", 2, "an entity"),
+                ("<svg>\n</svg>", 1, "`graphml` is expected first"), ("<!DOCTYPE x [\n<!ENTITY y 'z'>]><graphml/>", 2,
+                                                                      "an entity"),
                 ("<?xml version='1.0' encoding='none'?><graphml/>", 1, "it is no XML")):
             with self.subTest(text=text):
                 made = self.convert(text, status=2)
@@ -227,11 +243,15 @@ class Files(Converted):
 
     def test_mistakes_of_the_whole(self):
         for text, words, said in (
-                ("", (), "it has no graph"), ("graph [ ]", (), "it has no node"), (HEAD + "</graphml>", (), "it has no graph"),
+                ("", (), "it has no graph"), ("graph [ ]", (), "it has no node"), (HEAD + "</graphml>", (),
+                                                                                   "it has no graph"),
                 (gml(1), ("--as", "0"), "--as 0: an AS number"), (gml(2, "0 1 a 1"), ("--cost", "b"), "there are a"),
-                (gml(2), ("--reflectors", 3), "1 to 2 are expected"), (gml(2), ("--reflectors", "x"), "there is no such node"),
-                (gml(2), ("--external", 0, 64512), "another AS"), (gml(2), ("--external", 5, 7), "there is no such node"),
-                (gml(2), ("--origin", 0, "10.0.0.1/8"), "a prefix"), (gml(4097), (), "4,097 nodes, and a network has at most")):
+                (gml(2), ("--reflectors", 3), "1 to 2 are expected"), (gml(2), ("--reflectors", "x"),
+                                                                       "there is no such node"),
+                (gml(2), ("--external", 0, 64512), "another AS"), (gml(2), ("--external", 5, 7),
+                                                                   "there is no such node"),
+                (gml(2), ("--origin", 0, "10.0.0.1/8"), "a prefix"), (gml(4097), (),
+                                                                      "4,097 nodes, and a network has at most")):
             with self.subTest(said=said):
                 made = self.convert(text, *words, status=2)
                 self.assertIn(said, made.stderr)
