@@ -13,11 +13,10 @@ def check(source: Network, picture: Picture) -> None:
     """Tells what differs in the network as it is now."""
     for domain in source.domains.values():
         _check_domain(source, domain)
-    sessions = _sessions(picture)
-    for one, other in sessions:
+    for one, other in _sessions(picture):
         _check_ways(source, picture, one, other)
         if picture.made.is_external(one, other):
-            _check_next_hop(source, picture, one, other, [each for here, each in sessions if here == one])
+            _check_next_hop(source, picture, one, other)
     for where in picture.made.routers():
         _check_costs(source, picture, where)
     _check_networks(source, picture)
@@ -50,10 +49,11 @@ def _check_ways(source: Network, picture: Picture, one: str, other: str) -> None
                           "session down, and here it is up while links lead there" % (one, other, one))
 
 
-def _check_next_hop(source: Network, picture: Picture, one: str, other: str, peers: List[str]) -> None:
+def _check_next_hop(source: Network, picture: Picture, one: str, other: str) -> None:
     """An external neighbour's address is a next hop, to which all in the AS have to know a way."""
-    lost = [each for each in peers if not picture.made.is_external(one, each)
-            and (one, each) not in picture.made.selves and not source.knows(each, other)]
+    peers = sorted(picture.made.peers[one], key=by_address)
+    lost = [each for each in peers if picture.made.enabled[frozenset((one, each))]
+            and not picture.made.is_external(one, each) and (one, each) not in picture.made.selves and not source.knows(each, other)]
     if lost:
         more = " and %d more" % (len(lost) - 1) if len(lost) > 1 else ""
         source.tell(picture.sessions[frozenset((one, other))], (
@@ -65,7 +65,7 @@ def _check_next_hop(source: Network, picture: Picture, one: str, other: str, pee
 
 def _check_costs(source: Network, picture: Picture, where: str) -> None:
     """Metrics of 0 are 1 here, which is another cost where a route of 1 stands beside."""
-    statics = [found for other in source.linked(where) for found in [source.route_to(where, other)]
+    statics = [found for other in source.around.get(where, ()) for found in [source.route_to(where, other)]
                if found is not None and other in picture.made.nodes and picture.made.is_external(where, other)]
     for static in statics:
         if static.metric == 0 and any(each.metric == 1 for each in statics):
@@ -99,11 +99,14 @@ def _told(picture: Picture) -> Dict[str, Set[str]]:
 def _check_meds(source: Network, picture: Picture) -> None:
     """C-BGP has a missing MED as 4294967295; where routes with and without one meet, the choice may differ."""
     made = picture.made
+    fed: Dict[Tuple[str, str], Set[bool]] = {}
+    for (peer, router, _), words in picture.feeds.items():
+        fed.setdefault((router, peer), set()).add(words.split(" ")[2] != "-")
     found: Dict[Tuple[int, int], List[Set[bool]]] = {}
     for one, other in _sessions(picture):
         if made.is_external(one, other):
             key = (made.nodes[one].asn, 0 if source.is_med_always else made.nodes[other].asn)
-            found.setdefault(key, []).append(_has_med(picture, one, other))
+            found.setdefault(key, []).append(_has_med(picture, one, other, fed.get((one, other), set())))
     for (asn, neighbour), kinds in sorted(found.items()):
         if len(kinds) > 1 and len(set().union(*kinds)) > 1:
             line = next(line for both, line in picture.sessions.items()
@@ -114,8 +117,9 @@ def _check_meds(source: Network, picture: Picture) -> None:
                                   "AS %d" % neighbour if neighbour else "its neighbours", asn))
 
 
-def _has_med(picture: Picture, one: str, other: str) -> Set[bool]:
-    """Whether routes that a router takes over a session have a MED, always, never or now and then."""
+def _has_med(picture: Picture, one: str, other: str, fed: Set[bool]) -> Set[bool]:
+    """Whether routes that a router takes over a session have a MED, always, never or now and then; `fed` is whether
+    those have one that were fed."""
     kinds: Set[bool] = set()
     for rules in (picture.made.rules.get((one, other, "in"), []), picture.made.rules.get((other, one, "out"), [])):
         here = {" med=" in rule for rule in rules if " permit" in rule}
@@ -123,6 +127,4 @@ def _has_med(picture: Picture, one: str, other: str) -> Set[bool]:
         if here == {True}:
             return here
         kinds |= here & {True}
-    fed = {words.split(" ")[2] != "-" for (peer, here_, _), words in picture.feeds.items()
-           if (peer, here_) == (other, one)}
     return kinds | (fed if picture.made.nodes[other].is_virtual else {False})

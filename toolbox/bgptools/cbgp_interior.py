@@ -69,7 +69,7 @@ class Interior(Reading):
         if one == other or pair(one, other) in self.network.links:
             raise self.line.mistake("the two are one" if one == other else "the two have a link already")
         delay = self._number(plain[2], "delay") if len(plain) > 2 else None
-        self.network.links[pair(one, other)] = Link(one, other, self.line, delay)
+        self.network.add_link(Link(one, other, self.line, delay))
         self.network.changed((one, other), self.line)
 
     def _link(self, one: str, other: str) -> Link:

@@ -43,6 +43,8 @@ def named(path: str) -> str:
 def words_of(text: str) -> List[str]:
     """The words of a line up to a comment. What is in quotes is one word, in which `\\"` is a quote; raises ValueError
     where a quote is not closed."""
+    if '"' not in text and "#" not in text:
+        return [word for word in text.replace("\t", " ").split(" ") if word]
     words: List[str] = []
     at = 0
     while at < len(text):

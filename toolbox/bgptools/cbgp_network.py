@@ -77,6 +77,7 @@ class Network:
         self.left = left
         self.nodes: Dict[str, Node] = {}
         self.links: Dict[Pair, Link] = {}
+        self.around: Dict[str, Set[str]] = {}
         self.domains: Dict[int, Domain] = {}
         self.peers: Dict[Tuple[str, str], Peer] = {}
         self.maps: Dict[str, List[Rule]] = {}
@@ -111,15 +112,25 @@ class Network:
         """The nodes on which BGP runs."""
         return {where: node for where, node in self.nodes.items() if node.asn is not None}
 
-    def peers_of(self, where: str) -> List[Tuple[str, Peer]]:
-        """The peers of a router."""
-        return [(other, peer) for (one, other), peer in self.peers.items() if one == where]
+    def add_link(self, link: Link) -> None:
+        """A new link, between two that have none."""
+        self.links[pair(link.one, link.other)] = link
+        self.around.setdefault(link.one, set()).add(link.other)
+        self.around.setdefault(link.other, set()).add(link.one)
 
-    def is_virtual(self, where: str) -> bool:
-        """Whether some router has it as a virtual peer, and BGP does not run on it."""
-        is_router = where in self.nodes and self.nodes[where].asn is not None
-        return not is_router and any(other == where and "virtual" in peer.flags
-                                     for (_, other), peer in self.peers.items())
+    def peers_of(self) -> Dict[str, List[Tuple[str, Peer]]]:
+        """The peers of each router."""
+        found: Dict[str, List[Tuple[str, Peer]]] = {}
+        for (one, other), peer in self.peers.items():
+            found.setdefault(one, []).append((other, peer))
+        return found
+
+    def said_of(self) -> Dict[str, List[Peer]]:
+        """What is said of each peer by those that have it."""
+        found: Dict[str, List[Peer]] = {}
+        for (_, other), peer in self.peers.items():
+            found.setdefault(other, []).append(peer)
+        return found
 
     def route_to(self, one: str, other: str) -> Optional[Static]:
         """A node's static route to another, the most exact one."""
@@ -134,10 +145,6 @@ class Network:
             return True
         where = (address(other) or 0, 32)
         return any(contains(each, where) for each in here.reaches) or self.route_to(one, other) is not None
-
-    def linked(self, one: str) -> Set[str]:
-        """The nodes to which it has links."""
-        return {each for ends in self.links for each in ends if one in ends} - {one}
 
     def link(self, one: str, other: str) -> Optional[Link]:
         """The link between two."""

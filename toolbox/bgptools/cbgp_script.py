@@ -29,20 +29,22 @@ class Picture:
         self.feeds: Feeds = {}
         # The ends of each session, the one that says it first, and its line.
         self.sessions: Dict[Pair, Line] = {}
+        self.said = source.said_of()
         self._nodes()
         self._links()
         self._sessions()
         self._check_sizes()
+        peers = source.peers_of()
         for where in self.made.routers():
-            self._settings(where, self.source.nodes[where])
+            self._settings(where, self.source.nodes[where], peers.get(where, []))
         self._policies()
 
     # Nodes
 
     def _nodes(self) -> None:
-        source = self.source
+        source, routers = self.source, self.source.routers()
         for (one, other), peer in source.peers.items():
-            if source.is_virtual(other) and "virtual" in peer.flags and source.nodes[one].asn != peer.asn:
+            if other not in routers and "virtual" in peer.flags and source.nodes[one].asn != peer.asn:
                 known = self.made.nodes.setdefault(other, Made(peer.asn, True))
                 if known.asn != peer.asn:
                     raise peer.line.mistake("%s is a virtual peer in AS %d before" % (other, known.asn))
@@ -62,11 +64,11 @@ class Picture:
         """The AS of a node without BGP: that in which it is a peer, else of its domain, else of the nodes that it is
         linked to."""
         source = self.source
-        said = {peer.asn for (_, other), peer in source.peers.items() if other == node.address}
+        said = {peer.asn for peer in self.said.get(node.address, [])}
         if said:
             return min(said)
         others = [each for each in source.nodes.values() if each.domain is not None and each.domain == node.domain]
-        around = [source.nodes[each] for each in source.linked(node.address)]
+        around = [source.nodes[each] for each in source.around.get(node.address, ())]
         for found in ({each.asn for each in group} - {None} for group in (others, around)):
             if len(found) == 1:
                 return found.pop()
@@ -200,14 +202,14 @@ class Picture:
 
     # Settings
 
-    def _settings(self, where: str, node: Node) -> None:
+    def _settings(self, where: str, node: Node, said: List[Tuple[str, Peer]]) -> None:
         source, made = self.source, self.made
         if node.asn is None:
             return
         made.clusters.update({where: node.cluster} if node.cluster else {})
         made.med_always.update([where] if source.is_med_always else [])
         made.origins[where] = set(node.networks)
-        peers = [(other, peer) for other, peer in source.peers_of(where) if pair(where, other) in self.sessions]
+        peers = [(other, peer) for other, peer in said if pair(where, other) in self.sessions]
         outside = [(other, peer) for other, peer in peers if made.is_external(where, other)]
         inside = [(other, peer) for other, peer in peers if not made.is_external(where, other)]
         for other, peer in inside:

@@ -17,7 +17,8 @@ ROUTERS, OUTSIDE = 10 << 24, (172 << 24) + (16 << 16)
 LABELS = ("label", "name", "Label", "Name")
 # Attributes that say nothing of routes: what they are counted as.
 PLACES = ("Country", "Longitude", "Latitude", "lon", "lat", "longitude", "latitude", "x", "y", "geocode_country",
-          "geocode_id", "geocode_append", "geocode_name", "population", "doublenodes", "asn")
+          "geocode_id", "geocode_append", "geocode_name", "population", "doublenodes")
+ASES = ("asn", "ASN", "as", "AS")
 KINDS = ("type", "Internal", "hyperedge", "Network", "id", "key", "Service")
 SPEEDS = ("LinkSpeed", "LinkSpeedUnits", "LinkSpeedRaw")
 LINKS = ("LinkType", "LinkLabel", "LinkNote", "LinkStatus")
@@ -105,6 +106,7 @@ class Writer:
         """Counts the attributes that are known, tells those that are not, and nodes that are no routers of the AS."""
         for node in self.graph.nodes.values():
             self._tell_kind(node)
+        self._tell_ases()
         found: Dict[str, List[int]] = {}
         all_of = [(node.line, node.attributes) for node in self.graph.nodes.values()]
         for line, attributes in all_of + [(edge.line, edge.attributes) for edge in self.graph.edges]:
@@ -113,6 +115,15 @@ class Writer:
         for name, lines in found.items():
             self._tell_attribute(name, lines)
         self.left.counts.update({"attributes of the graph": self.graph.count_of_own} if self.graph.count_of_own else {})
+
+    def _tell_ases(self) -> None:
+        """Tells where nodes are of several ASes."""
+        for name in ASES:
+            said = {node.attributes[name]: node.line for node in reversed(list(self.graph.nodes.values()))
+                    if name in node.attributes}
+            if len(said) > 1:
+                self.left.tell(self.graph.place(sorted(said.values())[1]), (
+                    "`%s` of the nodes has %d values; here all are in AS %d" % (name, len(said), self.wanted.asn)))
 
     def _tell_kind(self, node: Node) -> None:
         """Tells a node that is no router of the AS."""
@@ -125,7 +136,7 @@ class Writer:
     def _tell_attribute(self, name: str, lines: List[int]) -> None:
         tables = ((PLACES, "places"), (KINDS, "kinds"), (SPEEDS, "speeds"), (LINKS, "words of links"))
         kind = next((kind for names, kind in tables if name in names), None)
-        if name in LABELS or name == self.wanted.cost or name.lower() in COSTS or (
+        if name in LABELS + ASES or name == self.wanted.cost or name.lower() in COSTS or (
                 self.wanted.is_by_speed and name in SPEEDS):
             return
         if kind is None:

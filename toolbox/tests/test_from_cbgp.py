@@ -150,6 +150,12 @@ class Commands(Converted):
         made = self.convert(text + "bgp router 1.0.0.2 add peer 1 1.0.0.1\nsim run\n", status=0)
         self.assertIn("join 1.0.0.1 1.0.0.2\nstop 1.0.0.1 1.0.0.2\n", made.stdout)
 
+    def test_a_node_without_bgp_is_of_the_as_that_is_said_of_it(self):
+        made = self.convert(BASE.replace("  peer 2.0.0.1 virtual\n", "") + "sim run\n", status=0)
+        self.assertIn("router 2.0.0.1 2\n", made.stdout)
+        self.assertNotIn("join 1.0.0.1 2.0.0.1", made.stdout)
+        self.assertIn("BGP runs on no such node", made.stderr)
+
     def test_what_is_passed_over_is_counted(self):
         lines = ["print \"x # y\\n\"", "show version # all", "bgp router 1.0.0.1 show rib *",
                  "net node 1.0.0.1 ping 2.0.0.1",

@@ -147,6 +147,12 @@ class Costs(Converted):
                                                                                                              name),
                           made.stderr)
 
+    def test_several_ases_are_told(self):
+        nodes = "graph [\nnode [ id 1 ASN 7 ]\nnode [ id 2 ASN %d ] ]"
+        self.convert(nodes % 7, status=0)
+        self.assertIn("g.gml:3: not taken over: `ASN` of the nodes has 2 values; here all are in AS 64512",
+                      self.convert(nodes % 8, status=1).stderr)
+
     def test_ways_of_directed_edges(self):
         both = ("0 1 w 5", "1 0 w 5")
         self.assertEqual(self.convert(gml(2, *both, more="directed 1"), "--cost", "w", status=0).stdout.count("link "),
