@@ -53,7 +53,8 @@ def _check_next_hop(source: Network, picture: Picture, one: str, other: str) -> 
     """An external neighbour's address is a next hop, to which all in the AS have to know a way."""
     peers = sorted(picture.made.peers[one], key=by_address)
     lost = [each for each in peers if picture.made.enabled[frozenset((one, each))]
-            and not picture.made.is_external(one, each) and (one, each) not in picture.made.selves and not source.knows(each, other)]
+            and not picture.made.is_external(one, each) and (one, each) not in picture.made.selves
+            and not source.knows(each, other)]
     if lost:
         more = " and %d more" % (len(lost) - 1) if len(lost) > 1 else ""
         source.tell(picture.sessions[frozenset((one, other))], (

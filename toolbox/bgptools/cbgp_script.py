@@ -11,7 +11,7 @@ from .cbgp_network import Node, Peer
 from .cbgp_rules import PREFERENCE, Converter
 from .frr_lists import Place, World
 from .frr_policy import MOST_RULES
-from .language import escaped
+from .language import address, escaped
 from .mistakes import Mistake
 from .network import Link, Network, Node as Made, Pair, pair
 from .scripting import Feeds
@@ -58,7 +58,16 @@ class Picture:
             else:
                 self.made.nodes[where] = Made(asn, False)
             if where in self.made.nodes and node.name:
-                self.made.names.of[where] = "_".join(escaped(node.name).split())
+                self._name(where, node)
+
+    def _name(self, where: str, node: Node) -> None:
+        """The name of a node, with `_` for spaces; one that others have, too, is told."""
+        name = "_".join(escaped(node.name).split())
+        others = [each for each, known in self.made.names.of.items() if known == name]
+        if others:
+            self.source.note(node.line, "the name %s is that of %s, too: tools want the address" % (name, others[0]))
+        if address(name) is None and name:
+            self.made.names.of[where] = name
 
     def _asn_of(self, node: Node) -> Optional[int]:
         """The AS of a node without BGP: that in which it is a peer, else of its domain, else of the nodes that it is
@@ -129,6 +138,7 @@ class Picture:
         for one, other in ((link.one, link.other), (link.other, link.one)):
             static = source.route_to(one, other) if one in source.nodes else None
             found += [static.metric] if static is not None and self.made.is_router(one) else []
+        weights = [weight for weight, _ in link.weights.values()]
         domains = [source.nodes[each].domain for each in (link.one, link.other)]
         if domains[0] is not None and domains[0] == domains[1]:
             source.tell(link.line, "%s: its ends are in one domain, and in two ASes; C-BGP computes ways over it, and "
@@ -136,7 +146,7 @@ class Picture:
         if len(set(found)) > 1:
             source.tell(link.line, "%s: the static routes over it have the metrics %d and %d; here the lower one is "
                                    "its cost" % (link.line.text, found[0], found[1]))
-        return max(min(found, default=1), 1)
+        return max(min(found or weights, default=1), 1)
 
     # Sessions
 

@@ -140,6 +140,21 @@ class Commands(Converted):
                           "bgp domain 1 rescan", "sim run", link + "up", "bgp domain 1 rescan")
         self.assertEqual(made, [fed, RUN[:-1], "fail 1.0.0.1 2.0.0.1", RUN[:-1], "mend 1.0.0.1 2.0.0.1", fed])
 
+    def test_names(self):
+        made = self.convert(BASE + 'net node 1.0.0.1 name "a  b"\nnet node 1.0.0.2 name a_b\n'
+                            "net node 2.0.0.1 name 9.9.9.9\n"
+                            "sim run\nnet node 2.0.0.1 name c\n", status=0)
+        self.assertEqual([line for line in made.stdout.split("\n") if "# name" in line], [
+            "# name 1.0.0.1 a_b", "# name 1.0.0.2 a_b", "# name 2.0.0.1 c"])
+        self.assertIn("s.cli:13: note: the name a_b is that of 1.0.0.1, too", made.stderr)
+
+    def test_the_cost_of_a_link_between_two_ases(self):
+        for line, cost in (("net node 1.0.0.1 route add 2.0.0.1/32 * 2.0.0.1 0", 1),
+                           ("net node 1.0.0.1 route add 2/8 2.0.0.1 6\nnet link 1.0.0.1 2.0.0.1 igp-weight 9", 6),
+                           ("net link 1.0.0.1 2.0.0.1 igp-weight 9", 9)):
+            made = self.convert(BASE.replace("net node 1.0.0.1 route add --oif=2.0.0.1 2.0.0.1/32 1", line))
+            self.assertIn("link 1.0.0.1 2.0.0.1 %d\n" % cost, made.stdout)
+
     def test_one_end_makes_no_session(self):
         text = BASE.replace("bgp domain 1 full-mesh", "bgp router 1.0.0.1 add peer 1 1.0.0.2\n"
                             "bgp router 1.0.0.1 peer 1.0.0.2 up")
