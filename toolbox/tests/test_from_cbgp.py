@@ -252,6 +252,8 @@ class Filters(Converted):
     def test_preferences_towards_another_as_go_nowhere(self):
         self.assertEqual(self.rules('action "local-pref 7"', way="out"), [])
         self.assertIn("preferences towards another AS 1", self.told)
+        self.after('bgp router 1.0.0.1 peer 2.0.0.1 filter out add-rule action "local-pref 7"', "sim run", "sim run")
+        self.assertEqual(self.told, "1 lines that decide no route were left out: preferences towards another AS 1\n")
 
     def test_preferences_are_raised(self):
         line = 'bgp router 1.0.0.1 peer 2.0.0.1 filter in add-rule action "local-pref %d"\n'
