@@ -165,6 +165,14 @@ class Costs(Converted):
         made = self.convert(gml(2, "0 1", more="directed 1"), status=1)
         self.assertIn("g.gml:5: not taken over: edges that lead one way alone: 1", made.stderr)
 
+    def test_ways_of_directed_edges_in_graphml(self):
+        text = (HEAD + '<graph edgedefault="%s"><node id="a"/><node id="b"/>\n'
+                '<edge source="a" target="b"%s/></graph></graphml>')
+        for default, own, status in (("directed", "", 1), ("undirected", "", 0), ("directed", ' directed="false"', 0),
+                                     ("undirected", ' directed="true"', 1)):
+            made = self.convert(text % (default, own), status=status)
+            self.assertEqual("g.gml:3: not taken over: edges that lead one way alone: 1" in made.stderr, status == 1)
+
 
 class Files(Converted):
     def test_names(self):
