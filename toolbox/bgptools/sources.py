@@ -31,3 +31,12 @@ def lines_in(path: str) -> Iterator[Tuple[int, str]]:
                 yield number, line.decode("utf-8", "backslashreplace").rstrip("\r\n")
     except (OSError, EOFError, zlib.error) as error:
         raise Mistake("it cannot be read: %s" % (getattr(error, "strerror", None) or error), "standard input" if path == "-" else path) from None
+
+
+def content_of(path: str) -> bytes:
+    """The bytes of a file, of a packed one, or of standard input for `-`."""
+    try:
+        with _opened(path) as file:
+            return file.read()
+    except (OSError, EOFError, ValueError, zlib.error) as error:
+        raise Mistake("it cannot be read: %s" % (getattr(error, "strerror", None) or error), "standard input" if path == "-" else path) from None

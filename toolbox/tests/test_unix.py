@@ -20,7 +20,8 @@ SCRIPT = "examples/hijack.bgp"
 CALLS = {
     "play": [SCRIPT], "settle": [SCRIPT], "draw": [SCRIPT], "explain": [SCRIPT, "2.0.0.1", "198.51.100.0/24"],
     "what-if": ["toolbox/lessons/drained-link.bgp", "toolbox/lessons/drained-link.change"], "from-frr": ["toolbox/lessons/frr"],
-    "from-as-rel": ["toolbox/lessons/relationships.txt"], "from-rib": ["toolbox/lessons/rib.txt"]}
+    "from-as-rel": ["toolbox/lessons/relationships.txt"], "from-rib": ["toolbox/lessons/rib.txt"],
+    "from-cbgp": ["toolbox/lessons/two-ases.cli"], "from-graph": ["toolbox/lessons/ring.gml"]}
 FULL = "standard output: it cannot be written: No space left on device\n"
 CLOSED = "standard output: it cannot be written: Bad file descriptor\n"
 
@@ -116,7 +117,7 @@ class Escapes(Case):
         self.assertNotIn("\x1b", told)
 
     def test_files_from_elsewhere(self):
-        for name in ("from-rib", "from-as-rel"):
+        for name in ("from-rib", "from-as-rel", "from-cbgp", "from-graph"):
             told = tool(name, "-", given=b"1|\x1b[2J|\xff\xfe|-1\n", status=2)
             self.assert_tame(told.stderr)
 
