@@ -20,7 +20,8 @@ SCRIPT = "examples/hijack.bgp"
 CALLS = {
     "play": [SCRIPT], "settle": [SCRIPT], "draw": [SCRIPT], "explain": [SCRIPT, "2.0.0.1", "198.51.100.0/24"],
     "what-if": ["toolbox/lessons/drained-link.bgp", "toolbox/lessons/drained-link.change"], "from-frr": ["toolbox/lessons/frr"],
-    "from-as-rel": ["toolbox/lessons/relationships.txt"], "from-rib": ["toolbox/lessons/rib.txt"]}
+    "from-as-rel": ["toolbox/lessons/relationships.txt"], "from-rib": ["toolbox/lessons/rib.txt"],
+    "from-mrt": ["toolbox/lessons/rib.mrt"], "from-bird": ["toolbox/lessons/bird"]}
 FULL = "standard output: it cannot be written: No space left on device\n"
 CLOSED = "standard output: it cannot be written: Bad file descriptor\n"
 
