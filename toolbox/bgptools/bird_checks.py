@@ -1,7 +1,7 @@
 """What BIRD does otherwise than a script says: told for each session or router that it concerns."""
 from __future__ import annotations
 
-from typing import Callable, List, Optional
+from typing import List, cast
 
 from .bird_config import BirdConfig, Session
 from .frr_checks import check_network, compares_med, some_of
@@ -10,8 +10,8 @@ from .frr_costs import costs_from
 from .frr_network import Network
 from .language import show_address
 
-_IN_ORDER = ("without `deterministic med`, which is off by default, BIRD compares each route with the best before it, so "
-             "that where MED decides between some of three the choice depends on their order; here all routes of a "
+_IN_ORDER = ("without `deterministic med`, which is off by default, BIRD compares each route with the best before it, "
+             "so that where MED decides between some of three the choice depends on their order; here all routes of a "
              "neighbouring AS are compared; so it is at %s. `deterministic med on` makes BIRD do the same")
 
 
@@ -39,8 +39,8 @@ def _agreed(config: BirdConfig, sessions: List[Session], flag: str, known: str) 
     if having and len(having) == len(sessions):
         config.flags[known] = (True, having[0].at(flag))
     for each in having if len(having) < len(sessions) else ():
-        config.tell(each.at(flag), "%s: it stands at %d of %d sessions, and a router compares MED in one way here; it is left "
-                    "out" % (short(each.at(flag).text), len(having), len(sessions)))
+        config.tell(each.at(flag), "%s: it stands at %d of %d sessions, and a router compares MED in one way here; it "
+                    "is left out" % (short(each.at(flag).text), len(having), len(sessions)))
 
 
 def stop(network: Network) -> None:
@@ -49,8 +49,9 @@ def stop(network: Network) -> None:
         back = network.peers.get((other, name))
         if back is not None and back.word("update-source") not in ("", each.name):
             network.stopped.add(frozenset((name, other)))
-            network.routers[name].tell(each.line, "%s: the other end has `local %s`, so that the session never comes up; it "
-                                       "is stopped here, too" % (short(each.line.text), back.word("update-source")), False)
+            network.routers[name].tell(each.line, "%s: the other end has `local %s`, so that the session never comes "
+                                       "up; it is stopped here, too" % (
+                                           short(each.line.text), back.word("update-source")), False)
 
 
 def check(network: Network) -> None:
@@ -62,9 +63,20 @@ def check(network: Network) -> None:
             if "ipv4" in six.words:
                 config.tell(six.line, "%s: BIRD tells routes of IPv4 over this session, too; here it is not made" %
                             short(six.line.text))
+        _check_kernel(network, name, cast(BirdConfig, config))
         costs = costs_from(network, name)
         for other, each in network.peers_of(name):
             _check_way(network, name, other, each, other in costs)
+
+
+def _check_kernel(network: Network, name: str, config: BirdConfig) -> None:
+    """A router whose kernel is not given any routes reaches none of its AS, but those on its own subnets."""
+    inside = [each for other, each in network.peers_of(name) if not network.is_external(name, other)
+              and config.subnet_of(each.name) is None]
+    if inside and config.has_ospf and "kernel" not in config.protocols.values():
+        line = inside[0].line
+        config.tell(line, "%s: there is no `protocol kernel`, so that the kernel has no way to this address by BIRD; "
+                    "it is taken for having one" % short(line.text), False)
 
 
 def _check_order(network: Network) -> None:
@@ -79,20 +91,19 @@ def _check_way(network: Network, name: str, other: str, each: Neighbour, has_way
     """An internal session that is down here, since nothing links its ends."""
     is_stopped = frozenset((name, other)) in network.stopped
     if not network.is_external(name, other) and not has_way and not is_stopped:
-        network.routers[name].tell(each.line, "%s: nothing in the files links %s and %s, so that the session is down here; "
-                                   "write `link A B M`" % (short(each.line.text), name, other))
+        network.routers[name].tell(each.line, "%s: nothing in the files links %s and %s, so that the session is down "
+                                   "here; write `link A B M`" % (short(each.line.text), name, other))
 
 
-def tell_policies(config: BirdConfig, session: Session, way: str, is_external: bool) -> Optional[Callable[[], None]]:
-    """Tells a session without a policy that BIRD wants."""
-    if is_external and "ipv4" in session.words:
+def tell_policy(config: BirdConfig, session: Session, way: str) -> None:
+    """Tells a session with another AS that has no policy."""
+    if "ipv4" in session.words:
         what = "import" if way == "in" else "export"
-        config.tell(session.line, "%s: it has no `%s`, and BIRD takes no configuration with such a session to another AS "
-                    "(RFC 8212); nothing passes here" % (short(session.line.text), what))
-    return None
+        config.tell(session.line, "%s: it has no `%s`, and BIRD takes no configuration with such a session to another "
+                    "AS (RFC 8212); nothing passes here" % (short(session.line.text), what))
 
 
-def tell_prefixes(found: "List[tuple[int, int]]") -> str:
+def some_prefixes(found: "List[tuple[int, int]]") -> str:
     """The first of some prefixes, and how many more there are."""
     first = "%s/%d" % (show_address(found[0][0]), found[0][1])
     return first + (" and %d prefixes more" % (len(found) - 1) if len(found) > 1 else "")

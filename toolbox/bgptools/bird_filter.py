@@ -253,8 +253,8 @@ class Parser:
         if word.kind == "address":
             return self._prefix(word)
         if word.kind == "name":
-            called = self._given() if self.is_next("(") else None
-            return Node("name", (word.text,), word.line) if called is None else Node("called", (word.text, called), word.line)
+            is_called = self.is_next("(")
+            return Node("called" if is_called else "name", (word.text, self._given() if is_called else ()), word.line)
         if word.text in ("(", "[", "[="):
             return {"(": self._parts, "[": self._set, "[=": self._mask}[word.text](word.line)
         if word.text in ("+", "-"):

@@ -13,8 +13,8 @@ SUFFIXES = (".conf", ".cfg", ".bird")
 
 
 def files_of(paths: List[str]) -> Tuple[List[str], List[Told]]:
-    """The files that are a router's each, and what was left out; raises Mistake where a path is not there, or a folder has
-    none."""
+    """The files that are a router's each, and what was left out; raises Mistake where a path is not there, or a folder
+    has none."""
     found: List[str] = []
     told: List[Told] = []
     for path in paths:

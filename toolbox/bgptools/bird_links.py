@@ -1,5 +1,6 @@
-"""Where BIRD's routers are linked. A BIRD configuration has no addresses of interfaces: subnets come from OSPF's patterns,
-addresses from `local` and `neighbor`, and both from what `ip -o addr` printed, where it lies beside the file."""
+"""Where BIRD's routers are linked. A BIRD configuration has no addresses of interfaces: subnets come from OSPF's
+patterns, addresses from `local` and `neighbor`, and both from what `ip -o addr` printed, where it lies beside the
+file."""
 from __future__ import annotations
 
 import fnmatch
@@ -100,8 +101,8 @@ def _without_address(config: BirdConfig, pattern: Pattern) -> None:
     elif pattern.name in ("lo", "*") or pattern.name.startswith("dummy") or where is not None and where[1] == 32:
         return
     elif not pattern.is_stub:
-        config.tell(pattern.line, "%s: no file has an address of it, so that it links no two routers here; write `interface "
-                    "\"NAME\" SUBNET`, or put what `ip -o addr` prints into `%s`, or write `link A B M`" % (
+        config.tell(pattern.line, "%s: no file has an address of it, so that it links no two routers here; write "
+                    "`interface \"NAME\" SUBNET`, or put what `ip -o addr` prints into `%s`, or write `link A B M`" % (
                         short(pattern.line.text), os.path.basename(_beside(config))))
 
 
@@ -168,7 +169,8 @@ def _place(config: BirdConfig, session: Session, wide: Dict[str, int]) -> None:
     own, line = session.local, session.line
     known = [each for interface in config.interfaces.values() for each in interface.addresses]
     if own and own not in [each.own for each in known]:
-        free = next((each for each in known if not each.own and masked(address(own) or 0, each.length) == each.subnet), None)
+        free = next((each for each in known if not each.own
+                     and masked(address(own) or 0, each.length) == each.subnet), None)
         if free is not None:
             free.own = own
         elif not session.is_on_a_link(config):
@@ -188,24 +190,24 @@ def _take_loopbacks(config: BirdConfig) -> None:
             interface.interior = line
     config.ospf_networks += config.stubs
     asked = {each.name: each for each in config.sessions()}
-    identifier = config.identifier
-    if identifier and identifier not in asked and not any(each.own == identifier for interface in config.interfaces.values()
-                                                          for each in interface.addresses):
-        line = config.line
-        interface_of(config, "lo", line).addresses.append(Address(identifier, 32, line))
-        _mark_loopback(config, interface_of(config, "lo", line))
+    own = config.identifier
+    known = [each.own for interface in config.interfaces.values() for each in interface.addresses]
+    if own and own not in asked and own not in known:
+        interface_of(config, "lo", config.line).addresses.append(Address(own, 32, config.line))
+        _mark_loopback(config, interface_of(config, "lo", config.line))
 
 
 def _mark_loopback(config: BirdConfig, interface: Interface) -> None:
-    line = next((pattern.line for pattern in config.patterns if pattern.name in ("lo", "*") and pattern.where is None), None)
+    line = next((pattern.line for pattern in config.patterns if pattern.name in ("lo", "*") and pattern.where is None),
+                None)
     interface.interior = interface.interior or line
 
 
 def _take_subnets(config: BirdConfig, proto: str, line: Line) -> None:
     """The routes of `protocol direct`, to the subnets of interfaces."""
     if not config.has_addresses:
-        config.tell(line, "%s: which subnets BIRD's interfaces have is in no file, and none is originated here. Put what `ip "
-                    "-o addr` prints into `%s`, or write `origin %s P` for those that a policy lets out" % (
+        config.tell(line, "%s: which subnets BIRD's interfaces have is in no file, and none is originated here. Put "
+                    "what `ip -o addr` prints into `%s`, or write `origin %s P` for those that a policy lets out" % (
                         short(line.text), os.path.basename(_beside(config)), config.own_name()))
         return
     found: Dict[Tuple[int, int], None] = {}

@@ -1,51 +1,32 @@
-"""Filters of BIRD as rules: what they do with routes of BGP, way by way through their statements; and with a route of the
-router's own."""
+"""Filters of BIRD as rules: what they do with routes of BGP, way by way through their statements; and with a route of
+the router's own."""
 from __future__ import annotations
 
 import fnmatch
 from typing import Any, Callable, Dict, List, NamedTuple, Optional, Tuple
 
 from .bird_config import BirdConfig, OwnRoute, Policy, Session
-from .bird_filter import Net, Node, Pattern, Span
-from .frr_config import Item, Prefix, masked, short
+from .bird_filter import Net, Node, Span
+from .bird_values import Mask, Pair, SetOf, Symbol, always, as_told, communities_in, is_in, prefixes, reckoned, spread
+from .frr_config import short
 from .frr_lines import Line
-from .frr_lists import MOST_OF_ONE, Place, World, path_region, prefix_matches
-from .frr_policy import ALL, ANY, DENY, NOTHING, Action, Match, Region, Rules, Unsayable, chosen, is_, shortened, under
+from .frr_lists import Place, World, path_region
+from .frr_policy import ALL, ANY, DENY, NOTHING, Action, Match, Region, Rules, Unsayable, chosen, shortened
 from .frr_rules import NO_NEIGHBOUR, unset
-from .language import address, contains
+from .language import show_address
 from .mistakes import Mistake
 
 # So many statements at most are followed, over all ways through a filter.
 MOST_STEPS = 20000
 # What a filter may ask of a route, and what of it no rule asks for.
-SYMBOLS = ("net", "proto", "source", "from", "dest", "bgp_path", "bgp_community", "bgp_local_pref", "bgp_med", "bgp_origin",
-           "bgp_next_hop", "gw", "preference", "bgp_large_community", "bgp_ext_community", "bgp_originator_id",
-           "bgp_cluster_list", "bgp_otc", "bgp_atomic_aggr", "bgp_aggregator", "ifname", "ifindex", "igp_metric",
-           "ospf_metric1", "ospf_metric2", "ospf_tag", "ospf_router_id", "krt_source", "krt_metric", "scope")
+SYMBOLS = frozenset((
+    "net proto source from dest bgp_path bgp_community bgp_local_pref bgp_med bgp_origin bgp_next_hop gw preference "
+    "bgp_large_community bgp_ext_community bgp_originator_id bgp_cluster_list bgp_otc bgp_atomic_aggr bgp_aggregator "
+    "ifname ifindex igp_metric ospf_metric1 ospf_metric2 ospf_tag ospf_router_id krt_source krt_metric "
+    "scope").split(" "))
 SETTINGS = {"bgp_local_pref": "pref", "bgp_med": "med"}
 RULES_MATCH = "rules match by prefix, by an AS in the path, by the neighbouring AS and by a community"
 WELL_KNOWN = {"true": True, "false": False}
-
-
-class Symbol(NamedTuple):
-    """What a filter asks of the route: an attribute, or a part of one."""
-    name: str
-
-
-class SetOf(NamedTuple):
-    """A set, with its elements as values."""
-    elements: Tuple[Any, ...]
-
-
-class Pair(NamedTuple):
-    """A community of two halves, each a number or a span of them."""
-    high: Any
-    low: Any
-
-
-class Mask(NamedTuple):
-    """A mask of paths."""
-    elements: Tuple[Any, ...]
 
 
 class State(NamedTuple):
@@ -115,12 +96,10 @@ class Evaluation:
                 return [(ANY, self._accepted(state) if node.what == "accept" else DENY)]
             if node.what == "return":
                 return self._returned(node, state, returned)
-            if node.what == "if":
-                return self._if(node, state, lambda now, rest=rest: self._run(rest, now, end, returned), returned)  # type: ignore[misc]
+            if node.what in ("if", "call"):
+                return self._parted(node, state, rest, end, returned)
             if node.what == "block":
                 return self._run(node.of[0] + rest, state, end, returned)
-            if node.what == "call":
-                return self._called(node, state, lambda now, rest=rest: self._run(rest, now, end, returned))  # type: ignore[misc]
             state = self._step(node, state)
         return end(state)
 
@@ -129,6 +108,15 @@ class Evaluation:
         if "prepend" in known:
             known["prepend"] = str(len(known["prepend"].split(" ")))
         return Action(True, tuple((name, known[name]) for name in ("pref", "med", "prepend", "add") if name in known))
+
+    def _parted(self, node: Node, state: State, rest: Tuple[Node, ...], end: End, returned: Branch) -> Rules[Action]:
+        """What comes of a statement after which there may be several ways on."""
+        def behind(now: State) -> Rules[Action]:
+            return self._run(rest, now, end, returned)
+
+        if node.what == "call":
+            return self._called(node, state, behind)
+        return self._if(node, state, behind, returned)
 
     def _if(self, node: Node, state: State, end: End, returned: Branch) -> Rules[Action]:
         condition, inside, outside = node.of
@@ -191,7 +179,7 @@ class Evaluation:
             return self._setting(node.line, state, SETTINGS[name], str(self._number(value, state)))
         if name in ("bgp_path", "bgp_community") and value.what == "called" and value.of[0] in ("prepend", "add"):
             method, (about, *given) = value.of if len(value.of[1]) == 2 else ("", (Node("name", ("",), node.line),))
-            if about == Node("name", (name,), about.line):
+            if about.what == "name" and about.of[0] == name:
                 return self._do(Node("do", (name, method, tuple(given)), node.line), state)
         if name in SYMBOLS or name.startswith("bgp_"):
             raise Unsayable("a rule sets preference, MED and prepending, and adds one community; nothing else")
@@ -213,7 +201,7 @@ class Evaluation:
                 raise Unsayable(reason)
             return state.setting("prepend", said)
         if (name, method) == ("bgp_community", "add") and len(given) == 1:
-            found = _numbers(self._value(given[0], state))
+            found = communities_in(self._value(given[0], state))
             if len(found) == 1:
                 return self._added(node.line, state, str(found[0]))
         raise Unsayable("a rule sets preference, MED and prepending, and adds one community; nothing else")
@@ -259,8 +247,8 @@ class Evaluation:
             return [(match, not holds) for match, holds in found] if sign.startswith("!") else found
         value = self._value(node, state)
         if isinstance(value, bool):
-            return _always(value)
-        raise Unsayable(_said(value))
+            return always(value)
+        raise Unsayable(as_told(value))
 
     def _met(self, sign: str, left: Any, right: Any, state: State) -> Region:
         if isinstance(right, Symbol) and not isinstance(left, Symbol) and sign == "=":
@@ -270,12 +258,12 @@ class Evaluation:
         if isinstance(right, Symbol):
             return self._inside(left, right, state)
         if sign == "~":
-            return _always(_is_in(left, right))
+            return always(is_in(left, right))
         if sign == "=":
-            return _always(left == right)
+            return always(left == right)
         if isinstance(left, int) and isinstance(right, int):
-            return _always({"<": left < right, ">": left > right, "<=": left <= right, ">=": left >= right}[sign])
-        raise Unsayable("%s and %s compared" % (_said(left), _said(right)))
+            return always({"<": left < right, ">": left > right, "<=": left <= right, ">=": left >= right}[sign])
+        raise Unsayable("%s and %s compared" % (as_told(left), as_told(right)))
 
     def _inside(self, left: Any, right: Symbol, state: State) -> Region:
         """Whether a route has an AS or a community."""
@@ -283,13 +271,13 @@ class Evaluation:
             return self._of_community(SetOf((left,)), state)
         if right.name == "bgp_path" and isinstance(left, int):
             return self._of_path(SetOf((left,)), state)
-        raise Unsayable(_said(right))
+        raise Unsayable(as_told(right))
 
     def _of_symbol(self, sign: str, name: str, right: Any, state: State) -> Region:
         if name == "net" and sign == "=" and isinstance(right, Net):
-            return _prefixes(SetOf((right,)))
+            return prefixes(SetOf((right,)))
         if name == "net" and sign == "~" and isinstance(right, (Net, SetOf)):
-            return _prefixes(right)
+            return prefixes(right)
         if name == "bgp_path" and sign == "~" and isinstance(right, (Mask, SetOf)):
             return self._of_path(right, state)
         if name == "bgp_path.first" and sign in ("=", "~"):
@@ -298,7 +286,7 @@ class Evaluation:
             return self._of_community(right if isinstance(right, SetOf) else SetOf((right,)), state)
         if name == "proto" and isinstance(right, str) and sign in ("=", "~"):
             return self._of_protocol(right)
-        raise Unsayable("%s: %s" % (_said(Symbol(name)), RULES_MATCH))
+        raise Unsayable("%s: %s" % (as_told(Symbol(name)), RULES_MATCH))
 
     def _of_path(self, wanted: Any, state: State) -> Region:
         if state.value("prepend"):
@@ -308,16 +296,16 @@ class Evaluation:
         inside = [each for each in wanted.elements if each != "*"]
         stars = tuple(each == "*" for each in wanted.elements)
         if self.own is not None:
-            return _always(not inside)
+            return always(not inside)
         if not inside:
             return ALL if stars else path_region("^$", self.world, self.place)
         if len(inside) == 1 and stars in ((True, False, True), (False, True)):
-            return self._some(inside[0] if isinstance(inside[0], SetOf) else SetOf((inside[0],)), "path" if stars[0] else
-                              "first")
+            wanted = inside[0] if isinstance(inside[0], SetOf) else SetOf((inside[0],))
+            return self._some(wanted, "path" if stars[0] else "first")
         if len(inside) == 1 and stars == (False,) and isinstance(inside[0], int):
             return path_region("^%d$" % inside[0], self.world, self.place)
-        raise Unsayable("other paths than those with an AS, `[= * N * =]`, with a first one, `[= N * =]`, with none, `[= =]`, "
-                        "or one alone, `[= N =]`")
+        raise Unsayable("other paths than those with an AS, `[= * N * =]`, with a first one, `[= N * =]`, with none, "
+                        "`[= =]`, or one alone, `[= N =]`")
 
     def _of_first(self, wanted: Any, state: State) -> Region:
         if state.value("prepend"):
@@ -330,10 +318,10 @@ class Evaluation:
         """Paths that have one of these ASes, or begin with one."""
         if self.own is not None:
             return NOTHING
-        return [(Match(kind, asn), True) for each in wanted.elements for asn in _spread(each, 1)] + NOTHING
+        return [(Match(kind, asn), True) for each in wanted.elements for asn in spread(each, 1)] + NOTHING
 
     def _of_community(self, wanted: SetOf, state: State) -> Region:
-        numbers = [number for each in wanted.elements for number in _numbers(each)]
+        numbers = [number for each in wanted.elements for number in communities_in(each)]
         if state.value("add") in [str(number) for number in numbers]:
             return ALL
         return NOTHING if self.own is not None else [(Match("comm", number), True) for number in numbers] + NOTHING
@@ -373,13 +361,18 @@ class Evaluation:
         if what in ("compare", "and", "or", "not"):
             return self._truth(node, state)
         if what == "reckon":
-            return _reckoned(of[0], self._value(of[1], state), self._value(of[2], state))
+            return reckoned(of[0], self._value(of[1], state), self._value(of[2], state))
         raise Unsayable("what `%s` says" % of[0] if what == "called" else "large and extended communities")
 
     def _truth(self, node: Node, state: State) -> bool:
         """A condition that is a value: one that holds always, or never."""
         found: List[bool] = []
-        self._branch(node, state, lambda _, holds: found.append(holds) or [(ANY, DENY)])  # type: ignore[func-returns-value]
+
+        def note(_: State, holds: bool) -> Rules[Action]:
+            found.append(holds)
+            return [(ANY, DENY)]
+
+        self._branch(node, state, note)
         if len(found) != 1:
             raise Unsayable("a condition that is kept for later")
         return found[0]
@@ -417,7 +410,8 @@ class Evaluation:
     def _part(self, whole: Any, name: str) -> Any:
         """A part of a value, as `net.len`."""
         if isinstance(whole, Net):
-            return {"len": whole.length, "ip": _text(whole.value), "type": "NET_IP4"}.get(name, Symbol("net." + name))
+            known = {"len": whole.length, "ip": show_address(whole.value), "type": "NET_IP4"}
+            return known.get(name, Symbol("net." + name))
         if isinstance(whole, Symbol) and whole.name == "bgp_path" and self.own is not None:
             return 0 if name in ("len", "first", "last") else Symbol("bgp_path." + name)
         if isinstance(whole, Symbol) and (whole.name, name) == ("net", "type"):
@@ -425,93 +419,3 @@ class Evaluation:
         if isinstance(whole, Symbol):
             return Symbol("%s.%s" % (whole.name, name))
         raise Unsayable("a part `%s`" % name)
-
-
-def _always(holds: bool) -> Region:
-    return ALL if holds else NOTHING
-
-
-def _text(value: int) -> str:
-    return ".".join(str(value >> shift & 255) for shift in (24, 16, 8, 0))
-
-
-def _said(value: Any) -> str:
-    """A value as it is told."""
-    told = {"bgp_path.len": "the length of a path", "net.len": "the length of a prefix", "bgp_path.last": "the last AS of a "
-            "path", "bgp_large_community": "large communities", "bgp_ext_community": "extended communities"}
-    return told.get(value.name, "`%s`" % value.name) if isinstance(value, Symbol) else "`%s`" % (value,) \
-        if isinstance(value, (int, str)) else "this value"
-
-
-def _reckoned(sign: str, left: Any, right: Any) -> int:
-    if not isinstance(left, int) or not isinstance(right, int) or sign == "/" and right == 0:
-        raise Unsayable("a number that is reckoned from the route's")
-    return {"+": left + right, "-": left - right, "*": left * right, "/": left // (right or 1)}[sign]
-
-
-def _spread(value: Any, least: int) -> List[int]:
-    """The numbers that a number or a span is; raises Unsayable where they are too many."""
-    if isinstance(value, Span) and isinstance(value.low, int) and isinstance(value.high, int):
-        if value.high - value.low < MOST_OF_ONE:
-            return list(range(value.low, value.high + 1))
-        raise Unsayable("more than %d numbers at once" % MOST_OF_ONE)
-    if isinstance(value, int) and not isinstance(value, bool) and least <= value < 2 ** 32:
-        return [value]
-    raise Unsayable("any number at all" if isinstance(value, Span) else "%s as a number" % _said(value))
-
-
-def _numbers(value: Any) -> List[int]:
-    """The communities that two halves are; raises Unsayable."""
-    if not isinstance(value, Pair):
-        raise Unsayable("large and extended communities")
-    found = [high << 16 | low for high in _spread(value.high, 0) for low in _spread(value.low, 0)]
-    if len(found) > MOST_OF_ONE or max(found, default=0) >= 2 ** 32:
-        raise Unsayable("more than %d communities at once" % MOST_OF_ONE)
-    return found
-
-
-def _is_in(left: Any, right: Any) -> bool:
-    """Whether a value is in a set, or a prefix in another; raises Unsayable."""
-    if isinstance(left, Net) and isinstance(right, Net):
-        return contains(masked(*right), left)
-    if isinstance(left, Net) and isinstance(right, SetOf):
-        return any(_is_met(left, _pattern(each)) for each in right.elements)
-    if isinstance(left, str) and isinstance(right, str):
-        return fnmatch.fnmatchcase(left, right)
-    if isinstance(left, str) and isinstance(right, Net) and address(left) is not None:
-        return contains(masked(*right), (address(left) or 0, 32))
-    if isinstance(right, SetOf) and isinstance(left, (int, str)):
-        return any(left == each or isinstance(each, Span) and isinstance(left, int) and isinstance(each.low, int)
-                   and isinstance(each.high, int) and each.low <= left <= each.high for each in right.elements)
-    raise Unsayable("%s in %s" % (_said(left), _said(right)))
-
-
-def _pattern(value: Any) -> Pattern:
-    if isinstance(value, Net):
-        return Pattern(value, value.length, value.length)
-    if not isinstance(value, Pattern):
-        raise Unsayable("prefixes in a set of something else")
-    return value
-
-
-def _is_met(net: Net, pattern: Pattern) -> bool:
-    """Whether a pattern is about a prefix: their bits are the same as far as both have some."""
-    common = min(net.length, pattern.where.length)
-    return pattern.least <= net.length <= pattern.most and masked(net.value, common) == masked(pattern.where.value, common)
-
-
-def _prefixes(wanted: Any) -> Region:
-    """What a prefix, or a set of patterns, is about; raises Unsayable."""
-    if isinstance(wanted, Net):
-        return [(under(masked(*wanted)), True)] + NOTHING
-    return [(match, True) for each in wanted.elements for match in _matches(_pattern(each))] + NOTHING
-
-
-def _matches(pattern: Pattern) -> List[Match]:
-    """Matches that are about just the prefixes of a pattern; raises Unsayable."""
-    value, length = pattern.where
-    shorter: List[Prefix] = [masked(value, each) for each in range(pattern.least, min(length, pattern.most + 1))]
-    found = [is_(each) for each in shorter]
-    if pattern.most >= length:
-        found += prefix_matches(Item(True, Line("", 0, ""), masked(value, length), max(pattern.least, length), pattern.most))
-    return found

@@ -93,9 +93,8 @@ def _words(content: str, path: str) -> Iterator[Word]:
     while at < len(content):
         found = _WORD.match(content, at)
         if found is None or found.group() == "/" and content.startswith("/*", at):
-            what = "a comment" if content.startswith("/*", at) else "a string" if content[at] in "\"'" else "`%s`" % content[at]
-            raise Mistake("%s %s" % (what, "that does not end" if what[0] == "a" else "begins no word of BIRD's"), path,
-                          number)
+            begun = {"/": "a comment that does not end", '"': "a string that does not end"}
+            raise Mistake(begun.get(content[at], "`%s` begins no word of BIRD's" % content[at]), path, number)
         kind, text = found.lastgroup or "", found.group()
         if kind != "space":
             yield Word("name" if kind == "quoted" else kind, text[1:-1] if kind in ("string", "quoted") else text,
@@ -125,7 +124,8 @@ def _item(words: List[Word], at: int) -> Tuple[Item, int]:
             return Item(head, None), at + 1
         if text in ("{", "}") and depth <= 0:
             end = _closing(words, at)
-            return Item(head, words[at + 1:end]), end + 1 + (words[end + 1:end + 2] != [] and words[end + 1].text == ";")
+            has_mark = end + 1 < len(words) and words[end + 1].text == ";"
+            return Item(head, words[at + 1:end]), end + 1 + has_mark
         head.append(words[at])
         at += 1
     raise Mistake("`;` is expected behind `%s`" % head[-1].text, head[-1].line.file, head[-1].line.number)

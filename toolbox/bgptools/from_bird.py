@@ -3,6 +3,7 @@ from __future__ import annotations
 
 import argparse
 import os
+import re
 import sys
 from typing import Dict, List, Optional, Set, Tuple, cast
 
@@ -10,8 +11,8 @@ from . import bird_checks, bird_links, bird_read, output
 from .bird_config import BirdConfig, OwnRoute, Session
 from .bird_layout import files_of, name_of
 from .bird_rules import Evaluation
-from .frr_config import Config, Neighbour, Origin, Prefix, Static, Told, short
-from .frr_lists import Place, World, shown
+from .frr_config import Config, Neighbour, Origin, Prefix, Told, short
+from .frr_lists import Place, World
 from .frr_network import Network
 from .frr_origins import Own, is_active
 from .frr_policy import ANY, DENY, PERMIT, Action, Rules, covers, is_
@@ -20,6 +21,7 @@ from .language import address
 from .mistakes import WRONG, Mistake
 from .names import mark
 
+NAME = re.compile("[!-~]+")
 # A filter may have so many statements one behind the other.
 DEEP = 6000
 
@@ -80,7 +82,8 @@ class BirdTranslation(Translation):
     def _policy(self, config: Config, each: Neighbour, way: str, place: Place) -> Optional[Rules[Action]]:
         rules = self._evaluation(config, each, way, place)
         if rules is None:
-            bird_checks.tell_policies(cast(BirdConfig, config), cast(Session, each), way, place.is_external)
+            if place.is_external:
+                bird_checks.tell_policy(cast(BirdConfig, config), cast(Session, each), way)
             rules = [(ANY, DENY)] if place.is_external or way == "out" else [(ANY, PERMIT)]
         if way == "in":
             return _without_all(rules)
@@ -122,8 +125,8 @@ class BirdTranslation(Translation):
             config.tell(route.line, "%s: no file shows the subnet of its gateway; it is taken for there" % short(
                 route.line.text), False)
             return True
-        config.tell(route.line, "%s: its interface is down, so that BIRD does not use it, and neither is it here" % short(
-            route.line.text), False)
+        config.tell(route.line, "%s: its interface is down, so that BIRD does not use it, and neither is it here" %
+                    short(route.line.text), False)
         return False
 
     def _lets_out(self, name: str, other: str, each: Neighbour, route: OwnRoute) -> bool:
@@ -147,9 +150,9 @@ class BirdTranslation(Translation):
             let = [where for where in subnets if _is_let(self, name, other, each, where)]
             policy = cast(Session, each).policies.get("out")
             if let and policy is not None:
-                config.tell(policy.line, "%s: BIRD tells %s its routes of OSPF, as %s; here they are not originated. Write "
-                            "`origin %s P` for each that is meant" % (short(policy.line.text), other,
-                                                                     bird_checks.tell_prefixes(let), name))
+                config.tell(policy.line, "%s: BIRD tells %s its routes of OSPF, as %s; here they are not originated. "
+                            "Write `origin %s P` for each that is meant" % (short(policy.line.text), other,
+                                                                     bird_checks.some_prefixes(let), name))
 
 
 class CountOf:
@@ -206,16 +209,20 @@ def network_of(configs: List[BirdConfig], told: List[Told]) -> Network:
     good = [config for config in configs if config.own_name() and (config.asn or config.has_ospf)]
     for config in configs:
         if config not in good:
-            told.append(Told(config.name, 0, "`router id ADDRESS;` and a `protocol bgp` or `protocol ospf` are expected; no "
-                             "router is made of it"))
+            told.append(Told(config.name, 0, "`router id ADDRESS;` and a `protocol bgp` or `protocol ospf` are "
+                             "expected; no router is made of it"))
         elif not config.identifier:
-            config.tell(config.line, "%s: there is no `router id`, which BIRD takes from its interfaces; the router is %s "
-                        "here" % (short(config.line.text), config.own_name()))
+            config.tell(config.line, "%s: there is no `router id`, which BIRD takes from its interfaces; the router is "
+                        "%s here" % (short(config.line.text), config.own_name()))
     if not good:
         raise Mistake(told[0].text, told[0].file, told[0].line or None)
     for config in good:
-        if not config.hostname and " " not in name_of(config.name):
+        if not config.hostname:
             config.hostname, config.hostname_line = name_of(config.name), config.line
+        if not NAME.fullmatch(config.hostname):
+            config.tell(config.hostname_line, "%s: it is no name here, which has no space" % short(config.hostname),
+                        False)
+            config.hostname = ""
         bird_checks.settle(config)
     bird_links.find(good)
     return Network([*good])
@@ -224,10 +231,10 @@ def network_of(configs: List[BirdConfig], told: List[Told]) -> Network:
 def parser() -> argparse.ArgumentParser:
     """The words of the command line."""
     made = argparse.ArgumentParser(prog="from-bird", description=(
-        "Writes configurations of BIRD 2 as a script: one file a router, or a folder with a file NAME.conf or a folder with "
-        "bird.conf for each. A router is named by its router id, and a neighbor by any of its addresses is that router; one "
-        "that no file belongs to is a virtual peer, to be fed. Two interfaces of OSPF in one subnet are a link, and so are the "
-        "two ends of a session between two ASes. docs/BIRD.md says what is taken over."),
+        "Writes configurations of BIRD 2 as a script: one file a router, or a folder with a file NAME.conf or a folder "
+        "with bird.conf for each. A router is named by its router id, and a neighbor by any of its addresses is that "
+        "router; one that no file belongs to is a virtual peer, to be fed. Two interfaces of OSPF in one subnet are a "
+        "link, and so are the two ends of a session between two ASes. docs/BIRD.md says what is taken over."),
         epilog="What is not taken over is told on standard error, as `FILE:LINE: not taken over: ..` with what comes "
         "of it; the last line counts those that decide no route. "
                "Exit status: 0 nothing was left out that may decide a route; 1 the script is written, and something "

@@ -109,7 +109,7 @@ class Dump:
         where, entries = mrt.routes_of(record.content, mrt.RIB_IPV4_UNICAST[record.subtype])
         for entry in entries:
             if self.peers is None or entry.peer >= len(self.peers):
-                known = "there are %d" % len(self.peers) if self.peers is not None else "no PEER_INDEX_TABLE is before it"
+                known = "no PEER_INDEX_TABLE is before it" if self.peers is None else "there are %d" % len(self.peers)
                 raise Short("a route is of the peer %d, and %s" % (entry.peer, known))
             self._route("%s: byte %d" % (self.path, record.at), self.peers[entry.peer], show_prefix(where), entry)
 
@@ -153,8 +153,8 @@ def parser() -> argparse.ArgumentParser:
     made = argparse.ArgumentParser(prog="from-mrt", description=(
         "Writes a table dump of MRT (TABLE_DUMP_V2, RFC 6396), as route collectors keep them, as a script: one router, "
         "and a virtual peer that is fed what each peer of the table told."),
-        epilog="What is not taken over is told with the byte of the unpacked file at which its record begins. Routes of "
-               "IPv6 are counted and left out; so are large and extended communities. "
+        epilog="What is not taken over is told with the byte of the unpacked file at which its record begins. Routes "
+               "of IPv6 are counted and left out; so are large and extended communities. "
                "Exit status: 0; 1 the script is written, and a route of IPv4 was left out; 2 a mistake, as a file that "
                "ends within a record, and nothing is written.")
     made.add_argument("file", metavar="FILE", help="the dump; - is standard input; gzip and bzip2 are known by their "

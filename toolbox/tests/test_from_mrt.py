@@ -3,6 +3,7 @@ import bz2
 import gzip
 import random
 import shutil
+import struct
 import subprocess
 import unittest
 import unittest.mock
@@ -31,7 +32,7 @@ def beginnings(content):
 
 
 def record(kind, subtype, content):
-    return b"\0\0\0\0" + kind.to_bytes(2, "big") + subtype.to_bytes(2, "big") + len(content).to_bytes(4, "big") + content
+    return struct.pack(">IHHI", 0, kind, subtype, len(content)) + content
 
 
 PEER = record(13, 1, bytes.fromhex("00000000 0000 0001 02 07000001 C0000201 00000007"))
@@ -136,17 +137,21 @@ class Damaged(Dumps):
         self.assert_wrong(bz2.compress(content)[:-9], "FILE: it cannot be read: Compressed file ended before")
 
     def test_what_is_no_table(self):
-        for content, said in ((b"", "FILE: it has no route that can be taken: routes of IPv4 in records of TABLE_DUMP_V2"),
+        for content, said in ((b"",
+                               "FILE: it has no route that can be taken: routes of IPv4 in records of TABLE_DUMP_V2"),
                               (PEER, "it has no route that can be taken"),
                               (record(16, 4, b"x"), "it has no route that can be taken"),
-                              (b"TABLE_DUMP2|1700000000|B|192.0.2.1|7|10.0.0.0/8", "byte 0: a record of 1297101436 bytes begins"),
-                              (with_attributes()[len(PEER):], "byte 0: the record is damaged: a route is of the peer 0, and no "
+                              (b"TABLE_DUMP2|1700000000|B|192.0.2.1|7|10.0.0.0/8",
+                               "byte 0: a record of 1297101436 bytes begins"),
+                              (with_attributes()[len(PEER):],
+                               "byte 0: the record is damaged: a route is of the peer 0, and no "
                                                               "PEER_INDEX_TABLE is before it"),
                               (PEER + with_attributes()[len(PEER):].replace(b"\x08\x0a", b"\x28\x0a"),
                                "byte 33: the record is damaged: a prefix of IPv4 has at most 32 bits, and not 40"),
                               (PEER + record(13, 2, bytes(9)), "the record is damaged: it has 2 bytes more"),
                               (record(13, 1, bytes(7)), "byte 0: the record is damaged: 1 bytes of 2 are there"),
-                              (PEER.replace(b"\0\1\2", b"\0\2\2"), "byte 0: the record is damaged: 0 bytes of 1 are there")):
+                              (PEER.replace(b"\0\1\2",
+                                            b"\0\2\2"), "byte 0: the record is damaged: 0 bytes of 1 are there")):
             with self.subTest(said=said):
                 self.assert_wrong(content, said)
         self.assertIn("No such file", inside("from-mrt", self.folder / "gone").stderr)
@@ -158,12 +163,14 @@ class Damaged(Dumps):
                                  ((bytes.fromhex("40010103"), PATH), "its ORIGIN is none of IGP, EGP, INCOMPLETE"),
                                  ((ORIGIN, bytes.fromhex("400200")), "the path does not begin with AS 7"),
                                  ((ORIGIN, bytes.fromhex("400202 0200")), "its path has an empty segment"),
-                                 ((ORIGIN, bytes.fromhex("40020A 0202 00000007 00000000")), "its path has the AS number 0"),
+                                 ((ORIGIN, bytes.fromhex("40020A 0202 00000007 00000000")),
+                                  "its path has the AS number 0"),
                                  ((ORIGIN, bytes.fromhex("400204 0201 0007")), "2 bytes of 4 are there"),
                                  ((ORIGIN, PATH, bytes.fromhex("800402 0005")), "its MED is no number of 4 bytes"),
                                  ((ORIGIN, PATH, bytes.fromhex("C00803 000701")), "3 bytes are no numbers of 4 bytes"),
                                  ((ORIGIN, PATH, bytes.fromhex("C02008 0000000700000001")), "of three numbers"),
-                                 ((ORIGIN, PATH, bytes.fromhex("C01004 00020007")), "extended communities are of 8 bytes"),
+                                 ((ORIGIN, PATH, bytes.fromhex("C01004 00020007")),
+                                  "extended communities are of 8 bytes"),
                                  ((ORIGIN, PATH, b"\x40"), "an attribute is cut off: 1 bytes of 2 are there"),
                                  ((ORIGIN, PATH, b"\xc0\x08\x84" + bytes(range(132))), "it has 33 communities")):
             with self.subTest(said=said):
@@ -177,7 +184,8 @@ class Damaged(Dumps):
             content = bytearray(bytes_of(drawn.choice(list(NAMES))))
             for _ in range(drawn.randint(1, 4)):
                 at = drawn.randrange(len(content))
-                content[at:at + drawn.choice((0, 1, 1, 1, 2))] = bytes([drawn.choice((0, 1, 2, 255, drawn.randrange(256)))])
+                content[at:at + drawn.choice((0, 1, 1, 1, 2))] = bytes([drawn.choice((0, 1, 2, 255,
+                                                                                      drawn.randrange(256)))])
             out = self.folder / "out"
             out.write_text("before")
             made = inside("from-mrt", self.dump(bytes(content)), "-o", out)
