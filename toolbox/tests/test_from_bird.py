@@ -365,6 +365,8 @@ class Own(Made):
                  ["192.0.2.0/24", "198.51.100.0/24"]),
                 ("where source = RTS_BGP", [], []),
                 ("where net = 192.0.2.0/24", ["is 192.0.2.0/24 permit", "any deny"], ["192.0.2.0/24"]),
+                ("where net ~ [ 192.0.2.128/25{24,25} ]", ["is 192.0.2.0/24 permit", "is 192.0.2.128/25 permit",
+                                                           "any deny"], ["192.0.2.0/24"]),
                 ('where proto = "st" && net ~ [ 192.0.0.0/8+ ]', ["is 192.0.2.0/24 permit", "any deny"],
                  ["192.0.2.0/24"]),
                 ("where dest = RTD_BLACKHOLE", ["is 192.0.2.0/24 permit", "is 198.51.100.0/24 permit", "any deny"],
