@@ -157,6 +157,11 @@ class Damaged(Dumps):
         self.assertIn("No such file", inside("from-mrt", self.folder / "gone").stderr)
         self.assertIn("Is a directory", inside("from-mrt", self.folder).stderr)
 
+    def test_an_attribute_that_is_there_twice(self):
+        """The first one counts (RFC 7606, 3 g)."""
+        twice = with_attributes(ORIGIN, PATH, bytes.fromhex("800404 00000005"), bytes.fromhex("800404 00000009"))
+        self.assertIn(" update 10.0.0.0/8 7 igp 5\n", inside("from-mrt", self.dump(twice)).stdout)
+
     def test_a_route_that_cannot_be_taken(self):
         good = with_attributes(ORIGIN, PATH)[len(PEER):]
         for attributes, said in (((PATH,), "it has no ORIGIN"), ((ORIGIN,), "it has no AS_PATH"),
