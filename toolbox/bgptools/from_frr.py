@@ -32,17 +32,33 @@ class Translation:
         self.lines: List[str] = []
         self.world = self._world()
         self.policies: Dict[Tuple[str, str, str], Rules[Action]] = {}
-        self.owns = {name: frr_origins.origins_of(network, name) for name in network.routers}
+        self.owns = {name: self._owns(name) for name in network.routers}
         frr_sessions.check(network)
         self._routers()
         self._links_and_sessions()
         for name, config in network.routers.items():
             self._settings(name, config)
-        frr_checks.check(network)
+        self._check()
         frr_costs.check(network, {name for name, owns in self.owns.items() if owns})
-        frr_origins.tell_incomplete(network)
         frr_origins.tell_gateways(network)
         frr_origins.tell_weights(network, self.owns, self.policies)
+
+    # What another kind of configuration does otherwise
+
+    def _check(self) -> None:
+        """Tells what FRR does otherwise than a script says."""
+        frr_checks.check(self.network)
+        frr_origins.tell_incomplete(self.network)
+
+    def _owns(self, name: str) -> List[frr_origins.Own]:
+        """What a router originates."""
+        return frr_origins.origins_of(self.network, name)
+
+    def _policy(self, config: Config, each: Neighbour, way: str, place: Place) -> Optional[Rules[Action]]:
+        """The rules of a policy; nothing where there is none."""
+        return policy(config, each, way, place, self.world)
+
+    # The script
 
     def _world(self) -> World:
         network, world = self.network, World()
@@ -124,7 +140,7 @@ class Translation:
             config.tell(line, "%s: FRR tells routes to it without their communities; here they keep them" %
                         short(line.text))
         for way, place in places.items():
-            rules = policy(config, each, way, place, self.world)
+            rules = self._policy(config, each, way, place)
             rules = self._with_front(name, config, other, each, rules) if way == "out" else rules
             if rules is not None:
                 self._rules(name, config, other, each, way, shortened(without_covered(rules)))
@@ -236,13 +252,9 @@ def parser() -> argparse.ArgumentParser:
     return made
 
 
-def main(words: Optional[List[str]] = None) -> int:
-    """The tool."""
-    chosen = parser().parse_args(words)
-    configs, told = configs_in(chosen.directory)
-    network = network_of(configs, told, chosen.directory)
-    translation = Translation(network)
-    told += [each for config in network.read for each in sorted(config.told)]
+def report(network: Network, told: List[Told], is_strict: bool) -> int:
+    """Tells what is not taken over, and counts what decides no route; the exit status."""
+    told = told + [each for config in network.read for each in sorted(config.told)]
     for each in told:
         print("%s: %s: %s" % ("%s:%d" % (each.file, each.line) if each.line else each.file, "not taken over"
                               if each.decides else "note", each.text), file=sys.stderr)
@@ -252,8 +264,19 @@ def main(words: Optional[List[str]] = None) -> int:
             ", ".join("%s %d" % each for each in sorted(counts.items(),
                                                         key=lambda each: (-each[1], each[0].lower())))),
                                                         file=sys.stderr)
-    if chosen.strict and any(each.decides for each in told):
+    if is_strict and any(each.decides for each in told):
         print("nothing is written, since --strict takes each line that is told for a mistake", file=sys.stderr)
         return WRONG
-    output.write("".join(line + "\n" for line in translation.lines), chosen.out)
     return CHANGED if any(each.decides for each in told) else 0
+
+
+def main(words: Optional[List[str]] = None) -> int:
+    """The tool."""
+    chosen = parser().parse_args(words)
+    configs, told = configs_in(chosen.directory)
+    network = network_of(configs, told, chosen.directory)
+    translation = Translation(network)
+    status = report(network, told, chosen.strict)
+    if status != WRONG:
+        output.write("".join(line + "\n" for line in translation.lines), chosen.out)
+    return status

@@ -18,15 +18,21 @@ _IN_ORDER = ("compares each route with the best before it, so that where MED dec
 
 def check(network: Network) -> None:
     """All that is told of the network as a whole."""
+    check_network(network)
+    _check_costs(network)
+    _check_choice(network)
+    for config in network.routers.values():
+        _check_six(config)
+
+
+def check_network(network: Network) -> None:
+    """What of it holds for any routing daemon."""
     for link in network.links.values():
         _check_link(network, link)
     _check_shared(network)
     _check_names(network)
-    _check_costs(network)
     _check_areas(network)
-    _check_choice(network)
     for name, config in network.routers.items():
-        _check_six(config)
         _check_cluster(network, name, config)
     for name, other in network.peers:
         check_next_hop = _check_next_hop if network.is_external(name, other) else _check_reflected
@@ -116,7 +122,7 @@ def _check_choice(network: Network) -> None:
         config = network.routers[oldest[0]]
         config.tell(config.line, "%s: of external routes that are alike FRR keeps the one that came first, and here "
                     "the lower identifier wins; so it is at %s. "
-                    "`bgp bestpath compare-routerid` makes FRR do the same" % (short(config.line.text), _some(oldest)))
+                    "`bgp bestpath compare-routerid` makes FRR do the same" % (short(config.line.text), some_of(oldest)))
     _check_order_of_med(network)
 
 
@@ -130,15 +136,15 @@ def _check_order_of_med(network: Network) -> None:
         _, line = ordered[name].flags["bgp deterministic-med"]
         ordered[name].tell(line, "%s: FRR %s. `bgp deterministic-med` makes FRR do the same" % (
             short(line.text), _IN_ORDER))
-    grouped = [name for name in ordered if name not in by_line and _compares_med(network, name)]
+    grouped = [name for name in ordered if name not in by_line and compares_med(network, name)]
     if grouped:
         config = ordered[grouped[0]]
         config.tell(config.line, "%s: without `bgp deterministic-med`, which is off by default but in the datacenter "
                     "profile, FRR %s; so it is at %s. `bgp deterministic-med` makes FRR do the same" % (
-                        short(config.line.text), _IN_ORDER, _some(grouped)))
+                        short(config.line.text), _IN_ORDER, some_of(grouped)))
 
 
-def _some(names: List[str]) -> str:
+def some_of(names: List[str]) -> str:
     return names[0] if len(names) == 1 else "%s and %d more" % (names[0], len(names) - 1)
 
 
@@ -146,7 +152,7 @@ def _external(network: Network, name: str) -> List[str]:
     return [other for other, _ in network.peers_of(name) if network.is_external(name, other)]
 
 
-def _compares_med(network: Network, name: str) -> bool:
+def compares_med(network: Network, name: str) -> bool:
     """Whether a router may have three routes of which two come from one neighbouring AS."""
     asn = network.routers[name].asn
     around = [network.asn_of(other) for router, config in network.routers.items() if config.asn == asn
@@ -187,7 +193,7 @@ def _check_reflected(network: Network, name: str, other: str, each: Neighbour) -
         config.tell(each.line, "%s: nothing in the files makes the way to this address known to %s, which FRR then "
                     "does not resolve as the next hop of what is reflected from there; here it is. Let OSPF carry its "
                     "subnet; no rule says what FRR does, since none matches the router that a route is reflected from"
-                    % (short(each.line.text), _some(lost)))
+                    % (short(each.line.text), some_of(lost)))
 
 
 # Next hops at a border
@@ -210,7 +216,7 @@ def _check_next_hop(network: Network, name: str, other: str, each: Neighbour) ->
         config.tell(each.line, "%s: nothing in the files makes the way to this next hop known to %s, which FRR then "
                     "does not resolve, so that the routes are not used there; here they are. FRR needs "
                     "`next-hop-self` (write %s), or the subnet in OSPF; %s" % (
-                        told, _some(lost), heading, _denials(network, name, lost, network.asn_of(other))))
+                        told, some_of(lost), heading, _denials(network, name, lost, network.asn_of(other))))
     elif len(_borders(network, config.asn)) > 1 and {"static", "external", "bgp"} & set(ways.values()):
         config.tell(each.line, "%s: the interior reaches this next hop by an external or static route, whose cost "
                     "counts in FRR; here the costs of the links to it count" % told)

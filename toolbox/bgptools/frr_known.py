@@ -8,13 +8,13 @@ from typing import Dict, List, Optional, Pattern, Tuple
 Table = List[Tuple[Pattern[str], str]]
 
 
-def _table(*rows: Tuple[str, str]) -> Table:
+def table(*rows: Tuple[str, str]) -> Table:
     return [(re.compile("(?:%s)(?: |$)" % pattern), said) for pattern, said in rows]
 
 
 # Lines that decide no route: what they are counted as.
 COUNTED: Dict[str, Table] = {
-    "top": _table(
+    "top": table(
         ("frr (version|defaults)", "versions"), ("hostname|domainname|banner|username", "names"),
         ("log|debug|dump|agentx", "logs"),
         ("service|zebra|fpm|mpls label|ip ssh|allow-external-route-update", "services"),
@@ -23,7 +23,7 @@ COUNTED: Dict[str, Table] = {
         (r"ip prefix-list \S+ description|access-list \S+ remark|route-map \S+ optimization|ip prefix-list "
          r"sequence-number", "descriptions"),
         ("key chain|router-id|ip router-id|bgp community alias", "names")),
-    "interface": _table(
+    "interface": table(
         ("description", "descriptions"), ("ipv6", "IPv6"), ("bfd|ip ospf bfd|isis bfd", "bfd"),
         ("(ip )?(pim|igmp|multicast|mroute)|multicast|ip pim", "multicast"),
         (r"(ip )?ospf (hello-interval|dead-interval|retransmit-interval|transmit-delay|prefix-suppression)", "timers"),
@@ -31,7 +31,7 @@ COUNTED: Dict[str, Table] = {
         (r"isis (hello-\S+|csnp-interval|psnp-interval|circuit-type|network|passive|password|priority|"
          r"three-way-handshake|fast-reroute)|ipv6 router isis", "IS-IS settings"),
         ("mpls|link-params|evpn|link-detect|mtu|ip nhrp", "settings of links")),
-    "bgp": _table(
+    "bgp": table(
         ("timers|bgp (keepalive|minimum-holdtime|update-delay|coalesce-time|route-map "
          "delay-timer|conditional-advertisement|nexthop-trigger)|update-delay|"
          "coalesce-time|write-quanta|read-quanta", "timers"),
@@ -46,24 +46,24 @@ COUNTED: Dict[str, Table] = {
         ("bgp (bestpath compare-routerid|deterministic-med|fast-external-failover|client-to-client "
          "reflection|enforce-first-as|bestpath peer-type|network import-check)",
          "what holds here always")),
-    "neighbour": _table(
+    "neighbour": table(
         ("timers|advertisement-interval|shutdown rtt", "timers"), ("bfd", "bfd"), ("description", "descriptions"),
         ("graceful-restart|graceful-restart-helper|graceful-restart-disable", "restarts"),
         ("soft-reconfiguration|send-community|solo|strict-capability-match|override-capability|"
          "dont-capability-negotiate|capability(?! orf)|disable-link-bw-encoding-ieee|extended-optional-parameters|"
          "disable-addpath-rx|tcp-mss|enforce-first-as|sender-as-path-loop-detection|extended-link-bandwidth",
          "how sessions are carried")),
-    "ospf": _table(
+    "ospf": table(
         ("timers|refresh", "timers"), ("log-adjacency-changes|log", "logs"),
         ("ospf (abr-type|rfc1583compatibility|opaque-lsa|write-multiplier|send-extra-data)|capability|"
          "neighbor|compatible|maximum-paths|graceful-restart|mpls-te|router-info|segment-routing|bfd|distance|"
          "default-information|default-metric|proactive-arp|"
          r"area \S+ (authentication|default-cost)|fast-reroute|write-multiplier|summary-address|aggregation",
          "OSPF settings")),
-    "isis": _table(("net|is-type|log-adjacency-changes|lsp-\\S+|spf-\\S+|hostname|metric-style|area-password|"
+    "isis": table(("net|is-type|log-adjacency-changes|lsp-\\S+|spf-\\S+|hostname|metric-style|area-password|"
                     "domain-password|purge-originator|timers|set-\\S+|max-lsp|topology|mpls|segment-routing|"
                     "attached-bit|fast-reroute|dynamic-hostname|default-information|advertise", "IS-IS settings")),
-    "map": _table(
+    "map": table(
         ("description", "descriptions"),
         ("set (tag|ipv6|vpn|l3vpn|evpn|label-index|aggregator|atomic-aggregate|table|sr-te|src|vpnv4|vpnv6|"
          "metric-type|forwarding-address)", "other families")),
@@ -74,7 +74,7 @@ _OTHER_KINDS = "there are no large and no extended communities here"
 
 # Lines that may decide a route: what comes of leaving them out.
 TOLD: Dict[str, Table] = {
-    "top": _table(
+    "top": table(
         ("ip protocol", "it keeps routes of BGP out of FRR's table of routes, or changes their source address; here "
          "all are used"),
         ("ip nht", "FRR then takes the default route for a way to a next hop; here the links lead there"),
@@ -83,13 +83,13 @@ TOLD: Dict[str, Table] = {
         ("(bgp|ip) community-list", "FRR's lists are `standard` with communities or `expanded` with an expression; "
          "this is no entry of either, and is left out"),
         ("maximum-paths", _ONE_WAY)),
-    "interface": _table(
+    "interface": table(
         ("bandwidth", "FRR reckons the OSPF cost from it; here the cost is 10 where no `ip ospf cost` stands"),
         (r"ip (rip|eigrp|router eigrp|router openfabric)|openfabric|eigrp",
          "interior costs are those of OSPF and IS-IS alone"),
         ("vrf", "FRR's interface is of a VRF; give `interface NAME vrf VRF`, so that it is left out"),
         ("pbr-policy", "packets follow the policy in FRR, and routes alone here")),
-    "bgp": _table(
+    "bgp": table(
         ("bgp bestpath med (confed missing-as-worst|missing-as-worst confed)", "FRR takes a missing MED for the "
          "highest, and compares MED inside a confederation; here a missing one is 0, and there are no confederations"),
         ("bgp bestpath med missing-as-worst", "FRR takes a missing MED for the highest; here a missing one is 0"),
@@ -124,7 +124,7 @@ TOLD: Dict[str, Table] = {
          "here it goes down at once"),
         ("no bgp enforce-first-as", "FRR takes a path that does not begin with its neighbour's AS; here no "
          "such path is fed")),
-    "neighbour": _table(
+    "neighbour": table(
         ("weight", "FRR prefers this neighbour's routes by weight before all else; here the preference decides first"),
         ("allowas-in", "FRR takes routes with its own AS in their path; here they are dropped as a loop"),
         ("as-override", "FRR writes its own AS over the neighbour's in the path; here the path stays, and the "
@@ -147,17 +147,17 @@ TOLD: Dict[str, Table] = {
         ("soo", "FRR does not tell routes back to where they come from by this mark; here there is none"),
         ("port", "FRR's session is to another port than 179, which must be that of the other end; here every "
          "session comes up")),
-    "ospf": _table(
+    "ospf": table(
         ("auto-cost", "FRR reckons the costs of interfaces without `ip ospf cost` from it; here they are 10"),
         ("max-metric", "OSPF leads around this router in FRR; here its links keep their costs"),
         (r"area \S+ (range|filter-list|export-list|import-list|stub|nssa|virtual-link|shortcut)",
          "areas are one here: all routers of an AS know all costs"),
         ("redistribute|distribute-list", "OSPF knows routes by it that have no cost here")),
-    "isis": _table(
+    "isis": table(
         ("is-type level-1(-2)?", "levels are one here: all routers of an AS know all costs"),
         ("redistribute|summary-address|overload-bit|advertise-passive-only",
          "IS-IS knows ways by it, or avoids some; here the links and their costs alone count")),
-    "map": _table(
+    "map": table(
         ("match community", "a match is of one list, with `exact-match` or `any` behind it"),
         ("(match|set) (large-community|extcommunity)|set (large|extended)-comm-list", _OTHER_KINDS),
         ("match alias", "communities have no other names here; match a community list"),

@@ -105,7 +105,7 @@ class Network:
 
     def _addresses(self) -> Iterator[Tuple[str, Config, Interface, Address]]:
         return ((name, config, interface, each) for name, config in self.routers.items()
-                for interface in config.interfaces.values() for each in interface.addresses)
+                for interface in config.interfaces.values() for each in interface.addresses if each.own)
 
     # Links: two interfaces in one subnet, or each with the other's address
 

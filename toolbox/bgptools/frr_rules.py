@@ -94,7 +94,7 @@ def settings_of(config: Config, entry: Entry, place: Place, world: World) -> Tup
         is_of_communities = name in ("community", "comm-list")
         wanted = (given(said) if name == "community" else None) or GIVES_NONE
         comes = (_unset_community(config, entry, wanted, place, world) if is_of_communities
-                 else _unset(config, name, said, place))
+                 else unset(config, name, said, place))
         if comes == NO_NEIGHBOUR:
             config.count_line(comes, line)
         elif comes:
@@ -126,7 +126,7 @@ def _is_about_own(config: Config, entry: Entry) -> bool:
     return set(permitted) == {"^$"}
 
 
-def _unset(config: Config, name: str, said: str, place: Place) -> str:
+def unset(config: Config, name: str, said: str, place: Place) -> str:
     """Why a setting is none of the rule, or nothing."""
     if name == "weight":
         is_nothing = said == "0" or place.way == "out"

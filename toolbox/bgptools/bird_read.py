@@ -1,0 +1,261 @@
+"""What each item of a BIRD configuration says of a router."""
+from __future__ import annotations
+
+import re
+from typing import Callable, Dict, List, Match, Optional, Set, Tuple
+
+from .bird_config import ACCEPT, REJECT, BirdConfig, Policy, Session
+from .bird_filter import TYPES, Function, Node, Wrong, expression_of, statements_of
+from .bird_interior import OFF, SWITCH, direct, kernel, leave, ospf, resolved, static
+from .bird_words import Item, items_of, words_in
+from .frr_config import short
+from .language import address, number
+
+_ADDRESS = r"([0-9]+(?:\.[0-9]+){3})"
+_ROLES = {"rs_server": "rs-server", "rs_client": "rs-client"}
+
+
+def read(path: str, included: Set[str]) -> BirdConfig:
+    """The configuration in a file, and the files that it includes; raises Mistake where it cannot be read."""
+    config = BirdConfig(path, [path])
+    items = _whole(items_of(words_in(path, included)))
+    templates = {item.texts[2]: item for item in items if item.texts[:2] == ["template", "bgp"] and len(item.texts) > 2}
+    for item in items:
+        if item.texts[:1] != ["template"]:
+            _take(config, item, templates)
+    return config
+
+
+def _whole(items: List[Item]) -> List[Item]:
+    """The items; a filter or function whose variables stand before its block, each with `;`, is one."""
+    found: List[Item] = []
+    for item in items:
+        before = found[-1] if found else Item([], None)
+        if before.texts[:1] in (["filter"], ["function"]) and before.body is None and item.texts[:1] in (
+                [], *([each] for each in TYPES)):
+            found[-1] = Item(before.head, item.body)
+        else:
+            found.append(item)
+    return found
+
+
+def _take(config: BirdConfig, item: Item, templates: Dict[str, Item]) -> None:
+    """An item of the file itself."""
+    words = item.texts
+    known: Dict[str, Callable[[BirdConfig, Item], None]] = {"define": _define, "filter": _filter, "function": _function}
+    if words[:1] == ["protocol"] and len(words) > 1:
+        _protocol(config, item, templates)
+    elif words and words[0] in known and len(words) > 1:
+        try:
+            known[words[0]](config, item)
+        except Wrong as wrong:
+            config.tell(wrong.line or item.line, "%s %s: %s; it is left out, and what asks for it, too" % (
+                words[0], words[1], wrong))
+    elif words[:2] == ["router", "id"] and address(words[-1]) is not None and len(words) == 3:
+        config.identifier = words[2]
+    elif words[:1] == ["hostname"] and len(words) == 2:
+        config.hostname, config.hostname_line = words[1], item.line
+    else:
+        leave(config, "bird", item)
+
+
+# Filters
+
+def _define(config: BirdConfig, item: Item) -> None:
+    if item.texts[2:3] != ["="] or item.body is not None:
+        raise Wrong("`define NAME = VALUE;` is expected", item.line)
+    config.constants[item.texts[1]] = expression_of(item.head[3:], item.line)
+
+
+def _filter(config: BirdConfig, item: Item) -> None:
+    if item.body is None:
+        raise Wrong("a block in braces is expected", item.line)
+    config.filters[item.texts[1]] = statements_of(item.body or [], item.line)
+
+
+def _function(config: BirdConfig, item: Item) -> None:
+    end = item.texts.index(")") if ")" in item.texts else len(item.texts)
+    names = [text for text in item.texts[3:end] if text not in (*TYPES, "set", ",", ";")]
+    config.functions[item.texts[1]] = Function(tuple(names), statements_of(item.body or [], item.line))
+
+
+def _policy(config: BirdConfig, item: Item) -> Optional[Policy]:
+    """The policy of `import ..` or `export ..`; nothing for what is none."""
+    what, rest = (item.texts[1:2] or [""])[0], item.head[2:]
+    try:
+        if what in ("all", "none") and not rest:
+            return Policy(item.line, "", (ACCEPT if what == "all" else REJECT,))
+        if what == "where" and item.body is None:
+            condition = expression_of(rest, item.line)
+            return Policy(item.line, "", (Node("if", (condition, (ACCEPT,), (REJECT,)), item.line),))
+        if what == "filter" and item.body is not None and not rest:
+            return Policy(item.line, "", statements_of(item.body, item.line))
+        if what == "filter" and len(rest) == 1:
+            return Policy(item.line, rest[0].text)
+    except Wrong as wrong:
+        config.tell(wrong.line or item.line, "%s: %s; nothing is let through here" % (short(item.line.text), wrong))
+        return Policy(item.line, "", (REJECT,))
+    return None
+
+
+# Protocols
+
+def _protocol(config: BirdConfig, item: Item, templates: Dict[str, Item]) -> None:
+    kind, names = item.texts[1], [text for text in item.texts[2:] if text not in ("v2", "v3")]
+    count = list(config.protocols.values()).count(kind)
+    name = names[0] if names and names[0] != "from" else "%s%d" % (kind, count + 1)
+    inside = items_of(item.body or [])
+    if kind == "bgp":
+        config.protocols[name] = kind
+        _bgp(config, item, name, _with_templates(config, item, templates, 0))
+    elif any(each.texts[:1] == ["disabled"] and each.said[9:] not in OFF for each in inside):
+        config.count("protocols that are disabled", 1 + len(inside))
+    elif kind in ("static", "direct", "ospf", "kernel"):
+        config.protocols[name] = kind
+        {"static": static, "direct": direct, "ospf": ospf, "kernel": kernel}[kind](config, item, name, inside)
+    else:
+        config.protocols[name] = kind
+        leave(config, "bird", item)
+
+
+def _with_templates(config: BirdConfig, item: Item, templates: Dict[str, Item], depth: int) -> List[Item]:
+    """The items of a protocol behind those of the template that it is made from."""
+    inside = items_of(item.body or [])
+    named = item.texts[item.texts.index("from") + 1:][:1] if "from" in item.texts else []
+    if named and named[0] in templates and depth < len(templates):
+        return _with_templates(config, templates[named[0]], templates, depth + 1) + inside
+    if named:
+        config.tell(item.line, "%s: there is no such template, or it is made from itself" % short(item.line.text))
+    return inside
+
+
+# BGP
+
+def _bgp(config: BirdConfig, item: Item, name: str, inside: List[Item]) -> None:
+    session = Session("", item.line, protocol=name)
+    for each in inside:
+        if not _taken(config, _BGP, each, session):
+            leave(config, "bird bgp", each)
+    if "ipv4" not in session.words:
+        session.flags["activate"] = (False, item.line)
+    if ":" in session.name:
+        config.neighbours_six[session.name] = session
+        config.count("IPv6", 1 + len(inside))
+        return
+    if not session.name:
+        if not any(each.said.startswith("neighbor range") for each in inside):
+            config.tell(item.line, "%s: it has no neighbor with an address; there is no session" %
+                        short(item.line.text))
+        return
+    _keep(config, session)
+
+
+def _keep(config: BirdConfig, session: Session) -> None:
+    """Keeps a session; the router's AS is that of the first one."""
+    said = short(session.line.text)
+    if session.asn is None:
+        config.tell(session.line, "%s: it has no `local as N`; there is no session" % said)
+        return
+    if config.asn is None:
+        config.asn, config.line = session.asn, session.line
+    if session.asn != config.asn:
+        config.tell(session.line, "%s: BIRD speaks for AS %d in it, and a router is of one AS here, %d, that of its "
+                    "first session; there is no session" % (said, session.asn, config.asn))
+    elif session.name in config.neighbours:
+        config.tell(session.line, "%s: there is a session with %s before; here one stands for both" % (
+            said, session.name))
+    else:
+        config.neighbours[session.name] = session
+
+
+def _taken(config: BirdConfig, takers: "List[Tuple[str, Taker]]", item: Item, session: Session) -> bool:
+    """Whether one of the takers takes the item."""
+    said = resolved(config, item)
+    for pattern, take in takers:
+        found = re.fullmatch(pattern, said)
+        if found is not None:
+            return take(config, session, item, found) is not False
+    return False
+
+
+Taker = Callable[[BirdConfig, Session, Item, "Match[str]"], Optional[bool]]
+
+
+def _local(_: BirdConfig, session: Session, item: Item, found: "Match[str]") -> Optional[bool]:
+    where, asn = found.group(1), found.group(2)
+    session.local = where if where and ":" not in where else session.local
+    session.asn = number(asn, 1) if asn else session.asn
+    if where and ":" not in where:
+        session.words["update-source"] = (where, item.line)
+    return (not where or ":" in where or address(where) is not None) and (not asn or number(asn, 1) is not None)
+
+
+def _neighbor(_: BirdConfig, session: Session, item: Item, found: "Match[str]") -> Optional[bool]:
+    where, asn, side = found.groups()
+    session.name = where or session.name
+    session.remote = side or asn or session.remote
+    return (not where or ":" in where or address(where) is not None) and (not asn or number(asn, 1) is not None)
+
+
+def _flag(name: str) -> Taker:
+    """Takes a setting that is on or off."""
+    def take(_: BirdConfig, session: Session, item: Item, found: "Match[str]") -> None:
+        session.flags[name] = (found.group(1) not in OFF, item.line)
+    return take
+
+
+def _word(name: str) -> Taker:
+    """Takes a setting that is a word."""
+    def take(_: BirdConfig, session: Session, item: Item, found: "Match[str]") -> None:
+        said = found.group(1)
+        session.words[name] = (_ROLES.get(said, said), item.line)
+    return take
+
+
+def _multihop(_: BirdConfig, session: Session, item: Item, found: "Match[str]") -> None:
+    session.is_direct = found.group(1) == "direct"
+    session.flags["ebgp-multihop"] = (not session.is_direct, item.line)
+
+
+def _preference(_: BirdConfig, session: Session, item: Item, found: "Match[str]") -> Optional[bool]:
+    session.preference = int(found.group(1))
+    return number(found.group(1)) is not None
+
+
+def _channel(config: BirdConfig, session: Session, item: Item, found: "Match[str]") -> None:
+    session.words["ipv4"] = ("", item.line)
+    for each in items_of(item.body or []):
+        _in_channel(config, session, each)
+
+
+def _in_channel(config: BirdConfig, session: Session, item: Item) -> None:
+    if item.texts[:1] in (["import"], ["export"]):
+        policy = _policy(config, item)
+        if policy is not None:
+            session.policies["in" if item.texts[0] == "import" else "out"] = policy
+            return
+    elif _taken(config, _OF_CHANNEL, item, session):
+        return
+    leave(config, "bird channel", item)
+
+
+def _self(_: BirdConfig, session: Session, item: Item, found: "Match[str]") -> None:
+    is_on = found.group(2) not in OFF
+    session.flags["next-hop-self"] = (is_on, item.line)
+    # Without `ebgp` it is for what is reflected, too.
+    session.flags["force"] = (is_on and not found.group(1), item.line)
+
+
+_OF_CHANNEL: List[Tuple[str, Taker]] = [("next hop self( ebgp)?" + SWITCH, _self)]
+_SIX = r"([0-9a-fA-F:.]*:[0-9a-fA-F:.]*|" + _ADDRESS[1:]
+_BGP: List[Tuple[str, Taker]] = [
+    (r"local role (\w+)", _word("local-role")), ("require roles" + SWITCH, _flag("roles")),
+    (r"local(?: %s)?(?: port 179)?(?: as ([0-9]+))?" % _SIX, _local),
+    (r"neighbor(?: %s(?: %% \S+)?)?(?: port 179)?(?: as ([0-9]+))?(?: (internal|external))?" % _SIX, _neighbor),
+    ("source address %s()" % _ADDRESS, _local), ("(multihop|direct)(?: [0-9]+)?", _multihop),
+    ("password (.*)", _word("password")), ("passive" + SWITCH, _flag("passive")),
+    ("disabled" + SWITCH, _flag("shutdown")), ("rr client" + SWITCH, _flag("route-reflector-client")),
+    ("rr cluster id %s" % _ADDRESS, _word("cluster")), ("med metric" + SWITCH, _flag("med-metric")),
+    ("deterministic med" + SWITCH, _flag("deterministic")),
+    ("default bgp_local_pref ([0-9]+)", _preference), ("default bgp_med (0)", _flag("med")),
+    ("ipv4", _channel), *_OF_CHANNEL]
