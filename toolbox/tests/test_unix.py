@@ -21,11 +21,8 @@ CALLS = {
     "play": [SCRIPT], "settle": [SCRIPT], "draw": [SCRIPT], "explain": [SCRIPT, "2.0.0.1", "198.51.100.0/24"],
     "what-if": ["toolbox/lessons/drained-link.bgp", "toolbox/lessons/drained-link.change"], "from-frr": ["toolbox/lessons/frr"],
     "from-as-rel": ["toolbox/lessons/relationships.txt"], "from-rib": ["toolbox/lessons/rib.txt"],
-<<<<<<< HEAD
-    "from-cbgp": ["toolbox/lessons/two-ases.cli"], "from-graph": ["toolbox/lessons/ring.gml"]}
-=======
+    "from-cbgp": ["toolbox/lessons/two-ases.cli"], "from-graph": ["toolbox/lessons/ring.gml"],
     "from-mrt": ["toolbox/lessons/rib.mrt"], "from-bird": ["toolbox/lessons/bird"]}
->>>>>>> 510b0223bc8d2a7684f014079d208f4c5686d580
 FULL = "standard output: it cannot be written: No space left on device\n"
 CLOSED = "standard output: it cannot be written: Bad file descriptor\n"
 
