@@ -7,8 +7,9 @@ from typing import List, NamedTuple
 from .cbgp_filters import prefix_of
 from .cbgp_lines import Line
 from .cbgp_network import Network, Peer
-from .from_rib import MOST_COMMUNITIES, ORIGINS, communities_of, path_of
+from .from_rib import ORIGINS, communities_of, path_of
 from .language import number, show_prefix
+from .table import MOST_COMMUNITIES
 
 FORM = ("a record BGP4|time|A|peer|AS|prefix|path|origin|next hop|preference|MED|communities or "
         "BGP4|time|W|peer|AS|prefix is expected")

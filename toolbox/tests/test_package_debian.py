@@ -188,9 +188,9 @@ class Package(Case):
         self.assertEqual((told.returncode, told.stdout, told.stderr), (0, b"router 1.0.0.1 1\n", b""))
 
     def test_a_study_in_python_runs_where_it_is_installed(self):
-        called = [sys.executable, "-B", self.root / DOCUMENTS / "examples/python/lost_links.py"]
+        called = [sys.executable, "-B", self.root / DOCUMENTS / "toolbox/lessons/python/lost_links.py"]
         told = alone(called, self.root, PYTHONPATH=self.root / "usr/lib/python3/dist-packages")
-        wanted = (TOP / "examples" / "python" / "lost_links.out").read_text()
+        wanted = (TOP / "toolbox" / "lessons" / "python" / "lost_links.out").read_text()
         self.assertEqual((told.stdout.decode(), told.stderr), (wanted, b""))
 
     def test_the_program_and_the_documents_are_those_of_here(self):

@@ -1,4 +1,4 @@
-"""The studies of examples/python: each prints what its file says, and that is what was worked out otherwise."""
+"""The studies of toolbox/lessons/python: each prints what its file says, and that is what was worked out otherwise."""
 import os
 import re
 import sys
@@ -7,7 +7,7 @@ from bgptools import Network
 from bgptools.from_as_rel import relations
 from common import TOP, TOOLBOX, Case, alone, tool
 
-STUDIES = TOP / "examples" / "python"
+STUDIES = TOP / "toolbox" / "lessons" / "python"
 sys.path.append(str(STUDIES))
 import stable_states  # noqa: E402
 
@@ -95,4 +95,4 @@ class Studies(Case):
     def test_the_document_names_each_study(self):
         text = (TOP / "docs" / "PYTHON.md").read_text()
         for path in STUDIES.glob("*.py"):
-            self.assertIn("PYTHONPATH=toolbox python3 examples/python/%s\n" % path.name, text)
+            self.assertIn("PYTHONPATH=toolbox python3 toolbox/lessons/python/%s\n" % path.name, text)

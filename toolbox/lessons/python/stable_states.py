@@ -8,7 +8,7 @@ from typing import Tuple
 
 from bgptools import Network, Unsettled
 
-LESSONS = pathlib.Path(__file__).resolve().parents[2] / "toolbox" / "lessons"
+LESSONS = pathlib.Path(__file__).resolve().parents[1]
 ORDERS = 20
 # In a state, each router with the path of its route to the prefix.
 State = Tuple[Tuple[str, str], ...]

@@ -4,7 +4,7 @@ from typing import Tuple
 
 from bgptools import Effect, Link, Network
 
-LESSONS = pathlib.Path(__file__).resolve().parents[2] / "toolbox" / "lessons"
+LESSONS = pathlib.Path(__file__).resolve().parents[1]
 
 
 def rank(each: Tuple[Link, Effect]) -> Tuple[int, int, int]:
