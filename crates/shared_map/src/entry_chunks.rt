@@ -113,7 +113,8 @@ pub(crate) fn put_in<K: Copy + Ord, V: Copied>(
     value: V,
 ) -> Result<(), AllocError>
     requires { AreEntryChunks K.cmp chunks.old.items }
-    ensures ok { OnOk result (entries_in chunks.new.items ≡ insert_entry K.cmp (entries_in chunks.old.items) key value) }
+    ensures ok { OnOk result
+        (entries_in chunks.new.items ≡ insert_entry K.cmp (entries_in chunks.old.items) key value) }
     ensures err { OnErr result (entries_in chunks.new.items ≡ entries_in chunks.old.items) }
     ensures chunks { AreEntryChunks K.cmp chunks.new.items }
 {
@@ -137,7 +138,8 @@ pub(crate) fn take_from<K: Copy + Ord, V: Copied>(
     key: &K,
 ) -> Result<(), AllocError>
     requires { AreEntryChunks K.cmp chunks.old.items }
-    ensures ok { OnOk result (entries_in chunks.new.items ≡ remove_entry (is_at (K.cmp key.now)) (entries_in chunks.old.items)) }
+    ensures ok { OnOk result
+        (entries_in chunks.new.items ≡ remove_entry (is_at (K.cmp key.now)) (entries_in chunks.old.items)) }
     ensures err { OnErr result (entries_in chunks.new.items ≡ entries_in chunks.old.items) }
     ensures chunks { AreEntryChunks K.cmp chunks.new.items }
 {
