@@ -1,5 +1,6 @@
-//! Maps and sets that their owners share, in sorted vectors: contracts see the entries, or the keys, in order. A copy
-//! is one owner more; a change is made in a copy of plain memory, and no other owner sees it.
+//! Maps and sets that their owners share, in sorted vectors, whole or in chunks: contracts see the entries, or the
+//! keys, in order. A copy is one owner more; a change is made in a copy, of the whole or of a chunk, and no other owner
+//! sees it.
 #![tactic(auto)]
 
 mod chunked;

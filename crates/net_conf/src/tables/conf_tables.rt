@@ -19,7 +19,7 @@ use std::marker::Model;
 
 /// Routers and virtual peers, links, sessions with the settings of their ends, CLUSTER_IDs, the routers that compare
 /// MULTI_EXIT_DISC whatever the neighbouring AS, and who originates what. A copy shares each table, and an edit copies
-/// the one that it changes.
+/// the one that it changes, or a chunk of it.
 #[derive(Drop)]
 pub struct ConfTables {
     pub(crate) nodes: SharedMap<Addr, Node>,
