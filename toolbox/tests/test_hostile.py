@@ -81,6 +81,17 @@ class Growths(Case):
         told, _ = self.faults(b"a\n", b"b\n", b"c\n", CRASHES=1)
         self.assertTrue(told[0].startswith("with nothing refused: status -6"), told)
 
+    def test_what_a_copy_may_write(self):
+        tried = refuse_growths.Growths("", (), refuse_growths.Case("here", [b"a\n"], b""), None)
+        want = refuse_growths.WANT
+        one = refuse_growths.Expected(b"a\n", 2, want + b"x\n", b"ok\nx\n")
+        for out, is_refused, status, is_well in (
+                (want + b"x\n", True, 0, True), (want + b"x\n", False, 0, False), (want + b"y\n", True, 0, False),
+                (b"ok\nx\n", True, 0, True), (b"ok\nx\n", False, 0, True), (b"ok\ny\n", True, 0, False),
+                (b"ok\nx\n", True, 11, False), (want + b"x\n", True, 11, False)):
+            told = tried.judged(1, one, growths.Copy(b"", out, 2, is_refused, status))
+            self.assertEqual(told == [], is_well, (out, is_refused, status))
+
     def test_who_may_want_memory(self):
         for line, reply, may in ((b"feed 1.0.0.1 2.0.0.1 update x", b"refused 19 limit\n", True),
                                  (b"feed 1.0.0.1 2.0.0.1 update x", b"refused 1 syntax\n", False),
