@@ -10,6 +10,7 @@ import re
 import shutil
 import sys
 import unittest
+from unittest import mock
 
 import bgptools
 from bgptools import (Cost, Delivery, Effect, Link, Message, Mistake, Network, Node, Reason, Refusal, Route, Session,
@@ -271,12 +272,9 @@ class Scripts(Base):
         """Ctrl-C before a reply is read, and a program that ends: what was left answers no later question."""
         net = self.network(TWO)
 
-        def stop():
-            raise KeyboardInterrupt
-
         for _ in range(2):
-            net.run.program._line = stop
-            with self.assertRaises(KeyboardInterrupt):
+            told = mock.patch.object(net.run.program, "_line", side_effect=KeyboardInterrupt)
+            with self.assertRaises(KeyboardInterrupt), told:
                 net.origin("2.0.0.1", "20.0.0.0/8")
             self.assertEqual(net.table("20.0.0.0/8"), [])
             self.assertEqual((net.script(), net.quiet()), (TWO, False))
@@ -299,7 +297,7 @@ class Scripts(Base):
 class Deliveries(Base):
     def test_an_order_is_the_tools(self):
         """The script of a network that was settled at its end is the one that the tool writes."""
-        path = TOP / "examples" / "two-reflectors.bgp"
+        path, seen = DATA / "ring.bgp", set()
         for words, how in (((), {}), (("--router",), {"order": "router"}), (("--order", "fair"), {"order": "fair"}),
                            (("--seed", "3"), {"seed": 3}), (("--order", "drawn"), {"order": "drawn"}),
                            (("--seed", "7"), {"order": "drawn", "seed": 7})):
@@ -311,6 +309,8 @@ class Deliveries(Base):
             self.assertEqual(*(re.findall("^deliver .*$", script, re.M) for script in (net.script(), written)))
             self.assertEqual(len(done[0].deliveries), net.step - base)
             self.assertTrue(net.quiet())
+            seen.add(done[0].deliveries)
+        self.assertEqual(len(seen), 5)
 
     def test_a_copy_delivers_as_the_network_would(self):
         """Also where the network knows what its routers chose, and a drawn order depends on that."""
@@ -324,9 +324,9 @@ class Deliveries(Base):
             self.assertEqual(other.settle(seed=seed), net.settle(seed=seed))
 
     def test_a_step_settles_as_the_tool_settles_its_script(self):
-        net = self.loaded(TOP / "examples" / "two-reflectors.bgp")
+        net = self.loaded(DATA / "ring.bgp")
         net.settle()
-        for step in (net.step - 1, net.step - 3, net.step // 2):
+        for step in (net.step - 5, net.step - 20, net.step // 2):
             before = net.at(step).script()
             for seed in (1, 2):
                 with net.at(step) as trial:
