@@ -41,7 +41,7 @@ def version_of(program: Optional[str]) -> Tuple[str, str, str]:
     try:
         path = program or where.program()
         ran = subprocess.run([path, "--version"], stdin=subprocess.DEVNULL, stdout=subprocess.PIPE, timeout=60)
-        told = ran.stdout.decode("latin-1").strip()
+        told = ran.stdout.decode("latin-1").split("\n")[0]
         told = told if ran.returncode == 0 else "%s ends with status %d" % (path, ran.returncode)
     except Mistake as mistake:
         told = str(mistake)
@@ -111,7 +111,8 @@ def play_by(address: str, program: Optional[str], jobs: List[Job], known: Result
     """Does what is not known by the cluster of the scheduler at this address."""
     dask = importlib.import_module(PACKAGE)
     # That a worker died, and what is done again, is nothing for a reader of the table.
-    logging.getLogger(PACKAGE + ".client").setLevel(logging.ERROR)
+    for name in (PACKAGE, PACKAGE + ".client", "asyncio"):
+        logging.getLogger(name).setLevel(logging.CRITICAL)
     try:
         client = dask.Client(address, timeout=PATIENCE)
     except (OSError, ValueError, dask.TimeoutError) as error:

@@ -74,8 +74,10 @@ class Cluster(Case):
         parts = tool("sweep", *words[:2], "--csv", "--scheduler", address, "--program", where.program(),
                      "--by-prefix", 9)
         self.assertEqual(parts.stdout, inside("sweep", *words[:2], "--csv").stdout)
-        other = tool("sweep", *words, "--scheduler", address, "--program", "/bin/true", status=2)
-        self.assertRegex(other.stderr, r"the worker tcp:\S+ has another version of the program: ``, and here .* `bgp")
+        path = self.file("other", "#!/bin/sh\necho other 1\n")
+        path.chmod(0o755)
+        other = tool("sweep", *words, "--scheduler", address, "--program", path, status=2)
+        self.assertRegex(other.stderr, "tcp:.* another version of the program: `other 1`, and here it is `bgpsim ")
 
     @unittest.skipUnless(HAS_DASK, "Dask is not installed: " + HOW)
     def test_no_scheduler(self):
