@@ -1,0 +1,517 @@
+"""The server of `share`: a Unix socket, and lines of JSON from and to each who is joined. docs/SHARE.md has the words.
+
+Nobody can hold up another one: a request has a largest size, one request of each is served in turn, and of one who reads nothing no
+further request is served. What such a one is to be told is held for a while, and then he is let go."""
+from __future__ import annotations
+
+import asyncio
+import contextlib
+import errno
+import json
+import os
+import signal
+import socket
+import stat
+import subprocess
+import threading
+import time
+from collections import deque
+from typing import Any, Callable, Deque, Dict, List, Optional, Set, Tuple
+
+from . import proposals, replaying
+from .mistakes import Mistake
+from .record import Unkept
+from .shared import Answer, Event, Shared
+
+Request = Dict[str, Any]
+LONGEST = 1 << 20
+# So many requests of one are read ahead, and so many bytes of what happened are held for one who reads nothing.
+AHEAD, HELD = 64, 4 << 20
+# So many lines of a script are told at once, and so many messages delivered by one `step`.
+LINES, STEPS = 4096, 1000
+VERSION = 1
+
+
+def bytes_of(text: str) -> str:
+    """A text as a script has it, a character for each byte. Mistake where it is no text."""
+    try:
+        return text.encode("utf-8", "surrogateescape").decode("latin-1")
+    except UnicodeError:
+        raise Mistake("a text is expected, and this has halves of characters") from None
+
+
+def shown(line: str) -> str:
+    """A script's line as a text; bytes that are no UTF-8 stand as Python's `surrogateescape` has them."""
+    return line.encode("latin-1").decode("utf-8", "surrogateescape")
+
+
+def encoded(message: Dict[str, Any]) -> bytes:
+    """A message as its line."""
+    return json.dumps(message, separators=(",", ":")).encode("ascii") + b"\n"
+
+
+def text_in(request: Request, name: str) -> str:
+    """A text of a request. Mistake where it is none."""
+    found = request.get(name)
+    if not isinstance(found, str):
+        raise Mistake("`%s` of the request has to be a text" % name)
+    return found
+
+
+def number_in(request: Request, name: str, most: int) -> int:
+    """A number of a request. Mistake where it is none."""
+    found = request.get(name)
+    if not isinstance(found, int) or isinstance(found, bool) or not 0 <= found <= most:
+        raise Mistake("`%s` of the request has to be a number of 0 to %d" % (name, most))
+    return found
+
+
+def texts_in(request: Request, name: str) -> List[str]:
+    """Texts of a request. Mistake where there are none."""
+    found = request.get(name)
+    if not isinstance(found, list) or not all(isinstance(each, str) for each in found):
+        raise Mistake("`%s` of the request have to be texts" % name)
+    return found
+
+
+class Connection(asyncio.Protocol):
+    """One who is joined. Requests wait in `lines`; what cannot be sent now is in `held`."""
+
+    def __init__(self, hub: "Hub") -> None:
+        self.hub = hub
+        self.seat: Optional[int] = None
+        self.watches = "off"
+        self.part = bytearray()
+        self.lines: Deque[bytes] = deque()
+        self.held: Deque[Tuple[bytes, int]] = deque()
+        self.held_size = self.pending = 0
+        self.is_full = self.has_ended = self.is_gone = False
+        self.why = ""
+
+    # What comes
+
+    def connection_made(self, transport: asyncio.BaseTransport) -> None:
+        assert isinstance(transport, asyncio.Transport)
+        self.transport = transport
+        self.hub.connections.append(self)
+
+    def data_received(self, data: bytes) -> None:
+        first, *rest = data.split(b"\n")
+        self.part += first
+        if rest:
+            self.lines.extend([bytes(self.part), *rest[:-1]])
+            self.part = bytearray(rest[-1])
+        if len(self.part) > LONGEST or any(len(line) > LONGEST for line in self.lines):
+            self.drop("a request of more than %d bytes" % LONGEST)
+        elif len(self.lines) > AHEAD:
+            self.transport.pause_reading()
+        self.hub.wake()
+
+    def eof_received(self) -> bool:
+        self.has_ended = True
+        self.hub.wake()
+        return True
+
+    def connection_lost(self, _: Optional[Exception]) -> None:
+        self.hub.gone(self)
+
+    @property
+    def is_ready(self) -> bool:
+        """Whether a request of it can be served."""
+        return bool(self.lines) and not self.is_full and not self.is_gone
+
+    def take(self) -> bytes:
+        """Its next request."""
+        line = self.lines.popleft()
+        if len(self.lines) == AHEAD // 2 and not self.has_ended:
+            self.transport.resume_reading()
+        return line
+
+    # What goes
+
+    def send(self, message: bytes, is_answer: bool = False) -> None:
+        """Sends a message, or holds it. An answer is not counted: there is one at most, since no other request is served before."""
+        if self.is_gone:
+            return
+        if not self.is_full and not self.held:
+            self.transport.write(message)
+            return
+        size = 0 if is_answer else len(message)
+        self.held.append((message, size))
+        self.held_size += size
+        if self.held_size > HELD:
+            self.drop("it read nothing of %d bytes" % self.held_size)
+
+    def pause_writing(self) -> None:
+        self.is_full = True
+
+    def resume_writing(self) -> None:
+        self.is_full = False
+        while self.held and not self.is_full:
+            message, size = self.held.popleft()
+            self.held_size -= size
+            self.transport.write(message)
+        self.hub.wake()
+
+    def drop(self, why: str) -> None:
+        """Lets it go, with a word on why."""
+        if not self.is_gone:
+            self.why = why
+            self.transport.write(encoded({"event": "told", "text": "you are let go: " + why}))
+            self.is_gone = True
+            self.transport.close()
+            # Who reads nothing would keep what was not sent.
+            self.hub.loop.call_later(2, self.transport.abort)
+
+
+class Hub:
+    """All who are joined, and what they share."""
+
+    def __init__(self, shared: Shared) -> None:
+        self.shared = shared
+        self.loop = asyncio.new_event_loop()
+        self.connections: List[Connection] = []
+        self.waiting: List[Tuple[Connection, Request]] = []
+        self.answers: List[Tuple[Connection, bytes]] = []
+        self.processes: "Set[subprocess.Popen[bytes]]" = set()
+        self.is_awake = self.is_closing = False
+        self.timer: Optional[asyncio.TimerHandle] = None
+        self.fault: Optional[BaseException] = None
+        self.signal = 0
+        self.words: Dict[str, Callable[[Connection, int, Request], Optional[Dict[str, Any]]]] = {
+            "ask": self._ask, "script": self._script, "waiting": self._ways, "next": self._next, "watch": self._watch, "who": self._who,
+            "blame": self._blame, "undo": self._undo, "pause": self._pause, "go": self._go, "pace": self._pace, "step": self._step,
+            "wait": self._wait, "propose": self._propose, "accept": self._accept, "decline": self._decline, "check": self._check}
+
+    def serve(self, listening: socket.socket) -> int:
+        """Serves until a signal comes: its number. Raises what went wrong."""
+        server = self.loop.run_until_complete(self.loop.create_unix_server(lambda: Connection(self), sock=listening))
+        for number in (signal.SIGINT, signal.SIGTERM, signal.SIGHUP):
+            if number == signal.SIGINT or signal.getsignal(number) != signal.SIG_IGN:
+                self.loop.add_signal_handler(number, self._stop, number)
+        self.wake()
+        try:
+            self.loop.run_forever()
+        finally:
+            self._close(server)
+        if self.fault:
+            raise self.fault
+        return self.signal
+
+    def _stop(self, number: int) -> None:
+        if not self.is_closing:
+            self.signal = number
+            self.loop.stop()
+
+    def _close(self, server: asyncio.AbstractServer) -> None:
+        self.is_closing = True
+        server.close()
+        for process in list(self.processes):
+            with contextlib.suppress(ProcessLookupError):
+                process.kill()
+        for each in list(self.connections):
+            each.send(encoded({"event": "told", "text": "the share has ended"}))
+            each.transport.close()
+        self.loop.run_until_complete(asyncio.sleep(0.05))
+        self.loop.close()
+
+    # Turns
+
+    def wake(self) -> None:
+        """A turn is due."""
+        if not self.is_awake and not self.is_closing:
+            self.is_awake = True
+            self.loop.call_soon(self._turn)
+
+    def _turn(self) -> None:
+        self.is_awake = False
+        try:
+            self._serve_each()
+            self._work()
+            self._spread()
+            self._again()
+        except BaseException as fault:  # pylint: disable=broad-except
+            self.fault = fault
+            self.loop.stop()
+
+    def _serve_each(self) -> None:
+        """One request of each who has one."""
+        calls = []
+        for each in [each for each in self.connections if each.is_ready]:
+            request = self._read(each, each.take())
+            if request is not None and request["do"] == "call" and each.seat is not None:
+                calls.append((each, request))
+            elif request is not None:
+                self._answer(each, request, lambda each=each, request=request: self._other(each, request))  # type: ignore[misc]
+        self._call(calls)
+
+    def _read(self, each: Connection, line: bytes) -> Optional[Request]:
+        """A request; nothing where it is none, which is told."""
+        try:
+            request = json.loads(line.decode("utf-8"))
+        except (ValueError, RecursionError):
+            request = None
+        if isinstance(request, dict) and isinstance(request.get("do"), str):
+            return request
+        self.answers.append((each, encoded({"id": None, "error": "a request is a line of JSON, as {\"id\": 1, \"do\": \"who\"}"})))
+        return None
+
+    def _answer(self, each: Connection, request: Request, made: Callable[[], Optional[Dict[str, Any]]]) -> None:
+        """Answers a request with what is made, or with why it is not."""
+        try:
+            answer = made()
+        except Unkept:
+            raise
+        except Mistake as mistake:
+            answer = {"error": str(mistake)}
+        if answer is None:
+            each.pending += 1
+        else:
+            self.answers.append((each, encoded({"id": request.get("id"), **answer})))
+
+    def _later(self, each: Connection, request: Request, answer: Dict[str, Any]) -> None:
+        """Answers a request that had to wait."""
+        each.pending -= 1
+        self.answers.append((each, encoded({"id": request.get("id"), **answer})))
+        self.wake()
+
+    def _call(self, asked: List[Tuple[Connection, Request]]) -> None:
+        """Calls of several, at once."""
+        given, calls = [], []
+        for each, request in asked:
+            with contextlib.suppress(Mistake):
+                given.append((each.seat or 0, bytes_of(text_in(request, "line"))))
+                calls.append((each, request))
+                continue
+            self.answers.append((each, encoded({"id": request.get("id"), "error": "`line` of the request has to be a text"})))
+        for (each, request), answer in zip(calls, self.shared.calls(given)):
+            self.answers.append((each, encoded({"id": request.get("id"), **_answered(answer)})))
+
+    def _other(self, each: Connection, request: Request) -> Optional[Dict[str, Any]]:
+        if request["do"] == "enter":
+            return self._enter(each, request)
+        if each.seat is None:
+            raise Mistake("`enter` comes first, with a name")
+        if request["do"] not in self.words:
+            raise Mistake("there is no request `%s`" % request["do"][:80])
+        return self.words[request["do"]](each, each.seat, request)
+
+    def _work(self) -> None:
+        now = time.monotonic()
+        if self.shared.due(now) == 0:
+            self.shared.work(now)
+        waits, self.waiting = self.waiting, []
+        if waits and self.shared.is_quiet():
+            for each, request in waits:
+                self._later(each, request, {"quiet": True, "step": self.shared.step})
+        elif waits and not self.shared.workers.is_going:
+            for each, request in waits:
+                self._later(each, request, {"error": "messages wait, and %s" % self.shared.workers.told()})
+        else:
+            self.waiting = waits
+
+    def _spread(self) -> None:
+        """Tells what happened, and then the answers."""
+        for event in self.shared.happened():
+            self._tell(event)
+        answers, self.answers = self.answers, []
+        for each, answer in answers:
+            each.send(answer, is_answer=True)
+
+    def _tell(self, event: Event) -> None:
+        if event["event"] == "changes":
+            changes = [dict(each, line=shown(each["line"])) for each in event["changes"]]
+            edits = [each for each in changes if not each["line"].startswith("deliver ")]
+            for kind, some in (("all", changes), ("edits", edits)):
+                self._send({"event": "changes", "changes": some}, lambda each, kind=kind: each.watches == kind, bool(some))  # type: ignore[misc]
+        elif event["event"] == "people":
+            self._send(event, lambda each: each.watches != "off")
+        else:
+            self._send(event, lambda each: each.seat is not None)
+
+    def _send(self, event: Event, is_for: Callable[[Connection], bool], is_something: bool = True) -> None:
+        found = [each for each in self.connections if is_for(each)] if is_something else []
+        message = encoded(event) if found else b""
+        for each in found:
+            each.send(message)
+
+    def _again(self) -> None:
+        """When the next turn is."""
+        for each in list(self.connections):
+            if each.has_ended and not each.lines and not each.pending and not each.held:
+                each.transport.close()
+        if self.timer:
+            self.timer.cancel()
+            self.timer = None
+        due = self.shared.due(time.monotonic())
+        if due == 0 or self.answers or any(each.is_ready for each in self.connections):
+            self.wake()
+        elif due is not None:
+            self.timer = self.loop.call_later(due, self.wake)
+
+    def gone(self, each: Connection) -> None:
+        """One has gone."""
+        each.is_gone = True
+        if each in self.connections:
+            self.connections.remove(each)
+        self.waiting = [(other, request) for other, request in self.waiting if other is not each]
+        if each.seat is not None:
+            self.shared.leave(each.seat, each.why)
+            each.seat = None
+        self.wake()
+
+    # Requests
+
+    def _enter(self, each: Connection, request: Request) -> Dict[str, Any]:
+        if each.seat is not None:
+            raise Mistake("you have a seat already")
+        name = text_in(request, "as")
+        each.seat = self.shared.enter(name)
+        return {"seat": each.seat, "name": name, "step": self.shared.step, "version": VERSION, "workers": self.shared.workers_now()}
+
+    def _ask(self, _: Connection, __: int, request: Request) -> Dict[str, Any]:
+        return {"reply": self.shared.ask([bytes_of(text_in(request, "line"))])[0], "step": self.shared.step}
+
+    def _script(self, _: Connection, __: int, request: Request) -> Dict[str, Any]:
+        start = number_in(request, "from", 1 << 32)
+        return {"lines": list(map(shown, self.shared.run.lines[start:start + LINES])), "step": self.shared.step}
+
+    def _ways(self, _: Connection, __: int, ___: Request) -> Dict[str, Any]:
+        return {"ways": self.shared.waiting()}
+
+    def _next(self, _: Connection, seat: int, __: Request) -> Dict[str, Any]:
+        entry = self.shared.next(seat)
+        if entry is None:
+            return {"quiet": True, "step": self.shared.step}
+        return {"line": entry.line, "reply": entry.reply, "step": self.shared.step}
+
+    def _watch(self, each: Connection, _: int, request: Request) -> Dict[str, Any]:
+        what = text_in(request, "what")
+        if what not in ("all", "edits", "off"):
+            raise Mistake("`what` is all, edits or off")
+        each.watches = what
+        return {"what": what, "step": self.shared.step}
+
+    def _who(self, _: Connection, __: int, ___: Request) -> Dict[str, Any]:
+        return self.shared.who()
+
+    def _blame(self, _: Connection, __: int, request: Request) -> Dict[str, Any]:
+        return {"edits": self.shared.blame(text_in(request, "router"))}
+
+    def _undo(self, _: Connection, seat: int, __: Request) -> Dict[str, Any]:
+        return {"text": self.shared.undo(seat), "step": self.shared.step}
+
+    def _pause(self, _: Connection, seat: int, __: Request) -> Dict[str, Any]:
+        self.shared.pause(seat)
+        return self.shared.workers_now()
+
+    def _go(self, _: Connection, seat: int, __: Request) -> Dict[str, Any]:
+        self.shared.go(seat)
+        return self.shared.workers_now()
+
+    def _pace(self, _: Connection, seat: int, request: Request) -> Dict[str, Any]:
+        given = request.get("a_second")
+        if given is not None and (not isinstance(given, (int, float)) or isinstance(given, bool)):
+            raise Mistake("`a_second` is a number, or null for as many as they can")
+        self.shared.pace(seat, given)
+        return self.shared.workers_now()
+
+    def _step(self, _: Connection, seat: int, request: Request) -> Dict[str, Any]:
+        entries = self.shared.steps(seat, number_in(request, "count", STEPS))
+        return {"deliveries": [{"line": each.line, "reply": each.reply} for each in entries], "step": self.shared.step}
+
+    def _wait(self, each: Connection, _: int, request: Request) -> None:
+        self.waiting.append((each, request))
+
+    def _check(self, each: Connection, _: int, request: Request) -> None:
+        path, size, end = replaying.now(self.shared.log)
+        calls = self.shared.log.count
+
+        def done(found: str, mistake: Optional[Mistake]) -> None:
+            self._later(each, request, {"error": str(mistake)} if mistake else {"verdict": found, "calls": calls})
+        self._beside(lambda: replaying.verdict(path, size, end, self.processes.add), done)
+
+    def _propose(self, each: Connection, seat: int, request: Request) -> None:
+        name, given = text_in(request, "name"), list(map(bytes_of, texts_in(request, "lines")))
+        made = self.shared.propose(seat, name, given)
+
+        def failed(mistake: Optional[Mistake]) -> None:
+            if mistake:
+                self.shared.proposals.pop(made.number, None)
+            self._later(each, request, {"error": str(mistake)} if mistake else {"number": made.number, "text": made.text})
+        self._show(made, failed)
+
+    def _show(self, made: proposals.Proposal, done: Callable[[Optional[Mistake]], None]) -> None:
+        """Finds out what a proposal does, and shows that to all."""
+        lines, edits = list(self.shared.run.lines), len(self.shared.history.edits)
+
+        def shown_to_all(text: str, mistake: Optional[Mistake]) -> None:
+            if not mistake:
+                self.shared.shown(made, edits, text)
+            done(mistake)
+            self.wake()
+        self._beside(lambda: proposals.what_if(lines, made.name, made.given, self.processes.add), shown_to_all)
+
+    def _accept(self, _: Connection, seat: int, request: Request) -> Dict[str, Any]:
+        number = number_in(request, "number", 1 << 32)
+        if self.shared.is_stale(number):
+            made = self.shared.proposals[number]
+            self._show(made, lambda mistake: self.shared.failed(made, mistake))
+            raise Mistake("the network was edited since proposal %d was shown: it is shown anew" % number)
+        return {"text": self.shared.accept(seat, number), "step": self.shared.step}
+
+    def _decline(self, _: Connection, seat: int, request: Request) -> Dict[str, Any]:
+        return {"text": self.shared.decline(seat, number_in(request, "number", 1 << 32))}
+
+    def _beside(self, work: Callable[[], str], done: Callable[[str, Optional[Mistake]], None]) -> None:
+        """Does long work in a thread, while the others are served."""
+        def worked() -> None:
+            found, mistake = "", None  # type: str, Optional[Mistake]
+            try:
+                found = work()
+            except Mistake as fault:
+                mistake = fault
+            except OSError as fault:
+                mistake = Mistake("it cannot be done: %s" % fault)
+            # Where the server has ended meanwhile, nobody waits for it.
+            with contextlib.suppress(RuntimeError):
+                self.loop.call_soon_threadsafe(done, found, mistake)
+        threading.Thread(target=worked, daemon=True).start()
+
+
+def _answered(answer: Answer) -> Dict[str, Any]:
+    """An answer as a message has it."""
+    return {"error": answer.error} if answer.error else {"reply": answer.reply, "told": answer.told, "step": answer.step}
+
+
+def listening(path: str) -> socket.socket:
+    """A socket at this path, for this user alone. Mistake where there is something else, or another share."""
+    made = socket.socket(socket.AF_UNIX)
+    mask = os.umask(0o177)
+    try:
+        _bind(made, path)
+        made.listen(100)
+    except OSError as error:
+        made.close()
+        raise Mistake("no socket can be made there: %s" % (error.strerror or error), path) from None
+    finally:
+        os.umask(mask)
+    return made
+
+
+def _bind(made: socket.socket, path: str) -> None:
+    try:
+        made.bind(path)
+    except OSError as error:
+        if error.errno != errno.EADDRINUSE or not _is_left(path):
+            raise
+        os.unlink(path)
+        made.bind(path)
+
+
+def _is_left(path: str) -> bool:
+    """Whether a socket was left behind by a share that has ended."""
+    if not stat.S_ISSOCK(os.stat(path).st_mode):
+        return False
+    with socket.socket(socket.AF_UNIX) as tried:
+        return tried.connect_ex(path) == errno.ECONNREFUSED
