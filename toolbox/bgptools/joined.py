@@ -8,6 +8,7 @@ import time
 from typing import Any, Dict, Iterable, List, Optional
 
 from . import communities
+from .connection import bytes_of, shown
 from .distant import Distant, Message
 from .language import FORMS, Form, escaped, readable, words_of
 from .mistakes import Mistake
@@ -15,7 +16,6 @@ from .network import Direction, Network
 from .prompt import OWN, PAD, Prompt, expect, path_of
 from .run import Run
 from .script import read
-from .serving import bytes_of, shown
 from .telling import tell
 
 TOGETHER = "work together"
@@ -34,8 +34,8 @@ WORDS = tuple(form for form in OWN if form.words[0] not in CHANGED) + tuple(
         ("pace COUNT", "the workers deliver so many messages a second at most; `pace max`, as many as they can"),
         ("wait quiet", "wait until all queues are empty"),
         ("propose FILE", "show all what the commands of the file would do"),
-        ("accept COUNT", "make the proposal of another one that has this number"),
-        ("decline COUNT", "take the proposal away"),
+        ("accept [COUNT]", "make the proposal of another one, which has this number where there are several"),
+        ("decline [COUNT]", "take a proposal away"),
         ("check", "give the log so far to `bgpsim replay`")))
 WATCHED = {"edits": "what others edit is shown", "all": "what others edit is shown, and what is delivered", "off": "nothing is shown"}
 # A settle by hand ends after so many deliveries.
@@ -264,6 +264,8 @@ class Joined(Prompt):
             print("%s%s%s: seat %d, %s, %d call%s" % (PAD, escaped(each["name"]), here, each["seat"], is_there, each["calls"], _s(each["calls"])))
         print("%s%s; %d deliver%s; %s" % (PAD, told["workers"]["text"], told["workers"]["calls"], "y" if told["workers"]["calls"] == 1 else "ies",
                                           "quiet" if told["quiet"] else "messages wait"))
+        for each in told["proposals"]:
+            print("%sproposal %d of %s, %s" % (PAD, each["number"], escaped(each["who"]), escaped(each["name"])))
 
     def blame(self, words: List[str]) -> None:
         """Who edited what about a router."""
@@ -289,13 +291,13 @@ class Joined(Prompt):
 
     def accept(self, words: List[str]) -> None:
         """Makes the proposal of another one."""
-        expect(words, 2, 2, "accept COUNT")
-        self.ask("accept", number=_count(words[1]))
+        expect(words, 1, 2, "accept [COUNT]")
+        self.ask("accept", number=_count(words[1]) if words[1:] else None)
 
     def decline(self, words: List[str]) -> None:
         """Takes a proposal away."""
-        expect(words, 2, 2, "decline COUNT")
-        self.ask("decline", number=_count(words[1]))
+        expect(words, 1, 2, "decline [COUNT]")
+        self.ask("decline", number=_count(words[1]) if words[1:] else None)
 
     def check(self, _: List[str]) -> None:
         """Gives the log to `replay`."""

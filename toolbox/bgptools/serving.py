@@ -15,153 +15,17 @@ import stat
 import subprocess
 import threading
 import time
-from collections import deque
-from typing import Any, Callable, Deque, Dict, List, Optional, Set, Tuple
+from typing import Any, Callable, Dict, List, Optional, Set, Tuple
 
 from . import proposals, replaying
+from .connection import Connection, Request, bytes_of, encoded, number_in, shown, text_in, texts_in
 from .mistakes import Mistake
 from .record import Unkept
 from .shared import Answer, Event, Shared
 
-Request = Dict[str, Any]
-LONGEST = 1 << 20
-# So many requests of one are read ahead, and so many bytes of what happened are held for one who reads nothing.
-AHEAD, HELD = 64, 4 << 20
 # So many lines of a script are told at once, and so many messages delivered by one `step`.
 LINES, STEPS = 4096, 1000
 VERSION = 1
-
-
-def bytes_of(text: str) -> str:
-    """A text as a script has it, a character for each byte. Mistake where it is no text."""
-    try:
-        return text.encode("utf-8", "surrogateescape").decode("latin-1")
-    except UnicodeError:
-        raise Mistake("a text is expected, and this has halves of characters") from None
-
-
-def shown(line: str) -> str:
-    """A script's line as a text; bytes that are no UTF-8 stand as Python's `surrogateescape` has them."""
-    return line.encode("latin-1").decode("utf-8", "surrogateescape")
-
-
-def encoded(message: Dict[str, Any]) -> bytes:
-    """A message as its line."""
-    return json.dumps(message, separators=(",", ":")).encode("ascii") + b"\n"
-
-
-def text_in(request: Request, name: str) -> str:
-    """A text of a request. Mistake where it is none."""
-    found = request.get(name)
-    if not isinstance(found, str):
-        raise Mistake("`%s` of the request has to be a text" % name)
-    return found
-
-
-def number_in(request: Request, name: str, most: int) -> int:
-    """A number of a request. Mistake where it is none."""
-    found = request.get(name)
-    if not isinstance(found, int) or isinstance(found, bool) or not 0 <= found <= most:
-        raise Mistake("`%s` of the request has to be a number of 0 to %d" % (name, most))
-    return found
-
-
-def texts_in(request: Request, name: str) -> List[str]:
-    """Texts of a request. Mistake where there are none."""
-    found = request.get(name)
-    if not isinstance(found, list) or not all(isinstance(each, str) for each in found):
-        raise Mistake("`%s` of the request have to be texts" % name)
-    return found
-
-
-class Connection(asyncio.Protocol):
-    """One who is joined. Requests wait in `lines`; what cannot be sent now is in `held`."""
-
-    def __init__(self, hub: "Hub") -> None:
-        self.hub = hub
-        self.seat: Optional[int] = None
-        self.watches = "off"
-        self.part = bytearray()
-        self.lines: Deque[bytes] = deque()
-        self.held: Deque[Tuple[bytes, int]] = deque()
-        self.held_size = self.pending = 0
-        self.is_full = self.has_ended = self.is_gone = False
-        self.why = ""
-
-    # What comes
-
-    def connection_made(self, transport: asyncio.BaseTransport) -> None:
-        assert isinstance(transport, asyncio.Transport)
-        self.transport = transport
-        self.hub.connections.append(self)
-
-    def data_received(self, data: bytes) -> None:
-        first, *rest = data.split(b"\n")
-        self.part += first
-        if rest:
-            self.lines.extend([bytes(self.part), *rest[:-1]])
-            self.part = bytearray(rest[-1])
-        if len(self.part) > LONGEST or any(len(line) > LONGEST for line in self.lines):
-            self.drop("a request of more than %d bytes" % LONGEST)
-        elif len(self.lines) > AHEAD:
-            self.transport.pause_reading()
-        self.hub.wake()
-
-    def eof_received(self) -> bool:
-        self.has_ended = True
-        self.hub.wake()
-        return True
-
-    def connection_lost(self, _: Optional[Exception]) -> None:
-        self.hub.gone(self)
-
-    @property
-    def is_ready(self) -> bool:
-        """Whether a request of it can be served."""
-        return bool(self.lines) and not self.is_full and not self.is_gone
-
-    def take(self) -> bytes:
-        """Its next request."""
-        line = self.lines.popleft()
-        if len(self.lines) == AHEAD // 2 and not self.has_ended:
-            self.transport.resume_reading()
-        return line
-
-    # What goes
-
-    def send(self, message: bytes, is_answer: bool = False) -> None:
-        """Sends a message, or holds it. An answer is not counted: there is one at most, since no other request is served before."""
-        if self.is_gone:
-            return
-        if not self.is_full and not self.held:
-            self.transport.write(message)
-            return
-        size = 0 if is_answer else len(message)
-        self.held.append((message, size))
-        self.held_size += size
-        if self.held_size > HELD:
-            self.drop("it read nothing of %d bytes" % self.held_size)
-
-    def pause_writing(self) -> None:
-        self.is_full = True
-
-    def resume_writing(self) -> None:
-        self.is_full = False
-        while self.held and not self.is_full:
-            message, size = self.held.popleft()
-            self.held_size -= size
-            self.transport.write(message)
-        self.hub.wake()
-
-    def drop(self, why: str) -> None:
-        """Lets it go, with a word on why."""
-        if not self.is_gone:
-            self.why = why
-            self.transport.write(encoded({"event": "told", "text": "you are let go: " + why}))
-            self.is_gone = True
-            self.transport.close()
-            # Who reads nothing would keep what was not sent.
-            self.hub.loop.call_later(2, self.transport.abort)
 
 
 class Hub:
@@ -183,20 +47,24 @@ class Hub:
             "blame": self._blame, "undo": self._undo, "pause": self._pause, "go": self._go, "pace": self._pace, "step": self._step,
             "wait": self._wait, "propose": self._propose, "accept": self._accept, "decline": self._decline, "check": self._check}
 
-    def serve(self, listening: socket.socket) -> int:
-        """Serves until a signal comes: its number. Raises what went wrong."""
-        server = self.loop.run_until_complete(self.loop.create_unix_server(lambda: Connection(self), sock=listening))
+    def serve(self, listening: socket.socket, ready: Callable[[], None]) -> int:
+        """Serves until a signal comes: its number. Says when it is ready for both. Raises what went wrong."""
+        server = self.loop.run_until_complete(self.loop.create_unix_server(self._connection, sock=listening))
         for number in (signal.SIGINT, signal.SIGTERM, signal.SIGHUP):
             if number == signal.SIGINT or signal.getsignal(number) != signal.SIG_IGN:
                 self.loop.add_signal_handler(number, self._stop, number)
         self.wake()
         try:
+            ready()
             self.loop.run_forever()
         finally:
             self._close(server)
         if self.fault:
             raise self.fault
         return self.signal
+
+    def _connection(self) -> Connection:
+        return Connection(self.connections.append, self._gone, self.wake)
 
     def _stop(self, number: int) -> None:
         if not self.is_closing:
@@ -349,7 +217,7 @@ class Hub:
         elif due is not None:
             self.timer = self.loop.call_later(due, self.wake)
 
-    def gone(self, each: Connection) -> None:
+    def _gone(self, each: Connection) -> None:
         """One has gone."""
         each.is_gone = True
         if each in self.connections:
@@ -453,7 +321,7 @@ class Hub:
         self._beside(lambda: proposals.what_if(lines, made.name, made.given, self.processes.add), shown_to_all)
 
     def _accept(self, _: Connection, seat: int, request: Request) -> Dict[str, Any]:
-        number = number_in(request, "number", 1 << 32)
+        number = self._numbered(request)
         if self.shared.is_stale(number):
             made = self.shared.proposals[number]
             self._show(made, lambda mistake: self.shared.failed(made, mistake))
@@ -461,12 +329,17 @@ class Hub:
         return {"text": self.shared.accept(seat, number), "step": self.shared.step}
 
     def _decline(self, _: Connection, seat: int, request: Request) -> Dict[str, Any]:
-        return {"text": self.shared.decline(seat, number_in(request, "number", 1 << 32))}
+        return {"text": self.shared.decline(seat, self._numbered(request))}
+
+    def _numbered(self, request: Request) -> int:
+        """The proposal that a request is about: the only one, where it has no number."""
+        return self.shared.only() if request.get("number") is None else number_in(request, "number", 1 << 32)
 
     def _beside(self, work: Callable[[], str], done: Callable[[str, Optional[Mistake]], None]) -> None:
         """Does long work in a thread, while the others are served."""
         def worked() -> None:
             found, mistake = "", None  # type: str, Optional[Mistake]
+            self.processes = {each for each in self.processes if each.poll() is None}
             try:
                 found = work()
             except Mistake as fault:

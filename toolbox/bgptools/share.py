@@ -59,6 +59,13 @@ def _opened(chosen: argparse.Namespace) -> Shared:
     return shared
 
 
+def _say(path: str, shared: Shared) -> None:
+    """Says where it is shared."""
+    print("shared at %s, with %d calls so far in %s" % (path, shared.entries, shared.log.path))
+    print("`join %s --as NAME` joins it; Ctrl-C ends it" % path)
+    sys.stdout.flush()
+
+
 def _ended(shared: Shared, number: int) -> int:
     """Ends the log, and says what `replay` says of it: the exit status."""
     shared.end()
@@ -78,11 +85,8 @@ def main(words: Optional[List[str]] = None) -> int:
     with listening(chosen.at) as line:
         try:
             shared = _opened(chosen)
-            print("shared at %s, with %d calls so far in %s" % (chosen.at, shared.entries, shared.log.path))
-            print("`join %s --as NAME` joins it; Ctrl-C ends it" % chosen.at)
-            sys.stdout.flush()
             try:
-                number = Hub(shared).serve(line)
+                number = Hub(shared).serve(line, lambda: _say(chosen.at, shared))
             except BaseException:
                 shared.close()
                 raise

@@ -17,7 +17,7 @@ from .names import MARK
 from .network import Direction
 from .orders import Order, in_order
 from .program import LONGEST_READ
-from .proposals import MOST, Proposal
+from .proposals import LONGEST_NAME, MOST, Proposal
 from .record import Entry, Log, Reading
 from .refusals import sentence
 from .replies import refusal
@@ -439,7 +439,9 @@ class Shared:
         """Who is there or was, what the workers do, and whether anything waits."""
         people = [{"seat": seat, "name": name, "here": self.here[seat], "calls": self.made[seat]}
                   for seat, name in sorted(self.seats.names.items()) if seat not in self.workers.seats]
-        return {"people": people, "workers": self.workers_now(), "quiet": self.is_quiet(), "step": self.step, "calls": self.entries}
+        proposals = [{"number": each.number, "who": self.seats.name_of(each.seat), "name": each.name} for each in self.proposals.values()]
+        return {"people": people, "workers": self.workers_now(), "proposals": proposals, "quiet": self.is_quiet(), "step": self.step,
+                "calls": self.entries}
 
     def workers_now(self) -> Dict[str, Any]:
         """What the workers do."""
@@ -453,7 +455,7 @@ class Shared:
         """A change that somebody proposes. It is shown to all by `shown`, once it is known what it does. Mistake where it is no change."""
         if len(self.proposals) >= MOST:
             raise Mistake("%d proposals are open: `accept` or `decline` one" % MOST)
-        made = Proposal(self.count_of_proposals + 1, seat, name, given, len(self.history.edits))
+        made = Proposal(self.count_of_proposals + 1, seat, name[:LONGEST_NAME], given, len(self.history.edits))
         if not any(line.is_command for line in made.lines):
             raise Mistake("it has no command", name)
         self.count_of_proposals += 1
@@ -465,6 +467,13 @@ class Shared:
         made.edits, made.text = edits, text
         self.events.append({"event": "proposal", "number": made.number, "who": self.seats.name_of(made.seat), "name": made.name,
                             "lines": made.given, "text": text})
+
+    def only(self) -> int:
+        """The number of the only proposal that is open. Mistake where there is none, or are several."""
+        if len(self.proposals) != 1:
+            numbers = ", ".join(map(str, self.proposals))
+            raise Mistake("proposals %s are open: give the number of one" % numbers if numbers else "no proposal is open")
+        return min(self.proposals)
 
     def failed(self, made: Proposal, mistake: Optional[Mistake]) -> None:
         """What a proposal does is not known any more: it goes."""

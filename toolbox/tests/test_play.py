@@ -151,7 +151,8 @@ class Scripts(Case):
 
 
 class Typed:
-    """play at a pseudo-terminal, which is its terminal."""
+    """A tool, which is play, at a pseudo-terminal, which is its terminal."""
+    tool = "play"
 
     def __init__(self, folder, *words, **environment):
         self.main, side = pty.openpty()
@@ -160,7 +161,7 @@ class Typed:
         modes[3] |= termios.NOFLSH
         termios.tcsetattr(side, termios.TCSANOW, modes)
         self.process = subprocess.Popen(
-            [sys.executable, "-B", str(TOOLBOX / "play"), *words], stdin=side, stdout=side, stderr=side, cwd=str(folder), start_new_session=True,
+            [sys.executable, "-B", str(TOOLBOX / self.tool), *words], stdin=side, stdout=side, stderr=side, cwd=str(folder), start_new_session=True,
             env=dict(os.environ, TERM="dumb", XDG_STATE_HOME=str(folder / "state"), **environment),
             preexec_fn=lambda: fcntl.ioctl(0, termios.TIOCSCTTY, 0))
         os.close(side)
