@@ -1,17 +1,17 @@
 """The prompt of `join`: that of `play`, on a network that several share."""
 from __future__ import annotations
 
-import os
 import sys
 import threading
 import time
-from typing import Any, Dict, Iterable, List, Optional
+from typing import Any, Callable, Dict, Iterable, List, Optional
 
 from . import communities
 from .connection import bytes_of, shown
 from .distant import Distant, Message
 from .language import FORMS, Form, escaped, readable, words_of
 from .mistakes import Mistake
+from .names import Names
 from .network import Direction, Network
 from .prompt import OWN, PAD, Prompt, expect, path_of
 from .run import Run
@@ -309,8 +309,9 @@ class Joined(Prompt):
     def _hear(self, event: Message) -> None:
         """Shows an event, by another thread."""
         names = self.mirror.network.names
-        lines = _TOLD[event["event"]](event, self.seat)
-        self.shown.tell([PAD + "* " + communities.in_text(names.in_text(line)) for line in lines])
+        for each in event.get("changes", []):
+            names.take(bytes_of(each["line"]))
+        self.shown.tell([PAD + line for line in _TOLD[event["event"]](event, self.seat, names)])
 
 
 def _s(count: int) -> str:
@@ -330,22 +331,28 @@ def _rate(word: str) -> float:
         raise Mistake("`%s`: a number is expected, or `max`" % readable(word)) from None
 
 
-def _changes(event: Message, own: Optional[int]) -> List[str]:
+def _changes(event: Message, own: Optional[int], names: Names) -> List[str]:
     """What others changed."""
     found = []
     for each in event["changes"]:
-        is_delivery = each["line"].startswith("deliver ")
+        is_delivery, is_name = each["line"].startswith("deliver "), each["line"].startswith("#")
+        line = " ".join(words_of(each["line"].lstrip(" #"))) if is_name else communities.in_text(names.in_text(each["line"]))
         if each["seat"] != own:
-            found.append("%s: %s%s" % (each["who"], each["line"], ": " + each["reply"] if is_delivery else ""))
+            found.append("* %s: %s%s" % (each["who"], line, ": " + each["reply"] if is_delivery else ""))
     return found
 
 
-def _proposal(event: Message, _: Optional[int]) -> List[str]:
+def _proposal(event: Message, _: Optional[int], __: Names) -> List[str]:
     """A proposal, with what it would do."""
-    head = "proposal %d of %s, %s: `accept %d` makes it, `decline %d` takes it away" % (
+    head = "* proposal %d of %s, %s: `accept %d` makes it, `decline %d` takes it away" % (
         event["number"], event["who"], event["name"], event["number"], event["number"])
     return [head] + ["  " + line for line in event["text"].rstrip("\n").split("\n")]
 
 
-_TOLD: Dict[str, Any] = {"changes": _changes, "proposal": _proposal, "people": lambda event, _: [event["text"]],
-                         "workers": lambda event, _: [event["text"]], "told": lambda event, _: [event["text"]]}
+def _text(event: Message, _: Optional[int], names: Names) -> List[str]:
+    """What is told in words."""
+    return ["* " + names.in_text(event["text"])]
+
+
+_TOLD: Dict[str, Callable[[Message, Optional[int], Names], List[str]]] = {
+    "changes": _changes, "proposal": _proposal, "people": _text, "workers": _text, "told": _text}

@@ -160,6 +160,8 @@ class Shared:
         return answers + self._calls(part)
 
     def _calls(self, given: List[Tuple[int, str]], by: Optional[int] = None, undoes: bool = False) -> List[Answer]:
+        if not given:
+            return []
         lines = [_normal(line) for _, line in given]
         errors = list(map(self._fault, lines))
         asked = [line for line, error in zip(lines, errors) if not error and not is_silent(line)]
@@ -182,7 +184,7 @@ class Shared:
 
     def _fault(self, line: str) -> str:
         """Why a line is not given to the program; empty where it is."""
-        if "\n" in line or max(line, default="") > "\xff":
+        if "\n" in line or not line.isascii() and max(line) > "\xff":
             return "one line is expected, of the bytes of a script"
         if len(line) > LONGEST_READ:
             return "a line of %d bytes; the program reads at most %d" % (len(line), LONGEST_READ)

@@ -24,7 +24,7 @@ from bgptools.record import Unkept
 from bgptools.script import lines_of
 from bgptools.shared import Shared
 from bgptools.workers import Workers
-from common import TOOLBOX, TOP, Case, program
+from common import TOOLBOX, TOP, Case, inside, program
 from test_play import Typed
 
 TWO = ("router 1.0.0.1 1", "router 2.0.0.1 2", "link 1.0.0.1 2.0.0.1 1", "join 1.0.0.1 2.0.0.1")
@@ -628,8 +628,8 @@ class Served(AtSocket):
         self.assertEqual(self.end(process, signal.SIGTERM), (128 + signal.SIGTERM, "11 calls in %s\n" % self.log))
         for words, told in (([], "net.log: it is there already: `--log %s` takes it up" % self.log),
                             ([THREE, "--log", self.log], "net.log: it has 11 calls already: no script is played into it")):
-            ran = subprocess.run([sys.executable, "-B", str(TOOLBOX / "share"), "--at", str(self.path), *map(str, words)], capture_output=True, timeout=60)
-            self.assertEqual((ran.returncode, told in ran.stderr.decode(), self.path.exists()), (2, True, False), ran.stderr)
+            ran = inside("share", "--at", self.path, *words)
+            self.assertEqual((ran.returncode, told in ran.stderr, self.path.exists()), (2, True, False), ran.stderr)
         process = self.start("--log", self.log, wanted="with 11 calls so far in ")
         self.assertEqual(self.join("anna").call("cost 1.0.0.1 2.0.0.1"), ["1 via 2.0.0.1"])
         self.assertEqual(self.end(process)[1].split("\n")[1], "replay: ok 12")
@@ -640,15 +640,13 @@ class Served(AtSocket):
         for words, told in (([bad], "bad.bgp:2: refused 3 router-exists: 1.0.0.1 is there already"), (["none.bgp"], "none.bgp: it cannot be read"),
                             (["--workers", "65"], "--workers 65: a number of 0 to 64"), (["--at", str(self.folder / far)], "no socket can be made there"),
                             (["--at", str(bad)], "no socket can be made there: Address already in use")):
-            ran = subprocess.run([sys.executable, "-B", str(TOOLBOX / "share"), "--at", str(self.path), *map(str, words)], capture_output=True, timeout=60)
-            self.assertEqual((ran.returncode, told in ran.stderr.decode()), (2, True), ran.stderr)
+            ran = inside("share", "--at", self.path, *words)
+            self.assertEqual((ran.returncode, told in ran.stderr), (2, True), ran.stderr)
             self.assertEqual([path.name for path in self.folder.iterdir()], ["bad.bgp"])
 
     def test_one_socket_has_one_share(self):
         process = self.start()
-        ran = subprocess.run([sys.executable, "-B", str(TOOLBOX / "share"), "--at", str(self.path), "--log", str(self.folder / "other")],
-                             capture_output=True, timeout=60)
-        self.assertIn("no socket can be made there: Address already in use", ran.stderr.decode())
+        self.assertIn("no socket can be made there: Address already in use", inside("share", "--at", self.path, "--log", self.folder / "other").stderr)
         self.kill(process)
         # What a crash leaves is no share: its place is taken.
         self.start("--log", self.log)
@@ -809,7 +807,7 @@ class Crowded(AtSocket):
             self.assertEqual(anna.call("origin 2.0.0.1 20.%d.0.0/16" % number), ["ok"])
         self.assertLess(self.size_of(process) - before, 20000)
         # More happens than is held for him: he is let go.
-        for _ in range(1400):
+        for _ in range(1150):
             self.assertEqual(anna.call("# name 1.0.0.1 %s" % ("n" * 4000)), [])
         while not any("deaf has gone: it read nothing of" in each.get("text", "") for each in anna.events):
             anna.events.append(anna.hear())
@@ -862,3 +860,117 @@ class Killed(AtSocket):
         """Whether the calls stand among those found, in their order."""
         rest = iter(found)
         return all(any(each == call for each in rest) for call in calls)
+
+
+class Evening(AtSocket):
+    """docs/SHARE.md: the evening is played again, and each terminal shows what stands there."""
+
+    def test_an_evening_of_two(self):
+        (self.folder / "toolbox").symlink_to(TOOLBOX)
+        blocks = re.findall(r"```(share|anna|ben)\n(.*?)```\n", (TOP / "docs" / "SHARE.md").read_text(), re.S)
+        self.assertGreater(len(blocks), 8)
+        self.seen, self.wanted, self.terminals = {}, {}, {}
+        for name, text in blocks:
+            for line in text.split("\n")[:-1]:
+                self.line(name, line)
+        for name in ("anna", "ben"):
+            self.terminals[name].stdin.close()
+            self.assertEqual(self.terminals[name].wait(30), 0)
+            self.assertEqual(self.more(name, 0), self.wanted[name])
+        self.assertEqual(self.terminals["share"].wait(30), 0)
+
+    def line(self, name, line):
+        """A line of a terminal: what is typed there, or shown."""
+        if line.startswith("$ "):
+            self.terminal(name, line[2:].split(" "))
+            return
+        if name not in self.terminals:
+            self.terminal(name, ["toolbox/join", "evening", "--as", name])
+        if line.endswith(" calls in evening.log"):
+            self.terminals[name].send_signal(signal.SIGINT)
+        if line.startswith(name + "> "):
+            self.terminals[name].stdin.write(line[len(name) + 2:].encode() + b"\n")
+            self.terminals[name].stdin.flush()
+        self.wanted[name] += untimed(line) + "\n"
+        last = time.monotonic() + 30
+        while len(self.more(name, 0.1)) < len(self.wanted[name]) and time.monotonic() < last:
+            pass
+        self.assertEqual(self.seen[name][:len(self.wanted[name])], self.wanted[name])
+
+    def terminal(self, name, words):
+        self.terminals[name] = subprocess.Popen([sys.executable, "-B", *words], cwd=str(self.folder), stdin=subprocess.PIPE, stdout=subprocess.PIPE,
+                                                stderr=subprocess.STDOUT)
+        self.addCleanup(self.close, self.terminals[name])
+        self.seen[name] = self.wanted[name] = ""
+
+    def close(self, process):
+        if process.poll() is None:
+            process.kill()
+        process.wait(30)
+        process.stdout.close()
+        process.stdin.close()
+
+    def more(self, name, seconds):
+        """What a terminal has shown, also in so many seconds from now."""
+        out = self.terminals[name].stdout
+        if select.select([out], [], [], seconds)[0]:
+            self.seen[name] = untimed(self.seen[name] + os.read(out.fileno(), 65536).decode())
+        return self.seen[name]
+
+
+def untimed(text):
+    """The text with one time for each."""
+    return re.sub(r"[0-9]{4}(-[0-9]{2}){2} [0-9]{2}(:[0-9]{2}){2}", "2026-11-29 20:00:00", text)
+
+
+class AtTerminal(AtSocket):
+    def typed(self, name):
+        """A prompt at a terminal."""
+        made = Typed(self.folder, str(self.path), "--as", name, tool="join")
+        self.addCleanup(made.close)
+        made.until(name + "> ")
+        return made
+
+    def test_completion_and_what_others_do_while_one_types(self):
+        self.start(THREE)
+        anna, ben = self.typed("anna"), self.join("ben")
+        self.assertIn("what others edit is shown", anna.type("watch\n", "anna> "))
+        self.assertIn("    1 via 2.0.0.1\n", anna.type("cos\t1\t2\t\n", "anna> "))
+        os.write(anna.main, b"metric 1.0.0.1 2.")
+        anna.until("metric 1.0.0.1 2.")
+        self.assertEqual(ben.call("router 9.0.0.1 9"), ["ok"])
+        # What is typed stands under what is told, and goes on.
+        anna.until("    * ben: router 9.0.0.1 9\nanna> metric 1.0.0.1 2.")
+        self.assertIn("    ok\n", anna.type("0.0.1 7\n", "anna> "))
+        self.assertIn("9.0.0.1 is there already", anna.type("router 9\t9\n", "anna> "))
+        shown = anna.type("? propose\n", "anna> ")
+        self.assertIn("  propose FILE  ", shown)
+        self.assertEqual(ben.call("cost 1.0.0.1 2.0.0.1"), ["7 via 2.0.0.1"])
+        self.assertIn("203.0.113.0/24 at 3.0.0.1: 1 route\n", anna.type("explain 3.0.0.1 203.0.113.0/24\n", "anna> "))
+        self.file("more.bgp", "origin 9.0.0.1 90.0.0.0/8\nfail 9.0.0.1 1.0.0.1\n")
+        told = anna.type("load more.bgp\n", "anna> ")
+        self.assertIn("more.bgp:2: refused 7 no-link: there is no link between 9.0.0.1 and 1.0.0.1\n    2 commands of more.bgp, 1 refused\n", told)
+        anna.end()
+
+    def test_ctrl_c_ends_a_wait_and_not_the_prompt(self):
+        self.start(THREE, "--workers", 1)
+        anna, ben = self.typed("anna"), self.join("ben")
+        ben.ask("pace", a_second=0.01)
+        for _ in range(2):
+            ben.call("fail 1.0.0.1 3.0.0.1")
+            ben.call("mend 1.0.0.1 3.0.0.1")
+        os.write(anna.main, b"wait quiet\n")
+        anna.until("wait quiet")
+        time.sleep(0.3)
+        self.assertIn("-- stopped", anna.type(b"\x03", "anna> "))
+        self.assertIn("    1 via 2.0.0.1\n", anna.type("cost 1.0.0.1 2.0.0.1\n", "anna> "))
+
+    def test_the_share_goes(self):
+        process = self.start()
+        anna = self.typed("anna")
+        self.kill(process)
+        os.write(anna.main, b"quiet\n")
+        self.assertEqual(anna.process.wait(20), 2)
+
+    def test_there_is_none(self):
+        self.assertEqual(inside("join", self.path).stderr, "%s: there is no share: No such file or directory\n" % self.path)
