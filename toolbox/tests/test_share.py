@@ -873,10 +873,6 @@ class Evening(AtSocket):
         for name, text in blocks:
             for line in text.split("\n")[:-1]:
                 self.line(name, line)
-        for name in ("anna", "ben"):
-            self.terminals[name].stdin.close()
-            self.assertEqual(self.terminals[name].wait(30), 0)
-            self.assertEqual(self.more(name, 0), self.wanted[name])
         self.assertEqual(self.terminals["share"].wait(30), 0)
 
     def line(self, name, line):
@@ -887,6 +883,7 @@ class Evening(AtSocket):
         if name not in self.terminals:
             self.terminal(name, ["toolbox/join", "evening", "--as", name])
         if line.endswith(" calls in evening.log"):
+            self.leave()
             self.terminals[name].send_signal(signal.SIGINT)
         if line.startswith(name + "> "):
             self.terminals[name].stdin.write(line[len(name) + 2:].encode() + b"\n")
@@ -896,6 +893,13 @@ class Evening(AtSocket):
         while len(self.more(name, 0.1)) < len(self.wanted[name]) and time.monotonic() < last:
             pass
         self.assertEqual(self.seen[name][:len(self.wanted[name])], self.wanted[name])
+
+    def leave(self):
+        """Both end their input; and nothing was shown that does not stand there."""
+        for name in ("anna", "ben"):
+            self.terminals[name].stdin.close()
+            self.assertEqual(self.terminals[name].wait(30), 0)
+            self.assertEqual(self.more(name, 0), self.wanted[name])
 
     def terminal(self, name, words):
         self.terminals[name] = subprocess.Popen([sys.executable, "-B", *words], cwd=str(self.folder), stdin=subprocess.PIPE, stdout=subprocess.PIPE,
