@@ -1,4 +1,4 @@
-"""One who is joined to a share, at the server's end: requests that wait, and what is to be sent. All of it is bounded."""
+"""One who is joined to a share, at the server's end: requests that wait, and what is to be sent. All is bounded."""
 from __future__ import annotations
 
 import asyncio
@@ -59,10 +59,11 @@ def texts_in(request: Request, name: str) -> List[str]:
 
 
 class Connection(asyncio.Protocol):
-    """One who is joined. Requests wait in `lines`; what cannot be sent now is in `held`. `wake` is called when something is to be done,
-    `come` and `gone` when it comes and goes."""
+    """One who is joined. Requests wait in `lines`; what cannot be sent now is in `held`. `wake` is called when
+    something is to be done, `come` and `gone` when it comes and goes."""
 
-    def __init__(self, come: "Callable[[Connection], None]", gone: "Callable[[Connection], None]", wake: Callable[[], None]) -> None:
+    def __init__(self, come: "Callable[[Connection], None]", gone: "Callable[[Connection], None]",
+                 wake: Callable[[], None]) -> None:
         self.come, self.gone, self.wake = come, gone, wake
         self.seat: Optional[int] = None
         self.watches = "off"
@@ -117,7 +118,8 @@ class Connection(asyncio.Protocol):
     # What goes
 
     def send(self, message: bytes, is_answer: bool = False) -> None:
-        """Sends a message, or holds it. An answer is not counted: there is one at most, since no other request is served before."""
+        """Sends a message, or holds it. An answer is not counted: of one who reads nothing no further request is
+        served."""
         if self.is_gone:
             return
         if not self.is_full and not self.held:

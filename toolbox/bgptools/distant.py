@@ -1,4 +1,4 @@
-"""The other end of a `share`: requests and their answers, over its socket. A thread reads, so that who joined never holds up others."""
+"""The other end of a `share`: requests and their answers, over its socket. A thread reads, so that all is read soon."""
 from __future__ import annotations
 
 import json
@@ -15,8 +15,8 @@ Message = Dict[str, Any]
 class Distant:
     """A connection to a share, with a seat there. `hear` is given each event, by another thread.
 
-    Mistake where there is none at this path, or it has no seat for the name. A request that was stopped midway, as by Ctrl-C, does no
-    harm: its answer is not taken for another's."""
+    Mistake where there is none at this path, or it has no seat for the name. A request that was stopped midway, as by
+    Ctrl-C, does no harm: its answer is not taken for another's."""
 
     def __init__(self, path: str, name: str, hear: Callable[[Message], None]) -> None:
         self.path, self.name, self.hear = path, name, hear

@@ -15,8 +15,9 @@ OF_ONE = frozenset(("router", "virtual", "cluster", "med", "origin", "noorigin")
 
 @dataclass
 class Edit:
-    """An edit or a feed that was accepted: its step and entry, whose it was, and when (seconds since 1970, where known). `by` is who
-    accepted it, of a proposal. `back` takes it back; it is empty where it changed nothing, and where there is none `why` says why."""
+    """An edit or a feed that was accepted: its step and entry, whose it was, and when (seconds since 1970, where it is
+    known). `by` is who accepted it, of a proposal. `back` takes it back; it is empty where it changed nothing, and where
+    there is none `why` says why. `before` has the last edit of each same thing before it."""
     step: int
     entry: int
     seat: int
@@ -135,13 +136,15 @@ class History:
     def _policy(self, words: List[str]) -> Tuple[Optional[str], str]:
         count = len(self.network.rules.get((words[1], words[2], words[3]), []))
         if words[0] == "clear":
-            return ("", "") if not count else (None, "the %d rules of the policy would come back one by one, and routes pass in between" % count)
+            between = "the %d rules of the policy would come back one by one, and routes pass in between" % count
+            return (None, between) if count else ("", "")
         if not count:
             return "clear %s %s %s" % (words[1], words[2], words[3]), ""
-        return None, "no command takes away one rule, and the policy had %d before: without them routes pass in between" % count
+        return None, "no command takes away one rule, and without the %d before it routes would pass in between" % count
 
 
-_OPPOSITES = {"fail": "mend", "mend": "fail", "stop": "start", "start": "stop", "origin": "noorigin", "noorigin": "origin"}
+_OPPOSITES = {"fail": "mend", "mend": "fail", "stop": "start", "start": "stop", "origin": "noorigin",
+              "noorigin": "origin"}
 _SETTINGS: Dict[str, Callable[[Network, List[str]], str]] = {
     "metric": lambda network, words: str(network.links[pair(words[1], words[2])].metric),
     "client": lambda network, words: "on" if (words[1], words[2]) in network.clients else "off",

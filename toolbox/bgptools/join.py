@@ -1,4 +1,4 @@
-"""The prompt of `play` on a network that several share: who changes what, workers, proposals, and a log that is proved."""
+"""The prompt of `play` on a network that several share: who changes what, workers, proposals, and a proved log."""
 from __future__ import annotations
 
 import argparse
@@ -17,12 +17,12 @@ from .prompt import read_lines, typed_line
 def parser() -> argparse.ArgumentParser:
     """The words of the command line."""
     made = argparse.ArgumentParser(prog="join", description=(
-        "Joins the network that a `share` holds: a prompt, or the lines of standard input where that is no terminal. `?` lists what can be "
-        "typed there."),
+        "Joins the network that a `share` holds: a prompt, or the lines of standard input where that is no terminal. "
+        "`?` lists what can be typed there."),
         epilog="Exit status: 0 at the end of input; 2 a mistake, or the share has gone.")
     made.add_argument("socket", metavar="SOCKET", help="the socket of the share, as its --at has it")
-    made.add_argument("--as", dest="name", metavar="NAME", help="the name under which others see you; the same name has the same seat again "
-                      "(the user's name)")
+    made.add_argument("--as", dest="name", metavar="NAME", help=(
+        "the name under which others see you; the same name has the same seat again (the user's name)"))
     return made
 
 

@@ -15,7 +15,7 @@ from .names import Names
 from .network import Direction, Network
 from .prompt import OWN, PAD, Prompt, expect, path_of
 from .run import Run
-from .script import read
+from .script import Line, read
 from .telling import tell
 
 TOGETHER = "work together"
@@ -37,13 +37,14 @@ WORDS = tuple(form for form in OWN if form.words[0] not in CHANGED) + tuple(
         ("accept [COUNT]", "make the proposal of another one, which has this number where there are several"),
         ("decline [COUNT]", "take a proposal away"),
         ("check", "give the log so far to `bgpsim replay`")))
-WATCHED = {"edits": "what others edit is shown", "all": "what others edit is shown, and what is delivered", "off": "nothing is shown"}
+WATCHED = {"edits": "what others edit is shown", "all": "what others edit is shown, and what is delivered",
+           "off": "nothing is shown"}
 # A settle by hand ends after so many deliveries.
 MOST = 10000
 
 
 class Mirror(Run):
-    """What is configured and named in the shared network, by its lines. It has no program of its own: the share answers."""
+    """What is configured and named in the shared network, by its lines. It has no program: the share answers."""
 
     def __init__(self, network: Network) -> None:  # pylint: disable=super-init-not-called
         self.network = network
@@ -120,7 +121,7 @@ def _begun() -> str:
 
 
 class Joined(Prompt):
-    """A prompt whose lines are calls in a shared network. `most` is how many deliveries a settle by hand makes at most."""
+    """A prompt whose lines are calls in a shared network."""
 
     def __init__(self, path: str, name: str, prompt: str) -> None:
         self.shown = Shown(prompt)
@@ -134,8 +135,9 @@ class Joined(Prompt):
         self.forms = FORMS + WORDS
         self.lines = self.mirror.taken
         self.own.update({
-            "watch": self.watch, "who": self.who, "blame": self.blame, "pause": self.pause, "step": self.step, "go": self.go, "pace": self.pace,
-            "wait": self.wait, "propose": self.propose, "accept": self.accept, "decline": self.decline, "check": self.check})
+            "watch": self.watch, "who": self.who, "blame": self.blame, "pause": self.pause, "step": self.step,
+            "go": self.go, "pace": self.pace, "wait": self.wait, "propose": self.propose, "accept": self.accept,
+            "decline": self.decline, "check": self.check})
         self.sync()
 
     def _played(self, lines: List[str]) -> Run:
@@ -259,13 +261,15 @@ class Joined(Prompt):
         """Who is there."""
         told = self.ask("who")
         for each in told["people"]:
-            here = "" if each["name"] != self.distant.name else " (you)"
-            is_there = "here" if each["here"] == 1 else "here at %d places" % each["here"] if each["here"] else "not here"
-            print("%s%s%s: seat %d, %s, %d call%s" % (PAD, escaped(each["name"]), here, each["seat"], is_there, each["calls"], _s(each["calls"])))
-        print("%s%s; %d deliver%s; %s" % (PAD, told["workers"]["text"], told["workers"]["calls"], "y" if told["workers"]["calls"] == 1 else "ies",
+            name = each["name"] + (" (you)" if each["name"] == self.distant.name else "")
+            places = "here at %d places" % each["here"] if each["here"] > 1 else "here" if each["here"] else "not here"
+            calls = "%d call%s" % (each["calls"], _s(each["calls"]))
+            print(PAD + escaped("%s: seat %d, %s, %s" % (name, each["seat"], places, calls)))
+        count = told["workers"]["calls"]
+        print("%s%s; %d deliver%s; %s" % (PAD, told["workers"]["text"], count, "y" if count == 1 else "ies",
                                           "quiet" if told["quiet"] else "messages wait"))
         for each in told["proposals"]:
-            print("%sproposal %d of %s, %s" % (PAD, each["number"], escaped(each["who"]), escaped(each["name"])))
+            print(PAD + escaped("proposal %d of %s, %s" % (each["number"], each["who"], each["name"])))
 
     def blame(self, words: List[str]) -> None:
         """Who edited what about a router."""
@@ -284,9 +288,7 @@ class Joined(Prompt):
     def propose(self, words: List[str]) -> None:
         """Shows all what a change would do."""
         expect(words, 2, 2, "propose FILE")
-        # A mark behind a command is no part of its text.
-        given = [line.text + ("" if line.expected is None else " # expect refused" + (" %d" % line.expected if line.expected else ""))
-                 for line in read(path_of(words[1]))]
+        given = [line.text + _marked(line) for line in read(path_of(words[1]))]
         self.ask("propose", name=readable(words[1]), lines=list(map(shown, given)))
 
     def accept(self, words: List[str]) -> None:
@@ -302,7 +304,8 @@ class Joined(Prompt):
     def check(self, _: List[str]) -> None:
         """Gives the log to `replay`."""
         told = self.ask("check")
-        self._tell(["the log has %d call%s, and `replay` says: %s" % (told["calls"], _s(told["calls"]), told["verdict"])])
+        calls = "%d call%s" % (told["calls"], _s(told["calls"]))
+        self._tell(["the log has %s, and `replay` says: %s" % (calls, told["verdict"])])
 
     # What happens
 
@@ -316,6 +319,13 @@ class Joined(Prompt):
 
 def _s(count: int) -> str:
     return "" if count == 1 else "s"
+
+
+def _marked(line: Line) -> str:
+    """The mark of a command that is meant to be refused, which is no part of its text."""
+    if line.expected is None:
+        return ""
+    return " # expect refused" + (" %d" % line.expected if line.expected else "")
 
 
 def _count(word: str) -> int:
@@ -336,7 +346,8 @@ def _changes(event: Message, own: Optional[int], names: Names) -> List[str]:
     found = []
     for each in event["changes"]:
         is_delivery, is_name = each["line"].startswith("deliver "), each["line"].startswith("#")
-        line = " ".join(words_of(each["line"].lstrip(" #"))) if is_name else communities.in_text(names.in_text(each["line"]))
+        named = communities.in_text(names.in_text(each["line"]))
+        line = " ".join(words_of(each["line"].lstrip(" #"))) if is_name else named
         if each["seat"] != own:
             found.append("* %s: %s%s" % (each["who"], line, ": " + each["reply"] if is_delivery else ""))
     return found

@@ -1,4 +1,4 @@
-"""A change that is proposed to all who work on a network: it is shown as its what-if, and made when another one accepts it."""
+"""A change that is proposed to all who work on a network: shown as its what-if, made when another one accepts it."""
 from __future__ import annotations
 
 import os
@@ -19,8 +19,8 @@ LONGEST_NAME = 80
 
 @dataclass
 class Proposal:
-    """A proposed change: whose it is, its name, and its lines as they were given. `edits` is how many edits the network had when it was
-    shown, and `text` what it does there; it is empty until that is known."""
+    """A proposed change: whose it is, its name, and its lines as they were given. `edits` is how many edits the network
+    had when it was shown, and `text` what it does there; it is empty until that is known."""
     number: int
     seat: int
     name: str
@@ -53,8 +53,8 @@ def what_if(base: List[str], name: str, change: List[str], started: Callable[["s
         surroundings = dict(os.environ, PYTHONPATH=package, PYTHONIOENCODING="utf-8",
                             PROGRAM=os.path.abspath(program) if os.sep in program else program)
         called = [sys.executable, "-B", "-m", __package__ or "bgptools", "what-if", "network.bgp", file_name(name)]
-        process = subprocess.Popen(called, cwd=folder, env=surroundings, stdin=subprocess.DEVNULL, stdout=subprocess.PIPE,
-                                   stderr=subprocess.PIPE, start_new_session=True)
+        process = subprocess.Popen(called, cwd=folder, env=surroundings, stdin=subprocess.DEVNULL,
+                                   stdout=subprocess.PIPE, stderr=subprocess.PIPE, start_new_session=True)
         started(process)
         out, err = (part.decode("utf-8", "backslashreplace") for part in process.communicate())
     if process.returncode not in (0, CHANGED):

@@ -1,6 +1,7 @@
 """The log of several who work on one network, as `bgpsim replay` reads it: written entry by entry, and taken up again.
 
-docs/LANGUAGE.md has its form. A log that is open is locked, and the system takes the lock back whatever ends its writer."""
+docs/LANGUAGE.md has its form. A log that is open is locked, and the system takes the lock back whatever ends its
+writer."""
 from __future__ import annotations
 
 import os
@@ -42,7 +43,7 @@ def is_whole(line: str, reply: List[str]) -> bool:
 
 def text_of(entries: List[Entry]) -> bytes:
     """Entries as they stand in a log."""
-    lines = [part for each in entries for part in ["@%d %s" % (each.seat, each.line), *("= " + told for told in each.reply)]]
+    lines = [line for each in entries for line in ("@%d %s" % (each.seat, each.line), *map("= ".__add__, each.reply))]
     return "".join(line + "\n" for line in lines).encode("latin-1")
 
 
@@ -59,7 +60,8 @@ class Log:
         try:
             self.file: BinaryIO = open(path, "x+b" if is_new else "a+b", buffering=0)
         except FileExistsError:
-            raise Mistake("it is there already: `--log %s` takes it up, or another name makes another one" % path, path) from None
+            there = "it is there already: `--log %s` takes it up, or another name makes another one" % path
+            raise Mistake(there, path) from None
         except OSError as error:
             raise Mistake("it cannot be opened: %s" % error.strerror, path) from None
         if not can_lock(self.file):
@@ -78,7 +80,8 @@ class Log:
             self._write((HEADER + "\n").encode("latin-1"), 1)
 
     def add(self, entries: List[Entry]) -> None:
-        """Writes entries: when it returns, the system has them, whatever ends this process. Raises Unkept where it cannot, and leaves none."""
+        """Writes entries: when it returns, the system has them, whatever ends this process. Raises Unkept where it
+        cannot, and leaves none."""
         if entries:
             self._write(text_of(entries), sum(each.count for each in entries))
             self.count += len(entries)
@@ -111,8 +114,8 @@ class Log:
 class Reading:
     """A log that is read entry by entry, up to the last whole one. Mistake, with its line, where it is no log.
 
-    `count`, `whole` and `whole_lines` are the entries, bytes and lines up to there; `cut` is what stands behind it, where the log ends
-    in the midst of an entry."""
+    `count`, `whole` and `whole_lines` are the entries, bytes and lines up to there; `cut` is what stands behind it,
+    where the log ends in the midst of an entry."""
 
     def __init__(self, file: BinaryIO, path: str) -> None:
         self.file, self.path = file, path
@@ -164,7 +167,8 @@ class Reading:
             self._end()
             return None
         if found is None or int(found.group(1)) >= SEATS:
-            raise Mistake("`%s`: a call is expected, or the end of %d calls" % (readable(line[:80]), self.count), self.path, self.number)
+            wanted = "`%s`: a call is expected, or the end of %d calls" % (readable(line[:80]), self.count)
+            raise Mistake(wanted, self.path, self.number)
         number, reply = self.number, self._reply(found.group(2))
         return None if reply is None else Entry(int(found.group(1)), found.group(2), reply, number)
 

@@ -12,14 +12,15 @@ from .record import Log
 PIECE = 1 << 20
 
 
-def verdict(path: str, size: int, end: bytes, started: "Callable[[subprocess.Popen[bytes]], None]" = lambda _: None) -> str:
+def verdict(path: str, size: int, end: bytes,
+            started: "Callable[[subprocess.Popen[bytes]], None]" = lambda _: None) -> str:
     """What is said of so many bytes of a log, with this end behind them. Mistake where nothing is.
 
     The process is handed out, so that it can be ended."""
     program = where.program()
     try:
-        process = subprocess.Popen([program, "replay"], stdin=subprocess.PIPE, stdout=subprocess.PIPE, stderr=subprocess.PIPE,
-                                   start_new_session=True)
+        process = subprocess.Popen([program, "replay"], stdin=subprocess.PIPE, stdout=subprocess.PIPE,
+                                   stderr=subprocess.PIPE, start_new_session=True)
     except OSError as error:
         raise Mistake("the program cannot be run: %s" % error.strerror, program) from None
     started(process)

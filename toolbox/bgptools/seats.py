@@ -1,6 +1,7 @@
-"""What a log has no place for, in a file beside it: whose each seat is, the names of routers, and when each edit was made.
+"""What a log has no place for, in a file beside it: whose each seat is, names of routers, and when each edit was made.
 
-It is a JSON value a line. Without it a log is taken up all the same: its seats have numbers then, and its edits no times."""
+It is a JSON value a line. Without it a log is taken up all the same: its seats have numbers then, and its edits no
+times."""
 from __future__ import annotations
 
 import json
@@ -44,7 +45,8 @@ class Notes:
         except ValueError:
             note = None
         if not isinstance(note, dict):
-            raise Mistake("a note of a log is expected; without this file the log can be taken up, too", self.path, number)
+            expected = "a note of a log is expected; without this file the log can be taken up, too"
+            raise Mistake(expected, self.path, number)
         return note
 
     def begin(self, notes: List[Note]) -> None:
@@ -74,6 +76,12 @@ class Notes:
 
 def _text_of(notes: List[Note]) -> bytes:
     return "".join(json.dumps(note) + "\n" for note in notes).encode("ascii")
+
+
+def entry_of(note: Note) -> int:
+    """The entry of the log that a note is about; 0 where it is about none."""
+    found = note.get("entry")
+    return found if isinstance(found, int) else 0
 
 
 class Seats:

@@ -1,7 +1,7 @@
 """The server of `share`: a Unix socket, and lines of JSON from and to each who is joined. docs/SHARE.md has the words.
 
-Nobody can hold up another one: a request has a largest size, one request of each is served in turn, and of one who reads nothing no
-further request is served. What such a one is to be told is held for a while, and then he is let go."""
+Nobody can hold up another one: a request has a largest size, one request of each is served in turn, and of one who
+reads nothing no further request is served. What such a one is to be told is held for a while, and then he is let go."""
 from __future__ import annotations
 
 import asyncio
@@ -43,9 +43,10 @@ class Hub:
         self.fault: Optional[BaseException] = None
         self.signal = 0
         self.words: Dict[str, Callable[[Connection, int, Request], Optional[Dict[str, Any]]]] = {
-            "ask": self._ask, "script": self._script, "waiting": self._ways, "next": self._next, "watch": self._watch, "who": self._who,
-            "blame": self._blame, "undo": self._undo, "pause": self._pause, "go": self._go, "pace": self._pace, "step": self._step,
-            "wait": self._wait, "propose": self._propose, "accept": self._accept, "decline": self._decline, "check": self._check}
+            "ask": self._ask, "script": self._script, "waiting": self._ways, "next": self._next, "watch": self._watch,
+            "who": self._who, "blame": self._blame, "undo": self._undo, "pause": self._pause, "go": self._go,
+            "pace": self._pace, "step": self._step, "wait": self._wait, "propose": self._propose,
+            "accept": self._accept, "decline": self._decline, "check": self._check}
 
     def serve(self, listening: socket.socket, ready: Callable[[], None]) -> int:
         """Serves until a signal comes: its number. Says when it is ready for both. Raises what went wrong."""
@@ -110,7 +111,7 @@ class Hub:
             if request is not None and request["do"] == "call" and each.seat is not None:
                 calls.append((each, request))
             elif request is not None:
-                self._answer(each, request, lambda each=each, request=request: self._other(each, request))  # type: ignore[misc]
+                self._answer(each, request)
         self._call(calls)
 
     def _read(self, each: Connection, line: bytes) -> Optional[Request]:
@@ -121,13 +122,14 @@ class Hub:
             request = None
         if isinstance(request, dict) and isinstance(request.get("do"), str):
             return request
-        self.answers.append((each, encoded({"id": None, "error": "a request is a line of JSON, as {\"id\": 1, \"do\": \"who\"}"})))
+        expected = 'a request is a line of JSON, as {"id": 1, "do": "who"}'
+        self.answers.append((each, encoded({"id": None, "error": expected})))
         return None
 
-    def _answer(self, each: Connection, request: Request, made: Callable[[], Optional[Dict[str, Any]]]) -> None:
-        """Answers a request with what is made, or with why it is not."""
+    def _answer(self, each: Connection, request: Request) -> None:
+        """Answers a request, or says why it is not done."""
         try:
-            answer = made()
+            answer = self._other(each, request)
         except Unkept:
             raise
         except Mistake as mistake:
@@ -151,7 +153,8 @@ class Hub:
                 given.append((each.seat or 0, bytes_of(text_in(request, "line"))))
                 calls.append((each, request))
                 continue
-            self.answers.append((each, encoded({"id": request.get("id"), "error": "`line` of the request has to be a text"})))
+            wrong = {"id": request.get("id"), "error": "`line` of the request has to be a text"}
+            self.answers.append((each, encoded(wrong)))
         for (each, request), answer in zip(calls, self.shared.calls(given)):
             self.answers.append((each, encoded({"id": request.get("id"), **_answered(answer)})))
 
@@ -190,15 +193,14 @@ class Hub:
         if event["event"] == "changes":
             changes = [dict(each, line=shown(each["line"])) for each in event["changes"]]
             edits = [each for each in changes if not each["line"].startswith("deliver ")]
-            for kind, some in (("all", changes), ("edits", edits)):
-                self._send({"event": "changes", "changes": some}, lambda each, kind=kind: each.watches == kind, bool(some))  # type: ignore[misc]
-        elif event["event"] == "people":
-            self._send(event, lambda each: each.watches != "off")
+            self._send({"event": "changes", "changes": changes}, ("all",))
+            self._send({"event": "changes", "changes": edits}, ("edits",) if edits else ())
         else:
-            self._send(event, lambda each: each.seat is not None)
+            self._send(event, ("all", "edits") if event["event"] == "people" else ("all", "edits", "off"))
 
-    def _send(self, event: Event, is_for: Callable[[Connection], bool], is_something: bool = True) -> None:
-        found = [each for each in self.connections if is_for(each)] if is_something else []
+    def _send(self, event: Event, watching: Tuple[str, ...]) -> None:
+        """Tells an event to those who watch so."""
+        found = [each for each in self.connections if each.seat is not None and each.watches in watching]
         message = encoded(event) if found else b""
         for each in found:
             each.send(message)
@@ -235,7 +237,8 @@ class Hub:
             raise Mistake("you have a seat already")
         name = text_in(request, "as")
         each.seat = self.shared.enter(name)
-        return {"seat": each.seat, "name": name, "step": self.shared.step, "version": VERSION, "workers": self.shared.workers_now()}
+        return {"seat": each.seat, "name": name, "step": self.shared.step, "version": VERSION,
+                "workers": self.shared.workers_now()}
 
     def _ask(self, _: Connection, __: int, request: Request) -> Dict[str, Any]:
         return {"reply": self.shared.ask([bytes_of(text_in(request, "line"))])[0], "step": self.shared.step}
@@ -306,7 +309,8 @@ class Hub:
         def failed(mistake: Optional[Mistake]) -> None:
             if mistake:
                 self.shared.proposals.pop(made.number, None)
-            self._later(each, request, {"error": str(mistake)} if mistake else {"number": made.number, "text": made.text})
+            shown_so = {"number": made.number, "text": made.text}
+            self._later(each, request, {"error": str(mistake)} if mistake else shown_so)
         self._show(made, failed)
 
     def _show(self, made: proposals.Proposal, done: Callable[[Optional[Mistake]], None]) -> None:
@@ -354,7 +358,9 @@ class Hub:
 
 def _answered(answer: Answer) -> Dict[str, Any]:
     """An answer as a message has it."""
-    return {"error": answer.error} if answer.error else {"reply": answer.reply, "told": answer.told, "step": answer.step}
+    if answer.error:
+        return {"error": answer.error}
+    return {"reply": answer.reply, "told": answer.told, "step": answer.step}
 
 
 def listening(path: str) -> socket.socket:

@@ -1,4 +1,4 @@
-"""One network that several engineers work on at once, each at a prompt by `join`, with a log that is proved by `replay`."""
+"""One network that several engineers work on at once, each at a prompt by `join`; its log is proved by `replay`."""
 from __future__ import annotations
 
 import argparse
@@ -22,15 +22,19 @@ MOST_WORKERS = 64
 def parser() -> argparse.ArgumentParser:
     """The words of the command line."""
     made = argparse.ArgumentParser(prog="share", description=(
-        "Holds one running network at a Unix socket, for people who `join` it: each line of one is a call, and all calls stand in a log with "
-        "a seat for each person and worker. Ctrl-C ends it, and gives the log to `bgpsim replay`."),
-        epilog="The socket is for this user alone; no network address is offered. What was answered is in the log, also after a crash: "
-               "`share --at SOCKET --log FILE` takes it up. Exit status: 0 `replay` says that the log is one of this machine; 1 it says "
-               "something else; 2 a mistake, or the log cannot be written.")
-    made.add_argument("script", nargs="?", metavar="SCRIPT", help="a script that makes the network; - is standard input")
+        "Holds one running network at a Unix socket, for people who `join` it: each line of one is a call, and all "
+        "calls stand in a log with a seat for each person and worker. Ctrl-C ends it, and gives the log to `bgpsim "
+        "replay`."),
+        epilog="The socket is for this user alone; no network address is offered. What was answered is in the log, "
+               "also after a crash: `share --at SOCKET --log FILE` takes it up. Exit status: 0 `replay` says that the "
+               "log is one of this machine; 1 it says something else; 2 a mistake, or the log cannot be written.")
+    made.add_argument("script", nargs="?", metavar="SCRIPT",
+                      help="a script that makes the network; - is standard input")
     made.add_argument("--at", metavar="SOCKET", required=True, help="where the socket is made")
-    made.add_argument("--workers", type=int, default=0, metavar="N", help="so many workers deliver what waits (0, at most %d)" % MOST_WORKERS)
-    made.add_argument("--log", metavar="FILE", help="the log; one that is there is taken up (a new one, SOCKET%s)" % BESIDE_SOCKET)
+    made.add_argument("--workers", type=int, default=0, metavar="N",
+                      help="so many workers deliver what waits (0, at most %d)" % MOST_WORKERS)
+    made.add_argument("--log", metavar="FILE",
+                      help="the log; one that is there is taken up (a new one, SOCKET%s)" % BESIDE_SOCKET)
     made.add_argument("--most", type=int, metavar="N", help=(
         "workers pause after so many deliveries without an edit (ten thousand and more, by the size of the network)"))
     return made

@@ -1,6 +1,7 @@
-"""One network that several work on at once: its run, its log with a seat for each, the workers that deliver, and what is proposed.
+"""One network that several work on at once: its run, its log with a seat for each, and the workers that deliver.
 
-There are no sockets and no threads here: `serving` is a server of terminals around it, and a page's server can hold it as well."""
+There are no sockets and no threads here: `serving` is a server of terminals around it, and a page's server can hold it
+as well."""
 from __future__ import annotations
 
 import time
@@ -18,12 +19,12 @@ from .network import Direction
 from .orders import Order, in_order
 from .program import LONGEST_READ
 from .proposals import LONGEST_NAME, MOST, Proposal
-from .record import Entry, Log, Reading
+from .record import SEATS, Entry, Log, Reading
 from .refusals import sentence
 from .replies import refusal
 from .run import Run
 from .script import Line
-from .seats import SCRIPT, WORKER, Note, Notes, Seats, check_name
+from .seats import SCRIPT, WORKER, Note, Notes, Seats, check_name, entry_of
 from .settling import MEMORY, Settler
 from .telling import kept_back
 from .workers import Workers
@@ -40,7 +41,8 @@ Event = Dict[str, Any]
 
 @dataclass
 class Answer:
-    """What a line is answered: the reply, what is told beside it, and the step after it. With `error` it was not done at all."""
+    """What a line is answered: the reply, what is told beside it, and the step after it. With `error` it was not done
+    at all."""
     reply: List[str]
     told: List[str]
     step: int
@@ -54,8 +56,9 @@ class Lost(Mistake):
 class Shared:
     """One network, its log, seats, workers and proposals. Whatever is answered stands in the log.
 
-    Mistake where the log cannot be opened, is none, or is not what the program answers. `tell` gets a word on what was cut off. Times in
-    the log's notes are those of `clock`; those that are given to `work` and `due` are of another, which goes on evenly."""
+    Mistake where the log cannot be opened, is none, or is not what the program answers. `tell` gets a word on what was
+    cut off. Times in the log's notes are those of `clock`; those that are given to `work` and `due` are of another,
+    which goes on evenly."""
 
     def __init__(self, path: str, workers: int = 0, is_new: bool = False, most: Optional[int] = None,
                  tell: Callable[[str], None] = lambda _: None, clock: Callable[[], float] = time.time) -> None:
@@ -91,22 +94,22 @@ class Shared:
         with open(self.log.path, "rb") as file:
             reading = Reading(file, self.log.path)
             self._take_seats(notes)
-            made = {note["entry"]: note for note in notes if isinstance(note.get("entry"), int)}
+            made = {entry_of(note): note for note in notes}
             for part in _parts(reading.entries()):
                 self._replay(part, made)
             if reading.cut:
-                tell(str(Mistake("the last entry was cut off, and is left out: `%s`" % readable(reading.cut[:80]), self.log.path,
-                                 reading.whole_lines + 1)))
+                cut = "the last entry was cut off, and is left out: `%s`" % readable(reading.cut[:80])
+                tell(str(Mistake(cut, self.log.path, reading.whole_lines + 1)))
         for note in notes:
             if isinstance(note.get("router"), str):
                 self._name(note["router"], None)
         self.log.begin(reading)
-        self.notes.begin([note for note in notes if not isinstance(note.get("entry"), int) or note["entry"] <= reading.count])
+        self.notes.begin([note for note in notes if entry_of(note) <= reading.count])
         self.events = []
 
     def _take_seats(self, notes: List[Note]) -> None:
         for note in notes:
-            if isinstance(note.get("seat"), int) and isinstance(note.get("name"), str):
+            if note.get("seat") in range(SEATS) and isinstance(note.get("name"), str):
                 self.seats.give(note["seat"], note["name"])
 
     def _replay(self, entries: List[Entry], made: Dict[int, Note]) -> None:
@@ -114,8 +117,8 @@ class Shared:
         replies = self.run.program.say_all(entry.line for entry in entries)
         for entry, reply in zip(entries, replies):
             if reply != entry.reply:
-                raise Mistake("`%s`: the program answers `%s`, and the log has `%s`" % (entry.line, reply[0], entry.reply[0]), self.log.path,
-                              entry.number)
+                differs = "`%s`: the program answers `%s`, and the log has `%s`"
+                raise Mistake(differs % (entry.line, reply[0], entry.reply[0]), self.log.path, entry.number)
             self.seats.taken(entry.seat)
             note = made.get(self.entries + 1, {})
             self._take(entry, note.get("at"), note.get("by"), bool(note.get("undoes")))
@@ -123,7 +126,8 @@ class Shared:
     # People
 
     def enter(self, name: str) -> int:
-        """The seat of somebody who comes: the same for the same name. Mistake where the name cannot be one, or no seat is left."""
+        """The seat of somebody who comes: the same for the same name. Mistake where the name cannot be one, or no seat
+        is left."""
         check_name(name)
         seat = self._seat(name)
         self.here[seat] += 1
@@ -147,13 +151,14 @@ class Shared:
     # Calls
 
     def calls(self, given: Iterable[Tuple[int, str]]) -> List[Answer]:
-        """The answer to each line, given with its seat, in order. Their entries are in the log when it returns. Raises Unkept where the log
-        cannot be written; what is then answered to nobody may have been made, and stands in no log."""
+        """The answer to each line, given with its seat, in order. Their entries are in the log when it returns.
+
+        Raises Unkept where the log cannot be written: what was made then stands in no log, and has no answer."""
         answers: List[Answer] = []
         part: List[Tuple[int, str]] = []
         for seat, line in given:
             part.append((seat, line))
-            # What is told beside a reply may ask the program, and a name has its place among the lines: nothing has to come between.
+            # What is told beside a reply may ask the program, and a name has its place among the lines.
             if len(part) == AT_ONCE or words_of(line)[:1] == ["out"] or MARK.fullmatch(line):
                 answers += self._calls(part)
                 part = []
@@ -189,7 +194,8 @@ class Shared:
         if len(line) > LONGEST_READ:
             return "a line of %d bytes; the program reads at most %d" % (len(line), LONGEST_READ)
         if self.is_full and not is_silent(line) and QUESTIONS.isdisjoint(words_of(line)[:1]):
-            return "{:,} lines have been made; one network holds no more, and questions alone are answered".format(len(self.run.lines))
+            told = "{:,} lines have been made; one network holds no more, and questions alone are answered"
+            return told.format(len(self.run.lines))
         return ""
 
     @property
@@ -209,7 +215,8 @@ class Shared:
             return []
 
     def _in_log(self, entries: List[Entry]) -> List[Entry]:
-        """The calls that stand in the log: they spelled a command, and memory was there. Near the end of a log only changes do."""
+        """The calls that stand in the log: they spelled a command, and memory was there. Near the end of a log only
+        changes do."""
         kept, lines = [], self.log.lines
         for entry in entries:
             if not entry.reply or refusal(entry.reply) in (SYNTAX, MEMORY):
@@ -227,15 +234,13 @@ class Shared:
         kept = self._in_log(entries)
         self.log.add(kept)
         now = self.clock()
-        notes: List[Note] = []
-        for number, entry in enumerate(kept, self.entries + 1):
-            if entry.reply == ["ok"]:
-                more = {"by": by, "undoes": undoes or None}
-                notes.append({"entry": number, "at": now, **{name: value for name, value in more.items() if value is not None}})
-        self.notes.add(notes)
+        more = {name: value for name, value in (("by", by), ("undoes", undoes or None)) if value is not None}
+        self.notes.add([{"entry": number, "at": now, **more} for number, entry in enumerate(kept, self.entries + 1)
+                        if entry.reply == ["ok"]])
         return kept
 
-    def _take(self, entry: Entry, at: Optional[float] = None, by: Optional[int] = None, undoes: bool = False, is_known: bool = False) -> None:
+    def _take(self, entry: Entry, at: Optional[float] = None, by: Optional[int] = None, undoes: bool = False,
+              is_known: bool = False) -> None:
         """An entry of the log. With `is_known` it is noted already what it may have put into queues."""
         self.entries += 1
         self.made[entry.seat] += 1
@@ -299,7 +304,8 @@ class Shared:
         ways = self.run.settler.suspects
         while ways and len(found) < most:
             part, ways = ways[:AT_ONCE], ways[AT_ONCE:]
-            found += [way for way, reply in zip(part, self._asked(["queue %s %s" % way for way in part])) if len(reply) > 1]
+            replies = self._asked(["queue %s %s" % way for way in part])
+            found += [way for way, reply in zip(part, replies) if len(reply) > 1]
         return found[:most]
 
     def is_quiet(self) -> bool:
@@ -318,7 +324,8 @@ class Shared:
             return 0
         self.workers.spent(len(entries))
         # The limit is never lower, and takes a while to count.
-        if self.since_edit >= (LIMIT if self.most is None else self.most) and self.since_edit >= self.run.settler.limit():
+        least = LIMIT if self.most is None else self.most
+        if self.since_edit >= least and self.since_edit >= self.run.settler.limit():
             self._tell_paused("after %d deliveries without an edit it is not quiet" % self.since_edit)
         return tried
 
@@ -332,11 +339,14 @@ class Shared:
         return self.workers.due(now) if waits and not self.is_full else None
 
     def _deliver(self, most: int, seat_of: Callable[[str], int]) -> Tuple[int, List[Entry]]:
-        """Delivers at most so many messages, one of each queue in turn: how many queues were tried, and what was delivered."""
+        """Delivers at most so many messages, one of each queue in turn: how many queues were tried, and what was
+        delivered."""
         if not self.round and self.run.settler.is_waiting():
             self.round = in_order(self.run.settler.waiting.most)[::-1]
         ways = [self.round.pop() for _ in range(min(most, len(self.round)))]
-        settler, entries, cells = self.run.settler, [], Counter()  # type: Settler, List[Entry], Counter[Tuple[str, str]]
+        settler = self.run.settler
+        entries: List[Entry] = []
+        cells: "Counter[Tuple[str, str]]" = Counter()
         for way, reply in zip(ways, self._asked(["deliver %s %s" % way for way in ways])):
             if refusal(reply) == MEMORY:
                 self._tell_paused("deliver %s %s: %s: memory was refused" % (*way, reply[0]))
@@ -378,7 +388,8 @@ class Shared:
         while tried and len(found) < count:
             tried, entries = self._deliver(min(PART, count - len(found)), self.workers.seat_of)
             found += entries
-        self._tell("workers", "%s lets the workers deliver %d, and pauses them" % (self.seats.name_of(seat), len(found)))
+        name = self.seats.name_of(seat)
+        self._tell("workers", "%s lets the workers deliver %d, and pauses them" % (name, len(found)))
         return found
 
     def _check_room(self) -> None:
@@ -421,7 +432,8 @@ class Shared:
         if line is None:
             raise Mistake("`%s` cannot be undone exactly: %s" % (edit.line, edit.why))
         if other:
-            raise Mistake("`%s` cannot be undone exactly: `%s` of %s came since" % (edit.line, other.line, self.seats.name_of(other.seat)))
+            whose = self.seats.name_of(other.seat)
+            raise Mistake("`%s` cannot be undone exactly: `%s` of %s came since" % (edit.line, other.line, whose))
         if not line:
             self.history.take_back(seat)
             return "undone: %s, which changed nothing" % edit.line
@@ -434,27 +446,30 @@ class Shared:
         """Who edited what about a router or virtual peer, and when. Mistake where it is not there."""
         if router not in self.run.network.nodes:
             raise Mistake("there is no router or virtual peer %s" % router)
-        return [{"step": edit.step, "entry": edit.entry, "who": self.seats.name_of(edit.seat), "at": edit.at, "line": edit.line,
-                 "by": None if edit.by is None else self.seats.name_of(edit.by)} for edit in self.history.of(router)]
+        name_of = self.seats.name_of
+        return [{"step": edit.step, "entry": edit.entry, "who": name_of(edit.seat), "at": edit.at, "line": edit.line,
+                 "by": None if edit.by is None else name_of(edit.by)} for edit in self.history.of(router)]
 
     def who(self) -> Dict[str, Any]:
         """Who is there or was, what the workers do, and whether anything waits."""
         people = [{"seat": seat, "name": name, "here": self.here[seat], "calls": self.made[seat]}
                   for seat, name in sorted(self.seats.names.items()) if seat not in self.workers.seats]
-        proposals = [{"number": each.number, "who": self.seats.name_of(each.seat), "name": each.name} for each in self.proposals.values()]
-        return {"people": people, "workers": self.workers_now(), "proposals": proposals, "quiet": self.is_quiet(), "step": self.step,
-                "calls": self.entries}
+        proposals = [{"number": each.number, "who": self.seats.name_of(each.seat), "name": each.name}
+                     for each in self.proposals.values()]
+        return {"people": people, "workers": self.workers_now(), "proposals": proposals, "quiet": self.is_quiet(),
+                "step": self.step, "calls": self.entries}
 
     def workers_now(self) -> Dict[str, Any]:
         """What the workers do."""
         delivered = sum(self.made[seat] for seat in self.workers.seats)
-        return {"count": len(self.workers.seats), "is_going": self.workers.is_going, "pace": self.workers.pace, "calls": delivered,
-                "text": self.workers.told()}
+        return {"count": len(self.workers.seats), "is_going": self.workers.is_going, "pace": self.workers.pace,
+                "calls": delivered, "text": self.workers.told()}
 
     # Proposals
 
     def propose(self, seat: int, name: str, given: List[str]) -> Proposal:
-        """A change that somebody proposes. It is shown to all by `shown`, once it is known what it does. Mistake where it is no change."""
+        """A change that somebody proposes. It is shown to all by `shown`, once it is known what it does. Mistake where
+        it is no change."""
         if len(self.proposals) >= MOST:
             raise Mistake("%d proposals are open: `accept` or `decline` one" % MOST)
         made = Proposal(self.count_of_proposals + 1, seat, name[:LONGEST_NAME], given, len(self.history.edits))
@@ -467,14 +482,15 @@ class Shared:
     def shown(self, made: Proposal, edits: int, text: str) -> None:
         """Shows a proposal: what it does to the network that had so many edits."""
         made.edits, made.text = edits, text
-        self.events.append({"event": "proposal", "number": made.number, "who": self.seats.name_of(made.seat), "name": made.name,
-                            "lines": made.given, "text": text})
+        self.events.append({"event": "proposal", "number": made.number, "who": self.seats.name_of(made.seat),
+                            "name": made.name, "lines": made.given, "text": text})
 
     def only(self) -> int:
         """The number of the only proposal that is open. Mistake where there is none, or are several."""
         if len(self.proposals) != 1:
             numbers = ", ".join(map(str, self.proposals))
-            raise Mistake("proposals %s are open: give the number of one" % numbers if numbers else "no proposal is open")
+            several = "proposals %s are open: give the number of one" % numbers
+            raise Mistake(several if numbers else "no proposal is open")
         return min(self.proposals)
 
     def failed(self, made: Proposal, mistake: Optional[Mistake]) -> None:
@@ -492,8 +508,8 @@ class Shared:
         return self.proposals[number]
 
     def accept(self, seat: int, number: int) -> str:
-        """Makes a proposal of another one, as calls of who proposed it: what is told. Mistake where it is one's own, or was not shown as it
-        would be now. A line that is refused, and not marked so, ends it."""
+        """Makes a proposal of another one, as calls of who proposed it: what is told. A line that is refused, and not
+        marked so, ends it. Mistake where it is one's own, or was not shown as it would be now."""
         made = self._proposal(number)
         if made.seat == seat:
             raise Mistake("proposal %d is your own: another one accepts it" % number)
@@ -522,7 +538,8 @@ class Shared:
         if made is None:
             raise Mistake("there is no proposal %d" % number)
         del self.proposals[number]
-        text = "%s declines proposal %d of %s, %s" % (self.seats.name_of(seat), number, self.seats.name_of(made.seat), made.name)
+        names = self.seats.name_of(seat), self.seats.name_of(made.seat)
+        text = "%s declines proposal %d of %s, %s" % (names[0], number, names[1], made.name)
         self._tell("told", text)
         return text
 
@@ -534,7 +551,8 @@ class Shared:
 
     def _changed(self, seat: Optional[int], line: str, reply: str) -> None:
         """Notes a change for those who watch: changes one after another are one event."""
-        change = {"step": self.step, "seat": seat, "who": None if seat is None else self.seats.name_of(seat), "line": line, "reply": reply}
+        who = None if seat is None else self.seats.name_of(seat)
+        change = {"step": self.step, "seat": seat, "who": who, "line": line, "reply": reply}
         if not self.events or self.events[-1]["event"] != "changes":
             self.events.append({"event": "changes", "changes": []})
         self.events[-1]["changes"].append(change)

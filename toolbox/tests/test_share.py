@@ -316,7 +316,7 @@ class Undone(Held):
         for lines, why in ((PEER[:1], "no command takes away a router"), (PEER[:2], "no command takes away a virtual peer"),
                            (PEER[:3], "no command takes away a link; `fail 1.0.0.1 7.0.0.1` takes it down"),
                            (PEER, "no command takes away a session; `stop 1.0.0.1 7.0.0.1` disables it"),
-                           ((*PEER, rule, rule), "no command takes away one rule, and the policy had 1 before"),
+                           ((*PEER, rule, rule), "no command takes away one rule, and without the 1 before it"),
                            ((*PEER, rule, "clear 1.0.0.1 7.0.0.1 in"), "the 1 rules of the policy would come back one by one"),
                            ((*fed, "stop 1.0.0.1 7.0.0.1"), "what the virtual peer told is gone with the session: `start 1.0.0.1 7.0.0.1`"),
                            ((*fed, "fail 7.0.0.1 1.0.0.1"), "what the virtual peer told is gone with the session: `mend 7.0.0.1 1.0.0.1`")):
