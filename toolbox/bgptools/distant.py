@@ -79,4 +79,5 @@ class Distant:
                         answers.put(message)
         except (OSError, ValueError):
             pass
-        answers.put(None)
+        finally:
+            answers.put(None)

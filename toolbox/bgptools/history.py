@@ -16,8 +16,8 @@ OF_ONE = frozenset(("router", "virtual", "cluster", "med", "origin", "noorigin")
 @dataclass
 class Edit:
     """An edit or a feed that was accepted: its step and entry, whose it was, and when (seconds since 1970, where it is
-    known). `by` is who accepted it, of a proposal. `back` takes it back; it is empty where it changed nothing, and where
-    there is none `why` says why. `before` has the last edit of each same thing before it."""
+    known). `by` is who accepted it, of a proposal. `back` takes it back; it is empty where it changed nothing, and
+    where there is none `why` says why. `before` has the last edit of each same thing before it."""
     step: int
     entry: int
     seat: int

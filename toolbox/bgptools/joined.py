@@ -314,7 +314,7 @@ class Joined(Prompt):
         names = self.mirror.network.names
         for each in event.get("changes", []):
             names.take(bytes_of(each["line"]))
-        self.shown.tell([PAD + line for line in _TOLD[event["event"]](event, self.seat, names)])
+        self.shown.tell([PAD + line for line in _TOLD.get(event["event"], _text)(event, self.seat, names)])
 
 
 def _s(count: int) -> str:
@@ -362,8 +362,8 @@ def _proposal(event: Message, _: Optional[int], __: Names) -> List[str]:
 
 def _text(event: Message, _: Optional[int], names: Names) -> List[str]:
     """What is told in words."""
-    return ["* " + names.in_text(event["text"])]
+    return ["* " + names.in_text(event.get("text", event["event"]))]
 
 
-_TOLD: Dict[str, Callable[[Message, Optional[int], Names], List[str]]] = {
-    "changes": _changes, "proposal": _proposal, "people": _text, "workers": _text, "told": _text}
+# Any other event is told by its text.
+_TOLD: Dict[str, Callable[[Message, Optional[int], Names], List[str]]] = {"changes": _changes, "proposal": _proposal}

@@ -48,7 +48,7 @@ def text_of(entries: List[Entry]) -> bytes:
 
 
 class Unkept(Mistake):
-    """The log cannot be written. What it has is what was answered."""
+    """Nothing more can be answered: the log cannot be written, or the network not be run. The log has what was."""
 
 
 class Log:

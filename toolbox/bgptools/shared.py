@@ -4,6 +4,7 @@ There are no sockets and no threads here: `serving` is a server of terminals aro
 as well."""
 from __future__ import annotations
 
+import contextlib
 import time
 from collections import Counter
 from dataclasses import dataclass
@@ -19,7 +20,7 @@ from .network import Direction
 from .orders import Order, in_order
 from .program import LONGEST_READ
 from .proposals import LONGEST_NAME, MOST, Proposal
-from .record import SEATS, Entry, Log, Reading
+from .record import SEATS, Entry, Log, Reading, Unkept
 from .refusals import sentence
 from .replies import refusal
 from .run import Run
@@ -208,11 +209,9 @@ class Shared:
         number = refusal(entry.reply)
         if number:
             return ["-- " + sentence(entry.line, number, self.run.network)]
-        try:
+        with contextlib.suppress(Lost), self._renewing():
             return kept_back(self.run, words_of(entry.line), entry.reply)
-        except Mistake as mistake:
-            self._renew(len(self.run.lines), mistake)
-            return []
+        return []
 
     def _in_log(self, entries: List[Entry]) -> List[Entry]:
         """The calls that stand in the log: they spelled a command, and memory was there. Near the end of a log only
@@ -270,11 +269,21 @@ class Shared:
 
     def _asked(self, lines: List[str]) -> List[List[str]]:
         """The replies to lines. Raises Lost where the program ended; then nothing of them is done."""
+        with self._renewing():
+            replies = self.run.program.say_all(lines)
+        return replies
+
+    @contextlib.contextmanager
+    def _renewing(self) -> Iterator[None]:
+        """While the program is asked. Where it ends it is run anew with what was accepted before, and Lost is raised."""
         before = len(self.run.lines)
         try:
-            return self.run.program.say_all(lines)
+            yield
         except Mistake as mistake:
-            self._renew(before, mistake)
+            try:
+                self._renew(before, mistake)
+            except Mistake as fault:
+                raise Unkept("%s; and it cannot be run anew: %s" % (mistake, fault)) from None
             raise Lost("%s; it is run anew, and this was not done" % mistake) from None
 
     def _renew(self, count: int, mistake: Mistake) -> None:
@@ -341,8 +350,9 @@ class Shared:
     def _deliver(self, most: int, seat_of: Callable[[str], int]) -> Tuple[int, List[Entry]]:
         """Delivers at most so many messages, one of each queue in turn: how many queues were tried, and what was
         delivered."""
-        if not self.round and self.run.settler.is_waiting():
-            self.round = in_order(self.run.settler.waiting.most)[::-1]
+        with self._renewing():
+            if not self.round and self.run.settler.is_waiting():
+                self.round = in_order(self.run.settler.waiting.most)[::-1]
         ways = [self.round.pop() for _ in range(min(most, len(self.round)))]
         settler = self.run.settler
         entries: List[Entry] = []
@@ -365,10 +375,8 @@ class Shared:
         for entry in entries:
             self._take(entry, is_known=True)
         self.run.settler.is_unsure = self.run.settler.is_unsure or bool(cells)
-        try:
+        with contextlib.suppress(Lost), self._renewing():
             self.run.settler.moved(cells)
-        except Mistake as mistake:
-            self._renew(len(self.run.lines), mistake)
 
     def next(self, seat: int) -> Optional[Entry]:
         """Somebody delivers the next waiting message by hand; nothing where none waits."""

@@ -43,7 +43,7 @@ from bgptools.program import Program
 inner, here = Program(), pathlib.Path(%r)
 for line in sys.stdin.buffer:
     line = line.decode("latin-1")[:-1]
-    if "metric" in line and here.exists():
+    if here.exists() and here.read_text() in line:
         here.unlink()
         os._exit(7)
     print("".join(each + "\\n" for each in inner.say(line)), end="", flush=True)
@@ -484,7 +484,7 @@ class Limits(Held):
 
     def test_a_program_that_ends_is_run_anew(self):
         """What was given with the line that ended it is not done, and is told so; all that was answered is there."""
-        path, here = self.file("dies", ""), self.file("here", "")
+        path, here = self.file("dies", ""), self.file("here", "metric")
         path.write_text(DIES % (sys.executable, str(TOOLBOX), where.program(), str(here)))
         path.chmod(0o755)
         with unittest.mock.patch.dict(os.environ, {"PROGRAM": str(path)}):
@@ -495,8 +495,21 @@ class Limits(Held):
                 self.assertRegex(answer.error, "dies: the program ended before it had answered, with status 7; it is run anew")
             answers = shared.calls([(anna, "best 1.0.0.1 20.0.0.0/8"), (anna, "metric 1.0.0.1 2.0.0.1 9"), (anna, "cost 1.0.0.1 2.0.0.1")])
             self.assertEqual([answer.reply for answer in answers], [["none"], ["ok"], ["9 via 2.0.0.1"]])
+            shared.happened()
+            # So it is where workers lose it: at a delivery, and at the question that comes behind it.
+            for word in ("deliver", "quiet"):
+                here.write_text(word)
+                self.settled(shared)
+                told = [event["text"] for event in shared.happened() if event["event"] == "workers"]
+                self.assertRegex(told[-1], "^the workers pause: .*dies: the program ended before it had answered, with status 7")
+                shared.go(anna)
             self.settled(shared)
             self.assertEqual(self.said(shared, anna, "best 2.0.0.1 10.0.0.0/8")[0][:24], "10.0.0.0/8 from 1.0.0.1 ")
+            here.write_text("quiet")
+            path.chmod(0)
+            self.assertRaisesRegex(Unkept, "and it cannot be run anew: .*Permission denied", shared.calls, [(anna, "quiet")])
+        shared.run = Shared(str(self.folder / "other")).run
+        self.addCleanup(shared.run.close)
         self.assertEqual(self.ended(shared), "ok 10")
 
 
