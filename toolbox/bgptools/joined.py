@@ -90,7 +90,7 @@ class Shown:
         """A line is about to be typed."""
         with self.lock:
             for line in self.kept:
-                print(line)
+                print(escaped(line))
             self.kept = []
             sys.stdout.flush()
             self.is_typing = True

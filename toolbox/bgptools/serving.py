@@ -343,7 +343,6 @@ class Hub:
         """Does long work in a thread, while the others are served."""
         def worked() -> None:
             found, mistake = "", None  # type: str, Optional[Mistake]
-            self.processes = {each for each in self.processes if each.poll() is None}
             try:
                 found = work()
             except Mistake as fault:
@@ -352,8 +351,13 @@ class Hub:
                 mistake = Mistake("it cannot be done: %s" % fault)
             # Where the server has ended meanwhile, nobody waits for it.
             with contextlib.suppress(RuntimeError):
-                self.loop.call_soon_threadsafe(done, found, mistake)
+                self.loop.call_soon_threadsafe(self._worked, done, found, mistake)
         threading.Thread(target=worked, daemon=True).start()
+
+    def _worked(self, done: Callable[[str, Optional[Mistake]], None], found: str, mistake: Optional[Mistake]) -> None:
+        """Long work is done."""
+        self.processes.difference_update([each for each in list(self.processes) if each.poll() is not None])
+        done(found, mistake)
 
 
 def _answered(answer: Answer) -> Dict[str, Any]:
