@@ -7,7 +7,7 @@ from __future__ import annotations
 import json
 import os
 import re
-from typing import Any, BinaryIO, Dict, List, Optional
+from typing import Any, BinaryIO, Dict, List, Optional, Tuple
 
 from .mistakes import Mistake
 from .record import SEATS, Unkept
@@ -84,6 +84,12 @@ def entry_of(note: Note) -> int:
     return found if isinstance(found, int) else 0
 
 
+def edit_of(note: Note) -> Tuple[Optional[float], Optional[int], bool]:
+    """When an edit was made, the seat that accepted it, and whether it takes another one back."""
+    at, by = note.get("at"), note.get("by")
+    return at if isinstance(at, (int, float)) else None, by if isinstance(by, int) else None, bool(note.get("undoes"))
+
+
 class Seats:
     """Whose each seat is: a name has one seat, however often it comes."""
 
@@ -98,10 +104,11 @@ class Seats:
     def taken(self, seat: int) -> None:
         """A log has calls of the seat, and nobody knows whose it is."""
         if seat not in self.names:
-            self.give(seat, "seat %d" % seat)
+            self.give(seat, self.name_of(seat))
 
     def name_of(self, seat: int) -> str:
-        return self.names[seat]
+        """Whose the seat is, as it is shown."""
+        return self.names.get(seat, "seat %d" % seat)
 
     def of(self, name: str) -> Optional[int]:
         """The seat of a name: a new one where it has none. Nothing where all are taken."""

@@ -21,7 +21,7 @@ from . import proposals, replaying
 from .connection import Connection, Request, bytes_of, encoded, number_in, shown, text_in, texts_in
 from .mistakes import Mistake
 from .record import Unkept
-from .shared import Answer, Event, Shared
+from .shared import Answer, Event, Lost, Shared
 
 # So many lines of a script are told at once, and so many messages delivered by one `step`.
 LINES, STEPS = 4096, 1000
@@ -171,15 +171,20 @@ class Hub:
         now = time.monotonic()
         if self.shared.due(now) == 0:
             self.shared.work(now)
-        waits, self.waiting = self.waiting, []
-        if waits and self.shared.is_quiet():
+        with contextlib.suppress(Lost):
+            self._answer_waiting()
+
+    def _answer_waiting(self) -> None:
+        """Answers those who wait until it is quiet, where it is, or nobody delivers."""
+        answer: Optional[Dict[str, Any]] = None
+        if self.waiting and self.shared.is_quiet():
+            answer = {"quiet": True, "step": self.shared.step}
+        elif self.waiting and not self.shared.workers.is_going:
+            answer = {"error": "messages wait, and %s" % self.shared.workers.told()}
+        if answer:
+            waits, self.waiting = self.waiting, []
             for each, request in waits:
-                self._later(each, request, {"quiet": True, "step": self.shared.step})
-        elif waits and not self.shared.workers.is_going:
-            for each, request in waits:
-                self._later(each, request, {"error": "messages wait, and %s" % self.shared.workers.told()})
-        else:
-            self.waiting = waits
+                self._later(each, request, answer)
 
     def _spread(self) -> None:
         """Tells what happened, and then the answers."""

@@ -25,7 +25,7 @@ from .refusals import sentence
 from .replies import refusal
 from .run import Run
 from .script import Line
-from .seats import SCRIPT, WORKER, Note, Notes, Seats, check_name, entry_of
+from .seats import SCRIPT, WORKER, Note, Notes, Seats, check_name, edit_of, entry_of
 from .settling import MEMORY, Settler
 from .telling import kept_back
 from .workers import Workers
@@ -98,6 +98,7 @@ class Shared:
             made = {entry_of(note): note for note in notes}
             for part in _parts(reading.entries()):
                 self._replay(part, made)
+                self.events = []
             if reading.cut:
                 cut = "the last entry was cut off, and is left out: `%s`" % readable(reading.cut[:80])
                 tell(str(Mistake(cut, self.log.path, reading.whole_lines + 1)))
@@ -121,8 +122,7 @@ class Shared:
                 differs = "`%s`: the program answers `%s`, and the log has `%s`"
                 raise Mistake(differs % (entry.line, reply[0], entry.reply[0]), self.log.path, entry.number)
             self.seats.taken(entry.seat)
-            note = made.get(self.entries + 1, {})
-            self._take(entry, note.get("at"), note.get("by"), bool(note.get("undoes")))
+            self._take(entry, *edit_of(made.get(self.entries + 1, {})))
 
     # People
 
@@ -275,7 +275,7 @@ class Shared:
 
     @contextlib.contextmanager
     def _renewing(self) -> Iterator[None]:
-        """While the program is asked. Where it ends it is run anew with what was accepted before, and Lost is raised."""
+        """While the program is asked. Where it ends, it is run anew with what was accepted before, and Lost raised."""
         before = len(self.run.lines)
         try:
             yield
@@ -328,8 +328,10 @@ class Shared:
         room = 0 if self.is_full else self.workers.room(now, PART)
         try:
             tried, entries = self._deliver(room, self.workers.seat_of) if room else (0, [])
-        except Lost as lost:
-            self._tell_paused(str(lost))
+        except Unkept:
+            raise
+        except Mistake as mistake:
+            self._tell_paused(str(mistake))
             return 0
         self.workers.spent(len(entries))
         # The limit is never lower, and takes a while to count.
@@ -349,7 +351,7 @@ class Shared:
 
     def _deliver(self, most: int, seat_of: Callable[[str], int]) -> Tuple[int, List[Entry]]:
         """Delivers at most so many messages, one of each queue in turn: how many queues were tried, and what was
-        delivered."""
+        delivered. Mistake where memory was refused, when the others are delivered."""
         with self._renewing():
             if not self.round and self.run.settler.is_waiting():
                 self.round = in_order(self.run.settler.waiting.most)[::-1]
@@ -357,9 +359,10 @@ class Shared:
         settler = self.run.settler
         entries: List[Entry] = []
         cells: "Counter[Tuple[str, str]]" = Counter()
+        wanting = ""
         for way, reply in zip(ways, self._asked(["deliver %s %s" % way for way in ways])):
             if refusal(reply) == MEMORY:
-                self._tell_paused("deliver %s %s: %s: memory was refused" % (*way, reply[0]))
+                wanting = "deliver %s %s: %s: memory was refused" % (*way, reply[0])
             elif refusal(reply):
                 settler.waiting.emptied(way)
             else:
@@ -367,6 +370,8 @@ class Shared:
                 settler.waiting.took(way)
                 cells[way[1], reply[0].split(" ")[1]] += 1
         self._delivered(entries, cells)
+        if wanting:
+            raise Mistake(wanting)
         return len(ways), entries
 
     def _delivered(self, entries: List[Entry], cells: "Counter[Tuple[str, str]]") -> None:

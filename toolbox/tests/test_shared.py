@@ -23,7 +23,8 @@ TAKES = ("deliver 7.0.0.1 1.0.0.1",)
 THREE = TOP / "toolbox" / "lessons" / "three-ases.bgp"
 # A log of replies of one line each that ends behind a whole entry.
 WHOLE = re.compile(rb"(bgpsim log 2\n(@[0-9]+ [^\n]*\n= [^\n]*\n)*(end [0-9]+\n)?)?")
-# Runs the program, and dies where a line has this word, if a file is there; the file goes then.
+# Runs the program, and dies where a line has the word of a file, which goes then; while it is `memory`, deliveries want
+# some.
 DIES = """#!%s
 import os, pathlib, sys
 sys.dont_write_bytecode = True
@@ -33,6 +34,9 @@ from bgptools.program import Program
 inner, here = Program(), pathlib.Path(%r)
 for line in sys.stdin.buffer:
     line = line.decode("latin-1")[:-1]
+    if here.exists() and here.read_text() == "memory" and line.startswith("deliver "):
+        print("refused 20 memory", flush=True)
+        continue
     if here.exists() and here.read_text() in line:
         here.unlink()
         os._exit(7)
@@ -238,6 +242,18 @@ class TakenUp(Held):
             Shared(str(self.log))
         expected = "net.log.seats:%d: a note of a log is expected" % notes.read_text().count("\n")
         self.assertIn(expected, str(found.exception))
+
+    def test_notes_of_what_was_cut_off_go(self):
+        """Another edit will have the number of that entry."""
+        shared, anna = self.shared(*TWO, "metric 1.0.0.1 2.0.0.1 7")
+        shared.undo(anna)
+        shared.close()
+        notes = self.folder / "net.log.seats"
+        self.assertIn('"entry": 6, "at"', notes.read_text())
+        self.log.write_text(self.log.read_text()[:-1])
+        self.shared()[0].close()
+        self.assertIn('"entry": 5, "at"', notes.read_text())
+        self.assertNotIn('"entry": 6', notes.read_text())
 
     def test_two_cannot_have_one_log(self):
         self.shared()
@@ -527,10 +543,19 @@ class Limits(Held):
                 shared.go(anna)
             self.settled(shared)
             self.assertEqual(self.said(shared, anna, "best 2.0.0.1 10.0.0.0/8")[0][:24], "10.0.0.0/8 from 1.0.0.1 ")
+            self.assertEqual(self.said(shared, anna, "origin 1.0.0.1 30.0.0.0/8"), ["ok"])
+            # Where memory is refused the message stays, and nothing is in the log.
+            here.write_text("memory")
+            self.settled(shared)
+            why = "deliver 1.0.0.1 2.0.0.1: refused 20 memory: memory was refused"
+            told = [event["text"] for event in shared.happened() if event["event"] == "workers"]
+            self.assertEqual(told[-1], "the workers pause: " + why)
+            self.assertRaisesRegex(Mistake, why, shared.next, anna)
+            self.assertEqual(shared.waiting(), [("1.0.0.1", "2.0.0.1")])
             here.write_text("quiet")
             path.chmod(0)
             with self.assertRaisesRegex(Unkept, "and it cannot be run anew: .*Permission denied"):
                 shared.calls([(anna, "quiet")])
         shared.run = Shared(str(self.folder / "other")).run
         self.addCleanup(shared.run.close)
-        self.assertEqual(self.ended(shared), "ok 10")
+        self.assertEqual(self.ended(shared), "ok 11")
