@@ -13,7 +13,7 @@ from .orders import order_of
 from .parts import Parts
 from .run import Run, unsettled
 from .script import Line
-from .workers import Doing, Workers, processors
+from .processes import Doing, Workers, processors
 from .writing import settled
 
 # A router's chosen routes, as lines; and how a part does not settle, if it does not.

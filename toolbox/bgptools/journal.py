@@ -56,7 +56,7 @@ class Journal:
             content = file.read()
         except OSError as error:
             raise Mistake("it cannot be taken up: " + error.strerror, str(path)) from None
-        if not _can_lock(file):
+        if not can_lock(file):
             file.close()
             raise Mistake("it is the work of a prompt that still runs", str(path))
         self.path, self.file = path, file
@@ -107,7 +107,7 @@ class Journal:
         self.path, self.file = path, file
 
 
-def _can_lock(file: BinaryIO) -> bool:
+def can_lock(file: BinaryIO) -> bool:
     """Takes the lock of a journal, if no prompt has it."""
     try:
         fcntl.flock(file, fcntl.LOCK_EX | fcntl.LOCK_NB)
@@ -128,6 +128,6 @@ def left_behind() -> List[pathlib.Path]:
 def _is_left(path: pathlib.Path) -> bool:
     try:
         with open(path, "rb") as file:
-            return os.fstat(file.fileno()).st_size > 0 and _can_lock(file)
+            return os.fstat(file.fileno()).st_size > 0 and can_lock(file)
     except OSError:
         return False

@@ -42,6 +42,7 @@ class Prompt:
 
     def __init__(self, most: Optional[int] = None) -> None:
         self.most = most
+        self.forms: Tuple[Form, ...] = FORMS + OWN
         self.lines: List[str] = []
         self.round: List[Direction] = []
         self.changes: List[Tuple[str, List[str]]] = []
@@ -134,7 +135,11 @@ class Prompt:
             more = kept_back(self.run, words_of(line), reply)
         tell(PAD, reply + more, self.run.network.names)
         if refusal(reply):
-            tell(PAD, ["-- " + sentence(line, refusal(reply), self.run.network)], self.run.network.names)
+            tell(PAD, ["-- " + self._why(line, reply)], self.run.network.names)
+
+    def _why(self, line: str, reply: List[str]) -> str:
+        """Why a line was refused."""
+        return sentence(line, refusal(reply), self.run.network)
 
     def _with_addresses(self, line: str) -> str:
         """The line with an address in the place of each name."""
@@ -148,7 +153,7 @@ class Prompt:
 
     def help(self, words: List[str]) -> None:
         """The commands, in groups; or one of them."""
-        forms = [form for form in FORMS + OWN if words[1:2] in ([], [form.words[0]])]
+        forms = [form for form in self.forms if words[1:2] in ([], [form.words[0]])]
         group = ""
         for form in forms:
             if form.group != group and not words[1:]:
@@ -203,13 +208,13 @@ class Prompt:
 
     def name(self, words: List[str]) -> None:
         """Gives a name, by the comment of a script that does."""
-        _expect(words, 3, 3, "name A N")
+        expect(words, 3, 3, "name A N")
         self._say(self.run.network.naming(words[1], words[2]))
 
     def load(self, words: List[str]) -> None:
         """Plays a script; a line that is refused, and not marked so, is told."""
-        _expect(words, 2, 2, "load FILE")
-        lines = read(_path(words[1]))
+        expect(words, 2, 2, "load FILE")
+        lines = read(path_of(words[1]))
         refused = self.play(lines)
         commands = sum(line.is_command for line in lines)
         print(PAD + "%d command%s of %s, %d refused" % (commands, "" if commands == 1 else "s", readable(words[1]), refused))
@@ -221,25 +226,25 @@ class Prompt:
             reply = self._say(line.text)
             refused += refusal(reply) > 0
             if refusal(reply) and line.expected is None:
-                why = "%s: %s" % (reply[0], sentence(line.text, refusal(reply), self.run.network))
+                why = "%s: %s" % (reply[0], self._why(line.text, reply))
                 tell(PAD, [str(Mistake(why, escaped(line.file), line.number))], self.run.network.names)
         return refused
 
     def explain(self, words: List[str]) -> None:
         """Tells all routes of a router to a prefix, and why each was chosen or not; or what it tells a peer."""
-        _expect(words, 3, 5, "explain R P [--to X]")
+        expect(words, 3, 5, "explain R P [--to X]")
         self._on_a_copy(explain.main, [None, self._address(words[1]), words[2], *self._options(words[3:])])
 
     def draw(self, words: List[str]) -> None:
         """Draws the network."""
-        _expect(words, 2, 9, "draw FILE [--prefix P] [--trace R D]")
-        self._on_a_copy(draw.main, [None, "-o", _path(words[1]), *self._options(words[2:])])
+        expect(words, 2, 9, "draw FILE [--prefix P] [--trace R D]")
+        self._on_a_copy(draw.main, [None, "-o", path_of(words[1]), *self._options(words[2:])])
         print(PAD + "drawn in " + readable(words[1]))
 
     def what_if(self, words: List[str]) -> None:
         """Tells what a change would do."""
-        _expect(words, 2, 99, "what-if FILE [--trace R D]")
-        self._on_a_copy(what_if.main, [None, _path(words[1]), *self._options(words[2:])])
+        expect(words, 2, 99, "what-if FILE [--trace R D]")
+        self._on_a_copy(what_if.main, [None, path_of(words[1]), *self._options(words[2:])])
 
     def _options(self, words: List[str]) -> List[str]:
         """Options of a tool, with an address in the place of a name."""
@@ -260,8 +265,8 @@ class Prompt:
 
     def save(self, words: List[str]) -> None:
         """Writes the script so far."""
-        _expect(words, 2, 2, "save FILE")
-        output.write_bytes(journal.content_of(self.lines), _path(words[1]))
+        expect(words, 2, 2, "save FILE")
+        output.write_bytes(journal.content_of(self.lines), path_of(words[1]))
         print(PAD + "%d lines in %s" % (len(self.lines), readable(words[1])))
 
     def restore(self, path: pathlib.Path) -> None:
@@ -284,12 +289,12 @@ def _is_change(reply: List[str]) -> bool:
     return bool(reply) and (reply[0] == "ok" or reply[0].startswith("took "))
 
 
-def _expect(words: List[str], least: int, most: int, spelling: str) -> None:
+def expect(words: List[str], least: int, most: int, spelling: str) -> None:
     if not least <= len(words) <= most:
         raise Mistake("`%s` is expected" % spelling)
 
 
-def _path(word: str) -> str:
+def path_of(word: str) -> str:
     """The file that a typed word names."""
     return os.path.expanduser(word.encode("latin-1").decode("utf-8", "surrogateescape"))
 
@@ -317,14 +322,31 @@ def _tell_left() -> None:
             "A prompt" if len(left) == 1 else "%d prompts" % len(left), escaped(str(left[0]))))
 
 
-def _line() -> Optional[str]:
+def typed_line(shown: str = "bgpsim> ") -> Optional[str]:
     """A line that is typed, as the bytes of a script; nothing at the end."""
     try:
-        line = input("bgpsim> ")
+        line = input(shown)
     except EOFError:
         print()
         return None
     return None if words_of(line)[:1] in (["quit"], ["exit"]) else line.encode("utf-8", "surrogateescape").decode("latin-1")
+
+
+def read_lines(typed: Prompt, next_line: Callable[[], Optional[str]]) -> None:
+    """Takes lines as they are typed, until the end of input."""
+    typed.keyboard.watch()
+    while True:
+        try:
+            typed.keyboard.begin()
+            line = next_line()
+            if line is None:
+                break
+            typed.take(line)
+        except KeyboardInterrupt:
+            print()
+            typed.mend()
+    typed.keyboard.end()
+    typed.run.close()
 
 
 def prompt(most: Optional[int] = None, restored: Optional[str] = None) -> int:
@@ -339,19 +361,7 @@ def prompt(most: Optional[int] = None, restored: Optional[str] = None) -> int:
     else:
         typed.restore(_found(restored))
     complete_by(Completion(OWN, lambda: typed.run.network, typed.waiting))
-    typed.keyboard.watch()
-    while True:
-        try:
-            typed.keyboard.begin()
-            line = _line()
-            if line is None:
-                break
-            typed.take(line)
-        except KeyboardInterrupt:
-            print()
-            typed.mend()
-    typed.keyboard.end()
-    typed.run.close()
+    read_lines(typed, typed_line)
     # Where the terminal is gone, that was no end as it should be.
     if typed.journal and os.isatty(0):
         typed.journal.remove()

@@ -89,7 +89,7 @@ class Settler:
         self.order.begin()
         changed: List[Moved] = []
         cycle = Cycle(self._look)
-        while self._is_waiting():
+        while self.is_waiting():
             room = limit - len(done.deliveries)
             before = len(done.deliveries)
             if room > 0:
@@ -105,7 +105,7 @@ class Settler:
         self.progress.done()
         return done
 
-    def _is_waiting(self) -> bool:
+    def is_waiting(self) -> bool:
         """Whether a message waits anywhere. The program is asked where many may, and at the end."""
         most = self.waiting.most
         if most and sum(count == ANY for count in most.values()) < 3:
@@ -134,10 +134,11 @@ class Settler:
             self.waiting.took(way)
             cells[way[1], reply[0].split(" ")[1]] += 1
         self.is_unsure = self.is_unsure or bool(cells)
-        changed += [(len(done.deliveries), cell, is_sure) for cell, is_sure in self._moved(cells)]
+        changed += [(len(done.deliveries), cell, is_sure) for cell, is_sure in self.moved(cells)]
 
-    def _moved(self, cells: "Counter[Cell]") -> List[Tuple[Cell, bool]]:
-        """The routers and prefixes among these at which another route may have been chosen. Only a router that may send is asked."""
+    def moved(self, cells: "Counter[Cell]") -> List[Tuple[Cell, bool]]:
+        """The routers and prefixes among these, which took so many messages, at which another route may have been chosen. Only a router that
+        may send is asked."""
         asked = [cell for cell in cells if self.waiting.matters(cell)]
         for cell in cells.keys() - asked:
             self.waiting.unsure(cell, cells[cell])

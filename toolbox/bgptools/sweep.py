@@ -19,7 +19,7 @@ from .sweep_page import page_of
 from .sweep_table import Table
 from .sweeping import about, play_here, rows_of
 from .trials import Trial
-from .workers import processors
+from .processes import processors
 
 
 # A script with some of its prefixes, and the changes with these.

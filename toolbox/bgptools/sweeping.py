@@ -12,7 +12,7 @@ from .figures import Figures, together
 from .player import Job, Player, settled_job
 from .quiet import Quiet
 from .results import Results, Task
-from .workers import Doing, Workers
+from .processes import Doing, Workers
 
 
 class Playing(Doing[Task]):

@@ -151,16 +151,16 @@ class Scripts(Case):
 
 
 class Typed:
-    """play at a pseudo-terminal, which is its terminal."""
+    """play, or another tool, at a pseudo-terminal, which is its terminal."""
 
-    def __init__(self, folder, *words, **environment):
+    def __init__(self, folder, *words, tool="play", **environment):
         self.main, side = pty.openpty()
         # Else the terminal forgets, at Ctrl-C, what was shown just before and after it.
         modes = termios.tcgetattr(side)
         modes[3] |= termios.NOFLSH
         termios.tcsetattr(side, termios.TCSANOW, modes)
         self.process = subprocess.Popen(
-            [sys.executable, "-B", str(TOOLBOX / "play"), *words], stdin=side, stdout=side, stderr=side, cwd=str(folder), start_new_session=True,
+            [sys.executable, "-B", str(TOOLBOX / tool), *words], stdin=side, stdout=side, stderr=side, cwd=str(folder), start_new_session=True,
             env=dict(os.environ, TERM="dumb", XDG_STATE_HOME=str(folder / "state"), **environment),
             preexec_fn=lambda: fcntl.ioctl(0, termios.TIOCSCTTY, 0))
         os.close(side)

@@ -13,7 +13,7 @@ from bgptools.mistakes import Mistake
 from bgptools.player import Job, Player, settled_job
 from bgptools.script import lines_of, read
 from bgptools.undoing import commands_back
-from bgptools.workers import Doing, Workers
+from bgptools.processes import Doing, Workers
 from common import DATA, TOP, TOOLBOX, Case, inside, tool
 
 LESSONS = TOOLBOX / "lessons"

@@ -1,0 +1,71 @@
+"""The prompt of `play` on a network that several share: who changes what, workers, proposals, and a proved log."""
+from __future__ import annotations
+
+import argparse
+import getpass
+import io
+import sys
+from typing import List, Optional
+
+from .completion import Completion, complete_by
+from .joined import WORDS, Joined
+from .language import words_of
+from .mistakes import Mistake
+from .prompt import read_lines, typed_line
+
+
+def parser() -> argparse.ArgumentParser:
+    """The words of the command line."""
+    made = argparse.ArgumentParser(prog="join", description=(
+        "Joins the network that a `share` holds: a prompt, or the lines of standard input where that is no terminal. "
+        "`?` lists what can be typed there."),
+        epilog="Exit status: 0 at the end of input; 2 a mistake, or the share has gone.")
+    made.add_argument("socket", metavar="SOCKET", help="the socket of the share, as its --at has it")
+    made.add_argument("--as", dest="name", metavar="NAME", help=(
+        "the name under which others see you; the same name has the same seat again (the user's name)"))
+    return made
+
+
+def _name(given: Optional[str]) -> str:
+    """The name that was given, or the user's."""
+    if given is not None:
+        return given
+    try:
+        return getpass.getuser()
+    except (KeyError, OSError):
+        raise Mistake("the user has no name: give one by --as NAME") from None
+
+
+def _given(shown: str) -> Optional[str]:
+    """A line of standard input, which is shown behind the prompt; nothing at the end."""
+    line = sys.stdin.buffer.readline()
+    if not line:
+        return None
+    text = (line[:-1] if line.endswith(b"\n") else line).decode("latin-1")
+    if words_of(text)[:1] in (["quit"], ["exit"]):
+        return None
+    print(shown + text.encode("latin-1").decode("utf-8", "backslashreplace"))
+    return text
+
+
+def main(words: Optional[List[str]] = None) -> int:
+    """The tool."""
+    chosen = parser().parse_args(words)
+    name = _name(chosen.name)
+    shown, is_terminal = name + "> ", sys.stdin.isatty()
+    if isinstance(sys.stdin, io.TextIOWrapper):
+        sys.stdin.reconfigure(errors="surrogateescape")
+    typed = Joined(chosen.socket, name, shown)
+    if is_terminal:
+        print("joined at seat %d: `?` lists the commands, `quit` ends." % typed.distant.seat)
+        complete_by(Completion(WORDS, typed.fresh, typed.waiting))
+
+    def next_line() -> Optional[str]:
+        typed.shown.begin()
+        try:
+            return typed_line(shown) if is_terminal else _given(shown)
+        finally:
+            typed.shown.end()
+    read_lines(typed, next_line)
+    typed.distant.close()
+    return 0
