@@ -11,9 +11,9 @@ from typing import Dict, List, Tuple
 from .clock import Clock
 from .orders import order_of
 from .parts import Parts
+from .processes import Doing, Workers, processors
 from .run import Run, unsettled
 from .script import Line
-from .processes import Doing, Workers, processors
 from .writing import settled
 
 # A router's chosen routes, as lines; and how a part does not settle, if it does not.

@@ -11,6 +11,7 @@ from .mistakes import CHANGED, WRONG, Mistake
 from .network import Network
 from .parts import Parts
 from .player import Job, Player, settled_job
+from .processes import processors
 from .quiet import Quiet
 from .results import Results
 from .run import Run
@@ -19,7 +20,6 @@ from .sweep_page import page_of
 from .sweep_table import Table
 from .sweeping import about, play_here, rows_of
 from .trials import Trial
-from .processes import processors
 
 
 # A script with some of its prefixes, and the changes with these.

@@ -10,9 +10,9 @@ from . import __version__
 from .clock import Clock
 from .figures import Figures, together
 from .player import Job, Player, settled_job
+from .processes import Doing, Workers
 from .quiet import Quiet
 from .results import Results, Task
-from .processes import Doing, Workers
 
 
 class Playing(Doing[Task]):
