@@ -90,6 +90,13 @@ class AtSocket(Case):
         process.stdout.readline()
         return process
 
+    def mistaken(self, *words):
+        """What a share tells that cannot begin."""
+        called = [sys.executable, "-B", str(TOOLBOX / "share"), "--at", str(self.path), *map(str, words)]
+        ran = subprocess.run(called, capture_output=True, timeout=60)
+        self.assertEqual((ran.returncode, ran.stdout), (2, b""), ran.stderr)
+        return ran.stderr.decode()
+
     def kill(self, process):
         if process.poll() is None:
             process.kill()
@@ -154,8 +161,8 @@ class Served(AtSocket):
         self.assertEqual(self.end(process, signal.SIGTERM), (128 + signal.SIGTERM, "11 calls in %s\n" % self.log))
         for words, told in (([], "net.log: it is there already: `--log %s` takes it up" % self.log),
                             ([THREE, "--log", self.log], "net.log: it has 11 calls already: no script is played")):
-            ran = inside("share", "--at", self.path, *words)
-            self.assertEqual((ran.returncode, told in ran.stderr, self.path.exists()), (2, True, False), ran.stderr)
+            self.assertIn(told, self.mistaken(*words))
+            self.assertFalse(self.path.exists())
         process = self.start("--log", self.log, wanted="with 11 calls so far in ")
         self.assertEqual(self.join("anna").call("cost 1.0.0.1 2.0.0.1"), ["1 via 2.0.0.1"])
         self.assertEqual(self.end(process)[1].split("\n")[1], "replay: ok 12")
@@ -168,13 +175,12 @@ class Served(AtSocket):
                             (["--workers", "65"], "--workers 65: a number of 0 to 64"),
                             (["--at", str(self.folder / far)], "no socket can be made there"),
                             (["--at", str(bad)], "no socket can be made there: Address already in use")):
-            ran = inside("share", "--at", self.path, *words)
-            self.assertEqual((ran.returncode, told in ran.stderr), (2, True), ran.stderr)
+            self.assertIn(told, self.mistaken(*words))
             self.assertEqual([path.name for path in self.folder.iterdir()], ["bad.bgp"])
 
     def test_one_socket_has_one_share(self):
         process = self.start()
-        told = inside("share", "--at", self.path, "--log", self.folder / "other").stderr
+        told = self.mistaken("--log", self.folder / "other")
         self.assertIn("no socket can be made there: Address already in use", told)
         self.kill(process)
         # What a crash leaves is no share: its place is taken.
