@@ -159,8 +159,8 @@ class Package(Case):
 
     def test_each_tool_does_what_its_document_shows(self):
         shown = {name: example_of(name) for name in TOOLS}
-        # The two others are called below.
-        self.assertLessEqual({name for name in TOOLS if not shown[name]}, {"settle", "draw"})
+        # The others are called below.
+        self.assertLessEqual({name for name in TOOLS if not shown[name]}, {"settle", "draw", "share", "join"})
         for name, (called, output) in ((name, example) for name, example in shown.items() if example):
             with self.subTest(tool=name):
                 told = self.run_there(["bgpsim-" + called[0], *called[1:]])
@@ -172,6 +172,14 @@ class Package(Case):
         self.assertEqual(self.run_there(["bgpsim", "script"], told.stdout + b"quiet\n").stdout.splitlines()[-1], b"yes")
         told = self.run_there(["bgpsim-draw", "toolbox/lessons/three-ases.bgp"])
         self.assertEqual(set(re.findall(r"\d\.0\.0\.1", told.stdout.decode())), {"1.0.0.1", "2.0.0.1", "3.0.0.1"})
+
+    def test_share_and_join(self):
+        """A share that ends at a line that is refused has given the program those before it."""
+        told = self.run_there(["bgpsim-share", "toolbox/lessons/refused.bgp", "--at", "shared"])
+        line = b"toolbox/lessons/refused.bgp:7: refused 13 "
+        self.assertEqual((told.returncode, told.stderr[:len(line)]), (2, line))
+        told = self.run_there(["bgpsim-join", "shared", "--as", "anna"])
+        self.assertEqual((told.returncode, told.stderr), (2, b"shared: there is no share: No such file or directory\n"))
 
     def test_each_tool_has_its_name_its_page_and_its_completion(self):
         self.assertEqual((self.root / "usr/share/bgpsim/launch").read_text().split("\n")[0], "#!/usr/bin/python3")
