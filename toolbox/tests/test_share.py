@@ -357,6 +357,8 @@ class Crowded(AtSocket):
         gone.close()
         for number in range(60):
             self.assertEqual(anna.call("origin 2.0.0.1 20.%d.0.0/16" % number), ["ok"])
+        # Time for more than that, were he served further.
+        time.sleep(1)
         self.assertLess(self.size_of(process) - before, 10000)
         # More happens than is held for him: he is let go.
         for _ in range(1150):
