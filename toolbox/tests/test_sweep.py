@@ -7,6 +7,10 @@ import json
 import os
 import random
 import re
+import signal
+import subprocess
+import sys
+import time
 
 from bgptools import trials
 from bgptools.mistakes import Mistake
@@ -15,6 +19,7 @@ from bgptools.script import lines_of, read
 from bgptools.undoing import commands_back
 from bgptools.processes import Doing, Workers
 from common import DATA, TOP, TOOLBOX, Case, inside, tool
+from relations import relations
 
 LESSONS = TOOLBOX / "lessons"
 MANY, THREE, DISAGREE = (LESSONS / name for name in ("many-prefixes.bgp", "three-ases.bgp", "disagree.bgp"))
@@ -301,6 +306,23 @@ class Results(Case):
         # What is known is not played again: it stands in the table as in the file.
         path.write_bytes(b"".join(lines).replace(b'"lost": 60', b'"lost": 59'))
         self.assertEqual(self.sweep("--results", path, "--resume").stdout, whole.replace(",60,60,", ",59,60,"))
+
+    def test_ctrl_c_leaves_whole_results(self):
+        ties = self.file("relations", "\n".join(relations(16, 3)) + "\n")
+        base = self.file("base", inside("from-as-rel", ties, "--origins", "all").stdout)
+        words, path = (base, "--pairs", "--sample", 80, "--csv"), self.folder / "results"
+        called = [sys.executable, "-B", TOOLBOX / "sweep", *words, "--jobs", 2, "--results", path]
+        pipes = {"stdout": subprocess.PIPE, "stderr": subprocess.PIPE}
+        with subprocess.Popen(list(map(str, called)), cwd=str(TOP), start_new_session=True, **pipes) as ran:
+            end = time.monotonic() + 100
+            while not (path.exists() and path.read_bytes().count(b"\n") > 3) and time.monotonic() < end:
+                time.sleep(0.05)
+            os.killpg(ran.pid, signal.SIGINT)
+            self.assertEqual((*ran.communicate(timeout=100), ran.returncode), (b"", b"stopped\n", 130))
+        # Workers have its group; programs have their own, and end with their workers.
+        self.assertRaises(ProcessLookupError, os.killpg, ran.pid, 0)
+        self.assertEqual(path.read_bytes()[-1:], b"\n")
+        self.assertEqual(inside("sweep", *words, "--results", path, "--resume").stdout, inside("sweep", *words).stdout)
 
     def test_other_files_are_none_of_it(self):
         path = self.folder / "results"
