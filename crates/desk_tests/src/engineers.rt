@@ -49,20 +49,27 @@ fn two_engineers<L: Ledger + Send + Sync, R: Threads + Wait + Abort + Sync>(
 {
     let (desk, mut seats) = opened::<L, R>(rt, alloc, 2, 1, blank);
     assert!(rt; make_calls(rt, alloc, &desk, &mut seats));
-    let second = seats.pop().expect(rt, "a second seat");
-    let left = desk
-        .end()
-        .close(seats)
-        .err()
-        .expect(rt, "a seat is missing");
+    closes_with_all_seats(rt, alloc, desk.end(), seats, 9);
+}
+
+/// The room is not closed while a seat is missing, which hands back room and seats; with all of them it is.
+fn closes_with_all_seats<L: Ledger, R: Threads + Abort + Sync>(
+    rt: &R,
+    alloc: Global,
+    room: GroupRoom<L>,
+    mut seats: Vec<Seat<L>>,
+    entries: u64,
+) {
+    let last = seats.pop().expect(rt, "a last seat");
+    let left = room.close(seats).err().expect(rt, "a seat is missing");
     let CloseFault {
         fault,
         room,
         mut seats,
     } = left;
     assert_eq!(rt; fault, Fault::MissingSeat);
-    seats.push(second).expect(rt, "memory");
-    is_record_of(rt, alloc, room, seats, 9);
+    seats.push(last).expect(rt, "memory");
+    is_record_of(rt, alloc, room, seats, entries);
 }
 
 /// The room is closed with a record of so many calls, whose log agrees.
@@ -134,7 +141,7 @@ fn with_workers<L: Ledger + Send + Sync, R: Threads + Wait + Abort + Sync>(
     assert!(rt; made);
     assert_eq!(rt; delivered(rt, &desk, &workers), 1);
     seats.append(&mut workers).expect(rt, "memory");
-    is_record_of(rt, alloc, desk.end(), seats, 10);
+    closes_with_all_seats(rt, alloc, desk.end(), seats, 10);
 }
 
 /// How many calls the workers made. The notes of each agree.
