@@ -1,0 +1,216 @@
+"""lab: its server by plain HTTP, and its page in a browser."""
+import contextlib
+import http.client
+import json
+import os
+import re
+import signal
+import socket
+import subprocess
+import sys
+import tempfile
+import unittest
+
+from browser import CHROMIUM, Browser
+from common import TOOLBOX, TOP, Case
+from test_share import Person
+
+EVIL = "<img/src=x onerror=document.title='owned'>"
+SCRIPT = """# step Two routers
+router 1.0.0.1 1
+# Says <script>document.title='owned'</script> & more.
+router 2.0.0.1 2
+# name 1.0.0.1 <b>west</b>&quot;
+link 1.0.0.1 2.0.0.1 7
+# step A session
+join 1.0.0.1 2.0.0.1
+# It is told to the other one.
+origin 2.0.0.1 10.1.0.0/16
+"""
+# The steps of the script: its lines that make something, and the name.
+STEPS = 6
+RING = TOP / "toolbox" / "lessons" / "three-ases.bgp"
+
+
+class Lab:
+    """A lab that runs as a process, and requests to it."""
+
+    def __init__(self, folder, *words):
+        self.socket = str(folder / "socket")
+        self.process = subprocess.Popen([sys.executable, "-B", str(TOOLBOX / "lab"), *map(str, words), "--at", self.socket],
+                                        stdout=subprocess.PIPE, stderr=subprocess.PIPE, cwd=str(TOP))
+        self.urls = {}
+        line = self.process.stdout.readline().decode()
+        while not line.startswith("`join"):
+            if not line:
+                raise AssertionError(self.process.stderr.read().decode())
+            name, _, url = line.strip().partition(": ")
+            self.urls[name] = url
+            line = self.process.stdout.readline().decode()
+        self.url = self.urls["lab"]
+        self.port, self.key = re.fullmatch(r"http://127\.0\.0\.1:(\d+)/([\w-]+)/", self.url).groups()
+
+    def get(self, path, method="GET", body=None, key=None, **headers):
+        """The status, headers and body of an answer."""
+        given = {name.replace("_", "-"): value for name, value in headers.items()}
+        line = http.client.HTTPConnection("127.0.0.1", int(self.port), timeout=30)
+        with contextlib.closing(line):
+            line.request(method, "/%s/%s" % (self.key if key is None else key, path), body, given)
+            answer = line.getresponse()
+            return answer.status, dict(answer.getheaders()), answer.read()
+
+    def value(self, path, **more):
+        """A JSON answer."""
+        status, _, body = self.get(path, **more)
+        if status != 200:
+            raise AssertionError("%s: %d %s" % (path, status, body))
+        return json.loads(body)
+
+    def page(self, name="page", key=None):
+        return Page(self, name, key or self.key)
+
+    def end(self):
+        """Ctrl-C: the rest of what it prints, and its status."""
+        self.process.send_signal(signal.SIGINT)
+        out, err = self.process.communicate(timeout=60)
+        return self.process.returncode, out.decode(), err.decode()
+
+    def close(self):
+        if self.process.poll() is None:
+            self.process.kill()
+            self.process.communicate()
+        self.process.stdout.close()
+        self.process.stderr.close()
+
+
+class Page:
+    """What a page does, without a browser: it hears what happens, and asks."""
+
+    def __init__(self, lab, name, key):
+        self.lab, self.key, self.heard, self.number = lab, key, [], 0
+        self.line = http.client.HTTPConnection("127.0.0.1", int(lab.port), timeout=30)
+        self.line.request("GET", "/%s/events?as=%s" % (key, name))
+        self.answer = self.line.getresponse()
+        self.page = self.until(lambda told: told.get("event") == "page")["page"]
+
+    def until(self, fits):
+        """The first message that fits, of those that were heard, and will be."""
+        for told in self.heard:
+            if fits(told):
+                self.heard.remove(told)
+                return told
+        while True:
+            line = self.answer.readline()
+            if not line:
+                raise AssertionError("the lab has gone")
+            if line.startswith(b"data: "):
+                told = json.loads(line[6:])
+                if fits(told):
+                    return told
+                self.heard.append(told)
+
+    def ask(self, do, **more):
+        self.number += 1
+        body = json.dumps({"id": self.number, "do": do, **more})
+        status, _, told = self.lab.get("do?page=" + self.page, "POST", body, self.key, Content_Type="application/json")
+        if status != 200:
+            raise AssertionError("%d %s" % (status, told))
+        return self.until(lambda told: told.get("id") == self.number)
+
+    def changed(self, line):
+        """The change by this line, when it was heard."""
+        told = self.until(lambda told: any(each["line"] == line for each in told.get("changes", ())))
+        return next(each for each in told["changes"] if each["line"] == line)
+
+    def close(self):
+        self.answer.close()
+        self.line.close()
+
+
+class AtServer(Case):
+    """Tests of one lab, which begins with the script above."""
+    words = ("--present",)
+
+    def setUp(self):
+        super().setUp()
+        script = self.folder / "script.bgp"
+        script.write_text(SCRIPT)
+        self.lab = Lab(self.folder, script, *self.words)
+        self.addCleanup(self.lab.close)
+
+    def page(self, name="page", key=None):
+        made = self.lab.page(name, key)
+        self.addCleanup(made.close)
+        return made
+
+    def look_key(self):
+        return self.lab.urls["to look"].split("/")[3]
+
+
+class Served(AtServer):
+    def test_it_listens_on_the_loopback_alone(self):
+        with open("/proc/net/tcp") as table:
+            local = [row.split()[1] for row in table.readlines()[1:] if row.split()[3] == "0A"]
+        self.assertEqual([each for each in local if each.endswith(":%04X" % int(self.lab.port))],
+                         ["0100007F:%04X" % int(self.lab.port)])
+
+    def test_the_secret_is_wanted_for_every_request(self):
+        for key in ("", "x", self.lab.key[:-1], self.lab.key + "x", "%s%%2f" % self.lab.key, "\u00e9".encode().hex(), self.lab.key[:-1] + "%e9"):
+            for path in ("", "lab.js", "lab.css", "events", "picture", "script", "record", "steps"):
+                self.assertEqual(self.lab.get(path, key=key)[0], 403, (key, path))
+            self.assertEqual(self.lab.get("do", "POST", "{}", key)[0], 403)
+        self.assertEqual(self.lab.get("")[0], 200)
+
+    def test_another_host_or_origin(self):
+        here = "127.0.0.1:" + self.lab.port
+        for headers in ({"Host": "localhost:" + self.lab.port}, {"Host": "evil.example"}, {"Host": "127.0.0.1"},
+                        {"Origin": "http://evil.example"}, {"Origin": "null"}, {"Origin": "https://" + here}):
+            for path in ("", "picture", "script"):
+                self.assertEqual(self.lab.get(path, **headers)[0], 403, headers)
+            self.assertEqual(self.lab.get("do", "POST", "{}", **headers)[0], 403)
+        self.assertEqual(self.lab.get("", Host=here, Origin="http://" + here)[0], 200)
+
+    def test_the_policy_has_no_inline_script(self):
+        for path in ("", "lab.js", "picture", "none"):
+            policy = dict(each.strip().split(" ", 1) for each in self.lab.get(path)[1]["Content-Security-Policy"].split(";"))
+            self.assertEqual((policy["default-src"], policy["script-src"], policy["style-src"]), ("'none'", "'self'", "'self'"))
+        page = self.lab.get("")[2].decode()
+        self.assertEqual(re.findall(r"<script[^>]*>(.*?)</script>", page), [""])
+        self.assertEqual(re.findall(r" on\w+=| style=|https?://", page), [])
+
+    def test_the_scripts_of_the_page_read_nothing_as_markup(self):
+        for path in ("lab.js", "drawn.js"):
+            script = self.lab.get(path)[2].decode()
+            self.assertEqual(re.findall(r"innerHTML|outerHTML|insertAdjacent|document\.write|eval\(|srcdoc|DOMParser", script), [])
+
+    def test_no_path_leads_to_a_file(self):
+        for path in ("../lab.py", "..%2flab.py", "lab.py", "page.html", "/etc/passwd", "%2e%2e/lab.py", "./lab.js/../web.py", "lab.html"):
+            status, _, body = self.lab.get(path)
+            self.assertEqual((status, b"import" in body), (404, False), path)
+
+    def test_bodies_are_bounded(self):
+        page = self.page()
+        kind = {"Content_Type": "application/json"}
+        self.assertEqual(self.lab.get("do?page=" + page.page, "POST", b"x" * 65537, **kind)[0], 413)
+        self.assertEqual(self.lab.get("do?page=" + page.page, "POST", "{}", **kind, Transfer_Encoding="chunked")[0], 413)
+        for length in ("-1", "99999999999", "1e3", ""):
+            self.assertEqual(self.lab.get("do?page=" + page.page, "POST", None, **kind, Content_Length=length)[0], 413)
+        self.assertEqual(self.lab.get("do?page=" + page.page, "POST", "{}", Content_Type="text/plain")[0], 404)
+        self.assertEqual(self.lab.get("do?page=x", "POST", "{}", **kind)[0], 400)
+        self.assertEqual(page.ask("call", line="quiet")["reply"], ["no"])
+
+    def test_names_and_comments_with_markup_are_text(self):
+        steps = self.lab.value("steps")["steps"]
+        self.assertEqual([each["line"] for each in steps][2], "# name 1.0.0.1 <b>west</b>&quot;")
+        self.assertEqual((steps[1]["says"], steps[1]["heading"]),
+                         ("Says <script>document.title='owned'</script> & more.", "Two routers"))
+        texts = [part[2] for part in _all(self.lab.value("picture")["parts"])]
+        self.assertIn("<b>west</b>&quot;", texts)
+
+
+def _all(parts):
+    """All elements of a picture."""
+    found = [shape for _, shape in parts]
+    for each in found:
+        found += each[3]
+    return found
