@@ -214,3 +214,44 @@ def _all(parts):
     for each in found:
         found += each[3]
     return found
+
+
+MISSING = "chromium is not installed: apt-get install chromium"
+
+
+@unittest.skipUnless(CHROMIUM, MISSING)
+class InABrowser(Case):
+    def setUp(self):
+        super().setUp()
+        script = self.folder / "script.bgp"
+        script.write_text(SCRIPT)
+        self.lab = Lab(self.folder, script, "--present")
+        self.addCleanup(self.lab.close)
+        self.errors = []
+
+    def browser(self, url):
+        """A browser with the page, when it has drawn the last step."""
+        folder = tempfile.TemporaryDirectory(ignore_cleanup_errors=True)
+        self.addCleanup(folder.cleanup)
+        browser = Browser(folder.name, url)
+        self.addCleanup(browser.close)
+        browser.until("document.body.dataset.step === '%d'" % STEPS)
+        return browser
+
+    def test_two_pages_and_a_terminal_see_one_change(self):
+        one, other = self.browser(self.lab.url), self.browser(self.lab.url)
+        person = Person(self.lab.socket, "anna")
+        self.addCleanup(person.close)
+        person.ask("watch", what="all")
+        one.click("[data-about='link 1.0.0.1 2.0.0.1'] path:last-child")
+        one.until("document.querySelectorAll('#forms form').length > 2")
+        one.value("[...document.querySelectorAll('#forms button')].find((each) => each.textContent === 'fail').focus()")
+        one.press("Enter")
+        for browser in (one, other):
+            browser.until("document.body.dataset.step === '%d'" % (STEPS + 1))
+            browser.until("document.getElementById('log').textContent.includes('page: fail 1.0.0.1 2.0.0.1')")
+            browser.until("document.getElementById('picture').textContent.includes('7, failed')")
+        self.assertEqual([each["line"] for each in person.until("changes")["changes"]], ["fail 1.0.0.1 2.0.0.1"])
+        self.assertEqual(person.call("mend 1.0.0.1 2.0.0.1"), ["ok"])
+        for browser in (one, other):
+            browser.until("document.getElementById('log').textContent.includes('anna: mend 1.0.0.1 2.0.0.1')")
