@@ -5,7 +5,6 @@ import json
 import os
 import re
 import signal
-import socket
 import subprocess
 import sys
 import tempfile
@@ -15,7 +14,6 @@ from browser import CHROMIUM, Browser
 from common import TOOLBOX, TOP, Case
 from test_share import Person
 
-EVIL = "<img/src=x onerror=document.title='owned'>"
 SCRIPT = """# step Two routers
 router 1.0.0.1 1
 # Says <script>document.title='owned'</script> & more.
@@ -29,7 +27,7 @@ origin 2.0.0.1 10.1.0.0/16
 """
 # The steps of the script: its lines that make something, and the name.
 STEPS = 6
-RING = TOP / "toolbox" / "lessons" / "three-ases.bgp"
+LESSON = TOP / "toolbox" / "lessons" / "three-ases.bgp"
 
 
 class Lab:
@@ -207,6 +205,86 @@ class Served(AtServer):
         texts = [part[2] for part in _all(self.lab.value("picture")["parts"])]
         self.assertIn("<b>west</b>&quot;", texts)
 
+    def test_pages_and_a_terminal_are_seats_of_one_log(self):
+        anna, ben = self.page("anna"), self.page("ben")
+        carl = Person(self.lab.socket, "carl")
+        self.addCleanup(carl.close)
+        carl.ask("watch", what="all")
+        self.assertEqual(anna.ask("call", line="metric 1.0.0.1 2.0.0.1 9")["reply"], ["ok"])
+        self.assertEqual(ben.changed("metric 1.0.0.1 2.0.0.1 9")["who"], "anna")
+        self.assertEqual(carl.until("changes")["changes"][0]["who"], "anna")
+        self.assertEqual(carl.call("fail 1.0.0.1 2.0.0.1"), ["ok"])
+        self.assertEqual(ben.changed("fail 1.0.0.1 2.0.0.1")["who"], "carl")
+        told = ben.ask("call", line="link 1.0.0.1 2.0.0.1 5")
+        self.assertEqual((told["reply"], told["told"]),
+                         (["refused 8 link-exists"], ["-- 1.0.0.1 and 2.0.0.1 have a link already, of cost 9"]))
+        self.assertEqual(ben.ask("check")["verdict"], "ok 8")
+        self.assertIn(b"fail 1.0.0.1 2.0.0.1\n", self.lab.get("script")[2])
+        replay = subprocess.run([os.environ["PROGRAM"], "replay"], input=self.lab.get("record")[2], capture_output=True)
+        self.assertEqual(replay.stdout, b"ok 8\n")
+        status, out, err = self.lab.end()
+        self.assertEqual((status, out.split("\n")[-2], err), (0, "replay: ok 8", ""))
+
+    def test_a_page_that_goes_has_left_its_seat(self):
+        anna, ben = self.page("anna"), self.page("ben")
+        anna.close()
+        for number in range(100):
+            ben.ask("call", line="metric 1.0.0.1 2.0.0.1 %d" % (number + 1))
+        ben.until(lambda told: told.get("text", "").startswith("anna has gone"))
+
+    def test_who_looks_follows_and_changes_nothing(self):
+        anna, key = self.page("anna"), self.look_key()
+        look = self.page(key=key)
+        look.until(lambda told: told.get("event") == "shown")
+        anna.ask("show", step=3, prefix="10.1.0.0/16", way=None, router="1.0.0.1")
+        self.assertEqual(look.until(lambda told: told.get("event") == "shown"),
+                         {"event": "shown", "step": 3, "prefix": "10.1.0.0/16", "way": None, "router": "1.0.0.1"})
+        late = self.page(key=key)
+        self.assertEqual(late.until(lambda told: told.get("event") == "shown")["step"], 3)
+        body = json.dumps({"id": 1, "do": "call", "line": "fail 1.0.0.1 2.0.0.1"})
+        for page in (look.page, anna.page):
+            self.assertEqual(self.lab.get("do?page=" + page, "POST", body, key, Content_Type="application/json")[0], 403)
+        self.assertEqual(len(self.lab.value("steps")["steps"]), STEPS)
+        self.assertEqual(self.lab.value("picture?step=3", key=key)["step"], 3)
+
+    def test_to_look_at_a_step_changes_nothing(self):
+        steps = [self.lab.value("picture?step=%d" % step) for step in (6, 0, 3, 5, 6)]
+        self.assertEqual([len(_places(each)) for each in steps], [2, 0, 2, 2, 2])
+        self.assertEqual(steps[0], steps[4])
+        self.assertEqual(_places(steps[2]), _places(steps[0]))
+        self.assertEqual((steps[3]["waiting"], steps[4]["waiting"]), ([], [["2.0.0.1", "1.0.0.1"]]))
+        self.assertEqual(len(self.lab.value("steps")["steps"]), STEPS)
+        self.assertEqual(self.page().ask("who")["calls"], 5)
+
+    def test_a_step_has_what_it_delivered(self):
+        page = self.page()
+        self.assertEqual(page.ask("next")["line"], "deliver 2.0.0.1 1.0.0.1")
+        picture = self.lab.value("picture?step=7&prefix=10.1.0.0/16&from=1.0.0.1&to=10.1.0.1")
+        self.assertEqual((picture["reply"], picture["waiting"]), ("took 10.1.0.0/16 update", []))
+        self.assertEqual(picture["titles"][1], "A packet from <b>west</b>&quot; (1.0.0.1) to 10.1.0.1: reached at 2.0.0.1")
+        texts = [part[2] for part in _all(picture["parts"])]
+        self.assertIn("update 10.1.0.0/16", texts)
+        self.assertIn("from 2.0.0.1", texts)
+
+    def test_the_tables_of_a_router(self):
+        page = self.page()
+        page.ask("next")
+        told = self.lab.value("table?router=1.0.0.1&prefix=10.1.0.0/16")
+        route = "path=2 origin=igp next=2.0.0.1 med=- pref=100 oid=- clusters=-"
+        self.assertEqual((told["in"], told["loc"], told["out"]),
+                         ([["2.0.0.1", route, "chosen", True]], route, [["2.0.0.1", "nothing"]]))
+        before = self.lab.value("table?router=1.0.0.1&prefix=10.1.0.0/16&step=6")
+        self.assertEqual((before["in"], before["loc"]), ([], "no route"))
+        self.assertEqual(self.lab.get("table?router=9.9.9.9&prefix=10.1.0.0/16")[0], 400)
+        self.assertEqual(self.lab.get("table?router=1.0.0.1&prefix=10.1.0.1/16")[0], 400)
+        self.assertEqual(self.lab.get("picture?step=99")[0], 400)
+
+
+def _places(picture):
+    """Where each router is."""
+    return {about[1]: [part[1][name] for part in _all([[about, shape]]) if part[0] == "rect" for name in ("x", "y")]
+            for about, shape in picture["parts"] if about and about[0] == "router"}
+
 
 def _all(parts):
     """All elements of a picture."""
@@ -255,3 +333,54 @@ class InABrowser(Case):
         self.assertEqual(person.call("mend 1.0.0.1 2.0.0.1"), ["ok"])
         for browser in (one, other):
             browser.until("document.getElementById('log').textContent.includes('anna: mend 1.0.0.1 2.0.0.1')")
+
+    def test_markup_is_text_in_the_page(self):
+        browser = self.browser(self.lab.url)
+        for step, text in ((2, "Says <script>document.title='owned'</script> & more."), (6, "It is told to the other one.")):
+            browser.value("document.getElementById('slider').value = %d" % step)
+            browser.value("document.getElementById('slider').dispatchEvent(new Event('input'))")
+            browser.until("document.body.dataset.step === '%d'" % step)
+            self.assertEqual(browser.value("document.getElementById('says').textContent"), text)
+        browser.value("document.querySelector(\"[data-about='router 1.0.0.1']\").dispatchEvent(new Event('click'))")
+        browser.until("document.getElementById('table').textContent.includes('Adj-RIB-Out')")
+        browser.value("document.getElementById('command').value = '# name 2.0.0.1 <i>e</i>'")
+        browser.value("document.getElementById('asked').requestSubmit()")
+        browser.until("document.getElementById('picture').textContent.includes('<i>e</i>')")
+        browser.until("document.getElementById('log').textContent.includes('<i>e</i>')")
+        self.assertEqual(browser.value("document.querySelectorAll('b, i, img, script:not([src])').length"), 0)
+        self.assertEqual(browser.value("document.title"), "lab")
+
+    def test_keys_step_through_a_lesson_and_back(self):
+        browser = self.browser(self.lab.url)
+        shown = "[document.getElementById('heading').textContent, document.getElementById('line').textContent]"
+        seen = []
+        for key, step in [("ArrowLeft", step) for step in range(5, -1, -1)] + [("ArrowRight", step) for step in range(1, 7)]:
+            browser.press(key)
+            browser.until("document.body.dataset.step === '%d'" % step)
+            seen.append(browser.value(shown))
+        self.assertEqual(seen[:5], seen[6:11][::-1])
+        self.assertEqual(seen[5], ["", ""])
+        self.assertEqual(seen[6:], [["Two routers", "router 1.0.0.1 1"], ["Two routers", "router 2.0.0.1 2"],
+                                    ["Two routers", "# name 1.0.0.1 <b>west</b>&quot;"], ["Two routers", "link 1.0.0.1 2.0.0.1 7"],
+                                    ["A session", "join 1.0.0.1 2.0.0.1"], ["A session", "origin 2.0.0.1 10.1.0.0/16"]])
+        self.assertEqual(browser.value("document.querySelectorAll('#log .refused').length"), 0)
+
+    def test_a_click_on_a_waiting_message_delivers_it(self):
+        browser = self.browser(self.lab.url)
+        browser.click("[data-about='deliver 2.0.0.1 1.0.0.1'] circle")
+        browser.until("document.body.dataset.step === '7'")
+        self.assertEqual(browser.value("document.getElementById('line').textContent"), "deliver 2.0.0.1 1.0.0.1")
+        self.assertEqual(browser.value("document.getElementById('answer').textContent"), "took 10.1.0.0/16 update")
+
+    def test_a_student_follows_the_teacher(self):
+        teacher, student = self.browser(self.lab.url), self.browser(self.lab.urls["to look"])
+        teacher.press("ArrowLeft")
+        student.until("document.body.dataset.step === '5'")
+        student.until("document.getElementById('says').textContent === ''")
+        teacher.press("n")
+        student.until("document.body.dataset.step === '7'")
+        self.assertEqual(student.value("document.getElementById('line').textContent"), "deliver 2.0.0.1 1.0.0.1")
+        self.assertEqual(student.value("[...document.querySelectorAll('.work')].filter((each) => each.offsetParent).length"), 0)
+        student.press("n")
+        student.press("s")
+        self.assertEqual(len(self.lab.value("steps")["steps"]), 7)
