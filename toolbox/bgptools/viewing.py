@@ -2,6 +2,7 @@
 asked of a run beside the shared one, so that to look changes nothing."""
 from __future__ import annotations
 
+import functools
 import re
 import threading
 from collections import OrderedDict
@@ -183,7 +184,13 @@ def _parts(drawing: Drawing, scene: Scene) -> List[Any]:
     about += [["peer" if spot.is_virtual else "router", a] for a, spot in scene.spots.items()]
     about += [["queue", *badge.groups()] if badge else []
               for badge in (BADGE.fullmatch(part.name) for part in parts[len(about):])]
-    return [[each, _element(ElementTree.fromstring("<g>%s</g>" % part.svg()))] for each, part in zip(about, parts)]
+    return [[each, _drawn(part.svg())] for each, part in zip(about, parts)]
+
+
+@functools.lru_cache(maxsize=65536)
+def _drawn(svg: str) -> List[Any]:
+    """A part of a picture as a page draws it."""
+    return _element(ElementTree.fromstring("<g>%s</g>" % svg))
 
 
 def _element(node: ElementTree.Element) -> List[Any]:

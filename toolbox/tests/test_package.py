@@ -68,7 +68,7 @@ class Names(Case):
     def test_no_such_tool(self):
         told = alone([sys.executable, "-B", "-m", "bgptools", "sette"], TOOLBOX)
         self.assertEqual((told.returncode, told.stdout), (2, b""))
-        self.assertRegex(told.stderr, rb"^there is no tool `sette`: there are play, settle, ")
+        self.assertRegex(told.stderr, rb"^there is no tool `sette`: there are play, share, join, lab, settle, ")
 
     def test_each_module_says_what_its_tool_does(self):
         self.assertEqual([name for name in TOOLS if not sentence_of(name).endswith(".")], [])
