@@ -25,7 +25,7 @@ from .shapes import width_of
 
 # A picture has at most so many routers and peers, a box so many lines, and so many pictures and runs are kept.
 MOST, ROWS, KEPT, RUNS = 200, 5, 400, 4
-WIDTH, BETWEEN = 140.0, 210.0
+WIDTH, BETWEEN = 170.0, 230.0
 BADGE = re.compile(r"[0-9]+ waiting from ([0-9.]+) to ([0-9.]+)")
 Picture = Dict[str, Any]
 

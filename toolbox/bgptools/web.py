@@ -14,7 +14,7 @@ import socket
 import threading
 from http.server import BaseHTTPRequestHandler, ThreadingHTTPServer
 from typing import Any, Callable, Dict, List, Optional, Tuple
-from urllib.parse import parse_qs, urlsplit
+from urllib.parse import parse_qs
 
 from .connection import shown
 from .language import FORMS, number
@@ -96,19 +96,21 @@ class Handler(BaseHTTPRequestHandler):
         if self.headers.get_all("Host") != [here] or any(each != "http://" + here for each in origins):
             self._text(403, "another host or origin")
             return
-        parts = urlsplit(self.path)
-        _, key, path = (parts.path + "//").split("/", 2)
+        _, key, rest = (self.path + "//").split("/", 2)
         role = self.server.lab.role(key)
         if role is None:
             self._text(403, "the address has to be the one that `lab` printed")
             return
-        query = {name: values[-1] for name, values in parse_qs(parts.query, max_num_fields=20).items()}
+        path, _, given = rest.partition("?")
         try:
+            query = {name: values[-1] for name, values in parse_qs(given.rstrip("/"), max_num_fields=20).items()}
             answer(role, path.rstrip("/"), query)
         except Mistake as mistake:
             self._json({"error": str(mistake)}, 400)
         except Gone:
             self._text(503, "the lab has ended")
+        except ValueError:
+            self._text(400, "the address has too many values")
 
     # What is sent
 

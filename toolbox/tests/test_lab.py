@@ -2,6 +2,7 @@
 import contextlib
 import http.client
 import json
+import math
 import os
 import re
 import signal
@@ -10,6 +11,7 @@ import sys
 import tempfile
 import unittest
 
+from bgptools.placing import placed
 from browser import CHROMIUM, Browser
 from common import TOOLBOX, TOP, Case
 from test_share import Person
@@ -27,7 +29,6 @@ origin 2.0.0.1 10.1.0.0/16
 """
 # The steps of the script: its lines that make something, and the name.
 STEPS = 6
-LESSON = TOP / "toolbox" / "lessons" / "three-ases.bgp"
 
 
 class Lab:
@@ -278,6 +279,32 @@ class Served(AtServer):
         self.assertEqual(self.lab.get("table?router=9.9.9.9&prefix=10.1.0.0/16")[0], 400)
         self.assertEqual(self.lab.get("table?router=1.0.0.1&prefix=10.1.0.1/16")[0], 400)
         self.assertEqual(self.lab.get("picture?step=99")[0], 400)
+        self.assertEqual(self.lab.get("picture?" + "a=1&" * 21)[0], 400)
+
+    def test_a_router_that_comes_later_lets_the_others_be(self):
+        page, before = self.page(), _places(self.lab.value("picture"))
+        self.assertEqual(page.ask("call", line="join 1.0.0.1 2.0.0.1")["reply"][0].split()[0], "refused")
+        page.ask("call", line="metric 1.0.0.1 2.0.0.1 100")
+        self.assertEqual(_places(self.lab.value("picture")), before)
+        self.assertEqual([page.ask("call", line=line)["reply"] for line in ("router 2.0.0.2 2", "link 2.0.0.1 2.0.0.2 1")], [["ok"], ["ok"]])
+        after = _places(self.lab.value("picture"))
+        self.assertEqual(sorted(after), ["1.0.0.1", "2.0.0.1", "2.0.0.2"])
+        self.assertEqual(_places(self.lab.value("picture?step=6")), {a: after[a] for a in before})
+
+
+class Placing(unittest.TestCase):
+    def test_a_square_is_a_square(self):
+        """In a ring of four a neighbour is nearer than who is across; the same ring has the same places."""
+        ring = [("a", "b"), ("b", "c"), ("c", "d"), ("d", "a")]
+        places = placed(list("abcd"), ring, 100.0)
+        self.assertEqual(places, placed(list("abcd"), ring, 100.0))
+        sides = [math.dist(places[one], places[other]) for one, other in ring]
+        across = [math.dist(places["a"], places["c"]), math.dist(places["b"], places["d"])]
+        self.assertLess(max(sides) - min(sides), 5)
+        self.assertAlmostEqual(across[0] / sides[0], math.sqrt(2), 1)
+        self.assertEqual(placed(["a"], [], 100.0), placed(["a"], [], 100.0, {}))
+        grown = placed(list("abcde"), ring + [("a", "e")], 100.0, places)
+        self.assertLess(max(math.dist(places[one], grown[one]) for one in "abcd"), 60)
 
 
 def _places(picture):
@@ -309,7 +336,7 @@ class InABrowser(Case):
 
     def browser(self, url):
         """A browser with the page, when it has drawn the last step."""
-        folder = tempfile.TemporaryDirectory(ignore_cleanup_errors=True)
+        folder = tempfile.TemporaryDirectory()
         self.addCleanup(folder.cleanup)
         browser = Browser(folder.name, url)
         self.addCleanup(browser.close)
