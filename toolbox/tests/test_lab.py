@@ -267,6 +267,15 @@ class Served(AtServer):
         self.assertIn("update 10.1.0.0/16", texts)
         self.assertIn("from 2.0.0.1", texts)
 
+    def test_a_worker_settles_when_it_is_let_go(self):
+        page = self.page("anna")
+        self.assertEqual(page.ask("pace", a_second=100)["is_going"], False)
+        self.assertEqual(page.ask("who")["quiet"], False)
+        page.ask("go")
+        self.assertEqual(page.changed("deliver 2.0.0.1 1.0.0.1")["who"], "worker 1")
+        self.assertEqual(page.ask("wait")["quiet"], True)
+        self.assertEqual(page.ask("pause")["is_going"], False)
+
     def test_the_tables_of_a_router(self):
         page = self.page()
         page.ask("next")
