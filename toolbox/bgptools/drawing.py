@@ -1,9 +1,9 @@
 """Draws scenes: all of one script on one layout, so that what stays is drawn at the same place in each."""
 from __future__ import annotations
 
-from typing import Dict, List, Tuple
+from typing import Dict, List, Optional, Tuple
 
-from .layout import Box, arranged
+from .layout import Box, Layout, arranged
 from .routing import GROUP_SIZE, LABEL_SIZE, Key, Labels, badge_place, routed
 from .scene import (BORDER, DELIVERED, DOWN, EXIT, EXTERNAL, FILLS, FORWARDS, INK, INTERNAL, LEGEND, LINK, PALE,
                     VIRTUAL, WAITING, WAY, Scene, Spot, Wire, legend_of, told)
@@ -22,10 +22,11 @@ SLIDE, BESIDE_WORDS = 1.75, 1.5
 class Drawing:
     """All pictures of a script: the scenes share places, lines and labels."""
 
-    def __init__(self, scenes: List[Scene], aspect: float = SLIDE) -> None:
+    def __init__(self, scenes: List[Scene], aspect: float = SLIDE, layout: Optional[Layout] = None) -> None:
+        """With a layout of its own it has no legend either."""
         whole = united(scenes)
-        self.legend = legend_of(scenes)
-        self.layout = arranged(whole, sizes_of(scenes), aspect)
+        self.legend = [] if layout else legend_of(scenes)
+        self.layout = layout or arranged(whole, sizes_of(scenes), aspect)
         keys = {wire.key for wire in whole.wires}
         self.title_height = max(len(scene.titles) for scene in scenes) * (TITLE_SIZE + 6)
         self.curves: Dict[Key, Curve] = routed(self.layout, keys)

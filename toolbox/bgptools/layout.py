@@ -8,7 +8,7 @@ from __future__ import annotations
 import math
 import subprocess
 from dataclasses import dataclass
-from typing import Callable, Dict, Iterable, List, Set, Tuple
+from typing import Callable, Dict, Iterable, List, Optional, Set, Tuple
 
 from .mistakes import Mistake
 from .scene import Scene
@@ -71,11 +71,12 @@ def graphviz(engine: str, kind: str, given: str, *words: str) -> bytes:
     return ran.stdout
 
 
-def arranged(scene: Scene, sizes: Dict[str, Tuple[float, float]], aspect: float) -> Layout:
+def arranged(scene: Scene, sizes: Dict[str, Tuple[float, float]], aspect: float,
+             given: Optional[Dict[str, Tuple[float, float]]] = None) -> Layout:
     """The layout of the routers, links and sessions of a scene, with these sizes of their boxes, about so much broader
-    than high."""
-    pairs = _pairs(scene)
-    places = _turned(_placed(scene, sizes, pairs))
+    than high. Places that are given are packed; else Graphviz gives them."""
+    pairs = pairs_of(scene)
+    places = _turned(_placed(scene, sizes, pairs)) if given is None else given
     spots = {a: Box(x, y, *sizes[a]) for a, (x, y) in places.items()}
     if not scene.groups:
         pack(list(spots.values()), BETWEEN, TIGHTER_INSIDE, lambda boxes: _measure(boxes, aspect))
@@ -164,7 +165,7 @@ def _push(box: Box, others: List[Box], gap: float) -> bool:
     return has_moved
 
 
-def _pairs(scene: Scene) -> Dict[Tuple[str, str], bool]:
+def pairs_of(scene: Scene) -> Dict[Tuple[str, str], bool]:
     """What draws two together: links, and what holds an AS and then the whole together where links do not; and whether
     that is inside an AS."""
     home = {a: asn for asn, inside in scene.groups.items() for a in inside}

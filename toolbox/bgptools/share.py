@@ -10,7 +10,7 @@ from typing import List, Optional
 
 from . import replaying
 from .mistakes import CHANGED, Mistake
-from .script import read
+from .script import Line, read
 from .seats import BESIDE
 from .serving import Hub, listening
 from .shared import Shared
@@ -44,10 +44,9 @@ def _told(text: str) -> None:
     print(text, file=sys.stderr)
 
 
-def _opened(chosen: argparse.Namespace) -> Shared:
+def opened(chosen: argparse.Namespace, lines: List[Line]) -> Shared:
     """The network, with its log taken up or its script played. A new log of a script that cannot be played goes."""
     path = chosen.at + BESIDE_SOCKET if chosen.log is None else chosen.log
-    lines = [] if chosen.script is None else read(chosen.script)
     is_there = os.path.exists(path)
     shared = Shared(path, chosen.workers, chosen.log is None, chosen.most, _told)
     try:
@@ -70,7 +69,7 @@ def _say(path: str, shared: Shared) -> None:
     sys.stdout.flush()
 
 
-def _ended(shared: Shared, number: int) -> int:
+def concluded(shared: Shared, number: int) -> int:
     """Ends the log, and says what `replay` says of it: the exit status."""
     shared.end()
     print("%d calls in %s" % (shared.log.count, shared.log.path))
@@ -88,7 +87,7 @@ def main(words: Optional[List[str]] = None) -> int:
         raise Mistake("--workers %d: a number of 0 to %d is expected" % (chosen.workers, MOST_WORKERS))
     with listening(chosen.at) as line:
         try:
-            shared = _opened(chosen)
+            shared = opened(chosen, [] if chosen.script is None else read(chosen.script))
             try:
                 number = Hub(shared).serve(line, lambda: _say(chosen.at, shared))
             except BaseException:
@@ -97,4 +96,4 @@ def main(words: Optional[List[str]] = None) -> int:
         finally:
             with contextlib.suppress(FileNotFoundError):
                 os.unlink(chosen.at)
-    return _ended(shared, number)
+    return concluded(shared, number)

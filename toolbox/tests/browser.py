@@ -5,10 +5,16 @@ import json
 import os
 import shutil
 import subprocess
+import sys
 import time
 
 CHROMIUM = os.environ.get("CHROMIUM") or shutil.which("chromium") or shutil.which("chromium-browser")
 KEYS = {"ArrowRight": 39, "ArrowLeft": 37, " ": 32, "Home": 36, "End": 35, "PageDown": 34, "Tab": 9, "Enter": 13}
+# Runs a command with two pipes where the browser wants them.
+AT_3_AND_4 = """import fcntl, os, sys
+given, told = (fcntl.fcntl(int(each), fcntl.F_DUPFD_CLOEXEC, 10) for each in sys.argv[1:3])
+os.dup2(given, 3), os.dup2(told, 4)
+os.execvp(sys.argv[3], sys.argv[3:])"""
 
 
 class Browser:
@@ -18,7 +24,7 @@ class Browser:
         (given, self.writes), (self.reads, told) = os.pipe(), os.pipe()
         command = [CHROMIUM, "--headless", "--no-sandbox", "--disable-gpu", "--remote-debugging-pipe",
                    "--window-size=1280,720", "--user-data-dir=%s" % folder]
-        self.process = subprocess.Popen(["sh", "-c", 'exec "$@" 3<&%d 4>&%d' % (given, told), "sh", *command],
+        self.process = subprocess.Popen([sys.executable, "-c", AT_3_AND_4, str(given), str(told), *command],
                                         pass_fds=(given, told),
                                         stdin=subprocess.DEVNULL, stdout=subprocess.DEVNULL, stderr=subprocess.DEVNULL)
         os.close(given)
@@ -26,7 +32,17 @@ class Browser:
         self.waiting, self.number, self.session = b"", 0, None
         target = self.ask("Target.createTarget", url=url)["targetId"]
         self.session = self.ask("Target.attachToTarget", targetId=target, flatten=True)["sessionId"]
-        self.until("location.protocol !== 'about:' && document.readyState === 'complete'")
+        self._opened()
+
+    def _opened(self):
+        """Waits until the page is there; on the way to it there may be none."""
+        end = time.monotonic() + 60
+        while True:
+            try:
+                return self.until("location.protocol !== 'about:' && document.readyState === 'complete'")
+            except AssertionError as fault:
+                if "execution context" not in str(fault) or time.monotonic() > end:
+                    raise
 
     def ask(self, method, **values):
         """The result of a command."""

@@ -160,7 +160,7 @@ class Package(Case):
     def test_each_tool_does_what_its_document_shows(self):
         shown = {name: example_of(name) for name in TOOLS}
         # The others are called below.
-        self.assertLessEqual({name for name in TOOLS if not shown[name]}, {"settle", "draw", "share", "join"})
+        self.assertLessEqual({name for name in TOOLS if not shown[name]}, {"settle", "draw", "share", "join", "lab"})
         for name, (called, output) in ((name, example) for name, example in shown.items() if example):
             with self.subTest(tool=name):
                 told = self.run_there(["bgpsim-" + called[0], *called[1:]])
@@ -180,6 +180,11 @@ class Package(Case):
         self.assertEqual((told.returncode, told.stderr[:len(line)]), (2, line))
         told = self.run_there(["bgpsim-join", "shared", "--as", "anna"])
         self.assertEqual((told.returncode, told.stderr), (2, b"shared: there is no share: No such file or directory\n"))
+
+    def test_lab(self):
+        told = self.run_there(["bgpsim-lab", "toolbox/lessons/refused.bgp"])
+        self.assertEqual(told.returncode, 2)
+        self.assertIn(b"toolbox/lessons/refused.bgp:7: refused 13 ", told.stderr)
 
     def test_each_tool_has_its_name_its_page_and_its_completion(self):
         self.assertEqual((self.root / "usr/share/bgpsim/launch").read_text().split("\n")[0], "#!/usr/bin/python3")
