@@ -24,8 +24,8 @@ from .web import Server
 def parser() -> argparse.ArgumentParser:
     """The words of the command line."""
     made = argparse.ArgumentParser(prog="lab", description=(
-        "Serves a page on this machine alone, and prints its address: the picture of SCRIPT's network, in which what is "
-        "clicked offers its commands, a router's tables, and a slider over all steps. Pages and `join` at the socket "
+        "Serves a page on this machine alone, and prints its address: the picture of SCRIPT's network, in which what "
+        "is clicked offers its commands, a router's tables, and a slider over all steps. Pages and `join` at the socket "
         "see one network. Ctrl-C ends it, and gives the log to `bgpsim replay`."),
         epilog="Whoever has the address can work on the network: it has a secret in it, and the server binds to "
                "127.0.0.1. Exit status: 0 `replay` says that the log is one of this machine; 1 it says something else; "

@@ -12,8 +12,8 @@ from .mistakes import Mistake, ended
 
 # Each is the name of a launcher in toolbox/, a copy of `launch`, and with `_` for `-` of the module with its `parser`
 # and `main`. The list of tools, completion, manual pages, and what pip and the package install are made of these names.
-TOOLS = ("play", "share", "join", "lab", "settle", "what-if", "sweep", "explain", "draw", "from-frr", "from-bird", "from-cbgp",
-         "from-graph", "from-as-rel", "from-rib", "from-mrt")
+TOOLS = ("play", "share", "join", "lab", "settle", "what-if", "sweep", "explain", "draw", "from-frr", "from-bird",
+         "from-cbgp", "from-graph", "from-as-rel", "from-rib", "from-mrt")
 # What stands before a tool's name where it is installed.
 PREFIX = "bgpsim-"
 

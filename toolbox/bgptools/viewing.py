@@ -18,7 +18,7 @@ from .looking import Delivered, Known, View, look
 from .mistakes import Mistake
 from .network import Direction, Network, ends
 from .placing import Place, placed
-from .replies import best, routes, trace, trace_text
+from .replies import best, routes
 from .run import Run
 from .scene import LINK, Scene, Spot, Wire, readable
 from .shapes import width_of
@@ -96,14 +96,6 @@ class Viewer:
                     for peer, reply in zip(peers, replies)]
         return {"router": readable(names.shown(router)), "prefix": to, "in": received, "out": sent,
                 "loc": _told(chosen.attributes) if chosen else "no route"}
-
-    def trace(self, lines: List[str], step: int, way: Direction) -> str:
-        """The way of a packet after a step, in words."""
-        with self.lock:
-            run, _, _ = self._at(lines, step)
-            if not run.network.is_router(way[0]) or address(way[1]) is None:
-                raise Mistake("a packet goes from a router to an address")
-            return readable(trace_text(trace(run.ask(["trace %s %s" % way])[0]), run.network.names))
 
     # Runs
 

@@ -39,6 +39,14 @@ class Lab:
         self.process = subprocess.Popen([sys.executable, "-B", str(TOOLBOX / "lab"), *map(str, words), "--at", self.socket],
                                         stdout=subprocess.PIPE, stderr=subprocess.PIPE, cwd=str(TOP))
         self.urls = {}
+        try:
+            self._read()
+        except BaseException:
+            self.close()
+            raise
+
+    def _read(self):
+        """Reads where the pages are."""
         line = self.process.stdout.readline().decode()
         while not line.startswith("`join"):
             if not line:
