@@ -220,6 +220,8 @@ def tries(streams: Streams, folder: str) -> Iterator[Tried]:
 
 def try_streams() -> int:
     programs.bgpsim()
+    # What a shell runs in the background ignores Ctrl-C, and so would the programs that are started here.
+    signal.signal(signal.SIGINT, signal.default_int_handler)
     passed = failed = 0
     with failing() as streams, tempfile.TemporaryDirectory() as folder:
         for name, wrong in tries(streams, folder):
