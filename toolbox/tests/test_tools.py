@@ -508,7 +508,7 @@ class Teams(Case):
 
 class Planted(Case):
     """A repository of one crate, and an rt that proves whatever has no `wrong` in it, and else prints what stands after
-    that."""
+    that. It notes its words."""
     SOURCE = "fn half(n: u8) -> u8 {\n    good\n}\n\nfn whole(n: u8) -> u8 {\n    fair\n}\nconst MOST: u8 = 3;\n"
     GOAL = "note: src/lib.rt:2:5: it is not proved that what the function ensures holds when it returns (`returns`)"
     PROOF = "./proofs/half/Answers.antt:3:9: error: `returns`: expected type `1 ≡ 2`, but this has type `1 ≡ 1`"
@@ -531,12 +531,18 @@ class Planted(Case):
             self.file("crates/low/planted/%s.edit" % name, "file: src/lib.rt\nold: %s\nnew: %s\n" % (old, new))
         for name, lines in self.TOLD.items():
             self.file("bin/" + name, "\n".join(lines) + "\nlogic=not-proved\n")
-        proves = "#!/bin/sh\nfor it in $(sed -n 's/.*wrong \\(.\\).*/\\1/p' src/lib.rt); do cat %s/$it; exit 1; done\n"
-        self.file("bin/rt", proves % (self.folder / "bin")).chmod(0o755)
+        proves = ("#!/bin/sh\necho \"$*\" >>%s/words\n"
+                  "for it in $(sed -n 's/.*wrong \\(.\\).*/\\1/p' src/lib.rt); do cat %s/$it; exit 1; done\n"
+                  "echo fn low::half: proved; echo fn low::whole: proved\n")
+        self.file("bin/rt", proves % (self.folder, self.folder / "bin")).chmod(0o755)
         with unittest.mock.patch.object(planted, "TOP", self.folder), \
+                unittest.mock.patch.object(planted, "RT", ["rt"]), \
                 unittest.mock.patch.dict(os.environ, {"PATH": "%s:%s" % (self.folder / "bin", os.environ["PATH"])}):
             status, told = called(planted.main)
+        asked = (self.folder / "words").read_text().splitlines()
+        self.assertEqual((asked.count("check --jobs 1"), asked.count("check --jobs 1 --only low::half")), (5, 8))
         self.assertEqual((status, re.sub(r" \([0-9]+ s\)", "", told)), (1, (
+            "low/as it is: proved\n"
             "low/a: refused by a goal: `returns` of low::half\n"
             "low/b: refused by a goal: `returns` of low::fn::half::byte\n"
             "low/c: refused by a goal, beside a proof file: `returns` of low::half\n"
@@ -556,24 +562,37 @@ class Planted(Case):
         for name, old, new in (("a", "good", "wrong a"), ("b", "fair", "wrong b"), ("c", "good", "better")):
             edits.append(self.file("low/planted/%s.edit" % name, "file: src/lib.rt\nold: %s\nnew: %s\n" % (old, new)))
         self.file("low/src/lib.rt", self.SOURCE)
-        self.assertEqual(planted.rounds_of(edits, self.folder / "low"), [[edits[0], edits[1]], [edits[2]]])
+        self.file("low/src/other.rt", "")
+        names = ["low::half", "low::whole", "low::fn::half::byte", "low::other::half"]
+        low = planted.Copied(self.folder / "low", names)
+        self.assertEqual(planted.rounds_of(edits, low), [[edits[0], edits[1]], [edits[2]]])
         other = "note: src/lib.rt:6:5: it is not proved that what the function ensures holds when it returns (`gives`)"
-        for lines, found in (
-                ((self.GOAL, "fn low::half: not proved", other, "fn low::whole: not proved"), {
-                    edits[0]: ("refused by a goal", "`returns` of low::half"),
-                    edits[1]: ("refused by a goal", "`gives` of low::whole")}),
-                ((other, "fn low::whole: not proved"), {edits[1]: ("refused by a goal", "`gives` of low::whole")}),
-                ((self.PROOF, "fn low::half: not proved"), {}), (("src/lib.rt:2:5: error: `half`: gone",), {})):
+        by_goal = {edits[0]: ("refused by a goal", "`returns` of low::half"),
+                   edits[1]: ("refused by a goal", "`gives` of low::whole")}
+        for lines, found, checks in (
+                ((self.GOAL, "fn low::half: not proved", other, "fn low::whole: not proved"), by_goal, 1),
+                ((other, "fn low::whole: not proved"), {edits[1]: by_goal[edits[1]]}, 1),
+                ((self.PROOF, "fn low::half: not proved"),
+                 {edits[0]: ("refused BY A PROOF FILE alone", self.PROOF)}, 1),
+                ((self.PROOF, "fn low::half: proved"), {}, 1), (self.TOLD["g"], {}, 3)):
             seen = []
 
-            def check(folder, lines=lines, seen=seen):
-                seen.append((folder / "src/lib.rt").read_text())
-                return 1, [*lines, "logic=not-proved"]
+            def check(folder, functions, lines=lines, seen=seen):
+                seen.append(((folder / "src/lib.rt").read_text(), functions))
+                return 1, [*lines, "only=2 proved=0"]
 
             with self.subTest(lines=lines), unittest.mock.patch.object(planted, "check", check):
-                self.assertEqual(planted.at_once(edits[:2], self.folder / "low"), found)
-            self.assertEqual(seen, [self.SOURCE.replace("good", "wrong a").replace("fair", "wrong b")])
+                self.assertEqual(planted.at_once(edits[:2], low), found)
+            text = self.SOURCE.replace("good", "wrong a").replace("fair", "wrong b")
+            self.assertEqual((seen[0], len(seen)), ((text, {"low::half", "low::whole"}), checks))
         self.assertEqual((self.folder / "low/src/lib.rt").read_text(), self.SOURCE)
+
+    def test_what_is_asked_for(self):
+        edit = self.file("crates/low/must-fail/a.edit", "")
+        with unittest.mock.patch.object(planted, "TOP", self.folder):
+            self.assertEqual(planted.asked_edits([str(edit)], ["low"]), {"low": [edit.resolve()]})
+            for word in ("high", str(self.folder / "gone.edit")):
+                self.assertRaises(ValueError, planted.asked_edits, [word], ["low"])
 
 
 class Toolbox(Case):
