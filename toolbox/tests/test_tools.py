@@ -17,9 +17,9 @@ import unittest.mock
 from common import TOP, Case
 
 import model
-from simtools import (believed, bench_tables, commands, language, loads, logs, planted, programs, random_interiors,
-                      random_scripts, real_routers, refuse_allocations, refusing, run_toolbox_tests, running, speaker,
-                      teams, wants_memory)
+from simtools import (believed, bench_tables, commands, language, left_out, loads, logs, planted, programs,
+                      random_interiors, random_scripts, real_routers, refuse_allocations, refusing,
+                      run_toolbox_tests, running, speaker, teams, wants_memory)
 
 NOWHERE = "/nowhere/bgpsim"
 NOT_THERE = "there is no program %s: PROGRAM= names it\n" % NOWHERE
@@ -532,20 +532,20 @@ class Planted(Case):
         for name, lines in self.TOLD.items():
             self.file("bin/" + name, "\n".join(lines) + "\nlogic=not-proved\n")
         proves = ("#!/bin/sh\necho \"$*\" >>%s/words\n"
-                  "for it in $(sed -n 's/.*wrong \\(.\\).*/\\1/p' src/lib.rt); do cat %s/$it; exit 1; done\n"
-                  "echo fn low::half: proved; echo fn low::whole: proved\n")
+                  "for it in $(sed -n 's/.*wrong \\(.\\).*/\\1/p' src/lib.rt); do cat %s/$it; exit 1; done\n")
         self.file("bin/rt", proves % (self.folder, self.folder / "bin")).chmod(0o755)
         with unittest.mock.patch.object(planted, "TOP", self.folder), \
                 unittest.mock.patch.object(planted, "RT", ["rt"]), \
                 unittest.mock.patch.dict(os.environ, {"PATH": "%s:%s" % (self.folder / "bin", os.environ["PATH"])}):
             status, told = called(planted.main)
         asked = (self.folder / "words").read_text().splitlines()
-        self.assertEqual((asked.count("check --jobs 1"), asked.count("check --jobs 1 --only low::half")), (5, 8))
+        alone = "check --jobs 1 --allow-holes --only low::half"
+        self.assertEqual((asked.count("check --jobs 1"), asked.count(alone), len(asked)), (5, 8, 13))
         self.assertEqual((status, re.sub(r" \([0-9]+ s\)", "", told)), (1, (
-            "low/as it is: proved\n"
             "low/a: refused by a goal: `returns` of low::half\n"
             "low/b: refused by a goal: `returns` of low::fn::half::byte\n"
             "low/c: refused by a goal, beside a proof file: `returns` of low::half\n"
+            "low/as it is: proved\n"
             "low/d: refused elsewhere: `returns` of low::whole\n"
             "low/e: refused at a limit: `returns` of low::half\n"
             "low/f: refused BY A PROOF FILE alone: %s\n"
@@ -562,9 +562,7 @@ class Planted(Case):
         for name, old, new in (("a", "good", "wrong a"), ("b", "fair", "wrong b"), ("c", "good", "better")):
             edits.append(self.file("low/planted/%s.edit" % name, "file: src/lib.rt\nold: %s\nnew: %s\n" % (old, new)))
         self.file("low/src/lib.rt", self.SOURCE)
-        self.file("low/src/other.rt", "")
-        names = ["low::half", "low::whole", "low::fn::half::byte", "low::other::half"]
-        low = planted.Copied(self.folder / "low", names)
+        low = planted.Copied(self.folder / "low", left_out.bodies(self.folder / "low"))
         self.assertEqual(planted.rounds_of(edits, low), [[edits[0], edits[1]], [edits[2]]])
         other = "note: src/lib.rt:6:5: it is not proved that what the function ensures holds when it returns (`gives`)"
         by_goal = {edits[0]: ("refused by a goal", "`returns` of low::half"),
@@ -586,6 +584,23 @@ class Planted(Case):
             text = self.SOURCE.replace("good", "wrong a").replace("fair", "wrong b")
             self.assertEqual((seen[0], len(seen)), ((text, {"low::half", "low::whole"}), checks))
         self.assertEqual((self.folder / "low/src/lib.rt").read_text(), self.SOURCE)
+
+    def test_proofs_that_are_left_out(self):
+        self.file("low/src/lib.rt", "mod net;\nfn walk() { walk(); }\nfn main() { run(1); }\n#[test]\nfn t() {}\n")
+        self.file("low/src/net.rt", "struct Net;\nimpl Net { fn get() {} fn put() { get(); } }\n"
+                                    "impl Same for Net { fn is_same() {} }\nimpl Line<Held> for Net { fn at() {} }\n"
+                                    "impl Same for Other { fn is_same() {} }\nfn free() {}\n#[cfg(test)]\nmod tests;\n")
+        self.file("low/src/net/tests.rt", "fn helper() {}\n")
+        answers = self.file("low/proofs/net/Net/get/Answers.antt", "")
+        kept = self.file("low/proofs/net/Net/put/Answers.antt", "")
+        left_out.leave_out(self.folder / "low", ["low::net::Net::put"])
+        holes = sorted(str(path.relative_to(self.folder / "low/proofs"))
+                       for path in (self.folder / "low").rglob("Proof.antt"))
+        self.assertEqual(holes, ["net/Net/get/Proof.antt", "net/NetSame/is_same/Proof.antt", "net/free/Proof.antt"])
+        self.assertEqual((answers.exists(), kept.exists()), (False, True))
+        self.assertEqual((answers.parent / "Proof.antt").read_text(), (
+            "use Rattle.low.proofs.net.Net.get.Statement.{statement}\n\npub get_spec : {M : Type 1} → statement M\n"
+            "get_spec = ?\n"))
 
     def test_what_is_asked_for(self):
         edit = self.file("crates/low/must-fail/a.edit", "")

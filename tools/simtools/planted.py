@@ -4,12 +4,13 @@ it does those of must-fail/, and by a goal that has no proof.
     tools/planted [--jobs N] [CRATE | EDIT ..]        without a word: all crates that have planted/
 
 An EDIT is such a file; one of must-fail/ is tried in the same way. It is a line `file: src/lib.rt` and pairs of lines
-`old: TEXT` and `new: TEXT`. Each crate is copied with the crates below it and with what earlier checks kept in out/, so
-the files here stay as they are; N copies are tried side by side, as many as there are processors where nothing is said.
-What has not been checked before is proved first. Edits of functions with other names are tried in one check, of those
-functions and what they call alone, up to 24 at once: a contract is all that others see of a function, so none hides or
-helps another. What such a check does not settle, and what stands in no function, is tried again alone, by a check of
-the whole crate. Of each edit it tells how it was refused:
+`old: TEXT` and `new: TEXT`. Each crate is copied with the crates below it, whose libraries have to be built, and with
+what earlier checks kept in out/, so the files here stay as they are; N copies are tried side by side, as many as there
+are processors where nothing is said. Edits of functions that do not call one another are tried in one check, up to 40
+at once. It checks those functions alone, and takes all others by what they state, without their proofs: a contract is
+all that others see of a function, so none hides or helps another. What such a check does not settle, and what stands in
+no function, is tried alone, by a check of the whole crate, which is proved as it is before. Of each edit it tells how
+it was refused:
 
     by a goal             a goal of the function that the edit stands in has no proof; it is named
     by a goal, beside ..  so too, but a proof of that function, written by hand, does not fit the edited text either:
@@ -36,14 +37,14 @@ import time
 from dataclasses import dataclass, field
 from typing import Collection, Dict, Iterator, List, Optional, Sequence, Set, Tuple
 
-from . import commands
+from . import commands, left_out
 from . import rattle_source as reading
 from .programs import TOP
 from .running import side_by_side
 
 PARTS = ("src", "specs", "proofs", "c")
 # The most edits that are tried in one copy of a crate, and in one check.
-EDITS_A_COPY, EDITS_A_CHECK = 96, 24
+EDITS_A_COPY, EDITS_A_CHECK = 160, 40
 # `rt`, which reads the files of each library once there.
 RT: Sequence[str] = (sys.executable, "-B", str(pathlib.Path(__file__).resolve().parent.parent / "build"), "--rt", "--")
 # Where checks keep their work, in a crate's folder.
@@ -55,7 +56,7 @@ BY_GOAL, BESIDE, ELSEWHERE = "refused by a goal", "refused by a goal, beside a p
 AT_LIMIT, BY_PROOF = "refused at a limit", "refused BY A PROOF FILE alone"
 # What a check prints of a goal that has no proof, then of its function; and of a proof that does not fit.
 GOAL = re.compile(r"note: \S+:\d+:\d+: .* \(`(\S+)`\)(.*)")
-FUNCTION = re.compile(r"fn (\S+): (not proved|no proof|proved)?")
+FUNCTION = re.compile(r"fn (\S+): (not proved|no proof)?")
 PROOF = re.compile(r"(?:\./)?(proofs/\S+)\.antt:\d+:\d+: error")
 Texts = Dict[pathlib.Path, str]
 printing = threading.Lock()
@@ -84,7 +85,10 @@ def link(source: str, target: str) -> None:
 
 def link_what_was_checked(source: str, target: str) -> None:
     """Links what a check replaces, and never writes into; copies the rest."""
-    (link if source.endswith(".oantt") else shutil.copy2)(source, target)
+    if source.endswith(".oantt"):
+        link(source, target)
+    else:
+        shutil.copy2(source, target)
 
 
 def copy(crate: str, others: Set[str], room: pathlib.Path) -> None:
@@ -127,12 +131,13 @@ def texts_of(edit: pathlib.Path, folder: pathlib.Path, edited: Optional[Texts] =
 
 
 def check(folder: pathlib.Path, functions: Collection[str] = ()) -> Tuple[int, List[str]]:
-    """The status of a check of the crate, or of these functions and what they call, and the lines of what it told.
-    Missing where there is no rt."""
+    """The status of a check of the crate, or of these functions past the holes of others, and the lines of what it
+    told. Missing where there is no rt."""
     if shutil.which("rt") is None:
         raise commands.Missing("there is no rt on the path: the Rattle kit has it")
     words = [word for function in sorted(functions) for word in ("--only", function)]
-    ran = subprocess.run([*RT, "check", "--jobs", "1", *words], cwd=folder, stdin=subprocess.DEVNULL,
+    holes = ["--allow-holes"] if functions else []
+    ran = subprocess.run([*RT, "check", "--jobs", "1", *holes, *words], cwd=folder, stdin=subprocess.DEVNULL,
                          stdout=subprocess.PIPE, stderr=subprocess.STDOUT, text=True, errors="replace")
     return ran.returncode, ran.stdout.splitlines()
 
@@ -179,7 +184,7 @@ def is_of(function: str, own: Collection[str]) -> bool:
 def is_by(line: str, own: Collection[str]) -> bool:
     """Whether a proof that does not fit is one of these functions."""
     found = PROOF.match(line)
-    return bool(found) and bool(set(found[1].split("/")) & set(own))
+    return found is not None and bool(set(found[1].split("/")) & set(own))
 
 
 def refusal(told: List[str], own: Collection[str]) -> Tuple[str, str]:
@@ -200,12 +205,13 @@ def refusal(told: List[str], own: Collection[str]) -> Tuple[str, str]:
 def settled(told: List[str], own: Collection[str]) -> Optional[Tuple[str, str]]:
     """How a check in which other functions are edited too refused an edit of these functions, where what it told of
     them says so."""
-    if any(is_of(function, own) for function, _, _ in open_goals(told)):
-        return refusal(told, own)
+    goals = [goal for goal in open_goals(told) if is_of(goal[0], own)]
+    if goals:
+        of_limits = (AT_LIMIT, "`%s` of %s" % (goals[0][1], goals[0][0]))
+        return of_limits if all(is_at_limit for _, _, is_at_limit in goals) else refusal(told, own)
     states = [(found[1], found[2]) for found in map(FUNCTION.match, told) if found and is_of(found[1], own)]
     proofs = [line for line in told if PROOF.match(line) and is_by(line, own)]
-    refused = [function for function, state in states if state in ("not proved", "no proof")]
-    return (BY_PROOF, proofs[0]) if proofs and refused else None
+    return (BY_PROOF, proofs[0]) if proofs and any(state for _, state in states) else None
 
 
 def not_read(told: List[str], changed: Collection[str]) -> Optional[str]:
@@ -222,52 +228,57 @@ def verdict(status: int, told: List[str], changed: Collection[str], own: Collect
     return ("BAD", "it did not reach the prover: %s" % why) if why else refusal(told, own)
 
 
+def tell(crate: str, what: str, word: str, start: float, why: Optional[str]) -> None:
+    with printing:
+        reason = ": " + why[:140] if why else ""
+        print("%s/%s: %s (%.0f s)%s" % (crate, what, word, time.monotonic() - start, reason), flush=True)
+
+
 @dataclass
 class Copied:
-    """A copy of a crate. What the check of the crate as it is kept is what each later check begins with; the names are
-    those of the functions that it told of."""
+    """A copy of a crate, its functions, and whether the crate as it is was found to be proved."""
     folder: pathlib.Path
-    names: List[str] = field(default_factory=list)
+    bodies: List[left_out.Body] = field(default_factory=list)
+    proved: Optional[bool] = None
 
-    def is_proved(self) -> Tuple[bool, List[str]]:
-        """Checks the crate as it is: whether it is proved, and what was told."""
-        status, told = check(self.folder)
-        self.names = [found[1] for found in map(FUNCTION.match, told) if found]
-        if (self.folder / KEPT).is_dir():
-            (self.folder / KEPT).rename(self.folder / "out" / "seed")
-        return status == 0, told
-
-    def module(self, path: pathlib.PurePath) -> str:
-        """How a check begins the names of what stands in this file of src/."""
-        parts = [part for part in path.with_suffix("").parts if part not in ("lib", "main")]
-        return "::".join([self.folder.name, *parts, ""])
-
-    def functions(self, file: str, own: Collection[str]) -> List[str]:
-        """The functions with these names that may stand in this file, as a check names them: those of its module, and
-        the methods of all types, which may stand in another module than the type."""
-        modules = [self.module(path.relative_to(self.folder / "src")) for path in (self.folder / "src").rglob("*.rt")]
-        here = self.module(pathlib.PurePath(file).relative_to("src")) if file.startswith("src/") else ""
-        return [name for name in self.names if is_of(name, own) and "::fn::" not in name
-                and (name.split("::")[-2][:1].isupper()
-                     or here == max((module for module in modules if name.startswith(module)), key=len, default=""))]
+    def functions(self, file: str, own: Collection[str]) -> List[left_out.Body]:
+        """The functions of a file with these names."""
+        module = left_out.module(pathlib.PurePath(file).relative_to("src")) if file.startswith("src/") else None
+        return [body for body in self.bodies if body.module == module and body.name in own]
 
     def check(self, functions: Collection[str]) -> Tuple[int, List[str]]:
-        """A check that begins with what was kept of the crate as it is."""
-        if (self.folder / "out" / "seed").is_dir():
-            shutil.rmtree(self.folder / KEPT, ignore_errors=True)
-            shutil.copytree(self.folder / "out" / "seed", self.folder / KEPT, copy_function=link_what_was_checked)
+        """A check of these functions without the proofs of the others, or of the whole crate."""
+        proofs, kept = self.folder / "proofs", self.folder / "out" / "proofs"
+        if not kept.is_dir():
+            proofs.mkdir(exist_ok=True)
+            shutil.copytree(proofs, kept)
+        shutil.rmtree(proofs, ignore_errors=True)
+        shutil.copytree(kept, proofs)
+        if functions:
+            left_out.leave_out(self.folder, functions)
         return check(self.folder, functions)
+
+    def is_proved(self) -> bool:
+        """Whether the crate as it is is proved, which is told once."""
+        if self.proved is None:
+            start = time.monotonic()
+            status, told = self.check(())
+            self.proved = status == 0
+            word, why = ("proved", None) if self.proved else ("NOT PROVED", (told or ["?"])[-1])
+            tell(self.folder.name, "as it is", word, start, why)
+        return self.proved
 
 
 @dataclass
 class Applied:
-    """Edits that stand in the files at once: the texts, and of each edit its files, the names of its functions and
-    these as a check names them."""
+    """Edits that stand in the files at once: the texts, and of each edit its files, the names of its functions, these
+    as a check names them, where each can be checked alone, and what they call."""
     texts: Texts = field(default_factory=dict)
     edits: List[pathlib.Path] = field(default_factory=list)
     files: List[Set[str]] = field(default_factory=list)
     own: List[Set[str]] = field(default_factory=list)
     functions: List[Set[str]] = field(default_factory=list)
+    calls: List[Set[str]] = field(default_factory=list)
 
     def add(self, edit: pathlib.Path, copied: Copied) -> Optional[str]:
         """Puts the edit to the others. Why it does not apply, if it does not."""
@@ -279,10 +290,20 @@ class Applied:
         self.edits.append(edit)
         self.files.append(set(own))
         self.own.append(set().union(*own.values()))
-        found = {file: copied.functions(file, names) for file, names in own.items()}
-        self.functions.append(set().union(*found.values()) if all(found.values()) else set())
+        found = [body for file, names in own.items() for body in copied.functions(file, names)]
+        names = {body.place.printed(copied.folder.name) for body in found if body.place}
+        can_be_alone = all(own.values()) and all(body.place and not body.is_recursive for body in found)
+        self.functions.append(names if can_be_alone else set())
+        self.calls.append(set().union(*(body.calls for body in found)))
         self.texts.update(texts)
         return None
+
+    def fits(self, other: Applied) -> bool:
+        """Whether another edit's functions, and none of these, can be checked at once: they are others, and call none
+        of one another."""
+        own, calls = other.own[0], other.calls[0]
+        return len(self.edits) < EDITS_A_CHECK and all(self.functions) and not any(
+            own & mine or own & called or mine & calls for mine, called in zip(self.own, self.calls))
 
     def check(self, copied: Copied, functions: Collection[str]) -> Tuple[int, List[str]]:
         """A check with these edits; then the files are as before."""
@@ -303,22 +324,20 @@ def attempt(edit: pathlib.Path, copied: Copied) -> Outcome:
     """Tries the edit alone, by a check of the whole crate."""
     applied = Applied()
     why = applied.add(edit, copied)
-    if why:
-        return "BAD", why
+    if why or not copied.is_proved():
+        return "BAD", why or "the crate is not proved as it is"
     return verdict(*applied.check(copied, ()), applied.files[0], applied.own[0])
 
 
 def rounds_of(edits: List[pathlib.Path], copied: Copied) -> List[List[pathlib.Path]]:
-    """The edits in rounds, in each of which no two are of functions of one name."""
+    """The edits in rounds, in each of which no two hide one another."""
     rounds: List[Applied] = []
     for edit in edits:
         alone = Applied()
         if alone.add(edit, copied) is None and alone.functions[0]:
-            fits = (it for it in rounds if len(it.edits) < EDITS_A_CHECK and all(it.functions)
-                    and not any(own & alone.own[0] for own in it.own))
-            if any(it.add(edit, copied) is None for it in fits):
+            if any(it.add(edit, copied) is None for it in rounds if it.fits(alone)):
                 continue
-        alone.edits, alone.own, alone.functions = [edit], alone.own or [set()], alone.functions or [set()]
+        alone.edits, alone.functions = [edit], alone.functions or [set()]
         rounds.append(alone)
     return [it.edits for it in rounds]
 
@@ -338,23 +357,13 @@ def at_once(edits: List[pathlib.Path], copied: Copied) -> Dict[pathlib.Path, Out
     return {edit: outcome for edit, outcome in found if outcome}
 
 
-def tell(crate: str, what: str, word: str, start: float, why: Optional[str]) -> None:
-    with printing:
-        reason = ": " + why[:140] if why else ""
-        print("%s/%s: %s (%.0f s)%s" % (crate, what, word, time.monotonic() - start, reason), flush=True)
-
-
 def try_edits(crate: str, others: Set[str], edits: List[pathlib.Path]) -> List[str]:
     """The words that these edits of the crate came to."""
     words = []
     with tempfile.TemporaryDirectory(prefix="planted-") as room:
-        copied, start = Copied(pathlib.Path(room) / "crates" / crate), time.monotonic()
+        copied = Copied(pathlib.Path(room) / "crates" / crate)
         copy(crate, others, pathlib.Path(room))
-        is_proved, told = copied.is_proved()
-        if not is_proved:
-            tell(crate, "as it is", "NOT PROVED", start, told[-1] if told else "")
-            return ["BAD"]
-        tell(crate, "as it is", "proved", start, None)
+        copied.bodies = left_out.bodies(copied.folder)
         for at_a_time in rounds_of(edits, copied):
             start = time.monotonic()
             found = at_once(at_a_time, copied)
