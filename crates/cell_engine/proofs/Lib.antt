@@ -9,6 +9,8 @@ pub mod OneHop
 pub mod Recosted
 pub mod SendersInOrder
 pub mod StandingsAfter
+mod InPlace
+mod Lent
 pub mod Unchanged
 mod MoveTests
 pub mod Knowing
