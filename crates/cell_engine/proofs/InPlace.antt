@@ -8,9 +8,10 @@ use Rattle.std.specs.Option.{option_map_or, option_to_list, option_or}
 use Rattle.std.specs.declared.cmp.Ordering.{Ordering}
 use Rattle.std.specs.declared.cmp.Ordering.TheVariants.{Less, Equal, Greater}
 use Rattle.std.specs.Ordering.{is_eq, is_lt, eq_by_cmp}
+use Rattle.std.specs.Cmp.{eq_by_cmp_equiv}
 use Rattle.std.specs.FinMap as finite
-use Rattle.std.specs.FinMap.{FinMap, entries, remove, retain_keys}
-use Rattle.std.specs.FinMap.Entries.{put, by_order, where_key, below_all, is_sorted}
+use Rattle.std.specs.FinMap.{FinMap}
+use Rattle.std.specs.FinMap.Entries.{put, find, by_order, where_key, below_all, is_sorted, is_sorted-where_key, find-where_key}
 use Rattle.net_prefix.specs.declared.addr.Addr.{Addr}
 use Rattle.net_prefix.specs.Prefix.{Prefix}
 use Rattle.path_attr.specs.declared.attr.Attr.{Attr}
@@ -24,15 +25,18 @@ use Rattle.route_select.specs.declared.candidate.Reason.TheVariants.{Loop}
 use Rattle.route_select.specs.declared.candidate.Standing.{Standing}
 use Rattle.route_select.specs.declared.candidate.Standing.TheVariants.{Excluded}
 use Rattle.route_select.specs.Selection.{Standings, best_among, best_of, candidate_of, considered_in, source_cmp, standing_from, with_standing, without_source}
-use Rattle.route_select.proofs.EntryLemmas.{source_total, same_source, less_of, tied}
+use Rattle.route_select.proofs.EntryLemmas.{source_total, same_source, less_of, flipped}
 use Rattle.session_queue.specs.declared.message.Message.{Message}
 use Rattle.session_queue.specs.declared.message.Message.TheVariants.{Update, Withdraw}
 use Rattle.reference_machine.specs.Decision.{added, standing_over}
+use Rattle.session_queue.specs.Telling.{prefix_of}
+use Rattle.cell_engine.specs.Cells.{Cell, IsDecided, delivered, sends_of, standings_by, with_news}
 use Rattle.cell_engine.specs.Updates.{standings_after}
-use Rattle.cell_engine.specs.InPlace.{forgotten, put_back, set_aside, IsKnownIn}
-use Rattle.cell_engine.proofs.Effective.{same_standings}
+use Rattle.cell_engine.specs.Senders.{AreInOrder}
+use Rattle.cell_engine.specs.InPlace.{forgotten, put_back, sends_with, set_aside, IsKnownIn}
+use Rattle.cell_engine.proofs.Effective.{effective_best, same_standings}
 use Rattle.cell_engine.proofs.Entries.{equal_from}
-use Rattle.cell_engine.proofs.StandingsAfter.{compares_after, peer_found, put_one, stood}
+use Rattle.cell_engine.proofs.StandingsAfter.{ArePeersInOrder, compares_after, peer_found, put_one, stood, taken}
 
 -- THE BEST
 
@@ -55,32 +59,40 @@ below_less s t (e ∷ es) less h =
     let parts = and_parts (is_lt (source_cmp t e.0)) (below_all source_cmp t es) h in
     λ i. is_lt (source_total.trans s t e.0 less (less_of (source_cmp t e.0) parts.0) i) && below_less s t es less parts.1 i
 
+excluded_by : (o : Ordering) (s : Source) (r : Reason) (e : Source × Standing) (es : Entries) → source_cmp s e.0 ≡ o → below_all source_cmp e.0 es ≡ true → considered_in (put source_cmp s (Excluded r) es) ≡ considered_in (others s es) → considered_in (by_order o ((s, Excluded r) ∷ e ∷ es) ((e.0, Excluded r) ∷ es) (e ∷ put source_cmp s (Excluded r) es)) ≡ considered_in (cond (not (is_eq o)) (e ∷ others s es) (others s es))
+excluded_by Less s r e es is below rest = ap (λ l. considered_in (e ∷ l)) (sym (others_behind s es (below_less s e.0 es is below)))
+excluded_by Equal s r e es is below rest = ap considered_in (sym (others_behind s es (subst (λ k. below_all source_cmp k es ≡ true) (sym (same_source s e.0 is)) below)))
+excluded_by Greater s r e es is below rest = ap (cons_option (candidate_of e.1)) rest
+
 -- what is excluded is not considered, as what is forgotten is not
 considered_excluded : (s : Source) (r : Reason) (es : Entries) → is_sorted source_cmp es ≡ true → considered_in (put source_cmp s (Excluded r) es) ≡ considered_in (others s es)
 considered_excluded s r [] h = refl
-considered_excluded s r (e ∷ es) h = by (source_cmp s e.0) refl
-  where
-    parts : (below_all source_cmp e.0 es ≡ true) × (is_sorted source_cmp es ≡ true)
-    parts = and_parts (below_all source_cmp e.0 es) (is_sorted source_cmp es) h
-
-    by : (o : Ordering) → source_cmp s e.0 ≡ o → considered_in (by_order o ((s, Excluded r) ∷ e ∷ es) ((e.0, Excluded r) ∷ es) (e ∷ put source_cmp s (Excluded r) es)) ≡ considered_in (cond (not (is_eq o)) (e ∷ others s es) (others s es))
-    by Less is = ap (λ l. considered_in (e ∷ l)) (sym (others_behind s es (below_less s e.0 es is parts.0)))
-    by Equal is = ap considered_in (sym (others_behind s es (subst (λ k. below_all source_cmp k es ≡ true) (sym (same_source s e.0 is)) parts.0)))
-    by Greater is = ap (cons_option (candidate_of e.1)) (considered_excluded s r es parts.1)
+considered_excluded s r (e ∷ es) h =
+    let parts = and_parts (below_all source_cmp e.0 es) (is_sorted source_cmp es) h in
+    excluded_by (source_cmp s e.0) s r e es refl parts.0 (considered_excluded s r es parts.1)
 
 of_T : (b : Bool) → T b → b ≡ true
 of_T true t = refl
 of_T false t = absurd t
 
-entries_without : (m : FinMap source_cmp Standing) (s : Source) → entries (remove m s) ≡ others s (entries m)
-unfolding entries remove retain_keys
-entries_without m s = refl
+entries_without : (m : FinMap source_cmp Standing) (s : Source) → finite.entries (finite.remove m s) ≡ others s (finite.entries m)
+entries_without m s =
+    let es = finite.entries m in
+    let rising = is_sorted-where_key source_cmp (λ k. not (eq_by_cmp source_cmp s k)) es (finite.entries_sorted m) in
+    let same : finite.from_sorted (others s es) ≡ finite.remove m s = finite.same_map source_total same_source (finite.from_sorted (others s es)) (finite.remove m s) (λ q.
+        finite.get-from_sorted source_cmp (others s es) q rising
+        ∙ find-where_key source_cmp (λ k. not (eq_by_cmp source_cmp s k)) q (λ x e. ap (λ k. not (eq_by_cmp source_cmp s k)) (sym (same_source q x e))) es
+        ∙ flipped (eq_by_cmp source_cmp s q) _ _
+        ∙ ap (λ b. cond b None (find source_cmp q es)) ((eq_by_cmp_equiv source_total).symm s q)
+        ∙ ap (λ o. cond (eq_by_cmp source_cmp q s) None o) (sym (finite.get-entries m q))
+        ∙ sym (finite.get-remove source_total m s q)) in
+    ap finite.entries (sym same) ∙ finite.entries-from_sorted source_cmp (others s es) rising
 
 -- the best is the one that is there once the route is forgotten
 best_without : (s : Source) (r : Reason) (m : Standings) → best_of (with_standing s (Excluded r) m) ≡ best_of (without_source s m)
 best_without s r m = ap (best_among m.med_always) (
   ap considered_in (finite.entries-insert source_total m.known s (Excluded r))
-  ∙ considered_excluded s r (entries m.known) (of_T _ (finite.entries_sorted m.known))
+  ∙ considered_excluded s r (finite.entries m.known) (of_T _ (finite.entries_sorted m.known))
   ∙ ap considered_in (sym (entries_without m.known s))
 )
 
@@ -175,3 +187,27 @@ module _ (site : SiteConf) (u : Addr) where
       let q = FromPeer u in
       ap is_some (finite.get-insert source_total s.known q (Excluded Loop) q)
       ∙ some_put (eq_by_cmp source_cmp q q) (Excluded Loop) (standing_from s q) (ap is_some had)
+
+-- WHAT IS SENT
+
+-- what a router sends for a message, by the routes that it has received
+pub sends_delivered : (site : SiteConf) (h : Cell) (u : Addr) (m : Message) → IsDecided (Some site) (prefix_of m) h → (delivered site h u m).sends ≡ sends_with site u m h.received
+unfolding delivered
+sends_delivered site h u m is =
+    let p = prefix_of m in
+    let had = ap (λ (x : Cell). best_of x.standings) is ∙ effective_best (standings_by site p h.received) in
+    λ i. sends_of site site p (had i) (effective_best (standings_by site p (with_news u m h.received)) i)
+
+-- TAKEN
+
+module _ (site : SiteConf) (u : Addr) (m : Message) (routes : List (Addr × Attr)) (peers : ArePeersInOrder site.sessions) (order : AreInOrder routes) (s : Standings) (stands : s ≡ standings_by site (prefix_of m) routes) where
+  then_stand : standings_after site u m s ≡ standings_by site (prefix_of m) (with_news u m routes)
+  then_stand = ap (standings_after site u m) stands ∙ taken site u m routes peers order
+
+  -- the best is the one of what has been received then
+  pub best_then : best_of (set_aside site u m s) ≡ best_of (standings_by site (prefix_of m) (with_news u m routes))
+  best_then = best_aside site u m s ∙ ap best_of then_stand
+
+  -- and so is each standing, once what is withdrawn is forgotten
+  pub stands_then : forgotten u m (set_aside site u m s) ≡ standings_by site (prefix_of m) (with_news u m routes)
+  stands_then = forgotten_then site u m s ∙ then_stand

@@ -21,27 +21,29 @@ use Rattle.cell_engine.proofs.Halving.{find_below, below_less}
 -- ENTRIES
 
 module _ {A : Type 0} where
+  twice_by : (o : Ordering) (r : Addr) (x y : A) (e : Addr × A) (es : List (Addr × A)) → addr_cmp r e.0 ≡ o → put addr_cmp r y (put addr_cmp r x es) ≡ put addr_cmp r y es → put addr_cmp r y (by_order o ((r, x) ∷ e ∷ es) ((e.0, x) ∷ es) (e ∷ put addr_cmp r x es)) ≡ by_order o ((r, y) ∷ e ∷ es) ((e.0, y) ∷ es) (e ∷ put addr_cmp r y es)
+  twice_by Less r x y e es is rest = ap (λ o. by_order o ((r, y) ∷ (r, x) ∷ e ∷ es) ((r, y) ∷ e ∷ es) ((r, x) ∷ put addr_cmp r y (e ∷ es))) (tied_itself addr_total r)
+  twice_by Equal r x y e es is rest = ap (λ o. by_order o ((r, y) ∷ (e.0, x) ∷ es) ((e.0, y) ∷ es) ((e.0, x) ∷ put addr_cmp r y es)) is
+  twice_by Greater r x y e es is rest =
+      ap (λ o. by_order o ((r, y) ∷ e ∷ put addr_cmp r x es) ((e.0, y) ∷ put addr_cmp r x es) (e ∷ put addr_cmp r y (put addr_cmp r x es))) is
+      ∙ ap (λ l. e ∷ l) rest
+
   -- the last value put in at an address stays
   put_twice : (r : Addr) (x y : A) (es : List (Addr × A)) → put addr_cmp r y (put addr_cmp r x es) ≡ put addr_cmp r y es
   put_twice r x y [] = ap (λ o. by_order o ((r, y) ∷ (r, x) ∷ []) ((r, y) ∷ []) ((r, x) ∷ (r, y) ∷ [])) (tied_itself addr_total r)
-  put_twice r x y (e ∷ es) = by (addr_cmp r e.0) refl
-    where
-      by : (o : Ordering) → addr_cmp r e.0 ≡ o → put addr_cmp r y (by_order o ((r, x) ∷ e ∷ es) ((e.0, x) ∷ es) (e ∷ put addr_cmp r x es)) ≡ by_order o ((r, y) ∷ e ∷ es) ((e.0, y) ∷ es) (e ∷ put addr_cmp r y es)
-      by Less is = ap (λ o. by_order o ((r, y) ∷ (r, x) ∷ e ∷ es) ((r, y) ∷ e ∷ es) ((r, x) ∷ put addr_cmp r y (e ∷ es))) (tied_itself addr_total r)
-      by Equal is = ap (λ o. by_order o ((r, y) ∷ (e.0, x) ∷ es) ((e.0, y) ∷ es) ((e.0, x) ∷ put addr_cmp r y es)) is
-      by Greater is =
-          ap (λ o. by_order o ((r, y) ∷ e ∷ put addr_cmp r x es) ((e.0, y) ∷ put addr_cmp r x es) (e ∷ put addr_cmp r y (put addr_cmp r x es))) is
-          ∙ ap (λ l. e ∷ l) (put_twice r x y es)
+  put_twice r x y (e ∷ es) = twice_by (addr_cmp r e.0) r x y e es refl (put_twice r x y es)
+
+  same_put_by : (o : Ordering) (r : Addr) (x : A) (e : Addr × A) (es : List (Addr × A)) → addr_cmp r e.0 ≡ o → T (entries.below_all addr_cmp e.0 es) → cond (is_eq o) (Some e.1) (entries.find addr_cmp r es) ≡ Some x → (entries.find addr_cmp r es ≡ Some x → put addr_cmp r x es ≡ es) → by_order o ((r, x) ∷ e ∷ es) ((e.0, x) ∷ es) (e ∷ put addr_cmp r x es) ≡ e ∷ es
+  same_put_by Less r x e es less behind is rest = absurd (none-some x (sym (find_below r es (below_less r e.0 es less behind)) ∙ is))
+  same_put_by Equal r x e es same behind is rest = ap (λ v. (e.0, v) ∷ es) (sym (ap (λ o. unwrap_or o e.1) is))
+  same_put_by Greater r x e es more behind is rest = ap (λ l. e ∷ l) (rest is)
 
   -- what is there, put in again, changes nothing
   put_same : (r : Addr) (x : A) (es : List (Addr × A)) → T (entries.is_sorted addr_cmp es) → entries.find addr_cmp r es ≡ Some x → put addr_cmp r x es ≡ es
   put_same r x [] sorted is = absurd (none-some x is)
-  put_same r x (e ∷ es) sorted is = by (addr_cmp r e.0) refl is
-    where
-      by : (o : Ordering) → addr_cmp r e.0 ≡ o → cond (is_eq o) (Some e.1) (entries.find addr_cmp r es) ≡ Some x → by_order o ((r, x) ∷ e ∷ es) ((e.0, x) ∷ es) (e ∷ put addr_cmp r x es) ≡ e ∷ es
-      by Less less is = absurd (none-some x (sym (find_below r es (below_less r e.0 es less (first _ _ sorted))) ∙ is))
-      by Equal same is = ap (λ v. (e.0, v) ∷ es) (sym (ap (λ o. unwrap_or o e.1) is))
-      by Greater more is = ap (λ l. e ∷ l) (put_same r x es (second (entries.below_all addr_cmp e.0 es) (entries.is_sorted addr_cmp es) sorted) is)
+  put_same r x (e ∷ es) sorted is =
+      same_put_by (addr_cmp r e.0) r x e es refl (first (entries.below_all addr_cmp e.0 es) (entries.is_sorted addr_cmp es) sorted) is
+      (put_same r x es (second (entries.below_all addr_cmp e.0 es) (entries.is_sorted addr_cmp es) sorted))
 
 -- TABLES
 

@@ -11,6 +11,7 @@ pub mod SendersInOrder
 pub mod StandingsAfter
 mod InPlace
 mod Lent
+mod SenderPlaces
 pub mod Unchanged
 mod MoveTests
 pub mod Knowing

@@ -39,11 +39,11 @@ fn take_lent<S: Selector + Drop, T: PrefixTable<Cell<S>> + Drop>(
     message: &Message,
 ) -> Result<Vec<(Addr, Message)>, AllocError>
     requires there { is_some (value_at direction.to (prefix_of message.now) tables.old) ≡ true }
-    requires decided { IsDecided (option_copied site.entry) (prefix_of message.now)
+    requires decided { IsDecided (option_copied site) (prefix_of message.now)
         (cell_at direction.to (prefix_of message.now) tables.old) }
-    requires peers { ArePeersInOrder (option_copied site.entry) }
+    requires peers { ArePeersInOrder (option_copied site) }
     requires one { (t : addr.Addr) →
-        length (told t (outcome_by (option_copied site.entry) (cell_at direction.to (prefix_of message.now) tables.old)
+        length (told t (outcome_by (option_copied site) (cell_at direction.to (prefix_of message.now) tables.old)
         direction.from message.now).sends) ≤ 1 }
     ensures cell { OnOk result
         (tables.new ≡ with_value direction.to (prefix_of message.now)

@@ -126,7 +126,7 @@ fn sends_ready(
 ) -> Result<Vec<(Addr, Message)>, AllocError>
     requires peers { IsStrictlySortedBy addr_cmp (map (λ x. x.peer) site.now.sessions) }
     requires one { (t : addr.Addr) →
-        length (told t (sends_of site.now site.now prefix (option_copied had.entry) (option_copied has.entry))) ≤ 1 }
+        length (told t (sends_of site.now site.now prefix (option_copied had) (option_copied has))) ≤ 1 }
     ensures sends { IfOk result (λ sends.
         sends.items ≡ sends_of site.now site.now prefix (option_copied had.entry) (option_copied has.entry)) }
     ensures queue { KeepsMessages queues.old queues.new }
@@ -271,10 +271,10 @@ pub(crate) fn take_in<S: Selector + Drop>(
     direction: Direction,
     message: &Message,
 ) -> Result<Vec<(Addr, Message)>, AllocError>
-    requires decided { IsDecided (option_copied site.entry) (prefix_of message.now) cell.old }
-    requires peers { ArePeersInOrder (option_copied site.entry) }
+    requires decided { IsDecided (option_copied site) (prefix_of message.now) cell.old }
+    requires peers { ArePeersInOrder (option_copied site) }
     requires one { (t : addr.Addr) →
-        length (told t (outcome_by (option_copied site.entry) cell.old direction.from message.now).sends) ≤ 1 }
+        length (told t (outcome_by (option_copied site) cell.old direction.from message.now).sends) ≤ 1 }
     ensures cell { OnOk result
         (cell.new ≡ (outcome_by (option_copied site.entry) cell.old direction.from message.now).cell) }
     ensures sends { IfOk result (λ sends.
