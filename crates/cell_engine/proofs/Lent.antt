@@ -47,6 +47,9 @@ module _ {A : Type 0} where
 
 -- TABLES
 
+eq_itself : (r : Addr) → eq_by_cmp addr_cmp r r ≡ true
+eq_itself r = ap is_eq (tied_itself addr_total r)
+
 module _ {V : Type 0} where
   twice : (b : Bool) (x y z : Option V) → cond b x (cond b y z) ≡ cond b x z
   twice true x y z = refl
@@ -65,9 +68,6 @@ module _ {V : Type 0} where
 
   insert_same : (t : Table V) (p : Prefix) (h : V) → finite.get t p ≡ Some h → finite.insert t p h ≡ t
   insert_same t p h is = finite.same_map prefix_total prefix_exact (finite.insert t p h) t (λ q. finite.get-insert prefix_total t p h q ∙ same_by (eq_by_cmp prefix_cmp q p) t p q h refl is)
-
-  eq_itself : (r : Addr) → eq_by_cmp addr_cmp r r ≡ true
-  eq_itself r = ap is_eq (tied_itself addr_total r)
 
   -- the last value put in stays
   pub with_twice : (r : Addr) (p : Prefix) (g h : V) (ts : List (Addr × Table V)) → with_value r p h (with_value r p g ts) ≡ with_value r p h ts

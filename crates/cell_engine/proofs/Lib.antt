@@ -54,6 +54,7 @@ pub mod Cleared
 pub mod Counts
 pub mod Deciding
 pub mod Delivered
+mod DeliveredInPlace
 pub mod Growth
 pub mod Placing
 pub mod Reconfigured
