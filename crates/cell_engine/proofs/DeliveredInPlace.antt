@@ -1,7 +1,6 @@
 -- A delivery in the receiver's cell: places are made before the head is taken, and the rest is as where the outcome is put in.
 use Rattle.std.proofs.Common.{◌≡◌, ◌++◌, true, List, drop, slice_get, Option, Some, is_some, refl, sym, ap, subst, ◌∙◌}
 use Rattle.net_prefix.specs.declared.addr.Addr.{Addr}
-use Rattle.net_prefix.specs.Prefix.{Prefix}
 use Rattle.prefix_table.specs.Tables.{Table}
 use Rattle.session_queue.specs.declared.direction.Direction.{Direction}
 use Rattle.session_queue.specs.declared.message.Message.{Message}

@@ -1,8 +1,7 @@
 -- A message taken into a choice where it stands: the best is there before what is withdrawn is forgotten, and what was put aside can be put
 -- back.
-use Rattle.std.proofs.Common.{◌≡◌, Bool, true, false, not, cond, T, ◌&&◌, List, [], ◌∷◌, map, Option, Some, None, is_some, refl, sym, ap, subst, ◌∙◌}
-use Rattle.std.proofs.lemmas.Bool.{true≢false, and_parts}
-use Rattle.std.proofs.lemmas.Option.{none-some}
+use Rattle.std.proofs.Common.{◌≡◌, Bool, true, false, not, cond, T, ◌&&◌, List, [], ◌∷◌, Option, Some, None, is_some, refl, sym, ap, subst, ◌∙◌}
+use Rattle.std.proofs.lemmas.Bool.{and_parts}
 use Rattle.std.specs.List.{cons_option}
 use Rattle.std.specs.Option.{option_map_or, option_to_list, option_or}
 use Rattle.std.specs.declared.cmp.Ordering.{Ordering}
@@ -80,21 +79,21 @@ entries_without m s =
     let es = finite.entries m in
     let rising = is_sorted-where_key source_cmp (λ k. not (eq_by_cmp source_cmp s k)) es (finite.entries_sorted m) in
     let same : finite.from_sorted (others s es) ≡ finite.remove m s = finite.same_map source_total same_source (finite.from_sorted (others s es)) (finite.remove m s) (λ q.
-        finite.get-from_sorted source_cmp (others s es) q rising
-        ∙ find-where_key source_cmp (λ k. not (eq_by_cmp source_cmp s k)) q (λ x e. ap (λ k. not (eq_by_cmp source_cmp s k)) (sym (same_source q x e))) es
-        ∙ flipped (eq_by_cmp source_cmp s q) _ _
-        ∙ ap (λ b. cond b None (find source_cmp q es)) ((eq_by_cmp_equiv source_total).symm s q)
-        ∙ ap (λ o. cond (eq_by_cmp source_cmp q s) None o) (sym (finite.get-entries m q))
-        ∙ sym (finite.get-remove source_total m s q)) in
+    finite.get-from_sorted source_cmp (others s es) q rising
+    ∙ find-where_key source_cmp (λ k. not (eq_by_cmp source_cmp s k)) q (λ x e. ap (λ k. not (eq_by_cmp source_cmp s k)) (sym (same_source q x e))) es
+    ∙ flipped (eq_by_cmp source_cmp s q) _ _
+    ∙ ap (λ b. cond b None (find source_cmp q es)) ((eq_by_cmp_equiv source_total).symm s q)
+    ∙ ap (λ o. cond (eq_by_cmp source_cmp q s) None o) (sym (finite.get-entries m q))
+    ∙ sym (finite.get-remove source_total m s q)) in
     ap finite.entries (sym same) ∙ finite.entries-from_sorted source_cmp (others s es) rising
 
 -- the best is the one that is there once the route is forgotten
 best_without : (s : Source) (r : Reason) (m : Standings) → best_of (with_standing s (Excluded r) m) ≡ best_of (without_source s m)
 best_without s r m = ap (best_among m.med_always) (
-  ap considered_in (finite.entries-insert source_total m.known s (Excluded r))
-  ∙ considered_excluded s r (finite.entries m.known) (of_T _ (finite.entries_sorted m.known))
-  ∙ ap considered_in (sym (entries_without m.known s))
-)
+    ap considered_in (finite.entries-insert source_total m.known s (Excluded r))
+    ∙ considered_excluded s r (finite.entries m.known) (of_T _ (finite.entries_sorted m.known))
+    ∙ ap considered_in (sym (entries_without m.known s))
+    )
 
 pub best_aside : (site : SiteConf) (u : Addr) (m : Message) (s : Standings) → best_of (set_aside site u m s) ≡ best_of (standings_after site u m s)
 best_aside site u (Update p attr) s = refl
@@ -112,10 +111,10 @@ forgotten_then site u (Withdraw p) s =
     let q = FromPeer u in
     let v = Excluded Loop in
     same_standings (without_source q (with_standing q v s)) (without_source q s) (λ x.
-        finite.get-remove source_total (finite.insert s.known q v) q x
-        ∙ ap (cond (eq_by_cmp source_cmp x q) None) (finite.get-insert source_total s.known q v x)
-        ∙ twice (eq_by_cmp source_cmp x q) None (Some v) (standing_from s x)
-        ∙ sym (finite.get-remove source_total s.known q x)) refl
+    finite.get-remove source_total (finite.insert s.known q v) q x
+    ∙ ap (cond (eq_by_cmp source_cmp x q) None) (finite.get-insert source_total s.known q v x)
+    ∙ twice (eq_by_cmp source_cmp x q) None (Some v) (standing_from s x)
+    ∙ sym (finite.get-remove source_total s.known q x)) refl
 
 -- PUT BACK
 

@@ -1,5 +1,5 @@
 -- A cell lent out of its table and put back: the tables with it in its place.
-use Rattle.std.proofs.Common.{◌≡◌, Bool, true, false, cond, T, List, [], ◌∷◌, Option, Some, None, is_some, unwrap_or, IsTrue, refl, sym, ap, subst, ◌∙◌}
+use Rattle.std.proofs.Common.{◌≡◌, Bool, true, false, cond, T, List, [], ◌∷◌, Option, Some, None, unwrap_or, refl, sym, ap, ◌∙◌}
 use Rattle.std.proofs.lemmas.Option.{none-some}
 use Rattle.std.specs.declared.cmp.Ordering.{Ordering}
 use Rattle.std.specs.declared.cmp.Ordering.TheVariants.{Less, Equal, Greater}
@@ -11,7 +11,7 @@ use Rattle.std.specs.FinMap.Entries.{put, by_order}
 use Rattle.net_prefix.specs.declared.addr.Addr.{Addr}
 use Rattle.net_prefix.specs.Address.{addr_cmp}
 use Rattle.net_prefix.specs.Prefix.{Prefix, prefix_cmp}
-use Rattle.net_prefix.specs.Orders.{addr_total, addr_exact, prefix_total, prefix_exact}
+use Rattle.net_prefix.specs.Orders.{addr_total, prefix_total, prefix_exact}
 use Rattle.prefix_table.specs.Tables.{Table}
 use Rattle.prefix_table.proofs.Entries.{T_of, first, second}
 use Rattle.cell_engine.specs.RouterTables.{AreByRouter, table_at, value_at, with_value}

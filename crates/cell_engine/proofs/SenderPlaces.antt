@@ -1,5 +1,5 @@
 -- Where senders' routes stand, and what becomes of them where one is written over, put in or taken out.
-use Rattle.std.proofs.Common.{◌≡◌, true, false, cond, ◌&&◌, List, [], ◌∷◌, Option, Some, None, refl, sym, ap, ◌∙◌}
+use Rattle.std.proofs.Common.{◌≡◌, true, cond, ◌&&◌, List, [], ◌∷◌, Some, None, refl, sym, ap}
 use Rattle.std.proofs.lemmas.Option.{none-some}
 use Rattle.std.specs.declared.cmp.Ordering.{Ordering}
 use Rattle.std.specs.declared.cmp.Ordering.TheVariants.{Less, Equal, Greater}

@@ -87,11 +87,7 @@ impl<S: Selector + Drop, T: PrefixTable<Cell<S>> + Drop> State<S, T> {
     }
 
     /// The same, where the receiver has a cell of the prefix.
-    fn take_in_place(
-        &mut self,
-        direction: Direction,
-        message: &Message,
-    ) -> Result<(), AllocError>
+    fn take_in_place(&mut self, direction: Direction, message: &Message) -> Result<(), AllocError>
         requires up { is_up self.old.conf direction.from direction.to ≡ true }
         requires head { slice_get (queue_at self.old.queues direction.from direction.to) 0 ≡ Some message.now }
         requires there { is_some (value_at direction.to (prefix_of message.now) self.old.tables) ≡ true }

@@ -190,7 +190,15 @@ fn take_news<S: Selector>(
     let best = shared_best(alloc, chosen)?;
     set_aside(alloc, chosen, site, direction.from, message)?;
     let (prefix, router) = (message.prefix(), direction.to);
-    let ready = sends_ready(alloc, site, prefix, best.as_ref(), chosen.best(), queues, router);
+    let ready = sends_ready(
+        alloc,
+        site,
+        prefix,
+        best.as_ref(),
+        chosen.best(),
+        queues,
+        router,
+    );
     drop(best);
     match receive(alloc, received, direction.from, message, ready) {
         Ok(sends) => {

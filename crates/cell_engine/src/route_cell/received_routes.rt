@@ -238,11 +238,7 @@ fn make_room(routes: &mut Vec<(Addr, Attr)>) -> Result<(), AllocError>
 }
 
 /// Puts the route in place of any that was from its sender. An error changes nothing.
-fn put_route(
-    routes: &mut Vec<(Addr, Attr)>,
-    sender: Addr,
-    attr: Attr,
-) -> Result<(), AllocError>
+fn put_route(routes: &mut Vec<(Addr, Attr)>, sender: Addr, attr: Attr) -> Result<(), AllocError>
     requires { AreInOrder routes.old.items }
     ensures ok { OnOk result (routes.new.items ≡ insert_entry addr_cmp routes.old.items sender attr) }
     ensures err { OnErr result (routes.new.items ≡ routes.old.items) }

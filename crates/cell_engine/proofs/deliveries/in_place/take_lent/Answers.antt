@@ -1,8 +1,8 @@
-use Rattle.std.proofs.Common.{◌≡◌, Some, Result, Ok, Err, OnOk, OnErr, option_copied, unwrap_or, ap, sym, ◌∙◌}
+use Rattle.std.proofs.Common.{◌≡◌, Result, Ok, Err, OnOk, option_copied, unwrap_or, ap, sym, ◌∙◌}
 use Rattle.std.proofs.lemmas.Option.{none-some}
 use Rattle.session_queue.specs.Telling.{prefix_of}
 use Rattle.cell_engine.specs.RouterTables.{value_at, with_value}
-use Rattle.cell_engine.specs.Cells.{Cell, new_cell}
+use Rattle.cell_engine.specs.Cells.{new_cell}
 use Rattle.cell_engine.specs.State.{cell_at}
 use Rattle.cell_engine.specs.Deliveries.{outcome_by}
 use Rattle.cell_engine.proofs.Growth.{at_error}

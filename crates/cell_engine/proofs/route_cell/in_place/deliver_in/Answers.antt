@@ -1,11 +1,11 @@
-use Rattle.std.proofs.Common.{◌≡◌, ◌≤◌, List, length, Some, Result, Ok, Err, OnErr, ap, sym, subst, ◌∙◌}
+use Rattle.std.proofs.Common.{◌≤◌, List, length, Result, Ok, Err, OnErr, ap, sym, subst, ◌∙◌}
 use Rattle.net_prefix.specs.declared.addr.Addr.{Addr}
 use Rattle.session_queue.specs.declared.message.Message.{Message}
 use Rattle.session_queue.specs.Telling.{prefix_of}
 use Rattle.cell_engine.specs.Cells.{Cell, effective, standings_by}
 use Rattle.cell_engine.specs.InPlace.{sends_with}
 use Rattle.cell_engine.specs.Sending.{told}
-use Rattle.cell_engine.specs.Updates.{ComparesAt, compared}
+use Rattle.cell_engine.specs.Updates.{ComparesAt}
 use Rattle.cell_engine.proofs.Effective.{compared_is, compares_at}
 use Rattle.cell_engine.proofs.InPlace.{sends_delivered}
 use Rattle.cell_engine.proofs.Seen.{when_ok}
@@ -55,5 +55,5 @@ returns-clause-same g c =
     let compares : ComparesAt site.med_always (g.S.Chosen.standings c.cell.inside.chosen) =
     compares_at (g.S.Chosen.standings c.cell.inside.chosen) (standings_by site p held) site.med_always (ap (λ h. h.standings) c.cell.view_is ∙ ap (λ h. h.standings) c.requires.decided) (compares_as site p held) in
     both_err c.take_news.result (λ stood kept.
-        let stands = ap effective (stood ∙ c.begin.ensures) ∙ sym compares in
-        (λ i. record { received = kept i; standings = stands i }) ∙ c.cell.view_is) c.take_news.ensures.stood c.take_news.ensures.kept
+    let stands = ap effective (stood ∙ c.begin.ensures) ∙ sym compares in
+    (λ i. record { received = kept i; standings = stands i }) ∙ c.cell.view_is) c.take_news.ensures.stood c.take_news.ensures.kept

@@ -1,4 +1,4 @@
-use Rattle.std.proofs.Common.{◌≡◌, ◌≤◌, length, option_copied, ap, sym, subst, ◌∙◌}
+use Rattle.std.proofs.Common.{◌≤◌, length, option_copied, ap, sym, subst, ◌∙◌}
 use Rattle.cell_engine.specs.Cells.{stored}
 use Rattle.cell_engine.specs.Deliveries.{outcome_by}
 use Rattle.cell_engine.specs.Sending.{told}

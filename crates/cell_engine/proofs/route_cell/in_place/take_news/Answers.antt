@@ -1,11 +1,10 @@
-use Rattle.std.proofs.Common.{◌≡◌, ◌≤◌, true, List, length, option_copied, IfOk, is_some, ap, sym, subst, ◌∙◌}
+use Rattle.std.proofs.Common.{◌≡◌, ◌≤◌, List, length, option_copied, IfOk, is_some, ap, sym, subst, ◌∙◌}
 use Rattle.net_prefix.specs.declared.addr.Addr.{Addr}
 use Rattle.session_queue.specs.declared.message.Message.{Message}
-use Rattle.session_queue.specs.Telling.{prefix_of}
 use Rattle.route_select.specs.declared.candidate.Source.TheVariants.{Peer as FromPeer}
 use Rattle.route_select.specs.Selection.{best_of, standing_from}
 use Rattle.cell_engine.specs.Cells.{sends_of}
-use Rattle.cell_engine.specs.InPlace.{forgotten, put_back, sends_with}
+use Rattle.cell_engine.specs.InPlace.{forgotten, put_back}
 use Rattle.cell_engine.specs.Sending.{told}
 use Rattle.cell_engine.proofs.InPlace.{best_then, known_aside, restored, stands_then}
 use Rattle.cell_engine.proofs.route_cell.in_place.take_news.Goals as goal

@@ -45,9 +45,9 @@ pub returns-in_err-sends-clause-same : goal.returns-in_err-sends-clause-same
 returns-in_err-sends-clause-same g c =
     let e : State = record { conf = c.self.inside.conf; tables = c.self.inside.tables; directions = c.self.inside.directions; queues = c.self.inside.queues } in
     anyway c.from_residual-in_err-sends.result (
-      ap (λ ts. network (record e { tables = ts; queues = c.take_lent.new.queues })) c.in_err-sends.ensures.same
-      ∙ network_same e c.take_lent.new.queues c.take_lent.ensures.queue
-      ∙ ap network c.self.view_is
+    ap (λ ts. network (record e { tables = ts; queues = c.take_lent.new.queues })) c.in_err-sends.ensures.same
+    ∙ network_same e c.take_lent.new.queues c.take_lent.ensures.queue
+    ∙ ap network c.self.view_is
     )
 
 pub invariant_of-self-2 : goal.invariant_of-self-2
