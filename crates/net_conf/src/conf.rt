@@ -94,6 +94,7 @@ impl Conf {
     }
 
     /// How many sessions the address has: those of a router stand in its site.
+    #[tactic(auto, using(crate::proofs::SessionCounts::count_of_site, crate::proofs::SessionCounts::count_of_none))]
     fn session_count(&self, addr: Addr) -> usize
         ensures { result ≡ session_count self.now addr }
     {
