@@ -31,7 +31,7 @@ export class Proposals {
 
   #made(proposal, isOwn) {
     const made = element("section", "proposal", "");
-    const lines = element("pre", "lines", proposal.lines.join("\n")), does = element("pre", "does", proposal.text || "what it does is not known yet");
+    const lines = element("pre", "lines", proposal.lines.join("\n")), does = element("pre", "does", (proposal.text || "").trimEnd() || "what it does is not known yet");
     for (const [part, told] of [[lines, "Its commands"], [does, "What it would do"]]) {
       part.tabIndex = 0;
       part.setAttribute("role", "region");

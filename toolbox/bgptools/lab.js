@@ -8,6 +8,8 @@ const FORMS = { router: ["origin", "noorigin", "med", "cluster", "trace", "route
   peer: ["feed", "link", "join"], link: ["fail", "mend", "metric", "join"],
   session: ["stop", "start", "client", "self", "rule", "clear", "queue", "in", "out", "deliver"] };
 const MOST = 500, KEPT = 40;
+// These questions are about nothing that is to be seen.
+const UNSEEN = new Set(["quiet", "queue", "cost"]);
 // After these lines all that was made before may stand elsewhere.
 const PLACING = /^ *(#|(router|virtual|link|join) )/;
 // `step` is the one that is shown; nothing stands for the last one there is. `chosen` is what was clicked last, and
@@ -233,8 +235,9 @@ function words() {
 function asked(each) {
   const parts = each.says ? [element("p", "", each.says)] : [], words = each.line.split(/ +/);
   const isQuestion = forms.some(([spelling, , group]) => group === "ask" && spelling.split(" ")[0] === words[0]);
-  if (each.line && !isQuestion) parts.push(element("code", "", each.line + ": it is refused"));
-  if (!each.line || !isQuestion) return parts;
+  const isSeen = isQuestion && !UNSEEN.has(words[0]);
+  if (each.line && !isSeen) parts.push(element("code", "", each.line + (isQuestion ? "" : ": it is refused")));
+  if (!each.line || !isSeen) return parts;
   const made = element("button", "", each.line);
   made.addEventListener("click", () => look(words));
   return [...parts, made];
@@ -244,7 +247,7 @@ function asked(each) {
 function look([what, router, more]) {
   own();
   if (what === "trace") Object.assign(now, { from: router, to: more });
-  else if (router && what !== "queue" && what !== "cost") {
+  else {
     now.chosen = ["router", router];
     if (more && more.includes("/")) now.prefix = more;
   }

@@ -26,6 +26,7 @@ from .shapes import width_of
 # A picture has at most so many routers and peers, a box so many lines, and so many pictures and runs are kept.
 MOST, ROWS, KEPT, RUNS = 200, 5, 400, 4
 WIDTH, BETWEEN = 170.0, 230.0
+MEANT = re.compile(r"^comms [0-9,]+ \((.*)\)")
 BADGE = re.compile(r"[0-9]+ waiting from ([0-9.]+) to ([0-9.]+)")
 Picture = Dict[str, Any]
 
@@ -161,6 +162,17 @@ def _fit(spot: Spot) -> None:
     room = ROWS - bool(spot.below)
     if len(spot.details) > room:
         spot.details = spot.details[:room - 1] + [".."]
+    spot.details = list(map(_narrow, spot.details))
+
+
+def _narrow(line: str) -> str:
+    """A line that a box has room for: of communities that are too broad their meaning alone, of others the begin."""
+    room = WIDTH - 8
+    if width_of(line, TEXT_SIZE) > room:
+        line = MEANT.sub(r"\1", line)
+    while width_of(line, TEXT_SIZE) > room:
+        line = line[:-3] + ".."
+    return line
 
 
 def _told(attributes: Any) -> str:

@@ -92,6 +92,7 @@ class Browser:
     def click(self, selector):
         """Clicks into the middle of an element."""
         box = "document.querySelector(%s).getBoundingClientRect()" % json.dumps(selector)
+        self.value("document.querySelector(%s).scrollIntoView({ block: 'nearest' })" % json.dumps(selector))
         x, y = self.value("[%s.x + %s.width / 2, %s.y + %s.height / 2]" % (box, box, box, box))
         for kind in ("mousePressed", "mouseReleased"):
             self.ask("Input.dispatchMouseEvent", type=kind, x=x, y=y, button="left", clickCount=1)

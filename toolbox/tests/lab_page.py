@@ -32,7 +32,7 @@ PALE = """(least) => {
   for (const each of document.querySelectorAll("body *")) {
     const own = [...each.childNodes].some((node) => node.nodeType === 3 && node.textContent.trim());
     const isText = own || each.matches("input:not([type=range]):not([type=checkbox]), textarea, select");
-    if (!isText || !each.getClientRects().length || each.closest("title, option")) continue;
+    if (!isText || !each.checkVisibility() || each.closest("title, option")) continue;
     const isDrawn = each instanceof SVGElement, style = getComputedStyle(each);
     const one = isDrawn ? style.fill : style.color, other = isDrawn ? under(each) : behind(each);
     if (ratio(one, other) < least) found.push([each.textContent || each.id, one, other, ratio(one, other)]);
@@ -94,6 +94,10 @@ class InABrowser(Case):
     def set(self, selector, value):
         """Types into a field."""
         self.browser.value("document.querySelector(%s).value = %s" % (json.dumps(selector), json.dumps(value)))
+
+    def wait(self, milliseconds):
+        """Lets the page have some time, as somebody who looks."""
+        self.browser.call("new Promise((done) => setTimeout(done, %d))" % milliseconds)
 
     def press(self, *keys):
         for key in keys:

@@ -16,6 +16,8 @@ NOTE = """window.moved = []; new MutationObserver(() => {
   const found = document.querySelector(".moving");
   if (found) window.moved.push(found.getAttribute("transform"));
 }).observe(document.getElementById("picture"), { subtree: true, childList: true, attributes: true, attributeFilter: ["transform"] })"""
+# Who steps on sooner, in milliseconds, sees no message move.
+A_LOOK = 320
 GONE = "!document.querySelector('.moving')"
 # What a person sees of red, green and blue who has no cones for long waves, middle ones, or short ones (Machado and
 # others, 2009), and who sees no color.
@@ -48,8 +50,8 @@ class Messages(InABrowser):
     def test_a_message_goes_along_its_session(self):
         lab = self.lab(SCRIPT + "deliver 2.0.0.1 1.0.0.1\nnoorigin 2.0.0.1 10.1.0.0/16\n")
         self.open(lab)
-        self.browser.media()
         self.browser.value(NOTE)
+        self.wait(A_LOOK)
         self.press("n")
         self.at(STEPS + 3)
         self.browser.until("window.moved.length > 1 && " + GONE)
@@ -64,7 +66,7 @@ class Messages(InABrowser):
         self.press("ArrowLeft")
         self.at(STEPS + 2)
         self.assertEqual(self.moved(), [])
-        self.browser.call("new Promise((done) => setTimeout(done, 320))")
+        self.wait(A_LOOK)
         self.press("ArrowRight")
         self.browser.until("window.moved.length > 1 && " + GONE)
         self.assertEqual(self.moved()[0], places[0])
@@ -77,11 +79,11 @@ class Messages(InABrowser):
         key = "document.dispatchEvent(new KeyboardEvent('keydown', { key: '%s' }))"
         for act in (slide % last, key % "End", key % "ArrowRight"):
             # By the slider; by a jump; and by two steps at once, after which there is no time to look.
-            self.browser.call("new Promise((done) => setTimeout(done, 320))")
+            self.wait(A_LOOK)
             back = last - 1 if act == slide % last else last - 2
             self.browser.value(slide % back)
             self.at(back)
-            self.browser.call("new Promise((done) => setTimeout(done, 320))")
+            self.wait(A_LOOK)
             self.browser.value(act if "ArrowRight" not in act else "%s, %s" % (act, act))
             self.at(last)
             self.assertEqual((self.browser.value(GONE), self.moved()), (True, []), act)
@@ -89,7 +91,7 @@ class Messages(InABrowser):
         self.addCleanup(self.browser.media)
         self.press("ArrowLeft")
         self.at(last - 1)
-        self.browser.call("new Promise((done) => setTimeout(done, 320))")
+        self.wait(A_LOOK)
         self.press("ArrowRight")
         self.at(last)
         self.assertEqual((self.browser.value(GONE), self.moved()), (True, []))
@@ -244,23 +246,25 @@ class ForEverybody(InABrowser):
         self.browser.value("document.querySelector(\"[data-about='session 1.0.0.1 2.0.0.1']\").focus()")
         self.press("Enter")
         self.browser.until("document.querySelectorAll('.proposal').length === 1 && document.querySelectorAll('#forms form').length > 10")
-        self.browser.value("document.activeElement.blur(), window.scrollTo(0, 0)")
+        self.browser.value("document.activeElement.blur(), document.getElementById('proposing').open = true")
         # All that can be clicked or typed into, and is to be seen.
         wanted = self.browser.value("""(window.all = [...document.querySelectorAll("a[href], button, input, select, textarea, summary, g[role=button], [tabindex='0']")]
-            .filter((each) => each.getClientRects().length)).map((each) => each.id || each.dataset.about || each.tagName + each.textContent)""")
+            .filter((each) => each.checkVisibility())).map((each) => each.id || each.dataset.about || each.tagName + each.textContent)""")
         self.assertGreater(len(wanted), 50)
         found = []
         for _ in range(len(wanted) + 4):
             self.press("Tab")
             found.append(self.browser.value("window.all.indexOf(document.activeElement)"))
         self.assertEqual([wanted[at] for at in set(range(len(wanted))) - set(found)], [])
+        # As they stand in the page, from wherever it begins.
         order = [each for at, each in enumerate(found) if each >= 0 and each not in found[:at]]
-        self.assertEqual(order, sorted(order))
+        begin = order.index(0)
+        self.assertTrue(order[begin:] + order[:begin] == list(range(len(wanted))), order)
         # Enter and space work what is in focus, and what is in focus is seen.
         for selector, key, wants in (("#last", "Enter", "document.body.dataset.step === '6'"), ("#back", " ", "document.body.dataset.step === '5'"),
                                      ("#forth", "Enter", "document.body.dataset.step === '6'"), ("#first", "Enter", "document.body.dataset.step === '0'"),
                                      ("#last", "Enter", "document.body.dataset.step === '6'"), ("#large", "Enter", "document.documentElement.className === 'large'"),
-                                     ("#large", " ", "document.documentElement.className === ''"), ("summary", "Enter", "document.getElementById('proposing').open"),
+                                     ("#large", " ", "document.documentElement.className === ''"), ("summary", "Enter", "!document.getElementById('proposing').open"),
                                      ("[data-about='router 1.0.0.1']", " ", "document.getElementById('about').textContent === 'router 1.0.0.1'"),
                                      ("#check", "Enter", "document.getElementById('answer').textContent === 'ok 5'"),
                                      (".proposal .accept", "Enter", "document.body.dataset.step === '7'"),
@@ -286,7 +290,8 @@ class ForEverybody(InABrowser):
         before = self.browser.value(sizes)
         self.press("l")
         after = self.browser.value(sizes)
-        self.assertEqual(after[:3], [each * 1.4 for each in before[:3]])
+        for one, other in zip(before[:3], after[:3]):
+            self.assertAlmostEqual(other, one * 1.4)
         self.assertGreaterEqual(after[3], 16)
         self.assertEqual(self.browser.value("[document.documentElement.scrollWidth, document.getElementById('large').getAttribute('aria-pressed')]"), [1280, "true"])
         self.press("l")
@@ -297,6 +302,6 @@ class ForEverybody(InABrowser):
         self.browser.until("!document.getElementById('table').hidden")
         self.browser.media("print")
         self.addCleanup(self.browser.media)
-        seen = "[...document.querySelectorAll('header, button, form, #log, #picture, #table, #heading, #line, #reply')].filter((each) => each.getClientRects().length).map((each) => each.id || each.textContent)"
+        seen = "[...document.querySelectorAll('header, button, form, #log, #picture, #table, #heading, #line, #reply')].filter((each) => each.checkVisibility()).map((each) => each.id || each.textContent)"
         self.assertEqual(self.browser.value(seen), ["picture", "table", "heading", "line", "reply", "best 1.0.0.1 10.1.0.0/16"])
         self.assertEqual(self.browser.sheets(), 1)
