@@ -167,7 +167,7 @@ def _fit(spot: Spot) -> None:
 
 def _narrow(line: str) -> str:
     """A line that a box has room for: of communities that are too broad their meaning alone, of others the begin."""
-    room = WIDTH - 8
+    room = WIDTH + 2
     if width_of(line, TEXT_SIZE) > room:
         line = MEANT.sub(r"\1", line)
     while width_of(line, TEXT_SIZE) > room:

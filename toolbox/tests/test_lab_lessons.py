@@ -91,7 +91,7 @@ class Fluid(InABrowser):
         for key, first in (("ArrowLeft", 500), ("ArrowRight", 480), ("ArrowLeft", 500)):
             found = self.browser.call("(%s)('%s', %d, 20, 30)" % (FLUID, key, first))
             print_times(key, found)
-            self.assertGreater(found["parts"], 400)
+            self.assertGreater(found["parts"], 300)
             self.assertLess(sorted(found["made"])[10], 20)
             self.assertLess(max(found["made"]), 60)
             self.assertLessEqual(found["asked"], 21)
