@@ -47,14 +47,17 @@ class Counted(Program):
             replies += found
         return replies
 
-    def give(self, lines: List[str]) -> None:
-        """Gives it the lines that another run accepted, with the comments that were kept among them."""
+    def give(self, lines: List[str]) -> List[str]:
+        """Gives it the lines that another run accepted, with the comments that were kept among them: the replies to
+        those that have one."""
         before = list(self.accepted)
         self.is_near = self.is_near or len(before) + len(lines) >= NEAR * MOST_LINES
         if self.count + len(lines) > MOST_LINES:
             self._renew()
-        _check_again(lines, self.pour(lines))
+        replies = self.pour(lines)
+        _check_again(lines, replies)
         self.accepted = before + list(lines)
+        return replies
 
     def pour(self, lines: Iterable[str]) -> List[str]:
         """The reply to each line that has one, of lines that one run can read."""

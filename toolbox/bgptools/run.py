@@ -51,13 +51,15 @@ class Run(Answers):
             self.program.keep(line)
         return reply
 
-    def repeat(self, lines: List[str]) -> None:
-        """Gives the accepted lines of a run that is quiet after them to this one, which is new."""
-        self.program.give(lines)
+    def repeat(self, lines: List[str]) -> List[str]:
+        """Gives the next lines that another run accepted to this one: the replies to those that have one. Where messages
+        may wait is not learned from them: the other run was quiet after them, or nothing is settled here."""
+        replies = self.program.give(lines)
         for line in lines:
             if not self.network.names.take(line):
                 self.network.take(words_of(line))
         self.settler.waiting.knows_all = False
+        return replies
 
     def ask(self, questions: Iterable[str]) -> List[List[str]]:
         """The replies to questions, which change nothing."""

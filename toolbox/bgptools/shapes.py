@@ -138,9 +138,9 @@ class Curve(Shape):
     def at(self, part: float) -> Point:
         """The point at a part of it, 0 to 1."""
         rest = 1 - part
-        points = zip(self.start, self.bend, self.end)
-        x, y = (rest * rest * a + 2 * rest * part * b + part * part * c for a, b, c in points)
-        return x, y
+        (ax, ay), (bx, by), (cx, cy) = self.start, self.bend, self.end
+        one, two, three = rest * rest, 2 * rest * part, part * part
+        return one * ax + two * bx + three * cx, one * ay + two * by + three * cy
 
     def between(self, low: float, high: float) -> "Curve":
         """A piece of it."""

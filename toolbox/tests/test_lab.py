@@ -298,7 +298,7 @@ class Served(AtServer):
         self.assertEqual((picture["reply"], picture["waiting"]), ("took 10.1.0.0/16 update", []))
         self.assertEqual(picture["titles"][1], "A packet from <b>west</b>&quot; (1.0.0.1) to 10.1.0.1: reached at 2.0.0.1")
         texts = [part[2] for part in _all(picture["parts"])]
-        self.assertIn("update 10.1.0.0/16", texts)
+        self.assertIn("update", texts)
         self.assertIn("from 2.0.0.1", texts)
 
     def test_a_worker_settles_when_it_is_let_go(self):
