@@ -9,6 +9,7 @@ import secrets
 from typing import Any, Callable, Dict, List, Optional, TypeVar
 
 from .connection import AHEAD, Connection, Request, encoded
+from .lesson import Note
 from .mistakes import Mistake
 from .record import HEADER
 from .serving import Hub
@@ -63,10 +64,11 @@ class Stream(asyncio.Transport):
 
 class Lab:
     """The pages of one hub. There is a secret for those who work, and one for those who only look, where any may. What
-    the script says beside its first steps is in `notes`."""
+    the script says before its first step, and at its steps, are its notes."""
 
-    def __init__(self, hub: Hub, notes: List[Dict[str, str]], has_looking: bool) -> None:
-        self.hub, self.notes, self.viewer = hub, notes, Viewer()
+    def __init__(self, hub: Hub, notes: List[Note], has_looking: bool) -> None:
+        self.hub, self.viewer = hub, Viewer()
+        self.first, self.notes = notes[0], notes[1:]
         self.keys = {role: secrets.token_urlsafe(24) for role in ([WORK, LOOK] if has_looking else [WORK])}
         self.pages: Dict[str, Connection] = {}
         self.streams: List[Stream] = []
@@ -125,7 +127,7 @@ class Lab:
             first = {"id": 0, "do": "enter", "as": name}
             page.data_received(encoded(first) + encoded({"id": 0, "do": "watch", "what": "all"}))
         self.streams.append(stream)
-        stream.write(encoded({"event": "page", "page": key, "role": role}))
+        stream.write(encoded({"event": "page", "page": key, "role": role, "first": self.first}))
         stream.write(encoded(self.shown))
         return key, stream
 

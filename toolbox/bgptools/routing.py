@@ -204,9 +204,11 @@ class Labels:
         return chosen
 
     def over_line(self, key: Key, width: float, height: float) -> Box:
-        """Where something stands on a line for a while: over as few boxes and labels of ASes as can be."""
+        """Where something stands on a line for a while: over as few boxes and labels of ASes as can be, and then over
+        as few other labels."""
         boxes = [Box(*self.curves[key].at(part), width, height) for part in PLACES]
-        return min(boxes, key=lambda box: sum(box.meets(each) for each in self.fixed))
+        return min(boxes, key=lambda box: (sum(box.meets(each) for each in self.fixed),
+                                           sum(box.meets(each) for each in self.taken)))
 
 
 def badge_place(curve: Curve, is_first: bool) -> Tuple[float, float]:

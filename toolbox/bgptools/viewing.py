@@ -25,6 +25,7 @@ from .staying import Staying
 # A picture has at most so many routers and peers, a box so many lines, and so many pictures are kept.
 MOST, ROWS, KEPT = 200, 5, 400
 WIDTH, BETWEEN = 170.0, 230.0
+MEANT = re.compile(r"^comms [0-9,]+ \((.*)\)")
 # After these commands there is more to be seen, which needs a place.
 MAKING = frozenset(("router", "virtual", "link", "join"))
 BADGE = re.compile(r"[0-9]+ waiting from ([0-9.]+) to ([0-9.]+)")
@@ -103,7 +104,7 @@ class Viewer:
         assert drawing is not None
         network, reply = stand.run.network, self.parked.replies.get(step, "")
         way = way if way and network.is_router(way[0]) else None
-        scene = look(stand.run, View(to), way, _delivered(lines[:step], reply), stand.known_of(to))
+        scene = look(stand.run, View(to), way, _delivered(lines[:step], reply, to), stand.known_of(to))
         titles, scene.titles = scene.titles, []
         for spot in scene.spots.values():
             _fit(spot)
@@ -133,13 +134,13 @@ class Viewer:
                 "loc": _told(chosen.attributes) if chosen else "no route"}
 
 
-def _delivered(lines: List[str], reply: str) -> Delivered:
-    """What the last of these lines delivered, by its reply."""
+def _delivered(lines: List[str], reply: str, shown: Optional[str]) -> Delivered:
+    """What the last of these lines delivered, by its reply. Of the prefix that is shown it is in few words."""
     if not reply.startswith("took "):
         return {}
     _, sender, receiver = words_of(lines[-1])
     _, to, kind = reply.split(" ")
-    return {(sender, receiver): ["%s %s" % (kind, to)]}
+    return {(sender, receiver): [kind if to == shown else "%s %s" % (kind, to)]}
 
 
 def _whole(network: Network) -> Scene:
@@ -158,6 +159,17 @@ def _fit(spot: Spot) -> None:
     room = ROWS - bool(spot.below)
     if len(spot.details) > room:
         spot.details = spot.details[:room - 1] + [".."]
+    spot.details = list(map(_narrow, spot.details))
+
+
+def _narrow(line: str) -> str:
+    """A line that a box has room for: of communities that are too broad their meaning alone, of others the begin."""
+    room = WIDTH + 2
+    if width_of(line, TEXT_SIZE) > room:
+        line = MEANT.sub(r"\1", line)
+    while width_of(line, TEXT_SIZE) > room:
+        line = line[:-3] + ".."
+    return line
 
 
 def _told(attributes: Any) -> str:

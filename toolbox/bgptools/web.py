@@ -24,7 +24,7 @@ from .pages import WORK, Gone, Lab, Stream
 ADDRESS = "127.0.0.1"
 LONGEST, MOST, PATIENCE, BREATH = 1 << 16, 500, 60, 15
 FILES = {"": ("lab.html", "text/html"), "lab.css": ("lab.css", "text/css"), "lab.js": ("lab.js", "text/javascript"),
-         "drawn.js": ("drawn.js", "text/javascript")}
+         **{name: (name, "text/javascript") for name in ("drawn.js", "moving.js", "changes.js")}}
 POLICY = ("default-src 'none'; script-src 'self'; style-src 'self'; connect-src 'self'; base-uri 'none'; "
           "form-action 'none'; frame-ancestors 'none'")
 HEADERS = {"Content-Security-Policy": POLICY, "X-Content-Type-Options": "nosniff", "Referrer-Policy": "no-referrer",
