@@ -208,7 +208,7 @@ class Labels:
         as few other labels."""
         boxes = [Box(*self.curves[key].at(part), width, height) for part in PLACES]
         return min(boxes, key=lambda box: (sum(box.meets(each) for each in self.fixed),
-                                           sum(box.meets(each) for each in self.taken)))
+                                           len(self.taken.met(box))))
 
 
 def badge_place(curve: Curve, is_first: bool) -> Tuple[float, float]:
