@@ -151,17 +151,19 @@ def push_apart(boxes: List[Box], gap: float) -> None:
 def _push(box: Box, others: List[Box], gap: float) -> bool:
     """Moves a box and those right of it that it meets, half of what is needed each; whether there were any."""
     has_moved = False
+    x, y, width, height = box.x, box.y, box.width, box.height
     for other in others:
-        if other.left > box.left + box.width + gap:
+        if other.x - other.width / 2 > x - width / 2 + width + gap:
             break
-        across = (box.width + other.width) / 2 + gap - abs(box.x - other.x)
-        down = (box.height + other.height) / 2 + gap - abs(box.y - other.y)
+        across = (width + other.width) / 2 + gap - abs(x - other.x)
+        down = (height + other.height) / 2 + gap - abs(y - other.y)
         if across > 0.5 and down > 0.5:
             has_moved = True
-            x, y = (across / 2, 0.0) if across < down else (0.0, down / 2)
-            x, y = x if other.x >= box.x else -x, y if other.y >= box.y else -y
-            box.move(-x, -y)
-            other.move(x, y)
+            right, low = (across / 2, 0.0) if across < down else (0.0, down / 2)
+            right, low = right if other.x >= x else -right, low if other.y >= y else -low
+            x, y = x - right, y - low
+            other.move(right, low)
+    box.x, box.y = x, y
     return has_moved
 
 

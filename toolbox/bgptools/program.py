@@ -64,12 +64,15 @@ class Program:
 
         Lines are written while replies are read, so that the program never waits: the fastest way to play many."""
         spoken = [line for line in map(_one_line, lines) if not is_silent(line)]
+        content = "".join(map(ended, spoken)).encode("latin-1")
         self.before()
         self.is_torn = True
-        writer = threading.Thread(target=self._write, args=("".join(map(ended, spoken)).encode("latin-1"),), daemon=True)
-        writer.start()
+        writer = threading.Thread(target=self._write, args=(content,), daemon=True)
+        # What the pipe holds needs nobody who writes beside.
+        (writer.start if len(content) > AT_ONCE else writer.run)()
         replies = [self._line() for _ in spoken]
-        writer.join()
+        if writer.is_alive():
+            writer.join()
         self.is_torn = False
         return replies
 

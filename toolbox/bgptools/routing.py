@@ -155,13 +155,12 @@ class Labels:
     def of_groups(self) -> Dict[int, Box]:
         """Where the label of each AS stands: in or at its box, where no line crosses it."""
         found: Dict[int, Box] = {}
-        lines = [_points(curve) for curve in self.curves.values()]
-        bounds = [_bounds(points) for points in lines]
+        lines = list(map(_points, self.curves.values()))
         for asn, group in self.layout.groups.items():
             width = width_of("AS %d" % asn, GROUP_SIZE, True) + 8
-            left, right, top, bottom = _edges(group, 40)
-            near = [point for points, edges in zip(lines, bounds) if _touch(edges, (left, right, top, bottom))
-                    for point in points if left <= point[0] <= right and top <= point[1] <= bottom]
+            left, right, top, bottom = around = _edges(group, 40)
+            near = [point for points, edges in lines if _touch(edges, around) for point in points
+                    if left <= point[0] <= right and top <= point[1] <= bottom]
             found[asn] = self._least(_around(group, width, GROUP_SIZE + 6), near)
             self.taken.add(found[asn])
             self.fixed.append(found[asn])
@@ -221,10 +220,11 @@ def badge_place(curve: Curve, is_first: bool) -> Tuple[float, float]:
 
 
 @functools.lru_cache(maxsize=8192)
-def _points(curve: Curve) -> List[Point]:
-    """Points on a curve, at most three apart."""
+def _points(curve: Curve) -> Tuple[List[Point], Edges]:
+    """Points on a curve, at most three apart, and the box that holds them."""
     count = int(curve.length / 3) + 1
-    return [curve.at(step / count) for step in range(count + 1)]
+    points = [curve.at(step / count) for step in range(count + 1)]
+    return points, _bounds(points)
 
 
 def _beside(curve: Curve, width: float) -> List[Box]:
@@ -251,7 +251,8 @@ def _around(group: Box, width: float, height: float) -> List[List[Box]]:
 
 def _bounds(points: List[Point]) -> Edges:
     """The edges of a box that holds these."""
-    return min(x for x, _ in points), max(x for x, _ in points), min(y for _, y in points), max(y for _, y in points)
+    xs, ys = zip(*points)
+    return min(xs), max(xs), min(ys), max(ys)
 
 
 def _touch(one: Edges, other: Edges) -> bool:

@@ -2,6 +2,7 @@
 makes the same PNG and PDF."""
 from __future__ import annotations
 
+import functools
 import html
 import math
 from dataclasses import dataclass
@@ -21,6 +22,7 @@ def width_of(text: str, size: float, is_bold: bool = False) -> float:
     return ems * size * (1.06 if is_bold else 1)
 
 
+@functools.lru_cache(maxsize=65536)
 def _number(value: float) -> str:
     return ("%.1f" % value).rstrip("0").rstrip(".").replace("-0", "0" if abs(value) < 0.05 else "-0")
 
@@ -210,6 +212,10 @@ class Part:
     name: str = ""
 
     def svg(self) -> str:
+        return self._svg
+
+    @functools.cached_property
+    def _svg(self) -> str:
         inside = "".join(shape.svg() for shape in self.shapes)
         return "<g><title>%s</title>%s</g>" % (html.escape(self.name), inside) if self.name else inside
 
