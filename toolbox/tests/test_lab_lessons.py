@@ -1,5 +1,6 @@
 """The lessons in the page of lab: each to its end and back, and looked at when it changes; and a large one that is
 fluid."""
+import os
 import unittest
 
 import look
@@ -67,7 +68,9 @@ class Lessons(InABrowser):
         for lesson in look.LESSONS:
             name = look.name_of(lesson)
             with self.subTest(lesson=name):
-                made = Lab(self.folder, lesson)
+                folder = self.folder / lesson.stem
+                folder.mkdir()
+                made = Lab(folder, lesson)
                 try:
                     steps = made.value("steps")["steps"]
                     self.open(made)
@@ -100,6 +103,9 @@ class Fluid(InABrowser):
 
 
 def print_times(key, found):
+    """Tells how long steps took, which is the machine's, and no test."""
     times = sorted(found["times"])
+    if not os.environ.get("VERBOSE"):
+        return
     print("%s: %d steps, median %.0f ms, at most %.0f ms; made %s of %d parts; %d pictures asked for" % (
         key, len(times), times[len(times) // 2], times[-1], sorted(found["made"]), found["parts"], found["asked"]))
