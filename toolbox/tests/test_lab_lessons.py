@@ -15,6 +15,9 @@ AGAIN = "it looks otherwise than when somebody looked at it: `toolbox/tests/look
 FLUID = """async (key, first, count, pause) => {
   const frame = () => new Promise((done) => requestAnimationFrame(() => setTimeout(done, 0)));
   const times = [], made = [];
+  let turned = 0;
+  const watch = new MutationObserver((all) => { turned += all.length; });
+  watch.observe(document.querySelector("#picture svg"), { attributes: true });
   performance.clearResourceTimings();
   performance.setResourceTimingBufferSize(10000);
   for (let at = 1; at <= count; at += 1) {
@@ -30,7 +33,8 @@ FLUID = """async (key, first, count, pause) => {
     made.push(Number(document.body.dataset.made));
     await new Promise((done) => setTimeout(done, pause));
   }
-  return { times, made, asked: performance.getEntriesByType("resource").filter((each) => each.name.includes("/picture?")).length,
+  watch.disconnect();
+  return { times, made, turned, asked: performance.getEntriesByType("resource").filter((each) => each.name.includes("/picture?")).length,
     parts: document.querySelectorAll("#picture svg > *").length };
 }"""
 
@@ -98,6 +102,8 @@ class Fluid(InABrowser):
             self.assertLess(sorted(found["made"])[10], 20)
             self.assertLess(max(found["made"]), 60)
             self.assertLessEqual(found["asked"], 21)
+            # All words would be measured again.
+            self.assertEqual(found["turned"], 0)
         # All of them were seen before, and are kept.
         self.assertLessEqual(found["asked"], 2)
 
