@@ -112,8 +112,13 @@ def _passed(spots: Dict[str, Box], one: str, other: str) -> int:
 
 def surrounding(boxes: List[Box]) -> Box:
     """The box of an AS around its routers, with room for its label."""
-    left, right = min(box.left for box in boxes) - SIDE, max(box.left + box.width for box in boxes) + SIDE
-    top, bottom = min(box.top for box in boxes) - HEADER, max(box.top + box.height for box in boxes) + SIDE
+    return bounds(boxes, SIDE, HEADER)
+
+
+def bounds(boxes: List[Box], side: float = 0, header: float = 0) -> Box:
+    """The box that holds these, with so much around it, and above."""
+    left, right = min(box.left for box in boxes) - side, max(box.left + box.width for box in boxes) + side
+    top, bottom = min(box.top for box in boxes) - header, max(box.top + box.height for box in boxes) + side
     return Box((left + right) / 2, (top + bottom) / 2, right - left, bottom - top)
 
 

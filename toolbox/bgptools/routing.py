@@ -5,7 +5,7 @@ from __future__ import annotations
 import bisect
 import functools
 import math
-from typing import Dict, Iterable, List, Set, Tuple
+from typing import Dict, Iterable, List, Sequence, Set, Tuple
 
 from .layout import Box, Layout
 from .shapes import Curve, Point, width_of
@@ -46,8 +46,9 @@ def _around_ends(ends: Tuple[Edges, Edges], bows: List[int], edges: Dict[str, Ed
                  names: Tuple[str, str]) -> List[Edges]:
     """The boxes that a curve between two may meet."""
     (x, y), (end_x, end_y) = map(_middle, ends)
-    reach = max(map(abs, bows)) + 20
-    left, right, top, bottom = min(x, end_x) - reach, max(x, end_x) + reach, min(y, end_y) - reach, max(y, end_y) + reach
+    reach = max(abs(bow) for bow in bows) + 20
+    left, right = min(x, end_x) - reach, max(x, end_x) + reach
+    top, bottom = min(y, end_y) - reach, max(y, end_y) + reach
     return [each for a, each in edges.items() if each[0] < right and left < each[1] and each[2] < bottom
             and top < each[3] and a not in names]
 
@@ -220,10 +221,10 @@ def badge_place(curve: Curve, is_first: bool) -> Tuple[float, float]:
 
 
 @functools.lru_cache(maxsize=8192)
-def _points(curve: Curve) -> Tuple[List[Point], Edges]:
+def _points(curve: Curve) -> Tuple[Tuple[Point, ...], Edges]:
     """Points on a curve, at most three apart, and the box that holds them."""
     count = int(curve.length / 3) + 1
-    points = [curve.at(step / count) for step in range(count + 1)]
+    points = tuple(curve.at(step / count) for step in range(count + 1))
     return points, _bounds(points)
 
 
@@ -249,7 +250,7 @@ def _around(group: Box, width: float, height: float) -> List[List[Box]]:
     return [[Box(left + width / 2, top + height / 2, width, height) for left in lefts] for top in tops]
 
 
-def _bounds(points: List[Point]) -> Edges:
+def _bounds(points: Sequence[Point]) -> Edges:
     """The edges of a box that holds these."""
     xs, ys = zip(*points)
     return min(xs), max(xs), min(ys), max(ys)

@@ -16,6 +16,7 @@ NARROW, BROAD = " .,:;/'|!()[]{}-ijltfrI", "mwMW@%"
 DASHES = {"dashed": "6 4", "dotted": "1.5 3.5"}
 
 
+@functools.lru_cache(maxsize=65536)
 def width_of(text: str, size: float, is_bold: bool = False) -> float:
     """About how broad a text is."""
     ems = sum(0.33 if c in NARROW else 0.86 if c in BROAD else 0.69 if c.isupper() else 0.56 for c in text)

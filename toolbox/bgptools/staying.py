@@ -6,7 +6,7 @@ import math
 from dataclasses import replace
 from typing import Dict, Iterable, List, Set, Tuple
 
-from .layout import BETWEEN, GAP, HEADER, Box, Layout, arranged, neighbours, pairs_of, push_apart, surrounding
+from .layout import BETWEEN, GAP, HEADER, Box, Layout, arranged, bounds, neighbours, pairs_of, push_apart, surrounding
 from .placing import Place, placed
 from .scene import Scene
 
@@ -82,13 +82,14 @@ def _beside(box: Box, inside: List[Box], others: List[Box], towards: List[Box]) 
     to, and where no AS has to make room."""
     gap, around = (GAP, inside) if inside else (BETWEEN + HEADER, others)
     aims = towards or around
+    known = [bounds(inside)] if inside else []
 
     def worse(place: Box) -> float:
         away = sum(math.hypot(place.x - aim.x, place.y - aim.y) for aim in aims) / max(len(aims), 1)
-        own = surrounding(inside + [place])
+        own = surrounding(known + [place])
         return away + ROOM * sum(own.meets(other, BETWEEN - 1) for other in others)
-    free = [place for place in _places(box, around, gap) if not any(place.meets(each, gap - 1) for each in inside)]
-    return min(free, key=worse, default=box)
+    best_first = sorted(_places(box, around, gap), key=worse)
+    return next((place for place in best_first if not any(place.meets(each, gap - 1) for each in inside)), box)
 
 
 def _places(box: Box, around: Iterable[Box], gap: float) -> List[Box]:

@@ -3,6 +3,7 @@ asked of a run beside the shared one, so that to look changes nothing."""
 from __future__ import annotations
 
 import functools
+import json
 import re
 import threading
 from collections import OrderedDict
@@ -29,7 +30,6 @@ MEANT = re.compile(r"^comms [0-9,]+ \((.*)\)")
 # After these commands there is more to be seen, which needs a place.
 MAKING = frozenset(("router", "virtual", "link", "join"))
 BADGE = re.compile(r"[0-9]+ waiting from ([0-9.]+) to ([0-9.]+)")
-Picture = Dict[str, Any]
 
 
 class Ground:
@@ -73,7 +73,7 @@ class Viewer:
     def __init__(self) -> None:
         self.lock = threading.Lock()
         self.parked = Parked()
-        self.pictures: "OrderedDict[Tuple[Any, ...], Picture]" = OrderedDict()
+        self.pictures: "OrderedDict[Tuple[Any, ...], str]" = OrderedDict()
         self.ground = Ground()
 
     def close(self) -> None:
@@ -81,9 +81,9 @@ class Viewer:
         with self.lock:
             self.parked.close()
 
-    def picture(self, lines: List[str], step: int, to: Optional[str], way: Optional[Direction]) -> Picture:
-        """The picture after a step of these lines, with the routes to a prefix and the way of a packet. Mistake where
-        they are none, or the network is too large."""
+    def picture(self, lines: List[str], step: int, to: Optional[str], way: Optional[Direction]) -> str:
+        """The picture after a step of these lines, with the routes to a prefix and the way of a packet, as JSON.
+        Mistake where they are none, or the network is too large."""
         if to is not None and prefix(to) is None:
             raise Mistake("`%s` is not a prefix" % to)
         if way is not None and address(way[1]) is None:
@@ -99,7 +99,7 @@ class Viewer:
                 self.pictures.popitem(last=False)
             return self.pictures[key]
 
-    def _picture(self, lines: List[str], step: int, to: Optional[str], way: Optional[Direction]) -> Picture:
+    def _picture(self, lines: List[str], step: int, to: Optional[str], way: Optional[Direction]) -> str:
         stand, drawing = self.parked.at(lines, step), self.ground.drawing
         assert drawing is not None
         network, reply = stand.run.network, self.parked.replies.get(step, "")
@@ -108,10 +108,11 @@ class Viewer:
         titles, scene.titles = scene.titles, []
         for spot in scene.spots.values():
             _fit(spot)
-        return {"step": step, "width": drawing.width, "height": drawing.height, "titles": titles,
-                "parts": _parts(drawing, scene), "reply": reply, "prefixes": sorted(network.prefixes),
+        told = {"step": step, "width": drawing.width, "height": drawing.height, "titles": titles, "reply": reply,
+                "prefixes": sorted(network.prefixes),
                 "routers": [[a, readable(network.names.shown(a))] for a in scene.spots],
                 "waiting": [list(each) for wire in scene.wires for each in wire.waiting]}
+        return '%s,"parts":[%s]}' % (_json(told)[:-1], ",".join(_parts(drawing, scene)))
 
     def table(self, lines: List[str], step: int, router: str, to: str) -> Dict[str, Any]:
         """A router's routes to a prefix after a step: each with its reason, and what it tells its peers."""
@@ -177,21 +178,26 @@ def _told(attributes: Any) -> str:
     return readable(communities.in_text(str(attributes))) if attributes else ""
 
 
-def _parts(drawing: Drawing, scene: Scene) -> List[Any]:
-    """The parts of a picture, each with what it is about: a router, a link, a session, or a queue."""
+def _parts(drawing: Drawing, scene: Scene) -> List[str]:
+    """The parts of a picture as JSON, each with what it is about: a router, a link, a session, or a queue."""
     parts = drawing.parts(scene)
-    about: List[List[str]] = [["as", str(asn)] for asn in scene.groups]
-    about += [["link" if wire.is_link else "session", wire.one, wire.other] for wire in scene.wires]
-    about += [["peer" if spot.is_virtual else "router", a] for a, spot in scene.spots.items()]
-    about += [["queue", *badge.groups()] if badge else []
+    about: List[Tuple[str, ...]] = [("as", str(asn)) for asn in scene.groups]
+    about += [("link" if wire.is_link else "session", wire.one, wire.other) for wire in scene.wires]
+    about += [("peer" if spot.is_virtual else "router", a) for a, spot in scene.spots.items()]
+    about += [("queue", *badge.groups()) if badge else ()
               for badge in (BADGE.fullmatch(part.name) for part in parts[len(about):])]
-    return [[each, _drawn(part.svg())] for each, part in zip(about, parts)]
+    return [_drawn(each, part.svg()) for each, part in zip(about, parts)]
 
 
+# Texts, and no lists: those would be looked through again and again by Python's own collector.
 @functools.lru_cache(maxsize=65536)
-def _drawn(svg: str) -> List[Any]:
-    """A part of a picture as a page draws it."""
-    return _element(ElementTree.fromstring("<g>%s</g>" % svg))
+def _drawn(about: Tuple[str, ...], svg: str) -> str:
+    """A part of a picture as a page draws it, with what it is about."""
+    return _json([about, _element(ElementTree.fromstring("<g>%s</g>" % svg))])
+
+
+def _json(value: object) -> str:
+    return json.dumps(value, separators=(",", ":"))
 
 
 def _element(node: ElementTree.Element) -> List[Any]:

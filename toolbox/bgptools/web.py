@@ -172,7 +172,8 @@ class Handler(BaseHTTPRequestHandler):
         lines = self.server.lab.lines()
         way = _way(query)
         step = self._step(query, lines)
-        self._json(self.server.lab.viewer.picture(lines, step, query.get("prefix"), way))
+        told = self.server.lab.viewer.picture(lines, step, query.get("prefix"), way)
+        self._send(200, "application/json", told.encode("ascii"))
 
     def _table(self, query: Query) -> None:
         lines = self.server.lab.lines()

@@ -1,6 +1,5 @@
 """Pictures of steps: what is asked again, what is kept, and what stays where it is."""
 import json
-import pathlib
 from unittest import mock
 
 from bgptools.mistakes import Mistake
@@ -32,10 +31,9 @@ def ring(count, asn=5):
             + ["origin %s 10.9.0.0/16" % names[0]])
 
 
-def places(picture):
-    """Where each router stands, of a picture with its parts."""
-    return {about[1]: (shape[3][1][1]["x"], shape[3][1][1]["y"]) for about, shape in picture["parts"]
-            if about[:1] == ["router"]}
+def routers_in(picture):
+    """The routers of a picture."""
+    return sorted(about[1] for about, _ in picture["parts"] if about[:1] == ["router"])
 
 
 class Viewed(Case):
@@ -66,3 +64,84 @@ class Viewed(Case):
         self.assertGreater(count, 300)
 
 
+
+    def test_a_step_forth_asks_what_its_command_can_have_changed(self):
+        """A delivery changes its receiver alone, and a metric its AS: the other routers are not asked again."""
+        lines = ring(20) + ["deliver 10.0.0.1 10.0.1.1", "metric 10.0.10.1 10.0.11.1 7"]
+        viewer = self.viewer()
+        viewer.picture(lines, len(lines) - 2, "10.9.0.0/16", None)
+        run = viewer.parked.stands[-1].run
+        for step, routers in ((len(lines) - 1, {"10.0.1.1"}), (len(lines), {"10.0.%d.1" % at for at in range(10, 15)})):
+            asked = []
+            with mock.patch.object(run.program, "heard", lambda line, _, asked=asked: asked.append(line.split(" "))):
+                viewer.picture(lines, step, "10.9.0.0/16", None)
+            self.assertEqual({words[1] for words in asked if words[0] == "best"}, routers)
+            ways = {tuple(words[1:]) for words in asked if words[0] == "queue"}
+            self.assertTrue(ways and all(not routers.isdisjoint(way) for way in ways), ways)
+
+    def test_runs_are_few_and_those_of_another_script_are_not_taken(self):
+        viewer, lines = self.viewer(), ring(6)
+        for step in range(len(lines), 0, -2):
+            viewer.picture(lines, step, None, None)
+        self.assertLessEqual(len(viewer.parked.stands), 4)
+        other = ["router 10.0.0.1 7", "router 10.0.1.1 8", "link 10.0.0.1 10.0.1.1 5"]
+        shown = json.loads(viewer.picture(other, 3, None, None))
+        self.assertEqual((routers_in(shown), shown["reply"]), (["10.0.0.1", "10.0.1.1"], "ok"))
+
+    def test_a_program_that_has_ended_is_not_asked_again(self):
+        viewer, lines = self.viewer(), ring(4)
+        wanted = viewer.picture(lines, len(lines), "10.9.0.0/16", None)
+        viewer.pictures.clear()
+        process = viewer.parked.stands[-1].run.program.process
+        process.kill()
+        process.wait()
+        self.assertRaises(Mistake, viewer.picture, lines, len(lines), "10.9.0.0/16", None)
+        self.assertEqual(viewer.picture(lines, len(lines), "10.9.0.0/16", None), wanted)
+
+
+class Stays(Case):
+    def grown(self, lines, more):
+        """Where all stands with these lines, and then with more."""
+        ground = Ground()
+        ground.take(lines)
+        before = {a: (box.x, box.y) for a, box in ground.staying.spots.items()}
+        self.assertTrue(ground.take(lines + more))
+        return before, ground
+
+    def test_routers_stay_when_links_and_sessions_come(self):
+        before, ground = self.grown(ring(20), ["link 10.0.3.1 10.0.16.1 4", "join 10.0.3.1 10.0.16.1",
+                                               "join 10.0.5.1 10.0.7.1"])
+        self.assertEqual({a: (box.x, box.y) for a, box in ground.staying.spots.items()}, before)
+        self.assertIn(("10.0.3.1", "10.0.16.1", True), ground.drawing.curves)
+
+    def test_a_router_of_an_as_that_is_there_stands_in_it(self):
+        _, ground = self.grown(ring(20), ["router 10.9.0.1 2", "link 10.9.0.1 10.0.7.1 1"])
+        self.apart(ground)
+        near = sorted(ground.staying.spots, key=lambda a: self.between(ground, "10.9.0.1", a))
+        self.assertIn("10.0.7.1", near[:4])
+
+    def test_an_as_that_comes_stands_beside_its_neighbour_and_takes_nobodys_place(self):
+        more = [line for at in range(6) for line in (
+            "router 10.9.%d.1 %d" % (at, 90 + at), "link 10.9.%d.1 10.0.%d.1 1" % (at, at))]
+        before, ground = self.grown(ring(20), more)
+        self.apart(ground)
+        stay = sum((box.x, box.y) == before.get(a) for a, box in ground.staying.spots.items())
+        self.assertGreater(stay, 10)
+
+    def test_a_name_that_is_broad_has_room(self):
+        before, ground = self.grown(ring(10), ["# name 10.0.2.1 " + "a-name-of-many-letters" * 2])
+        self.assertGreater(ground.staying.spots["10.0.2.1"].width, 300)
+        self.assertEqual(len(before), 10)
+        self.apart(ground)
+
+    def between(self, ground, one, other):
+        """How far two are apart."""
+        (a, b) = (ground.staying.spots[each] for each in (one, other))
+        return (a.x - b.x) ** 2 + (a.y - b.y) ** 2
+
+    def apart(self, ground):
+        """No box of a router meets another one, and no box of an AS another one."""
+        layout = ground.drawing.layout
+        for boxes in (layout.spots, layout.groups):
+            for one in boxes:
+                self.assertEqual([other for other in boxes if other != one and boxes[one].meets(boxes[other])], [])
