@@ -71,12 +71,19 @@ export class Picture {
       this.kept.set(key, [...(this.kept.get(key) || []), one]);
       return one;
     });
-    this.element.setAttribute("viewBox", "0 0 " + picture.width + " " + picture.height);
-    this.element.style.setProperty("--width", picture.width + "px");
-    this.element.style.setProperty("--height", picture.height + "px");
+    this.#fit(picture.width, picture.height);
     this.#place(parts);
     if (about && document.activeElement !== focused) this.#focus(about);
     return made;
+  }
+
+  // Its size, which is mostly what it was: to set it again would have all words measured again.
+  #fit(width, height) {
+    const box = "0 0 " + width + " " + height;
+    if (this.element.getAttribute("viewBox") === box) return;
+    this.element.setAttribute("viewBox", box);
+    this.element.style.setProperty("--width", width + "px");
+    this.element.style.setProperty("--height", height + "px");
   }
 
   // Puts parts in their order; those that stay are not moved, and so keep what is in focus.

@@ -211,7 +211,7 @@ async function tabled(step, told, view) {
   }
   if (now.blames && about && now.role === "work") {
     const found = await ask("blame", { router: about });
-    if (!found.error) parts.push(...blamed(about, found.edits, go));
+    if (!found.error) parts.unshift(...blamed(about, found.edits, go));
   }
   at("table").hidden = !parts.length;
   at("table").replaceChildren(...parts);

@@ -151,6 +151,7 @@ class Labels:
         self.layout, self.curves = layout, curves
         self.taken = Taken(layout.spots.values())
         self.fixed = list(layout.spots.values())
+        self.beside: List[Box] = []
 
     def of_groups(self) -> Dict[int, Box]:
         """Where the label of each AS stands: in or at its box, where no line crosses it."""
@@ -202,6 +203,7 @@ class Labels:
         if len(self.layout.spots) <= MANY:
             chosen = next((box for box in boxes if not self.taken.met(box)), chosen)
         self.taken.add(chosen)
+        self.beside.append(chosen)
         return chosen
 
     def over_line(self, key: Key, width: float, height: float) -> Box:
@@ -209,7 +211,7 @@ class Labels:
         as few other labels."""
         boxes = [Box(*self.curves[key].at(part), width, height) for part in PLACES]
         return min(boxes, key=lambda box: (sum(box.meets(each) for each in self.fixed),
-                                           len(self.taken.met(box))))
+                                           sum(box.meets(each) for each in self.beside)))
 
 
 def badge_place(curve: Curve, is_first: bool) -> Tuple[float, float]:

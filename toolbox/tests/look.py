@@ -35,7 +35,7 @@ STEP_THROUGH = """async (last) => {
   const NAMES = ["x", "y", "cx", "cy", "r", "width", "height", "d", "points", "fill", "stroke", "stroke-width", "stroke-dasharray", "font-size"];
   const part = (each) => [each.tagName, ...NAMES.map((name) => each.getAttribute(name) || ""), each.children.length ? "" : each.textContent,
     ...[...each.children].map(part)].join(" ");
-  const told = () => [...document.querySelectorAll("#heading, #says, #line, #reply, #asks, #table")].map((each) => each.innerText).join("\\n")
+  const told = () => [...document.querySelectorAll("#heading, #says, #line, #reply, #asks, #table")].map((each) => each.textContent).join("\\n")
     + [...document.querySelectorAll("#picture svg > *:not(.moving)")].map(part).join("\\n");
   const there = [], back = [];
   await press("Home", 0);

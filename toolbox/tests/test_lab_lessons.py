@@ -1,5 +1,6 @@
 """The lessons in the page of lab: each to its end and back, and looked at when it changes; and a large one that is
 fluid."""
+import os
 import unittest
 
 import look
@@ -14,6 +15,9 @@ AGAIN = "it looks otherwise than when somebody looked at it: `toolbox/tests/look
 FLUID = """async (key, first, count, pause) => {
   const frame = () => new Promise((done) => requestAnimationFrame(() => setTimeout(done, 0)));
   const times = [], made = [];
+  let turned = 0;
+  const watch = new MutationObserver((all) => { turned += all.length; });
+  watch.observe(document.querySelector("#picture svg"), { attributes: true });
   performance.clearResourceTimings();
   performance.setResourceTimingBufferSize(10000);
   for (let at = 1; at <= count; at += 1) {
@@ -29,7 +33,8 @@ FLUID = """async (key, first, count, pause) => {
     made.push(Number(document.body.dataset.made));
     await new Promise((done) => setTimeout(done, pause));
   }
-  return { times, made, asked: performance.getEntriesByType("resource").filter((each) => each.name.includes("/picture?")).length,
+  watch.disconnect();
+  return { times, made, turned, asked: performance.getEntriesByType("resource").filter((each) => each.name.includes("/picture?")).length,
     parts: document.querySelectorAll("#picture svg > *").length };
 }"""
 
@@ -67,7 +72,9 @@ class Lessons(InABrowser):
         for lesson in look.LESSONS:
             name = look.name_of(lesson)
             with self.subTest(lesson=name):
-                made = Lab(self.folder, lesson)
+                folder = self.folder / lesson.stem
+                folder.mkdir()
+                made = Lab(folder, lesson)
                 try:
                     steps = made.value("steps")["steps"]
                     self.open(made)
@@ -95,11 +102,16 @@ class Fluid(InABrowser):
             self.assertLess(sorted(found["made"])[10], 20)
             self.assertLess(max(found["made"]), 60)
             self.assertLessEqual(found["asked"], 21)
+            # All words would be measured again.
+            self.assertEqual(found["turned"], 0)
         # All of them were seen before, and are kept.
         self.assertLessEqual(found["asked"], 2)
 
 
 def print_times(key, found):
+    """Tells how long steps took, which is the machine's, and no test."""
     times = sorted(found["times"])
+    if not os.environ.get("VERBOSE"):
+        return
     print("%s: %d steps, median %.0f ms, at most %.0f ms; made %s of %d parts; %d pictures asked for" % (
         key, len(times), times[len(times) // 2], times[-1], sorted(found["made"]), found["parts"], found["asked"]))

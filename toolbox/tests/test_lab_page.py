@@ -195,12 +195,12 @@ class Together(InABrowser):
         self.browser.value("document.querySelector(\"[data-about='router 1.0.0.1']\").focus()")
         self.press("Enter", "b")
         self.browser.until("document.getElementById('table').innerText.includes('Who changed what about 1.0.0.1')")
-        rows = self.browser.value("[...document.querySelectorAll('#table table:last-child tr')].slice(1).map((row) => [...row.cells].map((cell) => cell.innerText))")
+        rows = self.browser.value("[...document.querySelectorAll('#table table:first-of-type tr')].slice(1).map((row) => [...row.cells].map((cell) => cell.innerText))")
         self.assertEqual([(row[0], row[2], row[3]) for row in rows],
                          [("7", "ben", "metric 1.0.0.1 2.0.0.1 9"), ("5", "the script", "join 1.0.0.1 2.0.0.1"),
                           ("4", "the script", "link 1.0.0.1 2.0.0.1 7"), ("1", "the script", "router 1.0.0.1 1")])
         self.assertRegex(rows[0][1], r"^\d{4}-\d\d-\d\d \d\d:\d\d:\d\d$")
-        self.browser.click("#table table:last-child tr:nth-child(3) button")
+        self.browser.click("#table table:first-of-type tr:nth-child(3) button")
         self.at(5)
         self.press("b")
         self.browser.until("!document.getElementById('table').innerText.includes('Who changed what')")
