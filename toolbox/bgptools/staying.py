@@ -86,7 +86,7 @@ def _beside(box: Box, inside: List[Box], others: List[Box], towards: List[Box]) 
 
     def worse(place: Box) -> float:
         away = sum(math.hypot(place.x - aim.x, place.y - aim.y) for aim in aims) / max(len(aims), 1)
-        own = surrounding(known + [place])
+        own = surrounding(known + [place]) if others else place
         return away + ROOM * sum(own.meets(other, BETWEEN - 1) for other in others)
     best_first = sorted(_places(box, around, gap), key=worse)
     return next((place for place in best_first if not any(place.meets(each, gap - 1) for each in inside)), box)
