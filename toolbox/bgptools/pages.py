@@ -37,6 +37,7 @@ class Stream(asyncio.Transport):
         self.lines: "queue.SimpleQueue[bytes]" = queue.SimpleQueue()
         self.size = 0
         self.page: Optional[Connection] = None
+        self.cut: Callable[[], None] = lambda: None
 
     def write(self, data: Any) -> None:
         self.size += len(data)
@@ -53,7 +54,10 @@ class Stream(asyncio.Transport):
     def close(self) -> None:
         self.lines.put(b"")
 
-    abort = close
+    def abort(self) -> None:
+        """Ends it, also where the page reads nothing."""
+        self.close()
+        self.cut()
 
     def pause_reading(self) -> None:
         """Requests beyond those that are read ahead are refused."""

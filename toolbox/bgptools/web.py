@@ -197,6 +197,7 @@ class Handler(BaseHTTPRequestHandler):
         lab = self.server.lab
         key, stream = lab.within(lambda: lab.open(role, name))
         self.close_connection = True
+        stream.cut = self._cut
         try:
             self.send_response(200)
             self.send_header("Content-Type", "text/event-stream")
@@ -207,6 +208,11 @@ class Handler(BaseHTTPRequestHandler):
         finally:
             with contextlib.suppress(Gone):
                 lab.later(lambda: lab.close(key, stream))
+
+    def _cut(self) -> None:
+        """Ends the connection, whatever waits to be sent."""
+        with contextlib.suppress(OSError):
+            self.connection.shutdown(socket.SHUT_RDWR)
 
     def _pass(self, stream: Stream) -> bool:
         """Sends the next line; whether there may be others."""

@@ -1,5 +1,9 @@
 """What a page asks of lab's server beside its pictures: proposals, undo and blame, and who may ask for them."""
 import json
+import pathlib
+import re
+import socket
+import time
 
 from test_lab import AtServer
 from test_share import Person
@@ -87,3 +91,29 @@ class Guarded(AtServer):
     def post(self, page, body, key=None, **headers):
         """The status of a request."""
         return self.lab.get("do?page=" + page, "POST", body, key, **KIND, **headers)[0]
+
+
+class Deaf(AtServer):
+    def test_a_page_that_reads_nothing_is_let_go(self):
+        """What it is to be told is held for a while, and then not: the others are served all the time."""
+        with socket.socket() as deaf:
+            deaf.setsockopt(socket.SOL_SOCKET, socket.SO_RCVBUF, 4096)
+            deaf.connect(("127.0.0.1", int(self.lab.port)))
+            asked = "GET /%s/events?as=deaf HTTP/1.1\r\nHost: 127.0.0.1:%s\r\n\r\n" % (self.lab.key, self.lab.port)
+            deaf.sendall(asked.encode())
+            anna = Person(self.lab.socket, "anna")
+            self.addCleanup(anna.close)
+            anna.ask("watch", what="edits")
+            before, last = self.size(), time.monotonic() + 30
+            while not any("deaf has gone: it read nothing of" in each.get("text", "") for each in anna.events):
+                for number in [anna.send("call", line="# name 1.0.0.1 %s" % ("n" * 4000)) for _ in range(50)]:
+                    self.assertEqual(anna.answer(number)["reply"], [])
+                self.assertLess(time.monotonic(), last)
+            self.assertEqual(self.page("ben").ask("call", line="quiet")["reply"], ["no"])
+            # The lines themselves, some copies of them, and what was held.
+            self.assertLess(self.size() - before, 60000)
+
+    def size(self):
+        """How much memory the lab has, in kB."""
+        status = pathlib.Path("/proc/%d/status" % self.lab.process.pid).read_text()
+        return int(re.search(r"VmRSS:\s+([0-9]+) kB", status).group(1))
