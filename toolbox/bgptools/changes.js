@@ -1,12 +1,16 @@
 // Changes that are proposed: one is shown to all as what it would do, and made when another one accepts it.
 import { element } from "./drawn.js";
 
+const nameOf = (proposal) => "Proposal " + proposal.number + " of " + proposal.who + ": " + proposal.name;
+
 // The proposals that are open, in their place of the page. `acts` has what is done with one, by its name.
 export class Proposals {
   constructor(place, acts) {
     this.place = place;
     this.acts = acts;
     this.open = new Map();
+    // Who only looks can do nothing about them.
+    this.isOnlySeen = false;
   }
 
   // What is open now, for a page that comes later.
@@ -37,8 +41,12 @@ export class Proposals {
       part.setAttribute("role", "region");
       part.setAttribute("aria-label", told);
     }
+    if (this.isOnlySeen) {
+      made.append(element("h2", "", nameOf(proposal)), lines, does);
+      return made;
+    }
     const acts = isOwn ? [["decline", "Take it back"]] : [["accept", "Accept"], ["decline", "Decline"]];
-    made.append(element("h2", "", "Proposal " + proposal.number + " of " + proposal.who + ": " + proposal.name), lines, does,
+    made.append(element("h2", "", nameOf(proposal)), lines, does,
       ...acts.map(([name, text]) => {
         const button = element("button", name, text);
         button.addEventListener("click", () => this.acts[name](proposal.number));

@@ -48,6 +48,8 @@ const heards = {
   page: (told) => {
     Object.assign(now, { page: told.page, role: told.role, first: told.first || {} });
     document.documentElement.classList.toggle("looks", told.role !== "work");
+    proposals.isOnlySeen = told.role !== "work";
+    proposals.all([], now.name);
     catchUp();
   },
   changes: (told) => {

@@ -49,8 +49,7 @@ export function move(picture, from, to, reply) {
     if (made !== under) return;
     const part = Math.min(1, Math.max(0, (now - start) / LASTS));
     place(part * part * (3 - 2 * part));
-    if (part < 1) requestAnimationFrame(frame);
-    else stop();
+    requestAnimationFrame(part < 1 ? frame : () => { if (made === under) stop(); });
   };
   place(0);
   picture.append(made);

@@ -9,6 +9,7 @@ import secrets
 from typing import Any, Callable, Dict, List, Optional, TypeVar
 
 from .connection import AHEAD, Connection, Request, encoded
+from .happening import Event
 from .lesson import Note
 from .mistakes import Mistake
 from .record import HEADER
@@ -78,6 +79,7 @@ class Lab:
         self.streams: List[Stream] = []
         self.shown: Dict[str, Any] = {"event": "shown", "step": None}
         hub.words["show"] = self._show
+        hub.hearers.append(self._heard)
 
     @property
     def shared(self) -> Shared:
@@ -133,6 +135,9 @@ class Lab:
         self.streams.append(stream)
         stream.write(encoded({"event": "page", "page": key, "role": role, "first": self.first}))
         stream.write(encoded(self.shown))
+        proposals = self.shared.proposals
+        for made in proposals.open.values() if role == LOOK else ():
+            stream.write(encoded({"event": "proposal", **proposals.told(made)}))
         return key, stream
 
     def close(self, key: str, stream: Stream) -> None:
@@ -159,10 +164,19 @@ class Lab:
     def _show(self, _: Connection, __: int, request: Request) -> Dict[str, Any]:
         """Somebody shows all who look a step, and what of it."""
         self.shown = {"event": "shown", **{name: request.get(name) for name in ("step", "prefix", "way", "router")}}
+        self._tell_lookers(self.shown)
+        return {"shown": True}
+
+    def _heard(self, event: Event) -> None:
+        """Who looks sees what is proposed, and what becomes of it."""
+        if event["event"] == "proposal" or event.get("closes") is not None:
+            self._tell_lookers(event)
+
+    def _tell_lookers(self, event: Event) -> None:
+        message = encoded(event)
         for stream in self.streams:
             if stream.page is None and stream.size <= HELD:
-                stream.write(encoded(self.shown))
-        return {"shown": True}
+                stream.write(message)
 
     # In any thread
 

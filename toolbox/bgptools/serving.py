@@ -43,6 +43,8 @@ class Hub:
         self.signal = 0
         self.answering = Answering(shared, self._later, self._beside, self._wait)
         self.words = self.answering.words
+        # Others than the connections who hear what happens.
+        self.hearers: List[Callable[[Event], None]] = []
 
     def serve(self, listening: socket.socket, ready: Callable[[], None]) -> int:
         """Serves until a signal comes: its number. Says when it is ready for both. Raises what went wrong."""
@@ -186,6 +188,8 @@ class Hub:
             each.send(answer, is_answer=True)
 
     def _tell(self, event: Event) -> None:
+        for hear in self.hearers:
+            hear(event)
         if event["event"] == "changes":
             changes = [dict(each, line=shown(each["line"])) for each in event["changes"]]
             edits = [each for each in changes if not each["line"].startswith("deliver ")]

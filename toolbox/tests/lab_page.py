@@ -68,11 +68,10 @@ class InABrowser(Case):
         cls.browser = Browser(folder.name, "about:blank#lab")
         cls.addClassCleanup(cls.browser.close)
 
-    def lab(self, script, *words):
-        """A lab with a script, which is a path or its text."""
-        if isinstance(script, str):
-            script = self.file("script.bgp", script)
-        made = Lab(self.folder, script, *words)
+    def lab(self, script, *words, folder="lab"):
+        """A lab with a script, in a folder of its own."""
+        path = self.file(folder + "/script.bgp", script)
+        made = Lab(path.parent, path, *words)
         self.addCleanup(made.close)
         return made
 

@@ -166,6 +166,21 @@ class Together(InABrowser):
         self.browser.until("document.querySelectorAll('.proposal').length === 0")
         self.assertEqual(len(self.made.value("steps")["steps"]), self.last)
 
+    def test_who_looks_sees_a_proposal_and_no_button(self):
+        made = self.lab(SCRIPT, "--present", folder="class")
+        self.open(made, made.urls["to look"])
+        anna, ben = (made.page(name) for name in ("anna", "ben"))
+        self.addCleanup(anna.close)
+        self.addCleanup(ben.close)
+        anna.ask("propose", name="slow", lines=["metric 1.0.0.1 2.0.0.1 900"])
+        self.browser.until("document.querySelectorAll('.proposal').length === 1")
+        self.browser.go(made.urls["to look"])
+        self.browser.until("document.querySelectorAll('.proposal').length === 1")
+        self.assertIn("Nothing changed", self.text(".proposal .does"))
+        self.assertEqual(self.browser.value("document.querySelectorAll('.proposal button').length"), 0)
+        ben.ask("accept", number=1)
+        self.browser.until("document.querySelectorAll('.proposal').length === 0")
+
     def command(self, line):
         """Types a command, and Enter."""
         self.set("#command", line)
