@@ -47,7 +47,7 @@ class Viewed(Case):
     def test_what_was_told_before_is_what_would_be_told_anew(self):
         """Each step of many scripts, forward and back, is as it is where nothing was known before."""
         count = 0
-        for path in [path for path in EXAMPLES if path.stat().st_size < 2500][:12] + [THREE]:
+        for path in [path for path in EXAMPLES if path.stat().st_size < 2500][:6] + [THREE]:
             lines, prefixes, routers = accepted(path)
             if not prefixes or not routers or len(lines) > 80:
                 continue
@@ -61,7 +61,7 @@ class Viewed(Case):
             fresh = self.viewer()
             fresh.ground = viewer.ground
             self.assertEqual(fresh.picture(*asked), found, str(path))
-        self.assertGreater(count, 300)
+        self.assertGreater(count, 100)
 
     def anew(self, viewer, asked):
         """The picture where the run told nothing before."""
