@@ -371,7 +371,8 @@ const follow = () => { Object.assign(now, { isOwn: false, chosen: null }); at("c
 const onward = () => go((marks().find(([first]) => first > shownStep()) || [now.steps.length])[0]);
 const backward = () => go((marks().filter(([first]) => first < shownStep()).pop() || [0])[0]);
 const acts = { first: () => go(0), back: () => go(shownStep() - 1), forth: () => go(shownStep() + 1),
-  last: () => go(now.steps.length), next, settle, undo, large, follow, blame, print: () => window.print(), check: async () => answer(await ask("check", {})) };
+  last: () => go(now.steps.length), next, settle, undo, large, follow, blame, print: () => window.print(),
+  check: async () => answer(await ask("check", {})) };
 const keys = { ArrowLeft: acts.back, ArrowRight: acts.forth, PageUp: acts.back, PageDown: acts.forth,
   Home: acts.first, End: acts.last, n: next, s: settle, u: undo, b: blame, l: large, p: acts.print, j: onward, k: backward,
   v: () => { if (!at("follow").hidden) follow(); }, c: () => at("command").focus() };
