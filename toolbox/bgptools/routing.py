@@ -59,7 +59,7 @@ def _route(start: Edges, end: Edges, bows: Tuple[int, ...], others: Tuple[Edges,
     curve."""
     best, fewest = bows[0], math.inf
     for bow in bows if len(bows) > 1 else ():
-        met = _met(_bowed(_middle(start), _middle(end), bow), others)
+        met = _met(_bowed(_middle(start), _middle(end), bow), others, fewest)
         if met < fewest:
             best, fewest = bow, met
         if not met:
@@ -67,13 +67,18 @@ def _route(start: Edges, end: Edges, bows: Tuple[int, ...], others: Tuple[Edges,
     return _clipped(_bowed(_middle(start), _middle(end), best), start, end), best
 
 
-def _met(curve: Curve, others: Iterable[Edges]) -> int:
-    """How many boxes a curve passes through, or nearly."""
+def _met(curve: Curve, others: Iterable[Edges], most: float) -> int:
+    """How many boxes a curve passes through, or nearly; where it is so many, others are not looked at."""
     points = [curve.at(step / STEPS) for step in range(1, STEPS)]
-    left, right, top, bottom = _bounds(points)
-    near = [each for each in others
-            if each[0] - 4 <= right and left <= each[1] + 4 and each[2] - 4 <= bottom and top <= each[3] + 4]
-    return sum(any(_holds(each, x, y, 4) for x, y in points) for each in near)
+    low, high, upper, lower = _bounds(points)
+    count = 0
+    for left, right, top, bottom in others:
+        if left - 4 <= high and low <= right + 4 and top - 4 <= lower and upper <= bottom + 4:
+            left, right, top, bottom = left - 4, right + 4, top - 4, bottom + 4
+            count += any(left <= x <= right and top <= y <= bottom for x, y in points)
+            if count >= most:
+                break
+    return count
 
 
 def _holds(edges: Edges, x: float, y: float, gap: float) -> bool:

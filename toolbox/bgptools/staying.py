@@ -51,15 +51,16 @@ class Staying:
         new = [a for a in scene.spots if a not in stay]
         home = {a: asn for asn, inside in scene.groups.items() for a in inside}
         for a in new:
-            inside = [self.spots[each] for each in scene.groups[home[a]] if each in self.spots]
-            towards = [self.spots[each] for each in near.get(a, ()) if each in self.spots]
-            others = [surrounding([self.spots[each] for each in members if each in self.spots])
-                      for asn, members in scene.groups.items()
-                      if asn != home[a] and any(each in self.spots for each in members)]
-            self.spots[a] = _beside(Box(0, 0, *sizes[a]), inside, others, towards)
+            groups = {asn: self._there(inside) for asn, inside in scene.groups.items()}
+            others = [surrounding(boxes) for asn, boxes in groups.items() if boxes and asn != home[a]]
+            self.spots[a] = _beside(Box(0, 0, *sizes[a]), groups[home[a]], others, self._there(near.get(a, ())))
         if new or has_grown:
             self._make_room(scene)
         self.places = {a: (box.x, box.y) for a, box in self.spots.items()}
+
+    def _there(self, names: Iterable[str]) -> List[Box]:
+        """The boxes of those among these that have a place."""
+        return [self.spots[a] for a in names if a in self.spots]
 
     def _make_room(self, scene: Scene) -> None:
         """Moves boxes of an AS, and then ASes, that have come too near."""
@@ -86,7 +87,7 @@ def _beside(box: Box, inside: List[Box], others: List[Box], towards: List[Box]) 
 
     def worse(place: Box) -> float:
         away = sum(math.hypot(place.x - aim.x, place.y - aim.y) for aim in aims) / max(len(aims), 1)
-        own = surrounding(known + [place])
+        own = surrounding(known + [place]) if others else place
         return away + ROOM * sum(own.meets(other, BETWEEN - 1) for other in others)
     best_first = sorted(_places(box, around, gap), key=worse)
     return next((place for place in best_first if not any(place.meets(each, gap - 1) for each in inside)), box)

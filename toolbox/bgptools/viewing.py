@@ -23,8 +23,8 @@ from .scene import LINK, Scene, Spot, Wire, readable
 from .shapes import width_of
 from .staying import Staying
 
-# A picture has at most so many routers and peers, a box so many lines, and so many pictures are kept.
-MOST, ROWS, KEPT = 200, 5, 400
+# A picture has at most so many routers and peers, a box so many lines, and so many bytes of pictures are kept.
+MOST, ROWS, KEPT = 200, 5, 64 << 20
 WIDTH, BETWEEN = 170.0, 230.0
 MEANT = re.compile(r"^comms [0-9,]+ \((.*)\)")
 # After these commands there is more to be seen, which needs a place.
@@ -74,6 +74,7 @@ class Viewer:
         self.lock = threading.Lock()
         self.parked = Parked()
         self.pictures: "OrderedDict[Tuple[Any, ...], str]" = OrderedDict()
+        self.size = 0
         self.ground = Ground()
 
     def close(self) -> None:
@@ -91,12 +92,14 @@ class Viewer:
         with self.lock:
             if self.ground.take(lines):
                 self.pictures.clear()
+                self.size = 0
             key = (step, to, way)
             if key not in self.pictures:
                 self.pictures[key] = self._picture(lines, step, to, way)
+                self.size += len(self.pictures[key])
             self.pictures.move_to_end(key)
-            while len(self.pictures) > KEPT:
-                self.pictures.popitem(last=False)
+            while self.size > KEPT and len(self.pictures) > 1:
+                self.size -= len(self.pictures.popitem(last=False)[1])
             return self.pictures[key]
 
     def _picture(self, lines: List[str], step: int, to: Optional[str], way: Optional[Direction]) -> str:
