@@ -3,11 +3,11 @@ import { element } from "./drawn.js";
 
 const nameOf = (proposal) => "Proposal " + proposal.number + " of " + proposal.who + ": " + proposal.name;
 
-// The proposals that are open, in their place of the page. `acts` has what is done with one, by its name.
+// The proposals that are open, in their place of the page. `act` accepts or declines one.
 export class Proposals {
-  constructor(place, acts) {
+  constructor(place, act) {
     this.place = place;
-    this.acts = acts;
+    this.act = act;
     this.open = new Map();
     // Who only looks can do nothing about them.
     this.isOnlySeen = false;
@@ -35,7 +35,8 @@ export class Proposals {
 
   #made(proposal, isOwn) {
     const made = element("section", "proposal", "");
-    const lines = element("pre", "lines", proposal.lines.join("\n")), does = element("pre", "does", (proposal.text || "").trimEnd() || "what it does is not known yet");
+    const lines = element("pre", "lines", proposal.lines.join("\n"));
+    const does = element("pre", "does", (proposal.text || "").trimEnd() || "what it does is not known yet");
     for (const [part, told] of [[lines, "Its commands"], [does, "What it would do"]]) {
       part.tabIndex = 0;
       part.setAttribute("role", "region");
@@ -49,7 +50,7 @@ export class Proposals {
     made.append(element("h2", "", nameOf(proposal)), lines, does,
       ...acts.map(([name, text]) => {
         const button = element("button", name, text);
-        button.addEventListener("click", () => this.acts[name](proposal.number));
+        button.addEventListener("click", () => this.act(name, proposal.number));
         return button;
       }), ...(isOwn ? [element("span", "", "another one accepts it")] : []));
     return made;

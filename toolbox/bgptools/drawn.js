@@ -61,7 +61,8 @@ export class Picture {
 
   // Shows a picture; how many of its parts had to be made.
   show(picture) {
-    const before = this.kept, focused = document.activeElement, about = this.element.contains(focused) ? focused.dataset.about : null;
+    const before = this.kept, focused = document.activeElement;
+    const about = this.element.contains(focused) ? focused.dataset.about : null;
     let made = 0;
     this.kept = new Map();
     const parts = picture.parts.map((each) => {

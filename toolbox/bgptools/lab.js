@@ -14,13 +14,12 @@ const UNSEEN = new Set(["quiet", "queue", "cost"]);
 const PLACING = /^ *(#|(router|virtual|link|join) )/;
 // `step` is the one that is shown; nothing stands for the last one there is. `chosen` is what was clicked last, and
 // `isOwn` says that prefix and packet are a person's, not the lesson's.
-const now = { step: null, steps: [], first: {}, prefix: "", from: "", to: "", chosen: null, isOwn: false, blames: false, page: "", name: "",
-  role: "work", isGoing: false, drawing: false, again: false, drawn: -1, isSlow: false };
+const now = { step: null, steps: [], first: {}, prefix: "", from: "", to: "", chosen: null, isOwn: false, blames: false,
+  page: "", name: "", role: "work", isGoing: false, drawing: false, again: false, drawn: -1, isSlow: false };
 const waiting = new Map(), pictures = new Map();
 let forms = [], number = 0, events = null, isSettling = false;
 const picture = new Picture(clicked);
-const proposals = new Proposals(at("proposals"), {
-  accept: async (number) => answer(await ask("accept", { number })), decline: async (number) => answer(await ask("decline", { number })) });
+const proposals = new Proposals(at("proposals"), async (what, number) => answer(await ask(what, { number })));
 
 // The server
 
@@ -28,7 +27,8 @@ function ask(what, more) {
   const id = number += 1, body = JSON.stringify({ id, do: what, ...more });
   const found = new Promise((done) => waiting.set(id, done));
   fetch("do?page=" + encodeURIComponent(now.page), { method: "POST", headers: { "Content-Type": "application/json" }, body })
-    .then((told) => told.ok, () => false).then((isTaken) => { if (!isTaken) heard({ id, error: "the server does not take it" }); });
+    .then((told) => told.ok, () => false)
+    .then((isTaken) => { if (!isTaken) heard({ id, error: "the server does not take it" }); });
   return found;
 }
 
@@ -136,8 +136,8 @@ function answer(told) {
 }
 
 function options(select, values, first, chosen) {
-  const texts = JSON.stringify([first, values]);
-  if (select.dataset.texts !== texts) select.replaceChildren(new Option(first, ""), ...values.map(([value, text]) => new Option(text, value)));
+  const texts = JSON.stringify([first, values]), made = ([value, text]) => new Option(text, value);
+  if (select.dataset.texts !== texts) select.replaceChildren(new Option(first, ""), ...values.map(made));
   select.dataset.texts = texts;
   select.value = values.some(([value]) => value === chosen) ? chosen : "";
 }
@@ -147,7 +147,8 @@ const noteOf = (step) => (step === 0 ? now.first : now.steps[step - 1]) || {};
 
 // What is shown of a step: what a person chose, or what the lesson is about.
 function viewOf(step) {
-  const own = { prefix: now.prefix, from: now.from, to: now.to, router: now.chosen && now.chosen[0] === "router" ? now.chosen[1] : null };
+  const router = now.chosen && now.chosen[0] === "router" ? now.chosen[1] : null;
+  const own = { prefix: now.prefix, from: now.from, to: now.to, router };
   const view = noteOf(step).view;
   if (!view || now.isOwn) return own;
   const [from, to] = view.way || ["", ""];
@@ -197,16 +198,18 @@ async function drawn(step) {
   if (document.activeElement !== at("to")) at("to").value = view.to;
   now.drawn = step;
   document.body.dataset.step = String(step);
-  const words = (noteOf(step).line || "").trim().split(/ +/);
-  if (now.isSlow && !now.again && step === before + 1 && words[0] === "deliver") moving.move(picture.element, words[1], words[2], told.reply);
+  const [what, from, to] = (noteOf(step).line || "").trim().split(/ +/);
+  if (now.isSlow && !now.again && step === before + 1 && what === "deliver") moving.move(picture.element, from, to, told.reply);
   await tabled(step, told, view);
-  if (now.role === "work") ask("show", { step, prefix: view.prefix, way: view.from && view.to ? [view.from, view.to] : null, router: view.router });
+  const way = view.from && view.to ? [view.from, view.to] : null;
+  if (now.role === "work") ask("show", { step, prefix: view.prefix, way, router: view.router });
   const next = step + (step < before ? -1 : 1);
   if (!now.again && next >= 0 && next <= now.steps.length) pictured(next, viewOf(next)).catch(() => {});
 }
 
 async function tabled(step, told, view) {
-  const parts = [], prefix = view.prefix || told.prefixes[0], about = now.chosen && now.chosen.length === 2 ? now.chosen[1] : view.router;
+  const parts = [], prefix = view.prefix || told.prefixes[0];
+  const about = now.chosen && now.chosen.length === 2 ? now.chosen[1] : view.router;
   if (view.router && prefix) {
     const found = await get("table", { step, router: view.router, prefix });
     if (!found.error) parts.push(...tables(found));
@@ -268,7 +271,8 @@ function marks() {
 function headings() {
   const found = marks();
   at("contents").hidden = !found.length;
-  at("headings").replaceChildren(new Option("the beginning", "0"), ...found.map(([step, text]) => new Option(text, String(step))));
+  const options = found.map(([step, text]) => new Option(text, String(step)));
+  at("headings").replaceChildren(new Option("the beginning", "0"), ...options);
 }
 
 // What is done
@@ -366,11 +370,13 @@ const follow = () => { Object.assign(now, { isOwn: false, chosen: null }); at("c
 // To the heading after the step that is shown, or the one before.
 const onward = () => go((marks().find(([first]) => first > shownStep()) || [now.steps.length])[0]);
 const backward = () => go((marks().filter(([first]) => first < shownStep()).pop() || [0])[0]);
-const acts = { first: () => go(0), back: () => go(shownStep() - 1), forth: () => go(shownStep() + 1), last: () => go(now.steps.length),
-  next, settle, undo, large, follow, blame, print: () => window.print(), check: async () => answer(await ask("check", {})) };
-const keys = { ArrowLeft: acts.back, ArrowRight: acts.forth, PageUp: acts.back, PageDown: acts.forth, Home: acts.first, End: acts.last,
-  n: next, s: settle, u: undo, b: blame, l: large, p: acts.print, j: onward, k: backward,
+const acts = { first: () => go(0), back: () => go(shownStep() - 1), forth: () => go(shownStep() + 1),
+  last: () => go(now.steps.length), next, settle, undo, large, follow, blame, print: () => window.print(),
+  check: async () => answer(await ask("check", {})) };
+const keys = { ArrowLeft: acts.back, ArrowRight: acts.forth, PageUp: acts.back, PageDown: acts.forth,
+  Home: acts.first, End: acts.last, n: next, s: settle, u: undo, b: blame, l: large, p: acts.print, j: onward, k: backward,
   v: () => { if (!at("follow").hidden) follow(); }, c: () => at("command").focus() };
+const TYPED = "input:not([type=range]):not([type=checkbox]), select, textarea";
 const WORKING = new Set(["n", "s", "u", "b", "c"]);
 
 for (const name of Object.keys(acts)) at(name).addEventListener("click", () => acts[name]());
@@ -384,7 +390,7 @@ at("asked").addEventListener("submit", (event) => { event.preventDefault(); call
 at("propose").addEventListener("submit", (event) => { event.preventDefault(); propose(); });
 at("file").addEventListener("change", opened);
 document.addEventListener("keydown", (key) => {
-  const typed = key.target instanceof Element && key.target.closest("input:not([type=range]):not([type=checkbox]), select, textarea");
+  const typed = key.target instanceof Element && key.target.closest(TYPED);
   if (key.key === "Escape" && typed) typed.blur();
   if (typed || key.ctrlKey || key.altKey || key.metaKey || !keys[key.key]) return;
   if (now.role !== "work" && WORKING.has(key.key)) return;

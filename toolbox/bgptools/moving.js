@@ -13,8 +13,9 @@ function lineOf(picture, one, other) {
 }
 
 function envelope(isWithdrawal) {
-  const made = document.createElementNS(SVG, "g"), back = document.createElementNS(SVG, "rect"), flap = document.createElementNS(SVG, "path");
-  const looks = { fill: "#ffffff", stroke: "#1a202c", "stroke-width": "2", ...(isWithdrawal ? { "stroke-dasharray": "3 2" } : {}) };
+  const [made, back, flap] = ["g", "rect", "path"].map((kind) => document.createElementNS(SVG, kind));
+  const looks = { fill: "#ffffff", stroke: "#1a202c", "stroke-width": "2",
+    ...(isWithdrawal ? { "stroke-dasharray": "3 2" } : {}) };
   for (const [part, more] of [[back, { x: -13, y: -9, width: 26, height: 18, rx: 2 }], [flap, { d: "M-13 -8 L0 3 L13 -8" }]]) {
     for (const [name, value] of Object.entries({ ...looks, ...more })) part.setAttribute(name, value);
     made.append(part);
@@ -44,7 +45,10 @@ export function move(picture, from, to, reply) {
   if (!found || !found.line) return;
   const length = found.line.getTotalLength(), made = under = envelope(/ withdraw/.test(reply)), start = performance.now();
   const at = (part) => found.line.getPointAtLength(length * (found.isTurned ? 1 - part : part));
-  const place = (part) => { const { x, y } = at(part); made.setAttribute("transform", "translate(" + x.toFixed(1) + " " + y.toFixed(1) + ")"); };
+  const place = (part) => {
+    const { x, y } = at(part);
+    made.setAttribute("transform", "translate(" + x.toFixed(1) + " " + y.toFixed(1) + ")");
+  };
   const frame = (now) => {
     if (made !== under) return;
     const part = Math.min(1, Math.max(0, (now - start) / LASTS));
