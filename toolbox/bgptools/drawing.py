@@ -224,7 +224,8 @@ def _entry(name: str, x: float, y: float) -> Tuple[Shape, ...]:
 
 def _sample(name: str, x: float, y: float) -> Tuple[Shape, ...]:
     pens = {"link": Pen(LINK, "none", 1.6), "links": Pen(LINK, "none", 1.6), "failed": Pen(DOWN, "none", 1.6, "dashed"),
-            "forwards": Pen(FORWARDS, "none", 2.6), "way": Pen(WAY, "none", 2.6), "delivered": Pen(DELIVERED, "none", 3)}
+            "forwards": Pen(FORWARDS, "none", 2.6), "way": Pen(WAY, "none", 2.6),
+            "delivered": Pen(DELIVERED, "none", 3)}
     dotted = {"internal": INTERNAL, "external": EXTERNAL, "sessions": EXTERNAL, "down": DOWN, "client": INTERNAL}
     pens.update((each, Pen(color, "none", 1.5, "dotted")) for each, color in dotted.items())
     if name in pens:

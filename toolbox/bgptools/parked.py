@@ -37,7 +37,7 @@ class Stand:
 
 
 class Parked:
-    """Runs after steps of one script, which may grow. `replies` are those to the lines that a run was given, by step."""
+    """Runs after steps of one script, which may grow. `replies` are those to the lines that were given, by step."""
 
     def __init__(self) -> None:
         self.stands: List[Stand] = []

@@ -543,6 +543,8 @@ class AtTerminal(AtSocket):
         self.start(THREE, "--workers", 1)
         anna, ben = self.typed("anna"), self.join("ben")
         ben.ask("pace", a_second=0.01)
+        # What is told redraws the prompt: before anything is typed.
+        anna.until("    * ben sets the pace: 1 worker, going at most 0.01 a second\nanna> ")
         for _ in range(2):
             ben.call("fail 1.0.0.1 3.0.0.1")
             ben.call("mend 1.0.0.1 3.0.0.1")
