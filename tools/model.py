@@ -238,17 +238,18 @@ class Net:
     @staticmethod
     def beats(name, n, m, always):
         """Whether the filter prefers n to m. MED counts within one neighbouring AS (RFC 4271, 9.1.2.2 c), or `always`."""
-        med = lambda c: c["attr"]["med"] or 0
-        same = lambda: always or neighbour(n["attr"]["path"]) == neighbour(m["attr"]["path"])
-        return {"pref": lambda: n["pref"] > m["pref"],
-                "length": lambda: length(n["attr"]["path"]) < length(m["attr"]["path"]),
-                "origin": lambda: n["attr"]["origin"] < m["attr"]["origin"],
-                "med": lambda: same() and med(n) < med(m),
-                "external": lambda: n["external"] and not m["external"],
-                "cost": lambda: n["cost"] < m["cost"],
-                "ident": lambda: n["ident"] < m["ident"],
-                "clusters": lambda: len(n["attr"]["clusters"]) < len(m["attr"]["clusters"]),
-                "peer": lambda: n["peer"] < m["peer"]}[name]()
+        if name in ("pref", "external"):
+            return n[name] > m[name]
+        if name == "length":
+            return length(n["attr"]["path"]) < length(m["attr"]["path"])
+        if name == "origin":
+            return n["attr"]["origin"] < m["attr"]["origin"]
+        if name == "med":
+            same = always or neighbour(n["attr"]["path"]) == neighbour(m["attr"]["path"])
+            return same and (n["attr"]["med"] or 0) < (m["attr"]["med"] or 0)
+        if name == "clusters":
+            return len(n["attr"]["clusters"]) < len(m["attr"]["clusters"])
+        return n[name] < m[name]
 
     def decide(self, r, p):
         """(best candidate or None, [(source, reason)])"""
@@ -256,6 +257,8 @@ class Net:
         reasons = {source: why for source, why, _ in routes if why}
         left = [c for _, _, c in routes if c]
         for name in self.FILTERS:
+            if len(left) < 2:
+                break       # one route has no other to lose against
             dropped = [m for m in left if any(self.beats(name, n, m, r in self.med_always) for n in left)]
             for m in dropped:
                 reasons[m["source"]] = name
@@ -275,9 +278,10 @@ class Net:
         return NO_ADVERTISE in comms or self.external(s, t) and (NO_EXPORT in comms or NO_EXPORT_SUBCONFED in comms)
 
     def out(self, s, t, p):
-        if not self.up(s, t):
-            return None
-        b = self.best(s, p)
+        return self.told(s, t, p, self.best(s, p)) if self.up(s, t) else None
+
+    def told(self, s, t, p, b):
+        """What is told over an up session of the candidate that was chosen, if there is one."""
         if b is None or b["source"] == t or self.is_kept(s, t, b["attr"]["comms"]):
             return None
         act = self.judge(s, t, "out", p, b["attr"])
@@ -300,14 +304,12 @@ class Net:
 
     def offers(self):
         found = {}
-        for key in self.sessions:
-            for s in key:
-                (t,) = key - {s}
-                if not self.nodes[s][1]:
-                    for p in self.prefixes(s):
-                        a = self.out(s, t, p)
-                        if a is not None:
-                            found[s, t, p] = a
+        for s in {end for key in self.sessions for end in key if not self.nodes[end][1]}:
+            ways = [t for t in self.peers(s) if self.up(s, t)]
+            for p in self.prefixes(s):
+                b = self.best(s, p)
+                told = ((t, self.told(s, t, p, b)) for t in ways)
+                found.update({(s, t, p): a for t, a in told if a is not None})
         return found
 
     def send(self):

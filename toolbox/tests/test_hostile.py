@@ -10,8 +10,8 @@ import unittest.mock
 from common import TOP, Case
 
 import model
-from simtools import (failing_streams, forged_logs, growth, growths, hostile_scripts, logs, programs, refuse_growths,
-                      small_stacks, storms, team_logs)
+from simtools import (failing_streams, forged_logs, growth, growths, hostile_scripts, logs, mistyped, planted, programs,
+                      refuse_growths, run_cases, small_stacks, storms, team_logs)
 from simtools.running import Ran
 from test_tools import called, command
 
@@ -268,6 +268,33 @@ class WhatGrows(Case):
                 self.assertEqual(table[name][1] is None, size is None)
                 if size is not None:
                     self.assertTrue(table[name][1] / 2 <= size <= table[name][1] * 2, (table[name], size))
+
+
+    def test_a_network_at_all_limits_at_once(self):
+        """It is held in the memory that the page tells, whatever else runs."""
+        script = run_cases.given(TOP / "cases" / "limits" / "all-at-once").decode().splitlines()
+        told = re.search(r"at all limits at\s+once\b[^.]*\bin (\d+) MB", (TOP / "docs" / "LIMITS.md").read_text())
+        most = int(told[1]) * 1_000_000
+        self.assertTrue(most / 2 <= growth.memory(script) <= most)
+
+
+class Mistyped(Case):
+    def test_what_the_compiler_has_to_say(self):
+        edit = self.file("seat.edit", "file: src/a.rt\nold: x\nnew: y\nsaid: expected `A<L>`, found `A<K>`\n"
+                                      "said: expected `B`, found `C`\n")
+        one, other = "error[mismatched-types]: expected `A<L>`, found `A<K>`", "error[mismatched-types]: expected `B`, found `C`"
+        for told, missing in (("src/a.rt:7:3: %s\n./src/a.rt:9:3: %s\n" % (one, other), 0),
+                              ("src/a.rt:7:3: %s\n" % one, 1), ("src/b.rt:7:3: %s\nsrc/a.rt:9:3: %s\n" % (one, other), 1),
+                              ("src/a.rt:7:3: error: expected `A<L>`, found `A<K>`\n", 2), ("", 2)):
+            self.assertEqual(len(mistyped.wrong(edit, told)), missing, told)
+
+    def test_each_edit_says_something(self):
+        edits = list((TOP / "crates").glob("*/mistyped/*.edit"))
+        self.assertTrue(edits)
+        for edit in edits:
+            texts, why = planted.texts_of(edit, edit.parent.parent)
+            self.assertEqual((why, len(texts), len(mistyped.lines_of(edit, "file"))), (None, 1, 1), edit)
+            self.assertTrue(mistyped.lines_of(edit, "said"), edit)
 
 
 class Hooks(Case):
