@@ -207,10 +207,14 @@ class RoomGrowths(Growths):
         return [n * DELIVERY + first for n in range(MOST_TOGETHER if line == TOGETHER else 1)]
 
     def left(self, line: bytes, ever: bytes, once: List[bytes]) -> List[bytes]:
-        """Where calls are made together, so many of the first were, but not all."""
+        """Where calls are made together, so many of the first were, but not all; and where memory was wanted for a
+        job behind the first, so few were taken, and all of these were committed."""
+        if line != TOGETHER:
+            return super().left(line, ever, once)
         cut = [out.split(b"\n", 3 * n) for n, out in enumerate(once)]
-        few = [WANT + lines[-1] for lines in cut if b"none" not in lines[:-1]]
-        return [out for out in few if out[len(WANT):] != ever.split(b"\n", 1)[1]]
+        few = [lines[-1] for lines in cut if b"none" not in lines[:-1]]
+        few = [out for out in few if out != ever.split(b"\n", 1)[1]]
+        return [WANT + out for out in few] + [b"ok\n" + out for out in few[1:]]
 
     def may_want(self, one: Expected) -> bool:
         """All that a room keeps takes memory, be it refused."""

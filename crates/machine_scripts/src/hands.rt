@@ -151,16 +151,22 @@ impl<L: Ledger> Hands<L> {
         write_each(&parts, output)
     }
 
-    /// The worker works a job. One that is handed back is in hand again.
+    /// The worker works a job, once there is a place for its outcome. One that is handed back is in hand again.
     fn work<W: Write>(&mut self, output: &mut Output<W>) -> Result<(), WriterFailed> {
+        if self.jobs.is_empty() {
+            return output.write(b"none\n");
+        }
+        if self.outcomes.reserve(1).is_err() {
+            return write_refusal(Refusal::Memory, output);
+        }
         let Some(job) = self.jobs.pop() else {
             return output.write(b"none\n");
         };
         match job.work() {
-            Ok(done) => match self.outcomes.push(done) {
-                Ok(()) => output.write(b"done\n"),
-                Err(_) => write_refusal(Refusal::Memory, output),
-            },
+            Ok(done) => {
+                drop(self.outcomes.push(done));
+                output.write(b"done\n")
+            }
             Err(job) => {
                 drop(self.jobs.push(job));
                 write_refusal(Refusal::Memory, output)
