@@ -2,6 +2,8 @@
 use Rattle.std.proofs.Common.{◌≡◌, ℕ, zero, suc, ◌<◌, ◌≤◌, Bool, true, false, cond, not, ◌&&◌, T, List, [], ◌∷◌, length, get_or, Option, Some, None, IsTrue, unwrap_or, refl, sym, ap, subst, ◌∙◌, arith}
 use Rattle.std.specs.Prelude.{slice_get, slice_index_or, option_map}
 use Rattle.std.specs.List as list
+use Rattle.std.specs.Map.{remove_entry}
+use Rattle.std.specs.BTreeMap.{is_at}
 use Rattle.std.specs.List.Sorted.{IsPartitionedBy, IsPartitionPoint}
 use Rattle.std.specs.declared.cmp.Ordering.{Ordering}
 use Rattle.std.specs.declared.cmp.Ordering.TheVariants.{Less, Equal, Greater}
@@ -65,6 +67,7 @@ module _ {A : Type 0} where
     written = λ v. ap (λ k. (k, v) ∷ es) (addr_exact q e.0 p) ∙ ap (λ r. by_order r ((q, v) ∷ e ∷ es) ((e.0, v) ∷ es) (e ∷ put addr_cmp q v es)) (sym p);
     value = λ x h. ap (λ r. cond (is_eq r) (Some e.1) (find addr_cmp q es)) p ∙ ap (λ y. option_map (λ (z : Addr × A). z.1) y) h;
     key = λ x h. sym (ap (λ y. (unwrap_or y e).0) h) ∙ sym (addr_exact q e.0 p);
+    taken_out = ap (λ r. cond (is_eq r) es (e ∷ remove_entry (is_at (addr_cmp q)) es)) (sym p);
   }
 
   at_later : (e : Addr × A) (es : List (Addr × A)) (q : Addr) (i : ℕ) → addr_cmp q e.0 ≡ Greater → IsAt es q i → IsAt (e ∷ es) q (suc i)
@@ -73,13 +76,14 @@ module _ {A : Type 0} where
     written = λ v. ap (λ r. e ∷ r) (is.written v) ∙ ap (λ r. by_order r ((q, v) ∷ e ∷ es) ((e.0, v) ∷ es) (e ∷ put addr_cmp q v es)) (sym p);
     value = λ x h. ap (λ r. cond (is_eq r) (Some e.1) (find addr_cmp q es)) p ∙ is.value x h;
     key = λ x h. is.key x h;
+    taken_out = ap (λ l. e ∷ l) is.taken_out ∙ ap (λ r. cond (is_eq r) es (e ∷ remove_entry (is_at (addr_cmp q)) es)) (sym p);
   }
 
-  find_below : (q : Addr) (es : List (Addr × A)) → T (below_all addr_cmp q es) → find addr_cmp q es ≡ None
+  pub find_below : (q : Addr) (es : List (Addr × A)) → T (below_all addr_cmp q es) → find addr_cmp q es ≡ None
   find_below q [] h = refl
   find_below q (e ∷ es) h = ap (λ r. cond (is_eq r) (Some e.1) (find addr_cmp q es)) (less_of _ (first _ _ h)) ∙ find_below q es (second _ _ h)
 
-  below_less : (x y : Addr) (es : List (Addr × A)) → addr_cmp x y ≡ Less → T (below_all addr_cmp y es) → T (below_all addr_cmp x es)
+  pub below_less : (x y : Addr) (es : List (Addr × A)) → addr_cmp x y ≡ Less → T (below_all addr_cmp y es) → T (below_all addr_cmp x es)
   below_less x y [] p h = tt
   below_less x y (e ∷ es) p h =
       let a : addr_cmp x e.0 ≡ Less = addr_total.trans x y e.0 p (less_of _ (first _ _ h)) in

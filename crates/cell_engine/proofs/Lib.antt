@@ -9,6 +9,9 @@ pub mod OneHop
 pub mod Recosted
 pub mod SendersInOrder
 pub mod StandingsAfter
+mod InPlace
+mod Lent
+mod SenderPlaces
 pub mod Unchanged
 mod MoveTests
 pub mod Knowing
@@ -51,6 +54,7 @@ pub mod Cleared
 pub mod Counts
 pub mod Deciding
 pub mod Delivered
+mod DeliveredInPlace
 pub mod Growth
 pub mod Placing
 pub mod Reconfigured

@@ -84,7 +84,7 @@ module _ (site : SiteConf) (p : Prefix) where
   put_by_up false u v m q = sym (same_either_way (eq_by_cmp source_cmp q (FromPeer u)) (standing_from m q))
 
   -- a standing over the session is its peer's
-  put_one : (x : SiteSession) (a : Option Attr) (m : Standings) (q : Source) → standing_from (added m (option_to_list (standing_over site p x a))) q ≡ cond (eq_by_cmp source_cmp q (FromPeer x.peer)) (option_or (stood x a) (standing_from m q)) (standing_from m q)
+  pub put_one : (x : SiteSession) (a : Option Attr) (m : Standings) (q : Source) → standing_from (added m (option_to_list (standing_over site p x a))) q ≡ cond (eq_by_cmp source_cmp q (FromPeer x.peer)) (option_or (stood x a) (standing_from m q)) (standing_from m q)
   put_one x None m q = sym (same_either_way (eq_by_cmp source_cmp q (FromPeer x.peer)) (standing_from m q))
   put_one x (Some attr) m q = put_by_up x.up x.peer (peer_standing site p x attr) m q
 
@@ -241,7 +241,7 @@ pub compares_as : (site : SiteConf) (p : Prefix) (routes : List (Addr × Attr)) 
 compares_as site p routes = added_always (no_standings site.med_always) (own_standings site p ++ filter_map (standing_of site p routes) site.sessions)
 
 -- a message leaves that
-compares_after : (site : SiteConf) (u : Addr) (m : Message) (standings : Standings) → (standings_after site u m standings).med_always ≡ standings.med_always
+pub compares_after : (site : SiteConf) (u : Addr) (m : Message) (standings : Standings) → (standings_after site u m standings).med_always ≡ standings.med_always
 compares_after site u (Withdraw p) standings = refl
 compares_after site u (Update p attr) standings = by (session_with site u)
   where

@@ -24,5 +24,6 @@ pub mod Becomings
 pub mod Coding
 pub mod Counts
 pub mod Deliveries
+pub mod InPlace
 pub mod Edits
 pub mod Sharing

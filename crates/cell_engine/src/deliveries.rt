@@ -1,5 +1,6 @@
 //! What the engine does with a message at the head of a queue, with one whose outcome was made beside the state
-//! (`installs`), and with one that a virtual peer feeds (`feeds`).
+//! (`installs`), in the receiver's cell where that stands (`in_place`), and with one that a virtual peer feeds
+//! (`feeds`).
 
 ghost use Rattle.std.specs.Prelude.{◌≡◌, ◌≤◌, length, true, false, is_some, IfOk, OnOk, OnErr};
 ghost use Rattle.net_conf.specs.Costs.{is_up};
@@ -14,6 +15,7 @@ ghost use Rattle.cell_engine.specs.Editing.{with_cell};
 ghost use Rattle.cell_engine.specs.Deliveries.{outcome_at, HasRoom, IsOfHead, KeepsSame};
 
 mod feeds;
+mod in_place;
 mod installs;
 
 use crate::route_cell::{Cell, Outcome, deliver, store};

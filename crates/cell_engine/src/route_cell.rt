@@ -3,6 +3,7 @@
 
 mod cell;
 mod changes;
+mod in_place;
 mod keeping;
 mod moves;
 mod outcome;
@@ -12,6 +13,7 @@ mod standings;
 
 pub use cell::Cell;
 pub use changes::{deliver, refresh, refresh_compared, store};
+pub(crate) use in_place::take_in;
 pub use keeping::keep;
 pub use moves::{SiteChange, Stays};
 pub use outcome::Outcome;

@@ -1,7 +1,7 @@
 //! Tables by the address of their router.
 
 mod entries;
-mod places;
+pub(crate) mod places;
 mod tables;
 
 pub use tables::RouterTables;

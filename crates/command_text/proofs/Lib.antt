@@ -7,4 +7,5 @@ mod Readings
 mod Settings
 mod FirstWords
 mod Spelled
+mod Fronts
 mod Telling

@@ -3,11 +3,13 @@
 ghost use Rattle.std.specs.Prelude.{◌≡◌, ℕ, ◌≤◌, List, ◌∷◌, length, IfSome, IfNone};
 ghost use Rattle.net_prefix.specs.declared.addr.Addr.{Addr};
 ghost use Rattle.net_prefix.specs.Address.{addr_text};
-ghost use Rattle.sim_event.specs.Events.{IsAddress};
+ghost use Rattle.net_prefix.specs.Prefix.{Prefix, prefix_text};
+ghost use Rattle.sim_event.specs.Events.{IsAddress, IsPrefix};
 ghost use Rattle.command_text.specs.Lines.{tokens};
 ghost use Rattle.command_text.specs.Reading.{Reads};
 ghost use Rattle.command_text.specs.Arguments.{address_words, AreAddresses, addresses_words, IsNumberedAddress, numbered_words, AreEndsAndMetric, metric_words, IsAddressAndPrefix, prefix_words, AreEnds, switch_words, side_words, IsAddressAndComparison, comparison_words, IsAddedRule, added_words};
 
+use crate::front::{front_address, front_prefix};
 use crate::rule::rule_of;
 use crate::values::{addr_of, asn_of, comparison_of, metric_of, prefix_of, side_of, switch_of};
 use crate::words::{next_word, one_word, three_words, two_words};
@@ -27,8 +29,8 @@ pub(crate) fn address(words: &[u8]) -> Option<Addr>
 pub(crate) fn two_addresses(words: &[u8]) -> Option<(Addr, Addr)>
     ensures { Reads AreAddresses addresses_words (tokens words.now) result }
 {
-    let (first, second) = two_words(words)?;
-    Some((addr_of(first)?, addr_of(second)?))
+    let (first, rest) = next_address(words)?;
+    Some((first, address(rest)?))
 }
 
 /// `A N`
@@ -97,6 +99,26 @@ pub(crate) fn next_address(words: &[u8]) -> Option<(Addr, &[u8])>
     ensures none { IfNone result ((a : Addr) (more : List (List ℕ)) → IsAddress a →
         tokens words.now ≡ addr_text a ∷ more → ⊥) }
 {
+    if let Some((addr, rest)) = front_address(words) {
+        return Some((addr, rest));
+    }
     let (word, rest) = next_word(words)?;
     Some((addr_of(word)?, rest))
+}
+
+/// The prefix that stands first, and the text after it.
+pub(crate) fn next_prefix(words: &[u8]) -> Option<(Prefix, &[u8])>
+    ensures prefix { IfSome result (λ next. IsPrefix next.0) }
+    ensures found { IfSome result (λ next. tokens words.now ≡ prefix_text next.0 ∷ tokens next.1.now) }
+    ensures shorter { IfSome result (λ next. length next.1.now ≤ length words.now) }
+    ensures none { IfNone result ((p : Prefix) (more : List (List ℕ)) → IsPrefix p →
+        tokens words.now ≡ prefix_text p ∷ more → ⊥) }
+{
+    let found = front_prefix(words);
+    if found.is_some() {
+        return found;
+    }
+    let (word, rest) = next_word(words)?;
+    let prefix = prefix_of(word)?;
+    Some((prefix, rest))
 }

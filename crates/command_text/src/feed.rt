@@ -8,7 +8,7 @@ ghost use Rattle.command_text.specs.Lines.{tokens, is_route, feeds_route, most_c
 ghost use Rattle.command_text.specs.Reading.{Makes};
 ghost use Rattle.command_text.specs.Updates.{update_words, AreUpdateWords};
 
-use crate::arguments::next_address;
+use crate::arguments::{next_address, next_prefix};
 use crate::communities::{are_communities, build_communities};
 use crate::path::{build_path, is_path};
 use crate::values::{med_of, origin_of, prefix_of};
@@ -85,7 +85,10 @@ fn update_of(words: &[u8]) -> Option<UpdateWords<'_>>
     ensures found { IfSome result (λ u. AreUpdateWords u × (tokens words.now ≡ update_words u)) }
     ensures none { IfNone result ((r : FedRoute) → IsFedRoute r → tokens words.now ≡ fed_words r → ⊥) }
 {
-    let (prefix, path, rest) = next_two_words(words)?;
+    let Some((prefix, rest)) = next_prefix(words) else {
+        return None;
+    };
+    let (path, rest) = next_word(rest)?;
     let (origin, med, rest) = next_two_words(rest)?;
     if !is_path(path) {
         return None;
@@ -94,7 +97,7 @@ fn update_of(words: &[u8]) -> Option<UpdateWords<'_>>
         return None;
     }
     Some(UpdateWords {
-        prefix: prefix_of(prefix)?,
+        prefix,
         path,
         origin: origin_of(origin)?,
         med: med_of(med)?,

@@ -6,6 +6,7 @@ mod ascending;
 mod command;
 mod communities;
 mod feed;
+mod front;
 mod laws;
 mod limits;
 mod line;

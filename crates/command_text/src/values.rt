@@ -10,6 +10,7 @@ ghost use Rattle.sim_event.specs.Wording.{none_text, maybe_number_text, origin_t
 ghost use Rattle.command_text.specs.Words.{switch_word, comparison_word, side_word};
 ghost use Rattle.command_text.specs.Reading.{Reads};
 
+use crate::front::whole_address;
 use decimal::read_decimal;
 use net_conf::{Metric, PolicySide};
 use net_prefix::{Addr, Prefix, read_addr, read_prefix};
@@ -19,7 +20,10 @@ use path_attr::{Asn, Origin};
 pub(crate) fn addr_of(word: &[u8]) -> Option<Addr>
     ensures { Reads IsAddress addr_text word.now result }
 {
-    read_addr(word)
+    match whole_address(word) {
+        Some(addr) => Some(addr),
+        None => read_addr(word),
+    }
 }
 
 /// A prefix, a.b.c.d/len.

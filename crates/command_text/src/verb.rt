@@ -3,7 +3,7 @@
 //! Each shape of what follows has an enum of its verbs: so it has one reader, proved once, which is handed no verb of
 //! another shape.
 
-ghost use Rattle.std.specs.Prelude.{◌≡◌, ◌∷◌, ⊤};
+ghost use Rattle.std.specs.Prelude.{◌≡◌, ◌∷◌, ◌<◌, ◌≤◌, ⊤, length};
 ghost use Rattle.sim_event.specs.Events.{IsEvent};
 ghost use Rattle.command_text.specs.Words.{words_of};
 ghost use Rattle.command_text.specs.Verbs.{verb_word, node_word, link_word, pair_word, setting_word, prefix_word};
@@ -87,38 +87,87 @@ pub(crate) enum PrefixVerb {
     Why,
 }
 
-/// The verb that the word is.
+/// The verb that the word is. One of as many letters is looked for.
 pub(crate) fn verb_of(word: &[u8]) -> Option<Verb>
     ensures { Reads (λ _. ⊤) verb_word word.now result }
 {
+    match word.len() {
+        2 | 3 => verb_of_three(word),
+        4 => verb_of_four(word),
+        5 => verb_of_five(word),
+        6 => verb_of_six(word),
+        _ => longer_verb(word),
+    }
+}
+
+/// The verb of two or three letters that the word is.
+fn verb_of_three(word: &[u8]) -> Option<Verb>
+    ensures { Reads (λ verb. length (verb_word verb) ≤ 3) verb_word word.now result }
+{
     match word {
-        b"router" => Some(Verb::Node(NodeVerb::Router)),
-        b"virtual" => Some(Verb::Node(NodeVerb::Virtual)),
+        b"in" => Some(Verb::Pair(PairVerb::In)),
+        b"out" => Some(Verb::Pair(PairVerb::Out)),
+        b"why" => Some(Verb::Prefix(PrefixVerb::Why)),
+        b"med" => Some(Verb::Med),
+        _ => None,
+    }
+}
+
+/// The verb of four letters that the word is.
+fn verb_of_four(word: &[u8]) -> Option<Verb>
+    ensures { Reads (λ verb. length (verb_word verb) ≡ 4) verb_word word.now result }
+{
+    match word {
         b"link" => Some(Verb::Link(LinkVerb::Link)),
-        b"metric" => Some(Verb::Link(LinkVerb::Metric)),
         b"fail" => Some(Verb::Pair(PairVerb::Fail)),
         b"mend" => Some(Verb::Pair(PairVerb::Mend)),
         b"join" => Some(Verb::Pair(PairVerb::Join)),
         b"stop" => Some(Verb::Pair(PairVerb::Stop)),
-        b"start" => Some(Verb::Pair(PairVerb::Start)),
-        b"cluster" => Some(Verb::Pair(PairVerb::Cluster)),
-        b"deliver" => Some(Verb::Pair(PairVerb::Deliver)),
-        b"in" => Some(Verb::Pair(PairVerb::In)),
-        b"out" => Some(Verb::Pair(PairVerb::Out)),
-        b"queue" => Some(Verb::Pair(PairVerb::Queue)),
         b"cost" => Some(Verb::Pair(PairVerb::Cost)),
-        b"trace" => Some(Verb::Pair(PairVerb::Trace)),
-        b"client" => Some(Verb::Switch(SwitchVerb::Client)),
         b"self" => Some(Verb::Switch(SwitchVerb::OwnNext)),
-        b"origin" => Some(Verb::Prefix(PrefixVerb::Origin)),
-        b"noorigin" => Some(Verb::Prefix(PrefixVerb::NoOrigin)),
         b"best" => Some(Verb::Prefix(PrefixVerb::Best)),
-        b"why" => Some(Verb::Prefix(PrefixVerb::Why)),
         b"rule" => Some(Verb::Rule),
-        b"clear" => Some(Verb::Clear),
-        b"med" => Some(Verb::Med),
-        b"routes" => Some(Verb::Routes),
+        _ => None,
+    }
+}
+
+/// The verb of five letters that the word is.
+fn verb_of_five(word: &[u8]) -> Option<Verb>
+    ensures { Reads (λ verb. length (verb_word verb) ≡ 5) verb_word word.now result }
+{
+    match word {
         b"quiet" => Some(Verb::Quiet),
+        b"queue" => Some(Verb::Pair(PairVerb::Queue)),
+        b"trace" => Some(Verb::Pair(PairVerb::Trace)),
+        b"start" => Some(Verb::Pair(PairVerb::Start)),
+        b"clear" => Some(Verb::Clear),
+        _ => None,
+    }
+}
+
+/// The verb of six letters that the word is.
+fn verb_of_six(word: &[u8]) -> Option<Verb>
+    ensures { Reads (λ verb. length (verb_word verb) ≡ 6) verb_word word.now result }
+{
+    match word {
+        b"origin" => Some(Verb::Prefix(PrefixVerb::Origin)),
+        b"metric" => Some(Verb::Link(LinkVerb::Metric)),
+        b"router" => Some(Verb::Node(NodeVerb::Router)),
+        b"client" => Some(Verb::Switch(SwitchVerb::Client)),
+        b"routes" => Some(Verb::Routes),
+        _ => None,
+    }
+}
+
+/// The verb of more letters that the word is.
+fn longer_verb(word: &[u8]) -> Option<Verb>
+    ensures { Reads (λ verb. 6 < length (verb_word verb)) verb_word word.now result }
+{
+    match word {
+        b"deliver" => Some(Verb::Pair(PairVerb::Deliver)),
+        b"virtual" => Some(Verb::Node(NodeVerb::Virtual)),
+        b"cluster" => Some(Verb::Pair(PairVerb::Cluster)),
+        b"noorigin" => Some(Verb::Prefix(PrefixVerb::NoOrigin)),
         _ => None,
     }
 }

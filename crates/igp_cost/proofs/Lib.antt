@@ -21,3 +21,4 @@ mod MoreEdges
 mod Before
 mod InPlace
 mod Elsewhere
+mod OwnEdges

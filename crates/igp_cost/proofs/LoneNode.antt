@@ -67,10 +67,10 @@ module _ (some others : Nodes) (edges : Edges) (metrics : All (λ e. IsMetric e.
   hop_alike x = one_first_hop others edges r x (first_hop some edges r x) (first_hop others edges r x) (hop_over x (first_hop some edges r x) (first_hop_exact some edges metrics r x)) (first_hop_exact others edges metrics r x)
 
 -- the row of a cost and a hop, where there are both
-abbrev row_by : Addr → Option ℕ → Option Addr → Option (Addr × Label)
+abbrev pub row_by : Addr → Option ℕ → Option Addr → Option (Addr × Label)
 row_by x o p = option_and_then (λ c. option_map (λ h. (x, record { cost = c; hop = h })) p) o
 
-same_rows : (f g : Addr → Option (Addr × Label)) → ((y : Addr) → f y ≡ g y) → (nodes : Nodes) → filter_map (λ n. f n.0) nodes ≡ filter_map (λ n. g n.0) nodes
+pub same_rows : (f g : Addr → Option (Addr × Label)) → ((y : Addr) → f y ≡ g y) → (nodes : Nodes) → filter_map (λ n. f n.0) nodes ≡ filter_map (λ n. g n.0) nodes
 same_rows f g same [] = refl
 same_rows f g same (e ∷ nodes) = ap (λ p. cons_option p (filter_map (λ n. f n.0) nodes)) (same e.0) ∙ ap (cons_option (g e.0)) (same_rows f g same nodes)
 

@@ -2,7 +2,7 @@
 use Rattle.std.specs.Prelude.{◌≡◌, ℕ, true, IsTrue, ◌∷◌, ◌++◌, Option, None, is_some, All}
 use Rattle.net_prefix.specs.declared.addr.Addr.{Addr}
 use Rattle.igp_cost.specs.Metric.{IsMetric}
-use Rattle.igp_cost.specs.Walks.{Nodes, Edges, HasEdge, asn_of, IsCost, IsFirstHop}
+use Rattle.igp_cost.specs.Walks.{Nodes, Edges, HasEdge, asn_of, share_as, IsCost, IsFirstHop}
 use Rattle.igp_cost.specs.Costs.{cost, first_hop}
 use Rattle.igp_cost.specs.declared.change.Change.TheVariants.{Added, Removed, Changed}
 use Rattle.igp_cost.specs.Changes.{IsChange}
@@ -54,3 +54,11 @@ JoinAllOf old new = (a b : Addr) (m : ℕ) → HasEdge old a b m → (n : ℕ) �
 -- over edges that join all that others join, whoever had a cost to an address has one
 abbrev pub MoreEdgesReachMore : Type 0
 MoreEdgesReachMore = (nodes : Nodes) (old new : Edges) → JoinAllOf old new → (r x : Addr) → is_some (cost nodes old r x) ≡ true → is_some (cost nodes new r x) ≡ true
+
+-- from each node of r's AS both have the same edges
+abbrev pub AreAlikeFrom : Nodes → Edges → Edges → Addr → Type 0
+AreAlikeFrom nodes some others r = (a b : Addr) (m : ℕ) → IsTrue (share_as nodes r a) → (HasEdge some a b m → HasEdge others a b m) × (HasEdge others a b m → HasEdge some a b m)
+
+-- so r has one tree by both
+abbrev pub OwnEdgesMakeATree : Type 0
+OwnEdgesMakeATree = (nodes : Nodes) (some others : Edges) → All (λ e. IsMetric e.2) some → All (λ e. IsMetric e.2) others → (r : Addr) → AreAlikeFrom nodes some others r → tree_of nodes some r ≡ tree_of nodes others r

@@ -1,7 +1,7 @@
 //! What holds of costs, first hops and trees in any graph. These functions do nothing: a call gives the caller's proof
 //! what they ensure.
 
-ghost use Rattle.igp_cost.specs.Laws.{CostsAreLeast, FirstHopsAreLeast, CostsAreOne, FirstHopsAreOne, TreesAreOne, OneEdgeIsAChange, TreeOfIsATree, LoneNodeMovesNoTree, MoreEdgesReachMore};
+ghost use Rattle.igp_cost.specs.Laws.{CostsAreLeast, FirstHopsAreLeast, CostsAreOne, FirstHopsAreOne, TreesAreOne, OneEdgeIsAChange, TreeOfIsATree, LoneNodeMovesNoTree, MoreEdgesReachMore, OwnEdgesMakeATree};
 
 /// The specification's function `cost` is the cost of a least walk.
 pub fn costs_are_least()
@@ -46,4 +46,9 @@ pub fn lone_node_moves_no_tree()
 /// Where more is joined by edges, no router reaches less: their metrics do not matter.
 pub fn more_edges_reach_more()
     ensures { MoreEdgesReachMore }
+{}
+
+/// A router's tree hangs on the edges from the nodes of its AS alone.
+pub fn own_edges_make_a_tree()
+    ensures { OwnEdgesMakeATree }
 {}

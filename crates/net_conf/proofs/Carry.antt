@@ -202,6 +202,23 @@ made_of_graph graph (x ∷ moved) all =
     ∙ ap (new_tree graph) (sym (source_after x.graph.nodes x.graph.edges (source_of x.tree))) in
     All-cons (λ t. t ≡ new_tree graph (source_of t)) (tree_after x) (map tree_after moved) is (made_of_graph graph moved (All-tail (λ (y : MovedTree). y.graph ≡ graph) x moved all))
 
+-- what is found of the trees with what moved
+pub found_moved : (graph : Topology) (es : List (Addr × Reached)) (moved : List MovedTree) → All (λ x. x.graph ≡ graph) moved → (r : Addr) → lookup (is_at (addr_cmp r)) (fold with_tree es (map tree_after moved)) ≡ cond (is_among r (owners moved)) (Some (new_tree graph r)) (lookup (is_at (addr_cmp r)) es)
+found_moved graph es moved graphs r =
+    found_after graph r (map tree_after moved) es (made_of_graph graph moved graphs)
+    ∙ ap (λ ks. cond (is_among r ks) (Some (new_tree graph r)) (lookup (is_at (addr_cmp r)) es)) (sources_after moved)
+
+pub one_carried : (new : Reached) (among : Bool) (o : Option Reached) → (among ≡ true → is_some o ≡ true) → (among ≡ false → o ≡ option_map (λ t. new) o) → cond among (Some new) o ≡ option_map (λ t. new) o
+one_carried new true (Some x) there others = refl
+one_carried new true None there others = absurd (true≢false (sym (there refl)))
+one_carried new false o there others = others refl
+
+-- who is not among those that are told has none that moved
+pub not_owner : (moved : List MovedTree) (r : Addr) → is_among r (fold with_source [] (map tree_after moved)) ≡ false → is_among r (owners moved) ≡ false
+not_owner moved r out =
+    let none = both_false (is_among r (map source_of (map tree_after moved))) false (sym (among_sources r (map tree_after moved) []) ∙ out) in
+    sym (ap (is_among r) (sources_after moved)) ∙ none.0
+
 module _ (graph : Topology) (es : List (Addr × Reached)) (moved : List MovedTree) (are : AreMoved graph es moved) (r : Addr) where
   abbrev carried : Option Reached
   carried = lookup (is_at (addr_cmp r)) (fold with_tree es (map tree_after moved))
@@ -209,20 +226,10 @@ module _ (graph : Topology) (es : List (Addr × Reached)) (moved : List MovedTre
   abbrev was : Option Reached
   was = lookup (is_at (addr_cmp r)) es
 
-  found : carried ≡ cond (is_among r (owners moved)) (Some (new_tree graph r)) was
-  found = found_after graph r (map tree_after moved) es (made_of_graph graph moved are.graphs) ∙ ap (λ ks. cond (is_among r ks) (Some (new_tree graph r)) was) (sources_after moved)
-
   -- each that has a tree has that of the graph
   pub all_carried : carried ≡ option_map (λ t. new_tree graph r) was
-  all_carried = found ∙ by (is_among r (owners moved)) was (are.there r) (are.others r)
-    where
-      by : (among : Bool) (o : Option Reached) → (among ≡ true → is_some o ≡ true) → (among ≡ false → o ≡ option_map (λ t. new_tree graph r) o) → cond among (Some (new_tree graph r)) o ≡ option_map (λ t. new_tree graph r) o
-      by true (Some x) there others = refl
-      by true None there others = absurd (true≢false (sym (there refl)))
-      by false o there others = others refl
+  all_carried = found_moved graph es moved are.graphs r ∙ one_carried (new_tree graph r) (is_among r (owners moved)) was (are.there r) (are.others r)
 
   -- and who is not among the sources has that from before
   pub others_carried : is_among r (fold with_source [] (map tree_after moved)) ≡ false → carried ≡ was
-  others_carried out =
-      let none = both_false (is_among r (map source_of (map tree_after moved))) false (sym (among_sources r (map tree_after moved) []) ∙ out) in
-      found ∙ ap (λ b. cond b (Some (new_tree graph r)) was) (sym (ap (is_among r) (sources_after moved)) ∙ none.0)
+  others_carried out = found_moved graph es moved are.graphs r ∙ ap (λ b. cond b (Some (new_tree graph r)) was) (not_owner moved r out)

@@ -36,7 +36,7 @@ abbrev with_edge : Ends → Option ℕ → Edges → Edges
 with_edge e None es = es
 with_edge e (Some m) es = (e.low, e.high, m) ∷ es
 
-equal_numbers : (m n : ℕ) → (m == n) ≡ true → m ≡ n
+pub equal_numbers : (m n : ℕ) → (m == n) ≡ true → m ≡ n
 equal_numbers m n is = grind (arith, nat_tests)
 
 -- the lists of edges, where one edge is between two that are the same

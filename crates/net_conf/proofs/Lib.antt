@@ -6,6 +6,7 @@ pub mod Inserted
 pub mod EdgeChange
 pub mod TreesAfter
 pub mod Carry
+pub mod Members
 pub mod Spread
 pub mod Picked
 pub mod Peers
@@ -28,3 +29,4 @@ pub mod SiteSettings
 pub mod SiteJoins
 pub mod SiteEffects
 pub mod Unchanged
+pub mod SessionCounts

@@ -152,6 +152,14 @@ kept_with_link c d a b linked r = by (ends_session c r) ∙ ap (λ x. if ends_se
 
 -- A SESSION
 
+-- what is put in at an address counts there alone
+pub at_one : (f g : Addr → Reached) (r b : Addr) → f b ≡ g b → (o : Option Reached) → cond (is_at (addr_cmp r) b) (Some (f r)) o ≡ cond (is_at (addr_cmp r) b) (Some (g r)) o
+at_one f g r b same o = by (is_at (addr_cmp r) b) refl
+  where
+    by : (t : Bool) → is_at (addr_cmp r) b ≡ t → cond t (Some (f r)) o ≡ cond t (Some (g r)) o
+    by true at = ap Some (subst (λ x. f x ≡ g x) (sym (addr_exact r b (equal_when (addr_cmp r b) at))) same)
+    by false at = refl
+
 turn_joined : {c d : Configuration} {p q : Addr × Addr} → p ≡ q → IsJoined c d p.0 p.1 → IsJoined c d q.0 q.1
 turn_joined {c} {d} is joined = subst (λ p. IsJoined c d p.0 p.1) is joined
 

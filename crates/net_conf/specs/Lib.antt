@@ -14,3 +14,4 @@ pub mod Kept
 pub mod Facts
 pub mod FactLaws
 pub mod MovedTrees
+pub mod Members

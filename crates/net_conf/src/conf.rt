@@ -1,19 +1,21 @@
 //! What is configured, what follows from it, and how an edit changes it.
 
 ghost use Rattle.std.specs.Prelude.{◌≡◌, true, None, Some, Ok, Err, IfOk, MatchResult, option_map};
-ghost use Rattle.net_conf.specs.Configuration.{unconfigured, node_at, has_node, is_virtual, as_of, has_session, ends_session, origins_of};
+ghost use Rattle.net_conf.specs.Configuration.{unconfigured, node_at, has_node, is_virtual, as_of, has_session, session_count, ends_session, origins_of};
 ghost use Rattle.net_conf.specs.Concerned.{ConcernsAlone};
 ghost use Rattle.net_conf.specs.Costs.{costs_of, session_up, is_up, down_sessions};
 ghost use Rattle.net_conf.specs.Configured.{IsConfigured};
-ghost use Rattle.net_conf.specs.Edits.{refusal_of, edited, IsEdit, IsEdited};
+ghost use Rattle.net_conf.specs.Edits.{is_past_limit, refusal_of, edited, IsEdit, IsEdited};
 
 use crate::edit::Edit;
 use crate::kept::{ConfSessions, MadeSessions, SharedSite};
+use crate::limits::{MAX_LINKS, MAX_SESSIONS};
 use crate::refusal::Refusal;
 use crate::tables::{Ends, Kind};
-use igp_cost::Tree;
+use igp_cost::{MAX_NODES, Tree};
 use net_prefix::{Addr, Prefix};
 use path_attr::Asn;
+use route_policy::MAX_RULES;
 use seq::Copied;
 use shared_map::ChunkedMap;
 use std::alloc::{AllocError, Global};
@@ -73,7 +75,36 @@ impl Conf {
         ensures { MatchResult result (λ _. refusal_of self.now edit.now ≡ None) (λ r.
             refusal_of self.now edit.now ≡ Some r) }
     {
-        self.sessions.tables().check(edit)
+        self.sessions.tables().check(edit, self.is_past_limit(edit))
+    }
+
+    /// 19: there are as many routers and peers, links, sessions at an end, or rules as there may be.
+    fn is_past_limit(&self, edit: &Edit) -> bool
+        ensures { result ≡ is_past_limit self.now edit.now }
+    {
+        let tables = self.sessions.tables();
+        match *edit {
+            Edit::Router(_, _) | Edit::Virtual(_, _) => tables.node_count() >= MAX_NODES,
+            Edit::Link(_, _, _) => tables.link_count() >= MAX_LINKS,
+            Edit::Join(one, other) => self.session_count(one) >= MAX_SESSIONS
+                || self.session_count(other) >= MAX_SESSIONS,
+            Edit::Rule(router, peer, side, _) => tables.rule_count(router, peer, side) >= MAX_RULES,
+            _ => false,
+        }
+    }
+
+    /// How many sessions the address has: those of a router stand in its site.
+    #[tactic(auto, using(crate::proofs::SessionCounts::count_of_site, crate::proofs::SessionCounts::count_of_none))]
+    fn session_count(&self, addr: Addr) -> usize
+        ensures { result ≡ session_count self.now addr }
+    {
+        if !self.ends_session(addr) {
+            return 0;
+        }
+        match self.kept_site(addr) {
+            Some(site) => site.sessions.len(),
+            None => self.sessions.tables().session_count(addr),
+        }
     }
 
     /// Makes the edit, unless it is refused. A refusal, or want of memory, changes nothing.

@@ -9,6 +9,7 @@ mod graph;
 mod originations;
 
 pub use conf_tables::ConfTables;
+pub(crate) use graph::are_few;
 use igp_cost::Metric;
 use net_prefix::{Addr, Prefix};
 use path_attr::Asn;

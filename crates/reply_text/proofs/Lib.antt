@@ -1,3 +1,4 @@
+mod Puts
 mod LineFeeds
 mod Marks
 mod Told

@@ -5,9 +5,9 @@ use Rattle.std.specs.List.{join_with_byte}
 use Rattle.net_prefix.specs.Address.{addr_text}
 use Rattle.net_prefix.specs.Prefix.{prefix_text}
 use Rattle.sim_event.specs.Wording.{none_text, path_text, origin_text, maybe_number_text, maybe_addr_text, clusters_text}
-use Rattle.reply_text.specs.Replies.{source_text, kind_text, communities_text}
+use Rattle.reply_text.specs.Replies.{source_text, communities_text}
 use Rattle.reply_text.specs.declared.part.Part.{Part}
-use Rattle.reply_text.specs.declared.part.Part.TheVariants.{Bytes, Number, MaybeNumber, MaybeAddr, Addr as AnAddr, Prefix, Source as ASource, Kind, Origin as AnOrigin, Path, Clusters, Communities}
+use Rattle.reply_text.specs.declared.part.Part.TheVariants.{Bytes, Number, MaybeNumber, MaybeAddr, Addr as AnAddr, Prefix, Source as ASource, Origin as AnOrigin, Path, Clusters, Communities}
 
 -- the texts, joined by the byte; a dash where there is none
 abbrev pub dash_or_joined : ℕ → List (List ℕ) → List ℕ
@@ -23,7 +23,6 @@ part_text (AnAddr a) = addr_text a
 part_text (MaybeAddr a) = maybe_addr_text a
 part_text (Prefix p) = prefix_text p
 part_text (ASource s) = source_text s
-part_text (Kind k) = kind_text k
 part_text (AnOrigin o) = origin_text o
 part_text (Path p) = path_text p.now
 part_text (Clusters c) = clusters_text c.now

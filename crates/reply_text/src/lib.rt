@@ -2,6 +2,7 @@
 //! of a fault.
 #![tactic(auto)]
 
+mod backward;
 mod ending;
 mod laws;
 mod line;

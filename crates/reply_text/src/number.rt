@@ -2,7 +2,8 @@
 
 ghost use Rattle.watched.specs.Streams.{Writes};
 
-use crate::text::{Text, write_after, write_joined};
+use crate::backward::{ADDR_BYTES, PREFIX_BYTES, put_addr, put_prefix};
+use crate::text::Text;
 use itoa::{Buffer, Integer};
 use net_prefix::{Addr, Prefix};
 use path_attr::Asn;
@@ -55,11 +56,10 @@ impl Text for Addr {
 
     ghost text = { addr_text };
 
-    /// Writes the four octets, joined by dots.
-    #[tactic(auto, unfolding(net_prefix::specs::Address::addr_text))]
     fn write<W: Write>(&self, output: &mut Output<W>) -> Result<(), WriterFailed> {
-        let octets = self.0.to_be_bytes();
-        write_joined(b'.', &octets, output)
+        let mut buffer = [0; ADDR_BYTES];
+        let start = put_addr(*self, &mut buffer, ADDR_BYTES);
+        output.write(&buffer[start..])
     }
 }
 
@@ -68,10 +68,9 @@ impl Text for Prefix {
 
     ghost text = { prefix_text };
 
-    /// Writes the address, a slash and the length.
-    #[tactic(auto, unfolding(net_prefix::specs::Prefix::prefix_text))]
     fn write<W: Write>(&self, output: &mut Output<W>) -> Result<(), WriterFailed> {
-        self.addr().write(output)?;
-        write_after(b'/', &self.len(), output)
+        let mut buffer = [0; PREFIX_BYTES];
+        let start = put_prefix(*self, &mut buffer, PREFIX_BYTES);
+        output.write(&buffer[start..])
     }
 }

@@ -1,6 +1,6 @@
 //! The parts of a line.
 
-ghost use Rattle.reply_text.specs.Replies.{source_text, kind_text};
+ghost use Rattle.reply_text.specs.Replies.{source_text};
 ghost use Rattle.sim_event.specs.Wording.{origin_text, maybe_number_text, maybe_addr_text};
 ghost use Rattle.watched.specs.Streams.{Writes};
 
@@ -11,7 +11,6 @@ use net_prefix::{Addr, Prefix};
 use path_attr::{AsPath, Communities, Origin};
 use route_select::Source;
 use seq::SharedSeq;
-use session_queue::MessageKind;
 use std::io::Write;
 use watched::{Output, WriterFailed};
 
@@ -28,7 +27,6 @@ pub enum Part<'a> {
     MaybeAddr(Option<Addr>),
     Prefix(Prefix),
     Source(Source),
-    Kind(MessageKind),
     Origin(Origin),
     Path(&'a AsPath),
     Clusters(&'a SharedSeq<Addr>),
@@ -50,7 +48,6 @@ impl Text for Part<'_> {
             Part::MaybeAddr(addr) => write_maybe_addr(*addr, output),
             Part::Prefix(prefix) => prefix.write(output),
             Part::Source(source) => write_source(*source, output),
-            Part::Kind(kind) => write_kind(*kind, output),
             Part::Origin(origin) => write_origin(*origin, output),
             Part::Path(path) => write_path(path.segments(), output),
             Part::Clusters(clusters) => write_clusters(clusters.as_slice(), output),
@@ -92,16 +89,6 @@ fn write_source<W: Write>(source: Source, output: &mut Output<W>) -> Result<(), 
     match source {
         Source::Own => output.write(b"self"),
         Source::Peer(addr) => addr.write(output),
-    }
-}
-
-/// Writes the kind of a message.
-fn write_kind<W: Write>(kind: MessageKind, output: &mut Output<W>) -> Result<(), WriterFailed>
-    ensures { Writes output.old (kind_text kind) result output.new }
-{
-    match kind {
-        MessageKind::Update => output.write(b"update"),
-        MessageKind::Withdraw => output.write(b"withdraw"),
     }
 }
 

@@ -32,7 +32,7 @@ pub fn write_each<T: Text, W: Write>(
 }
 
 /// Writes the separator and the item.
-pub(crate) fn write_after<T: Text, W: Write>(
+fn write_after<T: Text, W: Write>(
     separator: u8,
     item: &T,
     output: &mut Output<W>,

@@ -16,7 +16,7 @@ use Rattle.route_select.specs.declared.candidate.Reason.TheVariants.{Loop}
 use Rattle.route_select.specs.declared.candidate.Standing.{Standing}
 use Rattle.route_select.specs.declared.candidate.Standing.TheVariants.{Excluded, Considered}
 use Rattle.route_select.specs.Selection.{source_cmp, Standings, IsFrom, candidate_of, considered_in}
-use Rattle.route_select.specs.Entries.{candidate_at, AreEntries, EachIsFrom, IsPosition, IsGap, standing_at}
+use Rattle.route_select.specs.Entries.{candidate_at, AreEntries, EachIsFrom, IsPosition, IsGap, key_at, standing_at}
 use Rattle.route_select.specs.Leaders.{In, HaveOwnSources}
 use Rattle.route_select.proofs.Ranks.{both_true}
 
@@ -237,6 +237,12 @@ read_at es i e lt is = ap (λ (x : Source × Standing). x.1) (get_or_read es i e
 -- the same, whatever is read where there is no entry
 pub read_from : (es : Entries) (i : ℕ) (e : Source × Standing) → i < length es → (get_or es i e).1 ≡ standing_at es i
 read_from es i e lt = ap (λ (x : Source × Standing). x.1) (get_or_default es i e (Own, Excluded Loop) lt)
+
+-- an entry is its source's own
+pub each_at : (es : Entries) (i : ℕ) → i < length es → EachIsFrom es → IsFrom (key_at es i) (standing_at es i)
+each_at [] i lt each = absurd (omega arith)
+each_at (e ∷ es) zero lt each = each.0
+each_at (e ∷ es) (suc i) lt each = each_at es i (omega arith) each.1
 
 -- what is considered, by its position
 pub considered_at : (es : Entries) (k : ℕ) (n : Candidate) → k < length es → candidate_at es k ≡ Some n → In n (considered_in es)

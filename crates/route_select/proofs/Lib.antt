@@ -1,4 +1,5 @@
 mod AtCost
+mod Beside
 pub mod EntryLemmas
 mod Filtering
 mod GroupLeaders

@@ -4,6 +4,7 @@
 use Rattle.std.specs.Prelude.{◌≡◌, ℕ, ◌+◌, ◌<◌, ◌≤◌, Bool, true, false, not, ◌&&◌, ◌||◌, ◌==◌, nat_lt, if◌then◌else◌, List, [], ◌∷◌, length, slice_index_or, Option, Some, None, ⊤}
 use Rattle.std.specs.declared.cmp.Ordering.TheVariants.{Equal}
 use Rattle.std.specs.Ordering.{is_lt, eq_by_cmp}
+use Rattle.std.specs.List.{insert}
 use Rattle.std.specs.FinMap as map
 use Rattle.std.specs.FinMap.{find}
 use Rattle.std.specs.FinMap.Entries.{where_key}
@@ -14,7 +15,7 @@ use Rattle.route_select.specs.declared.candidate.Candidate.{Candidate}
 use Rattle.route_select.specs.declared.candidate.Reason.TheVariants.{Loop}
 use Rattle.route_select.specs.declared.candidate.Standing.{Standing}
 use Rattle.route_select.specs.declared.candidate.Standing.TheVariants.{Excluded, Considered}
-use Rattle.route_select.specs.Selection.{source_cmp, filters, candidate_of, considered_in}
+use Rattle.route_select.specs.Selection.{source_cmp, filters, same_group, candidate_of, considered_in}
 use Rattle.route_select.specs.Entries.{EachIsFrom, key_at, standing_at, candidate_at}
 use Rattle.route_select.specs.Leaders.{In, ahead, unmed, Leads, Led}
 
@@ -114,3 +115,19 @@ abbrev pub is_better : Bool → Option Candidate → Option Candidate → Bool
 is_better always (Some c) (Some b) = ahead always unmed c b
 is_better always (Some c) None = false
 is_better always None o = false
+
+-- whether b, the best of some routes, stays the best beside c: c is not ahead of it in the order without MED, and does not lead its group
+abbrev pub stays_beside : Bool → Candidate → Option Candidate → Bool
+stays_beside always b None = true
+stays_beside always b (Some c) = not (ahead always unmed c b) && not (same_group always c b && ahead always filters c b)
+
+abbrev pub keeps_best : Bool → Option Candidate → Option Candidate → Bool
+keeps_best always new None = false
+keeps_best always new (Some b) = stays_beside always b new
+
+-- of the entries but the one at position i, the best stood at position j
+pub record IsBestBeside (always : Bool) (es : List (Source × Standing)) (i j : ℕ) : Type 0 where
+  pub others : List (Source × Standing)
+  pub in_range : i ≤ length others
+  pub beside : es ≡ insert others i (entry_at es i)
+  pub best : IsBest always (considered_in others) (candidate_at others j)

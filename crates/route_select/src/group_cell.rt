@@ -1,18 +1,18 @@
 //! The selector in groups: the order in which the standings are kept decides, so that the best is looked up and not
 //! searched for.
 
-ghost use Rattle.std.specs.Prelude.{◌≡◌, ◌<◌, ◌≤◌, List, length, None, OnOk, OnErr, vec_len, vec_capacity};
+ghost use Rattle.std.specs.Prelude.{◌≡◌, ◌<◌, ◌≤◌, List, length, false, None, is_some, IfOk, OnOk, OnErr, vec_len, vec_capacity};
 ghost use Rattle.std.specs.FinMap.{find};
 ghost use Rattle.route_select.specs.declared.candidate.Candidate.{Candidate};
 ghost use Rattle.route_select.specs.Selection.{considered_in, reason_for, source_cmp};
 ghost use Rattle.route_select.specs.Entries.{candidate_at, standing_at};
-ghost use Rattle.route_select.specs.Groups.{AreRanked, AreDistinct, IsBest, SameMembers, most_entries, without};
+ghost use Rattle.route_select.specs.Groups.{AreRanked, AreDistinct, IsBest, IsBestBeside, SameMembers, most_entries, without};
 
 use crate::candidate::{Candidate, Reason, Source, Standing};
 use crate::chosen::{Chosen, Selector};
-use crate::entries::{copy_entries, set_lone_cost};
+use crate::entries::{copy_entries, set_lone_cost, standing_at};
 use crate::filter::FILTERS;
-use crate::groups::{best_position, candidate_at, leader, position_of, slot};
+use crate::groups::{best_position, candidate_at, keeps_best, leader, moved, position_of, slot};
 use std::alloc::{AllocError, Global};
 use std::marker::Model;
 
@@ -77,25 +77,82 @@ fn best_place(med_always: bool, entries: &[(Source, Standing)]) -> u32
     best_position(med_always, entries) as u32
 }
 
-/// Takes the source's entry out, or where it has none makes room for it. An error comes only where it has none, and
-/// changes nothing.
-fn make_way(entries: &mut Vec<(Source, Standing)>, source: Source) -> Result<(), AllocError>
+/// The position of the best once an entry was put in at a position, where the best of the others stood at the other one.
+fn best_beside(med_always: bool, entries: &[(Source, Standing)], at: usize, best: u32) -> u32
+    requires ranked { AreRanked med_always entries.now }
+    requires few { length entries.now ≤ most_entries }
+    requires beside { IsBestBeside med_always entries.now at best }
+    ensures { IsBest med_always (considered_in entries.now) (candidate_at entries.now result) }
+{
+    let place = moved(best as usize, at);
+    if keeps_best(
+        med_always,
+        candidate_at(entries, at),
+        candidate_at(entries, place),
+    ) {
+        place as u32
+    } else {
+        best_place(med_always, entries)
+    }
+}
+
+/// The position of the best once an entry was put in at a position: of a source that had one, or beside the others.
+fn best_then(
+    med_always: bool,
+    entries: &[(Source, Standing)],
+    known: bool,
+    at: usize,
+    best: u32,
+) -> u32
+    requires ranked { AreRanked med_always entries.now }
+    requires few { length entries.now ≤ most_entries }
+    requires beside { known ≡ false → IsBestBeside med_always entries.now at best }
+    ensures { IsBest med_always (considered_in entries.now) (candidate_at entries.now result) }
+{
+    if known {
+        best_place(med_always, entries)
+    } else {
+        best_beside(med_always, entries, at, best)
+    }
+}
+
+/// Takes the source's entry out, or where it has none makes room for it, and says whether it had one. An error comes
+/// only where it has none, and changes nothing.
+fn make_way(entries: &mut Vec<(Source, Standing)>, source: Source) -> Result<bool, AllocError>
     requires distinct { AreDistinct entries.old.items }
     requires few { length entries.old.items ≤ most_entries }
     ensures ok { OnOk result (entries.new.items ≡ without source entries.old.items) }
     ensures room { OnOk result (vec_len entries.new < vec_capacity entries.new) }
     ensures few { OnOk result (length entries.new.items < most_entries) }
+    ensures had { IfOk result (λ had. had ≡ is_some (find source_cmp source entries.old.items)) }
     ensures err { OnErr result (entries.new.items ≡ entries.old.items) }
     ensures absent { OnErr result (find source_cmp source entries.old.items ≡ None) }
 {
     match position_of(entries, source) {
         Some(at) => {
             entries.remove(at);
-            Ok(())
+            Ok(true)
         }
-        None if entries.len() >= MOST_ENTRIES => Err(AllocError),
-        None if entries.len() < FEW => entries.reserve_exact(1),
-        None => entries.reserve(1),
+        None => {
+            make_room(entries)?;
+            Ok(false)
+        }
+    }
+}
+
+/// Makes room for an entry more. An error changes nothing.
+fn make_room(entries: &mut Vec<(Source, Standing)>) -> Result<(), AllocError>
+    requires few { length entries.old.items ≤ most_entries }
+    ensures same { entries.new.items ≡ entries.old.items }
+    ensures room { OnOk result (vec_len entries.new < vec_capacity entries.new) }
+    ensures few { OnOk result (length entries.new.items < most_entries) }
+{
+    if entries.len() >= MOST_ENTRIES {
+        Err(AllocError)
+    } else if entries.len() < FEW {
+        entries.reserve_exact(1)
+    } else {
+        entries.reserve(1)
     }
 }
 
@@ -108,6 +165,11 @@ impl Chosen for GroupCell {
 
     fn best(&self) -> Option<&Candidate> {
         candidate_at(&self.entries, self.best as usize)
+    }
+
+    fn standing(&self, source: Source) -> Option<&Standing> {
+        let at = position_of(&self.entries, source)?;
+        Some(standing_at(&self.entries, at))
     }
 
     fn reason(&self, source: Source) -> Option<Reason> {
@@ -128,11 +190,11 @@ impl Selector for GroupCell {
     }
 
     fn put(&mut self, source: Source, standing: Standing) -> Result<(), AllocError> {
-        make_way(&mut self.entries, source)?;
+        let known = make_way(&mut self.entries, source)?;
         let at = slot(self.med_always, &self.entries, source, &standing);
         match self.entries.insert(at, (source, standing)) {
             Ok(()) => {
-                self.best = best_place(self.med_always, &self.entries);
+                self.best = best_then(self.med_always, &self.entries, known, at, self.best);
                 Ok(())
             }
             Err(_) => unreachable!(),

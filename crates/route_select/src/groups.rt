@@ -2,13 +2,13 @@
 //! compared whatever the neighbouring AS. Each stands in the order of all filters, so that its leader comes first. The
 //! groups lie one behind the other, and behind them what is excluded.
 
-ghost use Rattle.std.specs.Prelude.{◌≡◌, ◌≤◌, length, true, IfSome, IfNone};
+ghost use Rattle.std.specs.Prelude.{◌≡◌, ◌<◌, ◌≤◌, ◌+◌, nat_lt, if◌then◌else◌, length, true, Some, IfSome, IfNone};
 ghost use Rattle.std.specs.Option.{option_copied};
 ghost use Rattle.std.specs.FinMap.{find};
 ghost use Rattle.route_select.specs.Selection.{considered_in, same_group, source_cmp};
 ghost use Rattle.route_select.specs.Entries.{candidate_at};
 ghost use Rattle.route_select.specs.Leaders.{In, Leads};
-ghost use Rattle.route_select.specs.Groups.{group_rank, stands_before, before, AreRanked, IsBest, IsPositionOf, IsSlot, IsGroupStart, is_below, is_better};
+ghost use Rattle.route_select.specs.Groups.{group_rank, stands_before, before, AreRanked, IsBest, IsPositionOf, IsSlot, IsGroupStart, is_below, is_better, keeps_best};
 
 use crate::candidate::{Candidate, Source, Standing};
 use crate::filter::{FILTERS, UNMED};
@@ -107,6 +107,26 @@ fn group_start(med_always: bool, entries: &[(Source, Standing)], rank: u64) -> u
     entries.partition_point(|entry| is_below(med_always, entry, rank))
 }
 
+/// The position behind the group of the route at a position: mostly the next one, since most groups are of one route.
+fn group_end(
+    med_always: bool,
+    entries: &[(Source, Standing)],
+    at: usize,
+    candidate: &Candidate,
+) -> usize
+    requires ranked { AreRanked med_always entries.now }
+    requires here { candidate_at entries.now at ≡ Some candidate.now }
+    ensures { IsGroupStart med_always entries.now (group_rank med_always candidate.now + 1) result }
+{
+    let rank = group_rank(med_always, candidate) + 1;
+    match candidate_at(entries, at + 1) {
+        Some(next) if group_rank(med_always, next) < rank => {
+            group_start(med_always, entries, rank)
+        }
+        _ => at + 1,
+    }
+}
+
 /// Whether the route at a position is ahead of the best so far in the order without MED.
 fn is_better(med_always: bool, entries: &[(Source, Standing)], at: usize, best: usize) -> bool
     ensures { result ≡ is_better med_always (candidate_at entries.now at) (candidate_at entries.now best) }
@@ -128,14 +148,41 @@ pub(crate) fn best_position(med_always: bool, entries: &[(Source, Standing)]) ->
         return 0;
     };
     let mut best = 0;
-    let mut at = group_start(med_always, entries, group_rank(med_always, first) + 1);
+    let mut at = group_end(med_always, entries, 0, first);
     while let Some(leader) = candidate_at(entries, at) {
         if is_better(med_always, entries, at, best) {
             best = at;
         }
-        at = group_start(med_always, entries, group_rank(med_always, leader) + 1);
+        at = group_end(med_always, entries, at, leader);
     }
     best
+}
+
+/// Whether the best of the others stays the best beside a new entry: it does where that is excluded, and where its route
+/// is not ahead without MED, and does not lead the best one's group.
+pub(crate) fn keeps_best(
+    med_always: bool,
+    new: Option<&Candidate>,
+    best: Option<&Candidate>,
+) -> bool
+    ensures { result ≡ keeps_best med_always (option_copied new.entry) (option_copied best.entry) }
+{
+    match (new, best) {
+        (_, None) => false,
+        (None, Some(_)) => true,
+        (Some(c), Some(b)) => {
+            !c.is_ahead(med_always, &UNMED, b)
+                && !(c.is_grouped_with(med_always, b) && c.is_ahead(med_always, &FILTERS, b))
+        }
+    }
+}
+
+/// Where what stood at a position stands once an entry was put in at another.
+pub(crate) fn moved(place: usize, at: usize) -> usize
+    requires { place < 4294967296 }
+    ensures { result ≡ (if nat_lt place at then place else place + 1) }
+{
+    if place < at { place } else { place + 1 }
 }
 
 /// The leader of a route's group: the first of it.

@@ -1,4 +1,4 @@
--- A delivery without a plan: the head is taken, after the state has grown.
+-- A delivery without a plan: the head is taken.
 use Rattle.std.proofs.Common.{◌≡◌, true, ℕ, slice_get, length, Some, None, inl, sym, ap, subst, ◌∙◌}
 use Rattle.net_prefix.specs.Prefix.{Prefix}
 use Rattle.net_conf.specs.Costs.{is_up}
@@ -11,10 +11,7 @@ use Rattle.sim_event.specs.declared.event.Event.TheVariants.{Deliver}
 use Rattle.sim_event.specs.declared.reply.Reply.TheVariants.{Took, Refused}
 use Rattle.reference_machine.specs.Network.{Network, messages_in}
 use Rattle.reference_machine.specs.Machine.{head_step, delivery_refusal, IsStep}
-use Rattle.cell_engine.specs.Cells.{Outcome}
 use Rattle.cell_engine.specs.State.{State, IsConsistent, network}
-use Rattle.cell_engine.specs.Deliveries.{IsOfHead, outcome_at, KeepsSame}
-use Rattle.cell_engine.proofs.Growth.{network_kept, head_of, head_kept}
 use Rattle.sim_core.specs.Counting.{decided_at, raised, Counts}
 use Rattle.sim_core.proofs.Accepted.{delivery_takes, prefix_taken, delivery_is, delivery_up}
 use Rattle.sim_core.proofs.Answered.{denied_by}
@@ -32,20 +29,18 @@ module _ (e : State) (sound : IsConsistent e) (d : Direction) (none : delivery_r
         is = ap (raised n) (many p);
       }
 
-  module _ (e' : State) (same : KeepsSame e e') where
-    pub up_still : is_up e'.conf d.from d.to ≡ true
-    up_still = delivery_up e'.conf d (ap (λ c. delivery_refusal c d) same.conf ∙ none)
+  -- a queue has a head only where the session is up
+  pub up_here : is_up e.conf d.from d.to ≡ true
+  up_here = delivery_up e.conf d none
 
-    pub head_still : (o : Outcome) → o ≡ outcome_at e d m → IsOfHead e' d (prefix_of m) o
-    head_still o is = head_kept e e' same d (prefix_of m) o (head_of e d m o first is)
+  -- the head taken is the machine's step
+  pub takes : (s : Network) → s ≡ (head_step (network e) d (messages_in (network e).queues d)).next → IsStep (network e) (Deliver d.from d.to) (Took (prefix_of m) (kind_of m)) s
+  unfolding network
+  takes s next = inl (
+    sym (delivery_takes e sound d none m first),
+    next ∙ sym (ap (λ o. o.next) (delivery_is (network e) d none)),
+  )
 
-    pub takes : (s : Network) → s ≡ (head_step (network e') d (messages_in (network e').queues d)).next → IsStep (network e) (Deliver d.from d.to) (Took (prefix_of m) (kind_of m)) s
-    unfolding network
-    takes s next = inl (
-      sym (delivery_takes e sound d none m first),
-      next ∙ ap (λ n. (head_step n d (messages_in n.queues d)).next) (network_kept e e' same) ∙ sym (ap (λ o. o.next) (delivery_is (network e) d none)),
-    )
-
-    pub wants : IsStep (network e) (Deliver d.from d.to) (Refused Memory) (network e')
-    wants = subst (λ n. IsStep n (Deliver d.from d.to) (Refused Memory) (network e')) (network_kept e e' same)
-        (denied_by e' (Deliver d.from d.to) Memory (delivery_wants e e' (network_kept e e' same) sound d m none first))
+  -- so it is for want of memory to stay
+  pub wants : (e' : State) → network e' ≡ network e → IsStep (network e) (Deliver d.from d.to) (Refused Memory) (network e')
+  wants e' same = subst (λ n. IsStep n (Deliver d.from d.to) (Refused Memory) (network e')) same (denied_by e' (Deliver d.from d.to) Memory (delivery_wants e e' same sound d m none first))

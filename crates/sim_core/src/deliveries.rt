@@ -40,10 +40,9 @@ impl<S: Selector + Drop, T: PrefixTable<Cell<S>> + Drop> Sim<S, T> {
             Err(refusal) => return Reply::Refused(refusal),
         };
         let more = decisions_at(&self.state, direction.to);
-        let Ok(outcome) = self.state.outcome(direction, &message) else {
+        if self.state.deliver(direction, &message).is_err() {
             return Reply::Refused(Refusal::Memory);
-        };
-        self.state.take(direction, message.prefix(), outcome);
+        }
         self.decided = raised(self.decided, more);
         Reply::Took(message.prefix(), message.kind())
     }

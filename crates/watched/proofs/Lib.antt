@@ -1,2 +1,3 @@
 mod Appending
 mod BufferLemmas
+mod FirstByte

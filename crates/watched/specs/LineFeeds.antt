@@ -1,5 +1,5 @@
 -- No public contract cites this file. Where the first line feed stands.
-use Rattle.std.proofs.Common.{◌≡◌, ℕ, ◌+◌, ◌-◌, ◌<◌, ◌≤◌, Bool, false, cond, not, zero-add, eqb, ltb, ⊎_elim, List, [], ◌∷◌, ◌++◌, length, take, drop, get_or, position, Option, Some, None, All, refl, sym, ap, ◌∙◌, arith}
+use Rattle.std.proofs.Common.{◌≡◌, ℕ, ◌+◌, ◌<◌, ◌≤◌, Bool, false, cond, not, zero-add, eqb, ltb, ⊎_elim, List, [], ◌∷◌, ◌++◌, length, take, drop, get_or, position, Option, Some, None, All, sym, ap, ◌∙◌, arith}
 use Rattle.std.specs.List.{position_or_len}
 use Rattle.std.proofs.lemmas.Bool.{cases_Bool, cond-false, cond-true, lt-ltb, le-ltb, eqb-true, ltb-true, ltb-false}
 use Rattle.std.proofs.lemmas.List.{take-append-drop, drop_more, length-take-le, length-append, get_or-take}

@@ -5,6 +5,7 @@ ghost use Rattle.std.specs.Prelude.{◌≡◌, ℕ, ◌+◌, ◌-◌, ◌<◌, �
 ghost use Rattle.std.specs.Io.KnownBytes.{Consumes, IsAtEnd, Keeps};
 
 use crate::Input;
+use memchr::memchr;
 use std::alloc::{AllocError, Global};
 use std::io;
 use std::io::Read;
@@ -35,7 +36,7 @@ impl<const N: usize> Model for LineBuffer<N> {
 fn line_feed_in(bytes: &[u8]) -> Option<usize>
     ensures { result ≡ position (λ b. b == 10) bytes.now }
 {
-    bytes.iter().position(|b| *b == b'\n')
+    memchr(b'\n', bytes)
 }
 
 /// Copies the bytes from start to end to the front.

@@ -1,7 +1,7 @@
 //! The routes that were received for one prefix, in a vector in the order of their senders. A cell has one to four of
 //! them, for which a B-tree map is too large.
 
-ghost use Rattle.std.specs.Prelude.{◌≡◌, ◌∷◌, ◌++◌, [], filter, IfOk, OnOk};
+ghost use Rattle.std.specs.Prelude.{◌≡◌, ◌∷◌, ◌++◌, [], filter, IfOk, OnOk, OnErr};
 ghost use Rattle.std.specs.Option.{option_copied};
 ghost use Rattle.std.specs.Ordering.{is_gt, is_lt};
 ghost use Rattle.std.specs.Map.{remove_entry};
@@ -12,6 +12,7 @@ ghost use Rattle.cell_engine.specs.Cells.{route_of, with_news, kept_routes};
 ghost use Rattle.cell_engine.specs.Senders.{AreInOrder, is_past, first_past, seen};
 
 use crate::route_cell::sends::is_up_in;
+use crate::router_tables::places::place;
 use net_conf::{Conf, SiteConf};
 use net_prefix::Addr;
 use path_attr::Attr;
@@ -81,6 +82,28 @@ impl ReceivedRoutes {
         match message {
             Message::Update(_, attr) => self.with(alloc, sender, attr),
             Message::Withdraw(_) => self.without(alloc, sender),
+        }
+    }
+
+    /// Takes the sender's message where the routes stand. It takes memory for a sender more. An error changes nothing.
+    pub(crate) fn take(
+        &mut self,
+        alloc: Global,
+        sender: Addr,
+        message: &Message,
+    ) -> Result<(), AllocError>
+        ensures ok { OnOk result (self.new ≡ with_news sender message.now self.old) }
+        ensures err { OnErr result (self.new ≡ self.old) }
+    {
+        match message {
+            Message::Update(_, attr) => {
+                let attr = attr.copy(alloc)?;
+                put_route(&mut self.routes, sender, attr)
+            }
+            Message::Withdraw(_) => {
+                remove_route(&mut self.routes, sender);
+                Ok(())
+            }
         }
     }
 
@@ -198,6 +221,48 @@ fn without_sender(
     add_before(alloc, &mut less, routes, sender)?;
     add_after(alloc, &mut less, routes, sender)?;
     Ok(less)
+}
+
+/// Up to so many routes a cell has just the room that they take: most cells have one to four.
+const FEW: usize = 16;
+
+/// Makes room for a route more. An error changes nothing.
+fn make_room(routes: &mut Vec<(Addr, Attr)>) -> Result<(), AllocError>
+    ensures { routes.new.items ≡ routes.old.items }
+{
+    if routes.len() < FEW {
+        routes.reserve_exact(1)
+    } else {
+        routes.reserve(1)
+    }
+}
+
+/// Puts the route in place of any that was from its sender. An error changes nothing.
+fn put_route(routes: &mut Vec<(Addr, Attr)>, sender: Addr, attr: Attr) -> Result<(), AllocError>
+    requires { AreInOrder routes.old.items }
+    ensures ok { OnOk result (routes.new.items ≡ insert_entry addr_cmp routes.old.items sender attr) }
+    ensures err { OnErr result (routes.new.items ≡ routes.old.items) }
+{
+    match place(routes, sender) {
+        Ok(at) => {
+            routes[at] = (sender, attr);
+            Ok(())
+        }
+        Err(at) => {
+            make_room(routes)?;
+            Ok(routes.insert(at, (sender, attr))?)
+        }
+    }
+}
+
+/// Takes out the sender's route, if there is one.
+fn remove_route(routes: &mut Vec<(Addr, Attr)>, sender: Addr)
+    requires { AreInOrder routes.old.items }
+    ensures { routes.new.items ≡ remove_entry (is_at (addr_cmp sender)) routes.old.items }
+{
+    if let Ok(at) = place(routes, sender) {
+        routes.remove(at);
+    }
 }
 
 /// Adds a copy of the route to those that are kept, of which there will be so many at most.

@@ -20,7 +20,7 @@ fn comes_past(router: Addr, past: Option<Addr>) -> bool
     }
 }
 
-/// The place of the router's entry, or as an error the place where it would go.
+/// The place of the address's entry, as a router's or a sender's, or as an error the place where it would go.
 pub(crate) fn place<T>(entries: &[(Addr, T)], router: Addr) -> Result<usize, usize>
     requires { AreByRouter entries.now }
     ensures found { IfOk result (IsAt entries.now router) }

@@ -80,6 +80,7 @@ impl<V, T: PrefixTable<V>> RouterTables<V, T> {
         ensures absent { OnErr result (value_at router prefix self.old ≡ None) }
         ensures back { IfErr result (λ back. back ≡ value) }
         ensures same { OnErr result (self.new ≡ self.old) }
+        ensures by_address { AreByRouter self.old }
     {
         replace_in(&mut self.entries, router, prefix, value)
     }

@@ -232,7 +232,9 @@ fn labelled(
     requires same_length { length labels.now ≡ length nodes.now }
     ensures { IfOk result (λ v. v.items ≡ rows_of nodes.now labels.now) }
 {
-    let mut rows = Vec::with_capacity(alloc, nodes.len())?;
+    // No more memory than the rows take: a router may reach few of many nodes.
+    let count = labels.iter().filter(|label| label.is_some()).count();
+    let mut rows = Vec::with_capacity(alloc, count)?;
     for at in 0..nodes.len() {
         push_some(&mut rows, row(nodes[at].0, labels[at]))?;
     }
@@ -264,7 +266,8 @@ fn known_rows(
     requires same_length { length rows.now ≡ length nodes.now }
     ensures { IfOk result (λ v. v.items ≡ rows_of nodes.now (labels_of rows.now)) }
 {
-    let mut some = Vec::with_capacity(alloc, nodes.len())?;
+    let count = rows.iter().filter(|row| row.1.cost != NO_WALK).count();
+    let mut some = Vec::with_capacity(alloc, count)?;
     for at in 0..nodes.len() {
         push_some(&mut some, row(nodes[at].0, known(rows[at].1)))?;
     }

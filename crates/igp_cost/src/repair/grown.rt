@@ -68,8 +68,8 @@ impl<'a> RootedGraph<'a> {
         let Some(at) = place_of(self.nodes, leaf) else {
             return Ok(None);
         };
-        // Of a node with more links others may be reached as well, and nothing is copied in vain.
-        if self.starts[at + 1].wrapping_sub(self.starts[at]) > 1 {
+        // From a node of the source's AS with more links others may be reached as well, and nothing is copied in vain.
+        if self.is_inside(at) && self.starts[at + 1].wrapping_sub(self.starts[at]) > 1 {
             return Ok(None);
         }
         match old.with_label(alloc, leaf, label)? {

@@ -9,12 +9,16 @@ ghost use Rattle.igp_cost.specs.Topology.{is_node};
 ghost use Rattle.igp_cost.specs.Trees.{Reached, tree_of};
 ghost use Rattle.net_conf.specs.Edits.{refusal_of, edited};
 ghost use Rattle.net_conf.specs.Kept.{IsSound, AreKept, CostsStayBut, IsLinked, IsJoined, link_in, session_in};
+ghost use Rattle.net_conf.specs.Members.{members_of};
 
 use crate::edit::Edit;
-use crate::kept::carried::{Carried, carry_trees};
+use crate::kept::carried::{Carried, carry_members, carry_trees};
 use crate::kept::conf_trees::ConfTrees;
-use crate::tables::ConfTables;
-use igp_cost::{Graph, Tree, lone_node_moves_no_tree, one_edge_is_a_change, tree_of_is_a_tree};
+use crate::tables::{ConfTables, are_few};
+use igp_cost::{
+    Graph, Tree, lone_node_moves_no_tree, one_edge_is_a_change, own_edges_make_a_tree,
+    tree_of_is_a_tree,
+};
 use net_prefix::Addr;
 use seq::Copied;
 use shared_map::ChunkedMap;
@@ -118,6 +122,28 @@ impl ConfTrees {
             let moved = BTreeSet::new(alloc);
             return Ok(Carried { trees, moved });
         }
+        let members = tables.members(alloc, one, other)?;
+        if are_few(&members) {
+            self.trees_of_members(rt, alloc, tables, one, other, &members)
+        } else {
+            self.trees_of_all(rt, alloc, tables, one, other)
+        }
+    }
+
+    /// The same: each tree is asked whether it stays.
+    fn trees_of_all<R: Threads + Sync>(
+        &self,
+        rt: &R,
+        alloc: Global,
+        tables: &ConfTables,
+        one: Addr,
+        other: Addr,
+    ) -> Result<Carried, AllocError>
+        requires linked { IsLinked self.now tables.now one other }
+        requires sound { IsSound tables.now }
+        ensures trees { IfOk result (λ made. AreKept tables.now made.trees) }
+        ensures moved { IfOk result (λ made. CostsStayBut self.now tables.now made.moved.keys) }
+    {
         one_edge_is_a_change();
         tree_of_is_a_tree();
         self.tables.orders();
@@ -126,6 +152,50 @@ impl ConfTrees {
                 let graph = tables.graph(alloc)?;
                 let nodes = tables.node_count();
                 let carried = carry_trees(rt, alloc, &graph, nodes, &change, &self.trees)?;
+                Ok(carried)
+            }
+            None => {
+                let trees = self.trees.share()?;
+                let moved = BTreeSet::new(alloc);
+                Ok(Carried { trees, moved })
+            }
+        }
+    }
+
+    /// The same: those of these are asked who are all in the AS of one of the two, since no other tree hangs on the
+    /// link.
+    fn trees_of_members<R: Threads + Sync>(
+        &self,
+        rt: &R,
+        alloc: Global,
+        tables: &ConfTables,
+        one: Addr,
+        other: Addr,
+        members: &[Addr],
+    ) -> Result<Carried, AllocError>
+        requires linked { IsLinked self.now tables.now one other }
+        requires sound { IsSound tables.now }
+        requires members { members.now ≡ members_of tables.now one other }
+        ensures trees { IfOk result (λ made. AreKept tables.now made.trees) }
+        ensures moved { IfOk result (λ made. CostsStayBut self.now tables.now made.moved.keys) }
+    {
+        one_edge_is_a_change();
+        tree_of_is_a_tree();
+        own_edges_make_a_tree();
+        self.tables.orders();
+        match self.tables.change_to(tables, one, other) {
+            Some(change) => {
+                let graph = tables.graph_to(alloc, members)?;
+                let nodes = tables.node_count();
+                let carried = carry_members(
+                    rt,
+                    alloc,
+                    &graph,
+                    nodes,
+                    &change,
+                    members,
+                    &self.trees,
+                )?;
                 Ok(carried)
             }
             None => {
@@ -152,7 +222,7 @@ impl ConfTrees {
         if self.ends_session(one) && self.ends_session(other) {
             return Ok(trees);
         }
-        let graph = tables.graph(alloc)?;
+        let graph = tables.graph_for(alloc, one, other)?;
         add_missing(alloc, &mut trees, &graph, one)?;
         add_missing(alloc, &mut trees, &graph, other)?;
         Ok(trees)

@@ -10,12 +10,13 @@ ghost use Rattle.net_prefix.specs.Address.{addr_cmp};
 ghost use Rattle.igp_cost.specs.Trees.{Reached};
 ghost use Rattle.shared_map.specs.EntryChunks.{entries_in};
 ghost use Rattle.net_conf.specs.Kept.{WereTrees, WasTreeOf};
+ghost use Rattle.net_conf.specs.Members.{trees_of, WereTreesOf};
 ghost use Rattle.net_conf.specs.MovedTrees.{tree_after, AreMoved};
 
 use igp_cost::{Change, Graph, Tree};
 use net_prefix::Addr;
 use rayon::current_num_threads;
-use shared_map::SharedMap;
+use shared_map::{ChunkedMap, SharedMap};
 use std::alloc::{AllocError, Global};
 use std::marker::Model;
 use std::thread::{Threads, join};
@@ -131,6 +132,34 @@ fn with_moved<'a>(
         }
     }
     Ok(with)
+}
+
+/// Those of the trees of these from before the change that are not seen to stay.
+pub(crate) fn moved_members<'a>(
+    alloc: Global,
+    graph: &'a Graph,
+    change: &'a Change,
+    members: &[Addr],
+    old: &'a ChunkedMap<Addr, Tree>,
+) -> Result<Vec<MovedTree<'a>>, AllocError>
+    requires { WereTreesOf members.now change.now graph.now.nodes graph.now.edges old.now }
+    ensures { IfOk result (λ moved. AreMoved graph.now (trees_of members.now old.now) moved.items) }
+{
+    let mut moved = Vec::new(alloc);
+    for member in members {
+        let Some(tree) = old.get(member) else {
+            continue;
+        };
+        if graph.keeps(tree, change) {
+            continue;
+        }
+        moved.push(MovedTree {
+            graph,
+            change,
+            tree,
+        })?;
+    }
+    Ok(moved)
 }
 
 /// In how many pieces so many trees of so many nodes are made: one for each processor, and none of few labels.

@@ -5,19 +5,19 @@ ghost use Rattle.net_conf.specs.Configuration.{rules_at};
 ghost use Rattle.net_conf.specs.Edits.{lacks_either, lacks_node, repeats_node, has_one_end, has_bad_end, has_virtual_inside, is_inside, lacks_link, repeats_link, is_unlinked, lacks_session, repeats_session, needs_internal, sets_anything, sets_too_much, breaks_rule, repeats_origin, lacks_origin, rules_of, is_past_limit, refusal_of};
 
 use crate::edit::Edit;
-use crate::limits::{MAX_LINKS, MAX_SESSIONS};
 use crate::refusal::Refusal;
 use crate::tables::conf_tables::ConfTables;
 use crate::tables::{End, PolicySide};
-use igp_cost::MAX_NODES;
 use net_prefix::Addr;
-use route_policy::{Action, MAX_RULES, Policy, Settings};
+use route_policy::{Action, Policy, Settings};
 use shared_map::ChunkedMap;
 
 impl ConfTables {
-    /// Whether the edit may be made: the first test that holds refuses it. It takes no memory.
+    /// Whether the edit may be made, which is past a limit or not: the first test that holds refuses it. It takes no
+    /// memory.
     #[tactic(auto, unfolding(crate::specs::Edits::refusal_of))]
-    pub fn check(&self, edit: &Edit) -> Result<(), Refusal>
+    pub(crate) fn check(&self, edit: &Edit, past_limit: bool) -> Result<(), Refusal>
+        requires { past_limit ≡ is_past_limit self.now edit.now }
         ensures { MatchResult result (λ _. refusal_of self.now edit.now ≡ None) (λ r.
             refusal_of self.now edit.now ≡ Some r) }
     {
@@ -49,7 +49,7 @@ impl ConfTables {
             Err(Refusal::OriginExists)
         } else if self.lacks_origin(edit) {
             Err(Refusal::NoOrigin)
-        } else if self.is_past_limit(edit) {
+        } else if past_limit {
             Err(Refusal::Limit)
         } else {
             Ok(())
@@ -228,26 +228,12 @@ impl ConfTables {
     }
 
     /// How many rules the router has for what comes from the peer, or goes to it.
-    fn rule_count(&self, router: Addr, peer: Addr, side: PolicySide) -> usize
+    pub(crate) fn rule_count(&self, router: Addr, peer: Addr, side: PolicySide) -> usize
         ensures { result ≡ length (rules_of self.now router peer side) }
     {
         match side {
             PolicySide::Import => count_at(&self.imports, End { router, peer }),
             PolicySide::Export => count_at(&self.exports, End { router, peer }),
-        }
-    }
-
-    /// 19: there are as many routers and peers, links, sessions at an end, or rules as there may be.
-    fn is_past_limit(&self, edit: &Edit) -> bool
-        ensures { result ≡ is_past_limit self.now edit.now }
-    {
-        match *edit {
-            Edit::Router(_, _) | Edit::Virtual(_, _) => self.nodes.len() >= MAX_NODES,
-            Edit::Link(_, _, _) => self.links.len() >= MAX_LINKS,
-            Edit::Join(one, other) => self.session_count(one) >= MAX_SESSIONS
-                || self.session_count(other) >= MAX_SESSIONS,
-            Edit::Rule(router, peer, side, _) => self.rule_count(router, peer, side) >= MAX_RULES,
-            _ => false,
         }
     }
 }

@@ -102,6 +102,13 @@ impl ConfTables {
         self.nodes.len()
     }
 
+    /// How many links there are.
+    pub fn link_count(&self) -> usize
+        ensures { result ≡ length self.now.links }
+    {
+        self.links.len()
+    }
+
     /// Whether a router or virtual peer stands at the address.
     pub fn has_node(&self, addr: Addr) -> bool
         ensures { result ≡ has_node self.now addr }

@@ -1,19 +1,26 @@
 //! Interior costs of a configuration.
 
-ghost use Rattle.std.specs.Prelude.{◌≡◌, IfOk, IsTrue};
+ghost use Rattle.std.specs.Prelude.{◌≡◌, true, IfOk, IsTrue, Some};
 ghost use Rattle.std.specs.List.Sorted.{IsStrictlySortedBy};
 ghost use Rattle.std.specs.Map.{keys_of};
 ghost use Rattle.net_prefix.specs.Address.{addr_cmp};
 ghost use Rattle.net_conf.specs.Configuration.{ends_of, has_node};
 ghost use Rattle.net_conf.specs.Costs.{nodes_of, edge_of, edges_of, costs_of};
+ghost use Rattle.igp_cost.specs.Trees.{tree_of};
+ghost use Rattle.igp_cost.specs.Walks.{is_one_number};
+ghost use Rattle.net_conf.specs.Concerned.{is_among};
 ghost use Rattle.net_conf.specs.Kept.{IsSound, metric_up, edge_change};
+ghost use Rattle.net_conf.specs.Members.{members_of, leads_to, edges_to};
 
 use crate::tables::conf_tables::ConfTables;
 use crate::tables::{Ends, Link};
-use igp_cost::{Change, Graph, Metric, Tree};
+use igp_cost::{Change, Graph, Metric, Tree, own_edges_make_a_tree};
 use net_prefix::Addr;
 use path_attr::Asn;
 use std::alloc::{AllocError, Global};
+
+/// The most routers and peers in the ASes of two whose trees are looked for one by one, and their links among all.
+const FEW: usize = 16;
 
 impl ConfTables {
     /// The routers and peers, each with its AS, in order of address.
@@ -47,6 +54,77 @@ impl ConfTables {
         let nodes = self.node_list(alloc)?;
         let edges = self.edge_list(alloc)?;
         Graph::build(alloc, &nodes, &edges)
+    }
+
+    /// The routers and peers in the AS of one of the two, in order of address.
+    pub(crate) fn members(
+        &self,
+        alloc: Global,
+        one: Addr,
+        other: Addr,
+    ) -> Result<Vec<Addr>, AllocError>
+        ensures list { IfOk result (λ v. v.items ≡ members_of self.now one other) }
+        ensures ascending { IsStrictlySortedBy addr_cmp (keys_of self.now.nodes) }
+    {
+        let first = self.as_of(one);
+        let second = self.as_of(other);
+        self.nodes
+            .as_slice()
+            .iter()
+            .filter(|(_, node)| is_in(first, node.asn) || is_in(second, node.asn))
+            .map(|(addr, _)| *addr)
+            .collect(alloc)
+    }
+
+    /// The links that are up and lead to one of these, each with its metric.
+    fn edge_list_to(
+        &self,
+        alloc: Global,
+        members: &[Addr],
+    ) -> Result<Vec<(Addr, Addr, Metric)>, AllocError>
+        ensures { IfOk result (λ v. v.items ≡ edges_to members.now (edges_of self.now)) }
+    {
+        self.links
+            .as_slice()
+            .iter()
+            .filter_map(|entry| edge_of(entry.0, entry.1))
+            .filter(|edge| leads_to(members, edge))
+            .collect(alloc)
+    }
+
+    /// The graph of the links that are up and lead to one of these.
+    pub(crate) fn graph_to(&self, alloc: Global, members: &[Addr]) -> Result<Graph, AllocError>
+        requires { IsSound self.now }
+        ensures { IfOk result (λ g.
+            g ≡ record { nodes = nodes_of self.now; edges = edges_to members.now (edges_of self.now) }) }
+    {
+        let nodes = self.node_list(alloc)?;
+        let edges = self.edge_list_to(alloc, members)?;
+        Graph::build(alloc, &nodes, &edges)
+    }
+
+    /// A graph in which the two have their trees: where few are in their ASes, it has the edges that lead to these
+    /// alone.
+    pub(crate) fn graph_for(
+        &self,
+        alloc: Global,
+        one: Addr,
+        other: Addr,
+    ) -> Result<Graph, AllocError>
+        requires sound { IsSound self.now }
+        requires first { has_node self.now one ≡ true }
+        requires second { has_node self.now other ≡ true }
+        ensures nodes { IfOk result (λ g. g.nodes ≡ nodes_of self.now) }
+        ensures one { IfOk result (λ g. tree_of g.nodes g.edges one ≡ costs_of self.now one) }
+        ensures other { IfOk result (λ g. tree_of g.nodes g.edges other ≡ costs_of self.now other) }
+    {
+        own_edges_make_a_tree();
+        let members = self.members(alloc, one, other)?;
+        if are_few(&members) {
+            self.graph_to(alloc, &members)
+        } else {
+            self.graph(alloc)
+        }
     }
 
     /// The costs and first hops of a router or peer.
@@ -94,6 +172,35 @@ fn edge_change(ends: Ends, before: Option<Metric>, after: Option<Metric>) -> Opt
             }
         }
     }
+}
+
+/// Whether the AS is this one.
+fn is_in(asn: Option<Asn>, this: Asn) -> bool
+    ensures { result ≡ is_one_number asn (Some this) }
+{
+    match asn {
+        Some(asn) => asn == this,
+        None => false,
+    }
+}
+
+/// Whether so few are in the ASes of two that their trees are looked for one by one.
+pub(crate) fn are_few(members: &[Addr]) -> bool {
+    members.len() <= FEW
+}
+
+/// Whether the address is among these.
+fn is_among(members: &[Addr], addr: Addr) -> bool
+    ensures { result ≡ is_among addr members.now }
+{
+    members.iter().any(|member| addr.cmp(member).is_eq())
+}
+
+/// Whether one of these is an end of the edge.
+fn leads_to(members: &[Addr], edge: &(Addr, Addr, Metric)) -> bool
+    ensures { result ≡ leads_to members.now edge.now }
+{
+    is_among(members, edge.0) || is_among(members, edge.1)
 }
 
 fn edge_of(ends: Ends, link: Link) -> Option<(Addr, Addr, Metric)>

@@ -15,15 +15,10 @@ returns-in-Some-clause-ok c =
     let is = rw c.deref.ensures.value at c.in-Some.ensures.found in
     c.remove.ensures.items ∙ remove_without _ c.args.source c.in-Some.at c.requires.distinct is.in_range is.tied
 
-pub returns-in-None-2-clause-ok : goal.returns-in-None-2-clause-ok
-returns-in-None-2-clause-ok c =
+pub returns-in_ok-make_room-in-None-clause-ok : goal.returns-in_ok-make_room-in-None-clause-ok
+returns-in_ok-make_room-in-None-clause-ok c =
     let absent = rw c.deref.ensures.value at c.in-None.ensures.absent in
-    anyway c.reserve_exact.result _ (c.reserve_exact.ensures.items ∙ sym (without_absent c.args.source _ absent))
-
-pub returns-in-None-3-clause-ok : goal.returns-in-None-3-clause-ok
-returns-in-None-3-clause-ok c =
-    let absent = rw c.deref.ensures.value at c.in-None.ensures.absent in
-    anyway c.reserve.result _ (c.reserve.ensures.items ∙ sym (without_absent c.args.source _ absent))
+    c.make_room.ensures.same ∙ sym (without_absent c.args.source _ absent)
 
 -- one fewer than there were
 one_fewer : (es left : Entries) (i : ℕ) → left ≡ remove es i → i < length es → length es ≤ most_entries → length left < most_entries

@@ -18,9 +18,9 @@ pub loop-leader-init : goal.loop-leader-init
 loop-leader-init c =
     let always = c.args.med_always in
     let es = c.args.entries.now in
-    let next = c.group_start-at.result in
+    let next = c.group_end-at.result in
     subst (LeadersUpTo always es next) (chosen_same (is_better always (candidate_at es 0) (candidate_at es 0)) 0)
-    (leaders_more always es 0 0 next _ c.requires (leaders_start always es c.requires) (sym c.in-Some.ensures) (rw c.group_rank.ensures.value at c.group_start-at.ensures))
+    (leaders_more always es 0 0 next _ c.requires (leaders_start always es c.requires) (sym c.in-Some.ensures) c.group_end-at.ensures)
 
 pub loop-leader-preserved : goal.loop-leader-preserved
 loop-leader-preserved c =
@@ -28,9 +28,9 @@ loop-leader-preserved c =
     let es = c.args.entries.now in
     let at = c.loop-leader.at in
     let best = c.loop-leader.best in
-    let next = c.group_start-at-in-Some-candidate_at.result in
+    let next = c.group_end-at-in-Some-candidate_at.result in
     let here : candidate_at es at ≡ Some c.in-Some-candidate_at.leader.now = sym c.in-Some-candidate_at.ensures in
-    let more = leaders_more always es at best next _ c.requires c.loop-leader.invariant here (rw c.group_rank-in-Some-candidate_at.ensures.value at c.group_start-at-in-Some-candidate_at.ensures) in
+    let more = leaders_more always es at best next _ c.requires c.loop-leader.invariant here c.group_end-at-in-Some-candidate_at.ensures in
     elim c.if-is_better.branch [
       | then-is_better w ↦ rw w.best-is (subst (λ b. LeadersUpTo always es next (cond b at best)) (sym c.is_better.ensures ∙ w.if-is_better.true) more)
       | else-is_better w ↦ rw w.best-is (subst (λ b. LeadersUpTo always es next (cond b at best)) (sym c.is_better.ensures ∙ w.if-is_better.false) more)
@@ -42,7 +42,7 @@ loop-leader-smaller c =
     let es = c.args.entries.now in
     let at = c.loop-leader.at in
     let here : candidate_at es at ≡ Some c.in-Some-candidate_at.leader.now = sym c.in-Some-candidate_at.ensures in
-    let on : at < c.group_start-at-in-Some-candidate_at.result = goes_on always es at _ _ here (rw c.group_rank-in-Some-candidate_at.ensures.value at c.group_start-at-in-Some-candidate_at.ensures) in
+    let on : at < c.group_end-at-in-Some-candidate_at.result = goes_on always es at _ _ here c.group_end-at-in-Some-candidate_at.ensures in
     let within : at < length es = has_position es at _ here in
     omega arith
 

@@ -9,7 +9,7 @@ use Rattle.net_conf.specs.Costs.{costs_of}
 use Rattle.net_conf.specs.Kept.{IsJoined}
 use Rattle.net_conf.proofs.KeptTrees.{end_node}
 use Rattle.net_conf.proofs.Nodes.{same_node}
-use Rattle.net_conf.proofs.TreesAfter.{kept_still, stay_joined, first_joined, second_joined, kept_joined, right_still, right_then}
+use Rattle.net_conf.proofs.TreesAfter.{kept_still, stay_joined, first_joined, second_joined, kept_joined, right_still, right_then, at_one}
 use Rattle.net_conf.proofs.kept.conf_trees.ConfTrees.trees_with_session.Goals as goal
 
 pub returns-then-ends_session-2 : goal.returns-then-ends_session-2
@@ -22,17 +22,29 @@ returns-then-ends_session-2 c r =
     ap (lookup (is_at (addr_cmp r))) same
     ∙ kept_still s c.args.tables.now c.self.inside.trees (stay_joined s c.args.tables.now c.args.one c.args.other joined first second) c.self.invariant.1 r
 
+pub graph_for-requires-clause-first : goal.graph_for-requires-clause-first
+graph_for-requires-clause-first c =
+    let d = c.args.tables.now in
+    let a = c.args.one in
+    end_node d a c.requires.sound (first_joined c.args.self.now d a c.args.other c.requires.joined)
+
+pub graph_for-requires-clause-second : goal.graph_for-requires-clause-second
+graph_for-requires-clause-second c =
+    let d = c.args.tables.now in
+    let b = c.args.other in
+    end_node d b c.requires.sound (second_joined c.args.self.now d c.args.one b c.requires.joined)
+
 pub add_missing-requires-clause-node : goal.add_missing-requires-clause-node
 add_missing-requires-clause-node c =
     let d = c.args.tables.now in
     let a = c.args.one in
-    ap (λ g. is_node g.nodes a) c.in_ok-graph.ensures ∙ same_node d a ∙ end_node d a c.requires.sound (first_joined c.args.self.now d a c.args.other c.requires.joined)
+    ap (λ ns. is_node ns a) c.in_ok-graph.ensures.nodes ∙ same_node d a ∙ end_node d a c.requires.sound (first_joined c.args.self.now d a c.args.other c.requires.joined)
 
 pub add_missing-requires-2-clause-node : goal.add_missing-requires-2-clause-node
 add_missing-requires-2-clause-node c =
     let d = c.args.tables.now in
     let b = c.args.other in
-    ap (λ g. is_node g.nodes b) c.in_ok-graph.ensures ∙ same_node d b ∙ end_node d b c.requires.sound (second_joined c.args.self.now d c.args.one b c.requires.joined)
+    ap (λ ns. is_node ns b) c.in_ok-graph.ensures.nodes ∙ same_node d b ∙ end_node d b c.requires.sound (second_joined c.args.self.now d c.args.one b c.requires.joined)
 
 pub add_missing-requires-clause-right : goal.add_missing-requires-clause-right
 add_missing-requires-clause-right c t found =
@@ -42,7 +54,7 @@ add_missing-requires-clause-right c t found =
     let joined = subst (λ x. IsJoined x d a c.args.other) (sym c.self.view_is) c.requires.joined in
     let same : c.in_ok-trees.trees ≡ c.self.inside.trees = c.in_ok-trees.ensures.ok in
     right_still s d a c.args.other joined a t (sym (c.self.invariant.1 a) ∙ sym (ap (lookup (is_at (addr_cmp a))) same) ∙ found)
-    ∙ sym (ap (λ g. tree_of g.nodes g.edges a) c.in_ok-graph.ensures)
+    ∙ sym c.in_ok-graph.ensures.one
 
 pub add_missing-requires-2-clause-right : goal.add_missing-requires-2-clause-right
 add_missing-requires-2-clause-right c t found =
@@ -52,7 +64,7 @@ add_missing-requires-2-clause-right c t found =
     let b = c.args.other in
     let joined = subst (λ x. IsJoined x d a b) (sym c.self.view_is) c.requires.joined in
     let same : c.in_ok-trees.trees ≡ c.self.inside.trees = c.in_ok-trees.ensures.ok in
-    let graph : tree_of c.in_ok-graph.graph.nodes c.in_ok-graph.graph.edges b ≡ costs_of d b = ap (λ g. tree_of g.nodes g.edges b) c.in_ok-graph.ensures in
+    let graph = c.in_ok-graph.ensures.other in
     let first = ap (λ x. cond (is_at (addr_cmp b) a) (Some x) (lookup (is_at (addr_cmp b)) c.in_ok-trees.trees)) graph in
     let kept = ap (cond (is_at (addr_cmp b) a) (Some (costs_of d b))) (ap (lookup (is_at (addr_cmp b))) same ∙ c.self.invariant.1 b) in
     right_then s d a b joined b t (is_at (addr_cmp b) a) (sym (c.in_ok-add_missing.ensures b ∙ first ∙ kept) ∙ found)
@@ -66,9 +78,10 @@ returns c r =
     let b = c.args.other in
     let joined = subst (λ x. IsJoined x d a b) (sym c.self.view_is) c.requires.joined in
     let same : c.in_ok-trees.trees ≡ c.self.inside.trees = c.in_ok-trees.ensures.ok in
-    let graph : tree_of c.in_ok-graph.graph.nodes c.in_ok-graph.graph.edges r ≡ costs_of d r = ap (λ g. tree_of g.nodes g.edges r) c.in_ok-graph.ensures in
+    let made = tree_of c.in_ok-graph.graph.nodes c.in_ok-graph.graph.edges in
+    let before = ap (lookup (is_at (addr_cmp r))) same ∙ c.self.invariant.1 r in
     c.in_ok-add_missing-2.ensures r
-    ∙ ap (cond (is_at (addr_cmp r) b) (Some (tree_of c.in_ok-graph.graph.nodes c.in_ok-graph.graph.edges r))) (c.in_ok-add_missing.ensures r)
-    ∙ ap (λ x. cond (is_at (addr_cmp r) b) (Some x) (cond (is_at (addr_cmp r) a) (Some x) (lookup (is_at (addr_cmp r)) c.in_ok-trees.trees))) graph
-    ∙ ap (λ o. cond (is_at (addr_cmp r) b) (Some (costs_of d r)) (cond (is_at (addr_cmp r) a) (Some (costs_of d r)) o)) (ap (lookup (is_at (addr_cmp r))) same ∙ c.self.invariant.1 r)
+    ∙ ap (cond (is_at (addr_cmp r) b) (Some (made r))) (c.in_ok-add_missing.ensures r)
+    ∙ at_one made (costs_of d) r b c.in_ok-graph.ensures.other (cond (is_at (addr_cmp r) a) (Some (made r)) (lookup (is_at (addr_cmp r)) c.in_ok-trees.trees))
+    ∙ ap (cond (is_at (addr_cmp r) b) (Some (costs_of d r))) (at_one made (costs_of d) r a c.in_ok-graph.ensures.one (lookup (is_at (addr_cmp r)) c.in_ok-trees.trees) ∙ ap (cond (is_at (addr_cmp r) a) (Some (costs_of d r))) before)
     ∙ kept_joined s d a b joined r

@@ -1,4 +1,4 @@
-use Rattle.std.proofs.Common.{◌≡◌, ◌∙◌, [], Some, None, option_copied, ap, sym}
+use Rattle.std.proofs.Common.{◌≡◌, ◌∙◌, [], option_copied, ap, sym}
 use Rattle.std.specs.List.{list_any}
 use Rattle.std.specs.Option.{unwrap_or}
 use Rattle.std.specs.BTreeMap.{is_at}

@@ -1,5 +1,5 @@
 -- The prefix goes into the set of its router, and so into the list of all.
-use Rattle.std.proofs.Common.{◌≡◌, ◌∙◌, List, Ok, Err, OnOk, OnErr, ap, sym, subst}
+use Rattle.std.proofs.Common.{◌≡◌, ◌∙◌, Ok, Err, OnOk, OnErr, ap, sym, subst}
 use Rattle.std.specs.List.Sorted.{IsStrictlySortedBy}
 use Rattle.std.specs.BTreeMap.{insert_entry}
 use Rattle.std.specs.BTreeSet.{insert_key}

@@ -8,7 +8,7 @@ use Rattle.net_conf.specs.Costs.{nodes_of, edges_of, costs_of}
 use Rattle.net_conf.specs.Kept.{IsLinked, WereTrees, tree_kept, metric_up, edge_change}
 use Rattle.net_conf.proofs.EdgeChange.{changed_by, edges_same, were_trees}
 use Rattle.net_conf.proofs.TreesAfter.{kept_still, stay_with_link, kept_with_link, costs_from_kept}
-use Rattle.net_conf.proofs.kept.conf_trees.ConfTrees.trees_with_link.Goals as goal
+use Rattle.net_conf.proofs.kept.conf_trees.ConfTrees.trees_of_all.Goals as goal
 
 pub carry_trees-requires-clause-were : goal.carry_trees-requires-clause-were
 carry_trees-requires-clause-were g c _ _ =

@@ -1,0 +1,114 @@
+//! Taking a message in the receiver's cell, which is changed where it stands.
+
+ghost use Rattle.std.specs.Prelude.{◌≡◌, ◌≤◌, length, slice_get, true, Some, is_some, IfOk, OnOk, OnErr};
+ghost use Rattle.std.specs.Option.{option_copied};
+ghost use Rattle.net_prefix.specs.declared.addr.Addr as addr;
+ghost use Rattle.net_conf.specs.Costs.{is_up};
+ghost use Rattle.session_queue.specs.Telling.{prefix_of};
+ghost use Rattle.session_queue.specs.Waiting.{queue_at, spare_at};
+ghost use Rattle.reference_machine.specs.Network.{messages_in};
+ghost use Rattle.reference_machine.specs.Machine.{head_step};
+ghost use Rattle.cell_engine.specs.Admitting.{AreAdmitted};
+ghost use Rattle.cell_engine.specs.Cells.{IsDecided};
+ghost use Rattle.cell_engine.specs.Deliveries.{outcome_by};
+ghost use Rattle.cell_engine.specs.InPlace.{ArePeersInOrder};
+ghost use Rattle.cell_engine.specs.Queueing.{KeepsMessages};
+ghost use Rattle.cell_engine.specs.RouterTables.{value_at, with_value};
+ghost use Rattle.cell_engine.specs.Sending.{told};
+ghost use Rattle.cell_engine.specs.State.{cell_at, network};
+
+use crate::route_cell::{Cell, take_in};
+use crate::router_tables::RouterTables;
+use crate::sending::push_all;
+use crate::state::State;
+use net_conf::SiteConf;
+use net_prefix::Addr;
+use prefix_table::PrefixTable;
+use route_select::Selector;
+use session_queue::{Direction, Message, Queues};
+use std::alloc::{AllocError, Global};
+
+/// Takes the message in the receiver's cell, which is lent out of its table for that. What is sent is admitted, and has
+/// places. An error, which is want of memory, changes no table.
+fn take_lent<S: Selector + Drop, T: PrefixTable<Cell<S>> + Drop>(
+    alloc: Global,
+    site: Option<&SiteConf>,
+    tables: &mut RouterTables<Cell<S>, T>,
+    queues: &mut Queues,
+    direction: Direction,
+    message: &Message,
+) -> Result<Vec<(Addr, Message)>, AllocError>
+    requires there { is_some (value_at direction.to (prefix_of message.now) tables.old) ≡ true }
+    requires decided { IsDecided (option_copied site) (prefix_of message.now)
+        (cell_at direction.to (prefix_of message.now) tables.old) }
+    requires peers { ArePeersInOrder (option_copied site) }
+    requires one { (t : addr.Addr) →
+        length (told t (outcome_by (option_copied site) (cell_at direction.to (prefix_of message.now) tables.old)
+        direction.from message.now).sends) ≤ 1 }
+    ensures cell { OnOk result
+        (tables.new ≡ with_value direction.to (prefix_of message.now)
+        (outcome_by (option_copied site.entry) (cell_at direction.to (prefix_of message.now) tables.old) direction.from
+        message.now).cell tables.old) }
+    ensures sends { IfOk result (λ sends.
+        sends.items ≡ (outcome_by (option_copied site.entry) (cell_at direction.to (prefix_of message.now) tables.old)
+        direction.from message.now).sends) }
+    ensures room { IfOk result (λ sends.
+        (t : addr.Addr) → length (told t sends.items) ≤ spare_at queues.new direction.to t) }
+    ensures admitted { IfOk result (λ sends. AreAdmitted queues.new.admitted sends.items) }
+    ensures queue { KeepsMessages queues.old queues.new }
+    ensures same { OnErr result (tables.new ≡ tables.old) }
+{
+    let (router, prefix) = (direction.to, message.prefix());
+    let Ok(mut cell) = tables.replace(router, prefix, Cell::new(alloc, false)) else {
+        unreachable!()
+    };
+    let sends = take_in(alloc, site, &mut cell, queues, direction, message);
+    match tables.replace(router, prefix, cell) {
+        Ok(_) => sends,
+        Err(_) => unreachable!(),
+    }
+}
+
+impl<S: Selector + Drop, T: PrefixTable<Cell<S>> + Drop> State<S, T> {
+    /// Takes the message at the head of the direction's queue: the receiver's cell is changed where it stands, and the
+    /// receiver sends what changed. This is the machine's own next state. The network stays as it is at an error, which
+    /// is want of memory.
+    pub fn deliver(&mut self, direction: Direction, message: &Message) -> Result<(), AllocError>
+        requires up { is_up self.old.conf direction.from direction.to ≡ true }
+        requires head { slice_get (queue_at self.old.queues direction.from direction.to) 0 ≡ Some message.now }
+        ensures next { OnOk result
+            (network self.new ≡ (head_step (network self.old) direction
+            (messages_in (network self.old).queues direction)).next) }
+        ensures same { OnErr result (network self.new ≡ network self.old) }
+    {
+        self.facts();
+        self.make_cell(direction.to, message.prefix())?;
+        self.take_in_place(direction, message)
+    }
+
+    /// The same, where the receiver has a cell of the prefix.
+    fn take_in_place(&mut self, direction: Direction, message: &Message) -> Result<(), AllocError>
+        requires up { is_up self.old.conf direction.from direction.to ≡ true }
+        requires head { slice_get (queue_at self.old.queues direction.from direction.to) 0 ≡ Some message.now }
+        requires there { is_some (value_at direction.to (prefix_of message.now) self.old.tables) ≡ true }
+        ensures next { OnOk result
+            (network self.new ≡ (head_step (network self.old) direction
+            (messages_in (network self.old).queues direction)).next) }
+        ensures same { OnErr result (network self.new ≡ network self.old) }
+    {
+        self.conf.facts();
+        let made = self.conf.get().made_site(self.alloc, direction.to)?;
+        let site = self.conf.get().site_in(&made, direction.to);
+        let sends = take_lent(
+            self.alloc,
+            site,
+            &mut self.tables,
+            &mut self.queues,
+            direction,
+            message,
+        )?;
+        self.queues.pop(direction.from, direction.to);
+        push_all(&mut self.queues, direction.to, sends);
+        Ok(())
+    }
+}
