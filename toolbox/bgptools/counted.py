@@ -1,7 +1,7 @@
 """A run of the program that counts its lines: one run reads 1,000,000, questions among them.
 
-Where they are used up, the program is started anew and given what it accepted. So questions use nothing up for good, and only a
-script that is itself too long comes to an end."""
+Where they are used up, the program is started anew and given what it accepted. So questions use nothing up for good,
+and only a script that is itself too long comes to an end."""
 from __future__ import annotations
 
 import sys
@@ -23,7 +23,8 @@ def is_accepted(reply: List[str]) -> bool:
 def check_length(count: int, file: Optional[str], advice: str = "") -> None:
     """Refuses a script of so many lines, where one run of the program cannot read them."""
     if count > MOST_LINES:
-        raise Mistake("a script of {:,} lines; one run of the program reads {:,}{}".format(count, MOST_LINES, advice and "; " + advice), file)
+        told = "a script of {:,} lines; one run of the program reads {:,}{}"
+        raise Mistake(told.format(count, MOST_LINES, advice and "; " + advice), file)
 
 
 class Counted(Program):
@@ -47,14 +48,17 @@ class Counted(Program):
             replies += found
         return replies
 
-    def give(self, lines: List[str]) -> None:
-        """Gives it the lines that another run accepted, with the comments that were kept among them."""
+    def give(self, lines: List[str]) -> List[str]:
+        """Gives it the lines that another run accepted, with the comments that were kept among them: the replies to
+        those that have one."""
         before = list(self.accepted)
         self.is_near = self.is_near or len(before) + len(lines) >= NEAR * MOST_LINES
         if self.count + len(lines) > MOST_LINES:
             self._renew()
-        _check_again(lines, self.pour(lines))
+        replies = self.pour(lines)
+        _check_again(lines, replies)
         self.accepted = before + list(lines)
+        return replies
 
     def pour(self, lines: Iterable[str]) -> List[str]:
         """The reply to each line that has one, of lines that one run can read."""
@@ -71,7 +75,8 @@ class Counted(Program):
         """How many lines may be given at once."""
         if not self.is_near and len(self.accepted) >= NEAR * MOST_LINES:
             self.is_near = True
-            print("{:,} of the {:,} lines are used that one script can hold".format(len(self.accepted), MOST_LINES), file=sys.stderr)
+            told = "{:,} of the {:,} lines are used that one script can hold"
+            print(told.format(len(self.accepted), MOST_LINES), file=sys.stderr)
         if self.count >= MOST_LINES:
             self._renew()
         return min(PART, MOST_LINES - self.count)
@@ -79,7 +84,8 @@ class Counted(Program):
     def _renew(self) -> None:
         """Another process, given what was accepted."""
         if len(self.accepted) >= MOST_LINES:
-            raise Mistake("with its deliveries the script has {:,} lines and more, and one run of the program reads no more".format(MOST_LINES))
+            told = "with its deliveries the script has {:,} lines and more, and one run of the program reads no more"
+            raise Mistake(told.format(MOST_LINES))
         fresh = Program()
         _check_again(self.accepted, fresh.pour(self.accepted))
         self.close()

@@ -1,7 +1,8 @@
 """Draws scenes: all of one script on one layout, so that what stays is drawn at the same place in each."""
 from __future__ import annotations
 
-from typing import Dict, List, Optional, Tuple
+import functools
+from typing import Callable, Dict, List, Optional, Tuple, TypeVar
 
 from .layout import Box, Layout, arranged
 from .routing import GROUP_SIZE, LABEL_SIZE, Key, Labels, badge_place, routed
@@ -9,6 +10,7 @@ from .scene import (BORDER, DELIVERED, DOWN, EXIT, EXTERNAL, FILLS, FORWARDS, IN
                     VIRTUAL, WAITING, WAY, Scene, Spot, Wire, legend_of, told)
 from .shapes import Circle, Curve, Part, Pen, Rectangle, Shape, Text, arrow, svg_head, width_of
 
+Item = TypeVar("Item")
 HEAD_SIZE, TEXT_SIZE, TITLE_SIZE, LEGEND_SIZE = 13.0, 11.0, 15.0, 11.0
 MARGIN, SAMPLE, ROW = 14.0, 34.0, 20.0
 # A legend that is broader than this, and than the picture, goes on in another row.
@@ -36,15 +38,16 @@ class Drawing:
         self.width = self.height = 0.0
         self._into_view(scenes, aspect)
         self.fills = {asn: FILLS[number % len(FILLS)] for number, asn in enumerate(sorted(self.layout.groups))}
+        self.made: Dict[Tuple[object, ...], Tuple[object, Part]] = {}
 
     def _into_view(self, scenes: List[Scene], aspect: float) -> None:
         """Moves all so that it begins in the upper left corner, under the titles, and measures the picture."""
         fixed = [*self.layout.spots.values(), *self.layout.groups.values()]
         fixed += [*self.group_labels.values(), *self.labels.values()]
-        boxes = fixed + [_around(curve) for curve in self.curves.values()]
-        left, top = min((box.left for box in boxes), default=0), min((box.top for box in boxes), default=0)
-        right = max((box.left + box.width for box in boxes), default=0)
-        end = max((box.top + box.height for box in boxes), default=0)
+        edges = [(box.left, box.left + box.width, box.top, box.top + box.height) for box in fixed]
+        edges += map(_around, self.curves.values())
+        left, top = min((each[0] for each in edges), default=0), min((each[2] for each in edges), default=0)
+        right, end = max((each[1] for each in edges), default=0), max((each[3] for each in edges), default=0)
         legend = min(sum(map(_entry_width, self.legend)), max((end - top) * aspect, LEGEND_WIDTH))
         broad = max([width_of(title, TITLE_SIZE) for scene in scenes for title in scene.titles]
                     + [right - left, legend, 360.0])
@@ -57,18 +60,25 @@ class Drawing:
         self.height = self.body_end + len(self._legend_rows()) * ROW + (6 if self.legend else 0)
 
     def parts(self, scene: Scene) -> List[Part]:
-        """A scene's parts, what is behind first."""
-        made = [self._group(asn) for asn in scene.groups]
-        made += [self._line(wire) for wire in scene.wires]
-        made += [self._spot(a, spot) for a, spot in scene.spots.items()]
-        made += [Part(_plate(self.labels[wire.key], wire.label, PALE if wire.is_up else "#8a8a8a"))
+        """A scene's parts, what is behind first. What is equal in the scene before is the same part again."""
+        made = [self._same(("group", asn), asn, self._group) for asn in scene.groups]
+        made += [self._same(("line", *wire.key), wire, self._line) for wire in scene.wires]
+        made += [self._same(("spot", a), (a, spot), lambda item: self._spot(*item)) for a, spot in scene.spots.items()]
+        made += [self._same(("plate", *wire.key), (wire.key, wire.label, wire.is_up), lambda item: self._plate(*item))
                  for wire in scene.wires if wire.label]
-        made += [Part(self._group_label(asn)) for asn in scene.groups]
+        made += [self._same(("label", asn), asn, lambda item: Part(self._group_label(item))) for asn in scene.groups]
         is_crowded = sum(len(wire.delivered) for wire in scene.wires) > FEW
         made += [part for wire in scene.wires for part in self._delivered(wire, is_crowded) + self._waiting(wire)]
         titles = [Part((Text(self.width / 2, MARGIN + 4 + number * (TITLE_SIZE + 6), title, TITLE_SIZE),))
                   for number, title in enumerate(scene.titles)]
         return made + titles + self._legend()
+
+    def _same(self, key: Tuple[object, ...], item: Item, make: Callable[[Item], Part]) -> Part:
+        """The part of something; the one that was made before where that was equal."""
+        before = self.made.get(key)
+        if before is None or before[0] != item:
+            before = self.made[key] = (item, make(item))
+        return before[1]
 
     def svg(self, scene: Scene) -> str:
         """A scene as a picture of its own."""
@@ -118,6 +128,9 @@ class Drawing:
         shapes += [arrow(curve, heads[way], size, way == (wire.one, wire.other)) for way in heads]
         kind, state = "link" if wire.is_link else "session", "" if wire.is_up else ", down"
         return Part(tuple(shapes), "%s of %s and %s%s" % (kind, wire.one, wire.other, state))
+
+    def _plate(self, key: Key, text: str, is_up: bool) -> Part:
+        return Part(_plate(self.labels[key], text, PALE if is_up else "#8a8a8a"))
 
     def _delivered(self, wire: Wire, is_crowded: bool) -> List[Part]:
         """What was delivered, on its session; where that is so on many, only a count where there were several."""
@@ -186,11 +199,11 @@ def _text_height(spot: Spot) -> float:
     return HEAD_SIZE + 2 + (len(spot.lines) - 1) * (TEXT_SIZE + 2)
 
 
-def _around(curve: Curve) -> Box:
-    """The box around a curve."""
-    points = [curve.start, curve.at(0.25), curve.at(0.5), curve.at(0.75), curve.end]
-    xs, ys = [x for x, _ in points], [y for _, y in points]
-    return Box((min(xs) + max(xs)) / 2, (min(ys) + max(ys)) / 2, max(xs) - min(xs) + 6, max(ys) - min(ys) + 6)
+@functools.lru_cache(maxsize=8192)
+def _around(curve: Curve) -> Tuple[float, float, float, float]:
+    """The box around a curve: left, right, upper and lower."""
+    xs, ys = zip(curve.start, curve.at(0.25), curve.at(0.5), curve.at(0.75), curve.end)
+    return min(xs) - 3, max(xs) + 3, min(ys) - 3, max(ys) + 3
 
 
 def _plate(box: Box, text: str, color: str) -> Tuple[Shape, ...]:
@@ -211,7 +224,8 @@ def _entry(name: str, x: float, y: float) -> Tuple[Shape, ...]:
 
 def _sample(name: str, x: float, y: float) -> Tuple[Shape, ...]:
     pens = {"link": Pen(LINK, "none", 1.6), "links": Pen(LINK, "none", 1.6), "failed": Pen(DOWN, "none", 1.6, "dashed"),
-            "forwards": Pen(FORWARDS, "none", 2.6), "way": Pen(WAY, "none", 2.6), "delivered": Pen(DELIVERED, "none", 3)}
+            "forwards": Pen(FORWARDS, "none", 2.6), "way": Pen(WAY, "none", 2.6),
+            "delivered": Pen(DELIVERED, "none", 3)}
     dotted = {"internal": INTERNAL, "external": EXTERNAL, "sessions": EXTERNAL, "down": DOWN, "client": INTERNAL}
     pens.update((each, Pen(color, "none", 1.5, "dotted")) for each, color in dotted.items())
     if name in pens:

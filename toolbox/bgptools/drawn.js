@@ -7,6 +7,8 @@ const ATTRIBUTES = new Set(["x", "y", "cx", "cy", "r", "rx", "width", "height", 
 // The colors of Okabe and Ito, which nearly all can tell apart, in place of those of other pictures.
 const COLORS = { "#2b6cb0": "#0072b2", "#c05621": "#d55e00", "#2f855a": "#009e73", "#d53f8c": "#cc79a7", "#6b46c1": "#56b4e9",
   "#d69e2e": "#e69f00", "#c6f0d0": "#bfe8dc" };
+// What is followed; and words, which are dark where a line may be light.
+const WAY = "#d53f8c", WORDS = { "#6b46c1": "#1a202c", "#8a8a8a": "#4a5568" };
 const CLICKED = { router: "router", peer: "virtual peer", link: "link", session: "session", queue: "deliver" };
 
 export function element(kind, style, text) {
@@ -20,33 +22,87 @@ function part([kind, attributes, text, inside]) {
   if (!KINDS.has(kind)) throw new Error("no part of a picture: " + kind);
   const made = document.createElementNS(SVG, kind);
   for (const [name, value] of Object.entries(attributes)) {
-    if (ATTRIBUTES.has(name)) made.setAttribute(name, COLORS[value] || value);
+    if (ATTRIBUTES.has(name)) made.setAttribute(name, (kind === "text" && WORDS[value]) || COLORS[value] || value);
   }
+  // The way of the packet that is followed is not told by its color alone.
+  if (attributes.stroke === WAY && kind === "path") made.setAttribute("stroke-width", "5");
   made.append(text, ...inside.map(part));
   return made;
 }
 
-// A picture; what is clicked is told by `about` of its element, as ["link", A, B].
-export function drawn(picture, clicked) {
-  const made = document.createElementNS(SVG, "svg");
-  made.setAttribute("viewBox", "0 0 " + picture.width + " " + picture.height);
-  made.setAttribute("font-family", "Helvetica, Arial, sans-serif");
-  made.setAttribute("text-anchor", "middle");
-  for (const [about, shapes] of picture.parts) {
-    const each = part(shapes);
-    if (about.length && CLICKED[about[0]]) {
-      const told = CLICKED[about[0]] + " " + about.slice(1).join(" ");
-      each.setAttribute("tabindex", "0");
-      each.setAttribute("role", "button");
-      each.setAttribute("aria-label", told);
-      each.dataset.about = told;
-      each.addEventListener("click", () => clicked(about));
-      each.addEventListener("keydown", (key) => { if (key.key === "Enter") clicked(about); });
-      widen(each);
-    }
-    made.append(each);
-  }
+// The element of one part; what is clicked is told by `about`, as ["link", A, B].
+function clickable([about, shapes], clicked) {
+  const made = part(shapes);
+  if (!about.length || !CLICKED[about[0]]) return made;
+  const told = CLICKED[about[0]] + " " + about.slice(1).join(" ");
+  made.setAttribute("tabindex", "0");
+  made.setAttribute("role", "button");
+  made.setAttribute("aria-label", told);
+  made.dataset.about = told;
+  made.addEventListener("click", () => clicked(about));
+  made.addEventListener("keydown", (key) => {
+    if (key.key !== "Enter" && key.key !== " ") return;
+    key.preventDefault();
+    clicked(about);
+  });
+  widen(made);
   return made;
+}
+
+// A picture that changes from step to step: parts that are as they were keep their elements.
+export class Picture {
+  constructor(clicked) {
+    this.clicked = clicked;
+    this.kept = new Map();
+    this.element = document.createElementNS(SVG, "svg");
+    for (const [name, value] of [["font-family", "Helvetica, Arial, sans-serif"], ["text-anchor", "middle"], ["role", "group"],
+      ["aria-label", "The network"]]) this.element.setAttribute(name, value);
+  }
+
+  // Shows a picture; how many of its parts had to be made.
+  show(picture) {
+    const before = this.kept, focused = document.activeElement;
+    const about = this.element.contains(focused) ? focused.dataset.about : null;
+    let made = 0;
+    this.kept = new Map();
+    const parts = picture.parts.map((each) => {
+      const key = JSON.stringify(each), old = before.get(key);
+      const one = old && old.length ? old.pop() : clickable(each, this.clicked);
+      if (!old || one.parentNode !== this.element) made += 1;
+      this.kept.set(key, [...(this.kept.get(key) || []), one]);
+      return one;
+    });
+    this.#fit(picture.width, picture.height);
+    this.#place(parts);
+    if (about && document.activeElement !== focused) this.#focus(about);
+    return made;
+  }
+
+  // Its size, which is mostly what it was: to set it again would have all words measured again.
+  #fit(width, height) {
+    const box = "0 0 " + width + " " + height;
+    if (this.element.getAttribute("viewBox") === box) return;
+    this.element.setAttribute("viewBox", box);
+    this.element.style.setProperty("--width", width + "px");
+    this.element.style.setProperty("--height", height + "px");
+  }
+
+  // Puts parts in their order; those that stay are not moved, and so keep what is in focus.
+  #place(parts) {
+    const staying = new Set(parts);
+    for (const each of [...this.element.children]) if (!staying.has(each)) each.remove();
+    parts.forEach((each, at) => {
+      if (this.element.children[at] !== each) this.element.insertBefore(each, this.element.children[at] || null);
+    });
+  }
+
+  // Focus goes to what stands for what had it; of a queue that is empty, to its session.
+  #focus(about) {
+    const [, one, other] = about.split(" "), wanted = [about, "session " + one + " " + other, "session " + other + " " + one];
+    const found = [...this.element.querySelectorAll("g[data-about]")];
+    const to = wanted.map((name) => found.find((each) => each.dataset.about === name)).find((each) => each);
+    if (to) to.focus();
+  }
 }
 
 // A thin line is clicked beside it, too.
@@ -78,6 +134,29 @@ export function tables(told) {
     element("h2", "", "Adj-RIB-In"), table(["from", "route", "why"], told.in, (row) => row[3]),
     element("h2", "", "Loc-RIB"), table(["route"], [[told.loc]], none),
     element("h2", "", "Adj-RIB-Out"), table(["to", "route"], told.out, none)];
+}
+
+// Who changed what about a router or peer, the last change first; a step is gone to by a click.
+export function blamed(about, edits, gone) {
+  const made = element("table", "", ""), head = element("tr", "", "");
+  head.append(...["step", "when", "who", "command"].map((each) => element("th", "", each)));
+  made.append(head, ...[...edits].reverse().map((edit) => {
+    const line = element("tr", "", ""), step = element("td", "", ""), to = element("button", "", String(edit.step));
+    to.addEventListener("click", () => gone(edit.step));
+    step.append(to);
+    line.append(step, element("td", "", moment(edit.at)), element("td", "", edit.who),
+      element("td", "", edit.line + (edit.by ? " (accepted by " + edit.by + ")" : "")));
+    return line;
+  }));
+  return [element("h2", "", "Who changed what about " + about), made];
+}
+
+// A time as `join` writes it; empty where it is not known.
+function moment(seconds) {
+  if (typeof seconds !== "number") return "";
+  const at = new Date(seconds * 1000), two = (number) => String(number).padStart(2, "0");
+  return [at.getFullYear(), two(at.getMonth() + 1), two(at.getDate())].join("-") + " "
+    + [at.getHours(), at.getMinutes(), at.getSeconds()].map(two).join(":");
 }
 
 // A form for a command, as it is spelled: what is known of it is filled in.

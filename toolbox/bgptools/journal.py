@@ -1,7 +1,7 @@
-"""What is typed at a prompt, in a file that is there while the prompt runs: after a crash it can be had back from there.
+"""What is typed at a prompt, in a file that is there while the prompt runs: after a crash it can be had back from it.
 
-A prompt holds a lock on its journal, and the system takes that back whatever ends the prompt. So a journal without a lock was left
-behind."""
+A prompt holds a lock on its journal, and the system takes that back whatever ends the prompt. So a journal without a
+lock was left behind."""
 from __future__ import annotations
 
 import contextlib

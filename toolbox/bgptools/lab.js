@@ -1,25 +1,34 @@
 // The page of `lab`: what it asks the server, what happens there, and what is shown of it.
-import { commandForm, drawn, element, tables } from "./drawn.js";
+import { Proposals } from "./changes.js";
+import { Picture, blamed, commandForm, element, tables } from "./drawn.js";
+import * as moving from "./moving.js";
 
 const at = (name) => document.getElementById(name);
 const FORMS = { router: ["origin", "noorigin", "med", "cluster", "trace", "routes", "link", "join", "router", "virtual"],
   peer: ["feed", "link", "join"], link: ["fail", "mend", "metric", "join"],
   session: ["stop", "start", "client", "self", "rule", "clear", "queue", "in", "out", "deliver"] };
-const MOST = 500;
-// `step` is the one that is shown; nothing stands for the last one there is. `chosen` is what was clicked last.
-const now = { step: null, steps: [], prefix: "", from: "", to: "", chosen: null, page: "", role: "work", isGoing: false,
-  drawing: false, again: false, picture: null };
-const waiting = new Map();
+const MOST = 500, KEPT = 40;
+// These questions are about nothing that is to be seen.
+const UNSEEN = new Set(["quiet", "queue", "cost"]);
+// After these lines all that was made before may stand elsewhere.
+const PLACING = /^ *(#|(router|virtual|link|join) )/;
+// `step` is the one that is shown; nothing stands for the last one there is. `chosen` is what was clicked last, and
+// `isOwn` says that prefix and packet are a person's, not the lesson's.
+const now = { step: null, steps: [], first: {}, prefix: "", from: "", to: "", chosen: null, isOwn: false, blames: false,
+  page: "", name: "", role: "work", isGoing: false, drawing: false, again: false, drawn: -1, isSlow: false };
+const waiting = new Map(), pictures = new Map();
 let forms = [], number = 0, events = null, isSettling = false;
+const picture = new Picture(clicked);
+const proposals = new Proposals(at("proposals"), async (what, number) => answer(await ask(what, { number })));
 
 // The server
 
 function ask(what, more) {
-  number += 1;
-  const body = JSON.stringify({ id: number, do: what, ...more });
-  const found = new Promise((done) => waiting.set(number, done));
+  const id = number += 1, body = JSON.stringify({ id, do: what, ...more });
+  const found = new Promise((done) => waiting.set(id, done));
   fetch("do?page=" + encodeURIComponent(now.page), { method: "POST", headers: { "Content-Type": "application/json" }, body })
-    .then((told) => { if (!told.ok) log("the server does not take it", true); });
+    .then((told) => told.ok, () => false)
+    .then((isTaken) => { if (!isTaken) heard({ id, error: "the server does not take it" }); });
   return found;
 }
 
@@ -37,9 +46,10 @@ function joined() {
 
 const heards = {
   page: (told) => {
-    now.page = told.page;
-    now.role = told.role;
+    Object.assign(now, { page: told.page, role: told.role, first: told.first || {} });
     document.documentElement.classList.toggle("looks", told.role !== "work");
+    proposals.isOnlySeen = told.role !== "work";
+    proposals.all([], now.name);
     catchUp();
   },
   changes: (told) => {
@@ -47,17 +57,25 @@ const heards = {
       now.steps[each.step - 1] = { ...now.steps[each.step - 1], line: each.line, reply: each.reply };
       log((each.who || "") + ": " + each.line + (each.reply && each.reply !== "ok" ? ": " + each.reply : ""));
     }
+    if (told.changes.some((each) => PLACING.test(each.line))) pictures.clear();
     show();
   },
   workers: (told) => { going(told); log(told.text); },
   shown: (told) => {
     if (now.role === "work" || told.step === null) return;
     Object.assign(now, { step: told.step, prefix: told.prefix || "", from: (told.way || [""])[0], to: (told.way || ["", ""])[1],
-      chosen: told.router ? ["router", told.router] : null });
+      chosen: told.router ? ["router", told.router] : null, isOwn: true });
     if (told.step > now.steps.length) catchUp();
     else show();
   },
-  proposal: (told) => log("proposal " + told.number + " of " + told.who + ": " + told.text),
+  proposal: (told) => {
+    proposals.add(told, now.name);
+    log("proposal " + told.number + " of " + told.who + ", " + told.name);
+  },
+  told: (told) => {
+    if (told.closes) proposals.close(told.closes, now.name);
+    log(told.text);
+  },
 };
 
 function heard(told) {
@@ -66,7 +84,14 @@ function heard(told) {
     waiting.get(told.id)(told);
     waiting.delete(told.id);
   } else if (told.error) log(told.error, true);
-  else if (told.workers) going(told.workers);
+  else if (told.workers) entered(told);
+}
+
+async function entered(told) {
+  now.name = told.name;
+  going(told.workers);
+  const open = await ask("proposals", {});
+  proposals.all(open.proposals || [], now.name);
 }
 
 function going(workers) {
@@ -77,7 +102,23 @@ function going(workers) {
 async function catchUp() {
   const told = await get("steps", { from: 0 });
   told.steps.forEach((each, step) => { now.steps[step] = { ...now.steps[step], ...each }; });
+  pictures.clear();
+  headings();
   show();
+}
+
+// A picture that was asked for is kept: what stands after a step does not change.
+function pictured(step, view) {
+  const asked = { step, prefix: view.prefix, from: view.from && view.to && view.from, to: view.from && view.to };
+  const key = JSON.stringify(asked);
+  if (!pictures.has(key)) {
+    const found = get("picture", asked);
+    pictures.set(key, found);
+    const forget = () => { if (pictures.get(key) === found) pictures.delete(key); };
+    found.then((told) => { if (told.error) forget(); }, forget);
+  }
+  while (pictures.size > KEPT) pictures.delete(pictures.keys().next().value);
+  return pictures.get(key);
 }
 
 // What is shown
@@ -89,87 +130,170 @@ function log(text, isWrong) {
 
 function answer(told) {
   const isRefused = Boolean(told.error) || (told.reply || [""])[0].startsWith("refused");
-  at("answer").className = isRefused ? "refused" : "";
+  at("answer").className = isRefused ? "work refused" : "work";
   at("answer").textContent = [...(told.reply || []), ...(told.told || []), told.error || told.text || told.verdict || ""]
     .filter((each) => each).join("\n");
 }
 
 function options(select, values, first, chosen) {
-  select.replaceChildren(new Option(first, ""), ...values.map(([value, text]) => new Option(text, value)));
+  const texts = JSON.stringify([first, values]), made = ([value, text]) => new Option(text, value);
+  if (select.dataset.texts !== texts) select.replaceChildren(new Option(first, ""), ...values.map(made));
+  select.dataset.texts = texts;
   select.value = values.some(([value]) => value === chosen) ? chosen : "";
 }
 
 const shownStep = () => (now.step === null ? now.steps.length : now.step);
+const noteOf = (step) => (step === 0 ? now.first : now.steps[step - 1]) || {};
+
+// What is shown of a step: what a person chose, or what the lesson is about.
+function viewOf(step) {
+  const router = now.chosen && now.chosen[0] === "router" ? now.chosen[1] : null;
+  const own = { prefix: now.prefix, from: now.from, to: now.to, router };
+  const view = noteOf(step).view;
+  if (!view || now.isOwn) return own;
+  const [from, to] = view.way || ["", ""];
+  return { prefix: view.prefix, from, to, router: view.router || own.router };
+}
 
 // One picture is asked for at a time, and then the last one that was wanted.
-async function show() {
+function show(how) {
+  now.isSlow = moving.isSlow() && how !== "slider";
   words();
+  draw();
+}
+
+async function draw() {
   if (now.drawing) {
     now.again = true;
     return;
   }
   now.drawing = true;
-  const step = shownStep();
+  document.body.dataset.state = "drawing";
   try {
-    await pictured(step, await get("picture", { step, prefix: now.prefix, from: now.from && now.to && now.from, to: now.from && now.to }));
+    await drawn(shownStep());
   } catch (fault) {
     log("no picture: " + fault.message, true);
   }
   now.drawing = false;
+  document.body.dataset.state = "drawn";
   if (now.again) {
     now.again = false;
-    show();
+    draw();
   }
 }
 
-async function pictured(step, picture) {
-  if (picture.error) {
-    log(picture.error, true);
+async function drawn(step) {
+  const view = viewOf(step), told = await pictured(step, view);
+  if (told.error) {
+    log(told.error, true);
     return;
   }
-  const focused = (document.activeElement.dataset || {}).about;
-  now.picture = picture;
-  const made = drawn(picture, clicked), titles = picture.titles.map((each) => element("div", "", each));
-  at("picture").replaceChildren(made);
-  for (const each of made.querySelectorAll("g[data-about]")) if (each.dataset.about === focused) each.focus();
-  at("reply").textContent = [picture.reply].concat(titles.map((each) => each.textContent)).filter((each) => each).join("\n");
-  options(at("prefix"), picture.prefixes.map((each) => [each, each]), "nothing", now.prefix);
-  options(at("from"), picture.routers, "nobody", now.from);
-  at("to").value = now.to;
+  const before = now.drawn;
+  moving.stop();
+  document.body.dataset.made = String(picture.show(told));
+  if (picture.element.parentNode === null) at("picture").replaceChildren(picture.element);
+  at("reply").textContent = [told.reply, ...told.titles].filter((each) => each).join("\n");
+  options(at("prefix"), told.prefixes.map((each) => [each, each]), "nothing", view.prefix);
+  options(at("from"), told.routers, "nobody", view.from);
+  if (document.activeElement !== at("to")) at("to").value = view.to;
+  now.drawn = step;
   document.body.dataset.step = String(step);
-  await tabled(step, picture);
-  if (now.role === "work") {
-    const router = now.chosen && now.chosen[0] === "router" ? now.chosen[1] : null;
-    ask("show", { step, prefix: now.prefix, way: now.from && now.to ? [now.from, now.to] : null, router });
-  }
+  const [what, from, to] = (noteOf(step).line || "").trim().split(/ +/);
+  if (now.isSlow && !now.again && step === before + 1 && what === "deliver") moving.move(picture.element, from, to, told.reply);
+  await tabled(step, told, view);
+  const way = view.from && view.to ? [view.from, view.to] : null;
+  if (now.role === "work") ask("show", { step, prefix: view.prefix, way, router: view.router });
+  const next = step + (step < before ? -1 : 1);
+  if (!now.again && next >= 0 && next <= now.steps.length) pictured(next, viewOf(next)).catch(() => {});
 }
 
-async function tabled(step, picture) {
-  const prefix = now.prefix || picture.prefixes[0];
-  const isRouter = now.chosen && now.chosen[0] === "router" && prefix;
-  const told = isRouter ? await get("table", { step, router: now.chosen[1], prefix }) : { error: "" };
-  at("table").hidden = Boolean(told.error) || !isRouter;
-  at("table").replaceChildren(...(at("table").hidden ? [] : tables(told)));
+async function tabled(step, told, view) {
+  const parts = [], prefix = view.prefix || told.prefixes[0];
+  const about = now.chosen && now.chosen.length === 2 ? now.chosen[1] : view.router;
+  if (view.router && prefix) {
+    const found = await get("table", { step, router: view.router, prefix });
+    if (!found.error) parts.push(...tables(found));
+  }
+  if (now.blames && about && now.role === "work") {
+    const found = await ask("blame", { router: about });
+    if (!found.error) parts.unshift(...blamed(about, found.edits, go));
+  }
+  at("table").hidden = !parts.length;
+  at("table").replaceChildren(...parts);
 }
 
 function words() {
-  const step = shownStep(), each = now.steps[step - 1] || {};
+  const step = shownStep(), each = noteOf(step);
   at("slider").max = now.steps.length;
   at("slider").value = step;
   at("count").textContent = "Step " + step + " of " + now.steps.length;
   at("heading").textContent = each.heading || "";
   at("says").textContent = each.says || "";
   at("line").textContent = each.line || "";
+  at("asks").replaceChildren(...(each.asks || []).flatMap(asked));
+  at("follow").hidden = !now.isOwn || now.role !== "work" || !each.view;
+  const begun = marks().filter(([first]) => first <= step).pop();
+  at("headings").value = begun ? String(begun[0]) : "0";
+}
+
+// What a lesson asks at a step: a text, and a question that is shown when it is clicked.
+function asked(each) {
+  const parts = each.says ? [element("p", "", each.says)] : [], words = each.line.split(/ +/);
+  const isQuestion = forms.some(([spelling, , group]) => group === "ask" && spelling.split(" ")[0] === words[0]);
+  const isSeen = isQuestion && !UNSEEN.has(words[0]);
+  if (each.line && !isSeen) parts.push(element("code", "", each.line + (isQuestion ? "" : ": it is refused")));
+  if (!each.line || !isSeen) return parts;
+  const made = element("button", "", each.line);
+  made.addEventListener("click", () => look(words));
+  return [...parts, made];
+}
+
+// Shows what a question is about.
+function look([what, router, more]) {
+  own();
+  if (what === "trace") Object.assign(now, { from: router, to: more });
+  else {
+    now.chosen = ["router", router];
+    if (more && more.includes("/")) now.prefix = more;
+  }
+  show();
+}
+
+// The headings of a lesson, each with its first step.
+function marks() {
+  const found = [];
+  now.steps.forEach((each, before) => {
+    if (each.heading && each.heading !== (found.length ? found[found.length - 1][1] : "")) found.push([before + 1, each.heading]);
+  });
+  return found;
+}
+
+function headings() {
+  const found = marks();
+  at("contents").hidden = !found.length;
+  const options = found.map(([step, text]) => new Option(text, String(step)));
+  at("headings").replaceChildren(new Option("the beginning", "0"), ...options);
 }
 
 // What is done
 
-function go(step) {
+// From here on prefix and packet are a person's.
+function own() {
+  const view = viewOf(shownStep());
+  Object.assign(now, { prefix: view.prefix, from: view.from, to: view.to, isOwn: true });
+}
+
+function go(step, how) {
   now.step = step >= now.steps.length ? null : Math.max(0, step);
-  show();
+  show(how);
 }
 
 async function call(line) {
+  if (at("gather").checked) {
+    at("change").value += (at("change").value && !at("change").value.endsWith("\n") ? "\n" : "") + line + "\n";
+    answer({ text: "into the change: " + line });
+    return;
+  }
   now.step = null;
   answer(await ask("call", { line }));
 }
@@ -181,7 +305,9 @@ function clicked(about) {
   }
   now.chosen = about;
   at("about").textContent = about.join(" ");
-  const known = { A: about[1], B: about[2] || "", R: about[1], X: about[2] || "", V: about[1], P: now.prefix, D: now.to };
+  at("blame").hidden = about.length !== 2;
+  const view = viewOf(shownStep());
+  const known = { A: about[1], B: about[2] || "", R: about[1], X: about[2] || "", V: about[1], P: view.prefix, D: view.to };
   const named = FORMS[about[0]] || [];
   at("forms").replaceChildren(...named.flatMap((name) => forms.filter(([spelling]) => spelling.split(" ")[0] === name)
     .flatMap(([spelling, meaning]) => both(spelling, about).map((turned) =>
@@ -214,23 +340,60 @@ const next = async () => {
   const told = await ask("next", {});
   answer(told.quiet ? { text: "all queues are empty" } : told);
 };
-const large = () => document.documentElement.classList.toggle("large");
-const acts = { first: () => go(0), back: () => go(shownStep() - 1), forth: () => go(shownStep() + 1), last: () => go(now.steps.length),
-  next, settle, large, print: () => window.print(), check: async () => answer(await ask("check", {})) };
-const keys = { ArrowLeft: acts.back, ArrowRight: acts.forth, PageUp: acts.back, PageDown: acts.forth, Home: acts.first, End: acts.last,
-  n: next, s: settle, l: large, p: acts.print };
 
-for (const name of Object.keys(acts)) at(name).addEventListener("click", acts[name]);
-at("slider").addEventListener("input", () => go(Number(at("slider").value)));
-at("prefix").addEventListener("change", () => { now.prefix = at("prefix").value; show(); });
-at("from").addEventListener("change", () => { now.from = at("from").value; show(); });
-at("to").addEventListener("change", () => { now.to = at("to").value.trim(); show(); });
+async function propose() {
+  const lines = at("change").value.split(/\r?\n/);
+  while (lines.length && !lines[lines.length - 1].trim()) lines.pop();
+  answer({ text: "it is tried what it would do .." });
+  const told = await ask("propose", { name: at("title").value.trim() || "a change", lines });
+  answer(told.error ? told : { text: "proposal " + told.number + " is shown to all: another one accepts it" });
+  if (!told.error) at("change").value = "";
+}
+
+async function opened() {
+  const [file] = at("file").files;
+  if (!file) return;
+  at("title").value = file.name;
+  at("change").value = await file.text();
+}
+
+function blame() {
+  if (!now.chosen || now.chosen.length !== 2) return;
+  now.blames = !now.blames;
+  at("blame").setAttribute("aria-pressed", String(now.blames));
+  show();
+}
+
+const large = () => at("large").setAttribute("aria-pressed", String(document.documentElement.classList.toggle("large")));
+const undo = async () => { now.step = null; answer(await ask("undo", {})); };
+const follow = () => { Object.assign(now, { isOwn: false, chosen: null }); at("chosen").hidden = true; show(); };
+// To the heading after the step that is shown, or the one before.
+const onward = () => go((marks().find(([first]) => first > shownStep()) || [now.steps.length])[0]);
+const backward = () => go((marks().filter(([first]) => first < shownStep()).pop() || [0])[0]);
+const acts = { first: () => go(0), back: () => go(shownStep() - 1), forth: () => go(shownStep() + 1),
+  last: () => go(now.steps.length), next, settle, undo, large, follow, blame, print: () => window.print(),
+  check: async () => answer(await ask("check", {})) };
+const keys = { ArrowLeft: acts.back, ArrowRight: acts.forth, PageUp: acts.back, PageDown: acts.forth,
+  Home: acts.first, End: acts.last, n: next, s: settle, u: undo, b: blame, l: large, p: acts.print, j: onward, k: backward,
+  v: () => { if (!at("follow").hidden) follow(); }, c: () => at("command").focus() };
+const TYPED = "input:not([type=range]):not([type=checkbox]), select, textarea";
+const WORKING = new Set(["n", "s", "u", "b", "c"]);
+
+for (const name of Object.keys(acts)) at(name).addEventListener("click", () => acts[name]());
+at("slider").addEventListener("input", () => go(Number(at("slider").value), "slider"));
+at("headings").addEventListener("change", () => go(Number(at("headings").value)));
+at("prefix").addEventListener("change", () => { const value = at("prefix").value; own(); now.prefix = value; show(); });
+at("from").addEventListener("change", () => { const value = at("from").value; own(); now.from = value; show(); });
+at("to").addEventListener("change", () => { const value = at("to").value.trim(); own(); now.to = value; show(); });
 at("name").addEventListener("change", () => { sessionStorage.setItem("name", at("name").value); joined(); });
 at("asked").addEventListener("submit", (event) => { event.preventDefault(); call(at("command").value); });
+at("propose").addEventListener("submit", (event) => { event.preventDefault(); propose(); });
+at("file").addEventListener("change", opened);
 document.addEventListener("keydown", (key) => {
-  if (key.ctrlKey || key.altKey || key.metaKey || !keys[key.key]) return;
-  if (key.target instanceof Element && key.target.closest("input:not([type=range]), select, textarea")) return;
-  if (now.role !== "work" && [next, settle].includes(keys[key.key])) return;
+  const typed = key.target instanceof Element && key.target.closest(TYPED);
+  if (key.key === "Escape" && typed) typed.blur();
+  if (typed || key.ctrlKey || key.altKey || key.metaKey || !keys[key.key]) return;
+  if (now.role !== "work" && WORKING.has(key.key)) return;
   key.preventDefault();
   keys[key.key]();
 });

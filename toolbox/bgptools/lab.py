@@ -7,17 +7,15 @@ import os
 import sys
 import tempfile
 import threading
-from typing import Dict, List, Optional
+from typing import List, Optional
 
-from .language import readable, words_of
+from .lesson import notes_of
 from .mistakes import Mistake
-from .names import MARK as NAME
 from .pages import LOOK, WORK, Lab
-from .script import MARK, Line, read
+from .script import Line, read
 from .serving import Hub, listening
 from .share import MOST_WORKERS, concluded, opened
 from .shared import Shared
-from .steps import HEADING
 from .web import Server
 
 
@@ -42,28 +40,6 @@ def parser() -> argparse.ArgumentParser:
     made.add_argument("--most", type=int, metavar="N", help=(
         "workers pause after so many deliveries without an edit (ten thousand and more, by the size of the network)"))
     return made
-
-
-def notes_of(lines: List[Line], steps: List[str]) -> List[Dict[str, str]]:
-    """What the script says before each of these steps, which are those of its lines that were accepted, and the
-    heading that each stands under."""
-    notes: List[Dict[str, str]] = []
-    says: List[str] = []
-    heading = ""
-    for line in lines:
-        if len(notes) < len(steps) and _is_step(line, steps[len(notes)]):
-            notes.append({"says": "\n".join(says), "heading": heading})
-            says = []
-        elif not line.is_command and line.text.strip(" ") and not MARK.fullmatch(line.text):
-            found = HEADING.fullmatch(line.text)
-            heading = readable(found.group(1)) if found else heading
-            says += [] if found else [readable(line.text.strip(" ").lstrip("#").strip(" "))]
-    return notes
-
-
-def _is_step(line: Line, step: str) -> bool:
-    """Whether a line is this step."""
-    return line.is_command and line.words == words_of(step) or bool(NAME.fullmatch(line.text)) and line.text == step
 
 
 def _say(chosen: argparse.Namespace, server: Server) -> None:

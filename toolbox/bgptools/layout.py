@@ -112,8 +112,13 @@ def _passed(spots: Dict[str, Box], one: str, other: str) -> int:
 
 def surrounding(boxes: List[Box]) -> Box:
     """The box of an AS around its routers, with room for its label."""
-    left, right = min(box.left for box in boxes) - SIDE, max(box.left + box.width for box in boxes) + SIDE
-    top, bottom = min(box.top for box in boxes) - HEADER, max(box.top + box.height for box in boxes) + SIDE
+    return bounds(boxes, SIDE, HEADER)
+
+
+def bounds(boxes: List[Box], side: float = 0, header: float = 0) -> Box:
+    """The box that holds these, with so much around it, and above."""
+    left, right = min(box.left for box in boxes) - side, max(box.left + box.width for box in boxes) + side
+    top, bottom = min(box.top for box in boxes) - header, max(box.top + box.height for box in boxes) + side
     return Box((left + right) / 2, (top + bottom) / 2, right - left, bottom - top)
 
 
@@ -151,17 +156,19 @@ def push_apart(boxes: List[Box], gap: float) -> None:
 def _push(box: Box, others: List[Box], gap: float) -> bool:
     """Moves a box and those right of it that it meets, half of what is needed each; whether there were any."""
     has_moved = False
+    x, y, width, height = box.x, box.y, box.width, box.height
     for other in others:
-        if other.left > box.left + box.width + gap:
+        if other.x - other.width / 2 > x - width / 2 + width + gap:
             break
-        across = (box.width + other.width) / 2 + gap - abs(box.x - other.x)
-        down = (box.height + other.height) / 2 + gap - abs(box.y - other.y)
+        across = (width + other.width) / 2 + gap - abs(x - other.x)
+        down = (height + other.height) / 2 + gap - abs(y - other.y)
         if across > 0.5 and down > 0.5:
             has_moved = True
-            x, y = (across / 2, 0.0) if across < down else (0.0, down / 2)
-            x, y = x if other.x >= box.x else -x, y if other.y >= box.y else -y
-            box.move(-x, -y)
-            other.move(x, y)
+            right, low = (across / 2, 0.0) if across < down else (0.0, down / 2)
+            right, low = right if other.x >= x else -right, low if other.y >= y else -low
+            x, y = x - right, y - low
+            other.move(right, low)
+    box.x, box.y = x, y
     return has_moved
 
 

@@ -48,18 +48,22 @@ class Known:
     queues: Optional[Set[Direction]] = None
 
     def after(self, words: List[str], network: Network) -> None:
-        """Notes what an accepted command may have changed. A message changes its receiver alone, and a setting its router."""
+        """Notes what an accepted command may have changed. A message changes its receiver alone, a setting its router,
+        a session its ends, and a link the ASes at its ends."""
         if words[0] in QUESTIONS:
             return
+        if words[0] in ("router", "virtual", "deliver"):
+            who = {words[2] if words[0] == "deliver" else words[1]}
+        else:
+            who = network.may_send(words) or set()
         if words[0] not in KEEPING:
-            self.costs, self.ups = {}, {}
-            self.forget()
-            return
-        who = {words[2]} if words[0] == "deliver" else {words[1]}
+            self.costs = {way: told for way, told in self.costs.items() if way[0] not in who}
+            self.ups = {ends: is_up for ends, is_up in self.ups.items() if who.isdisjoint(ends)}
         if self.routers is not None:
             self.routers |= who
         if self.queues is not None:
-            self.queues |= {(words[1], words[2]), *network.directions(who)}
+            self.queues.add((words[1], words[2]))
+            self.queues |= {way for a in who for peer in network.peers.get(a, ()) for way in ((a, peer), (peer, a))}
 
     def forget(self) -> None:
         """All routes and queues have to be asked again."""
@@ -177,9 +181,10 @@ class Look:
         return {**found, **dict.fromkeys(zip(routers, routers[1:]), WAY)}
 
     def _sessions(self) -> List[Wire]:
-        self.known.ups = self.known.ups or self.run.sessions_up()
-        found, ups, waiting = [], self.known.ups, _waiting(self.run, self.view, self.known)
-        for one, other in self.network.sessions():
+        found, ups, sessions = [], self.known.ups, self.network.sessions()
+        ups.update(self.run.sessions_up([each for each in sessions if each not in ups]))
+        waiting = _waiting(self.run, self.view, self.known, sessions)
+        for one, other in sessions:
             if self.view.has(one, other):
                 ways, is_up = ((one, other), (other, one)), ups[one, other]
                 color = EXTERNAL if self.network.is_external(one, other) else INTERNAL
@@ -220,12 +225,12 @@ def carried(attributes: Attributes) -> List[str]:
     return ["comms " + communities.told(first) + (" and %d more" % left if left else "")] if first else []
 
 
-def _waiting(run: Run, view: View, known: Known) -> Dict[Direction, int]:
+def _waiting(run: Run, view: View, known: Known, sessions: List[Direction]) -> Dict[Direction, int]:
     """How many messages wait on each way where some do."""
     if run.ask(["quiet"]) == [["yes"]]:
         known.waiting, known.queues = {}, set()
         return {}
-    ways = [way for one, other in run.network.sessions() if view.has(one, other)
+    ways = [way for one, other in sessions if view.has(one, other)
             for way in ((one, other), (other, one)) if known.queues is None or way in known.queues]
     known.waiting.update(zip(ways, (len(reply) - 1 for reply in run.ask("queue %s %s" % way for way in ways))))
     known.queues = set()

@@ -9,6 +9,8 @@ import secrets
 from typing import Any, Callable, Dict, List, Optional, TypeVar
 
 from .connection import AHEAD, Connection, Request, encoded
+from .happening import Event
+from .lesson import Note
 from .mistakes import Mistake
 from .record import HEADER
 from .serving import Hub
@@ -36,6 +38,7 @@ class Stream(asyncio.Transport):
         self.lines: "queue.SimpleQueue[bytes]" = queue.SimpleQueue()
         self.size = 0
         self.page: Optional[Connection] = None
+        self.cut: Callable[[], None] = lambda: None
 
     def write(self, data: Any) -> None:
         self.size += len(data)
@@ -52,7 +55,10 @@ class Stream(asyncio.Transport):
     def close(self) -> None:
         self.lines.put(b"")
 
-    abort = close
+    def abort(self) -> None:
+        """Ends it, also where the page reads nothing."""
+        self.close()
+        self.cut()
 
     def pause_reading(self) -> None:
         """Requests beyond those that are read ahead are refused."""
@@ -63,15 +69,17 @@ class Stream(asyncio.Transport):
 
 class Lab:
     """The pages of one hub. There is a secret for those who work, and one for those who only look, where any may. What
-    the script says beside its first steps is in `notes`."""
+    the script says before its first step, and at its steps, are its notes."""
 
-    def __init__(self, hub: Hub, notes: List[Dict[str, str]], has_looking: bool) -> None:
-        self.hub, self.notes, self.viewer = hub, notes, Viewer()
+    def __init__(self, hub: Hub, notes: List[Note], has_looking: bool) -> None:
+        self.hub, self.viewer = hub, Viewer()
+        self.first, self.notes = notes[0], notes[1:]
         self.keys = {role: secrets.token_urlsafe(24) for role in ([WORK, LOOK] if has_looking else [WORK])}
         self.pages: Dict[str, Connection] = {}
         self.streams: List[Stream] = []
         self.shown: Dict[str, Any] = {"event": "shown", "step": None}
         hub.words["show"] = self._show
+        hub.hearers.append(self._heard)
 
     @property
     def shared(self) -> Shared:
@@ -125,8 +133,11 @@ class Lab:
             first = {"id": 0, "do": "enter", "as": name}
             page.data_received(encoded(first) + encoded({"id": 0, "do": "watch", "what": "all"}))
         self.streams.append(stream)
-        stream.write(encoded({"event": "page", "page": key, "role": role}))
+        stream.write(encoded({"event": "page", "page": key, "role": role, "first": self.first}))
         stream.write(encoded(self.shown))
+        proposals = self.shared.proposals
+        for made in proposals.open.values() if role == LOOK else ():
+            stream.write(encoded({"event": "proposal", **proposals.told(made)}))
         return key, stream
 
     def close(self, key: str, stream: Stream) -> None:
@@ -153,10 +164,19 @@ class Lab:
     def _show(self, _: Connection, __: int, request: Request) -> Dict[str, Any]:
         """Somebody shows all who look a step, and what of it."""
         self.shown = {"event": "shown", **{name: request.get(name) for name in ("step", "prefix", "way", "router")}}
+        self._tell_lookers(self.shown)
+        return {"shown": True}
+
+    def _heard(self, event: Event) -> None:
+        """Who looks sees what is proposed, and what becomes of it."""
+        if event["event"] == "proposal" or event.get("closes") is not None:
+            self._tell_lookers(event)
+
+    def _tell_lookers(self, event: Event) -> None:
+        message = encoded(event)
         for stream in self.streams:
             if stream.page is None and stream.size <= HELD:
-                stream.write(encoded(self.shown))
-        return {"shown": True}
+                stream.write(message)
 
     # In any thread
 

@@ -19,9 +19,9 @@ AT_ONCE = 8192
 class Program:
     """A run of `bgpsim script`; PROGRAM= names another built program.
 
-    It has a session of its own, so that Ctrl-C is for the tool alone. `before` is called before lines are given, where no reply is due; it
-    may raise. `heard` is told each line with its reply. `is_torn` says that lines were given whose replies were not all read: what stopped
-    that, as Ctrl-C may, leaves a program that can only be closed."""
+    It has a session of its own, so that Ctrl-C is for the tool alone. `before` is called before lines are given, where
+    no reply is due; it may raise. `heard` is told each line with its reply. `is_torn` says that lines were given whose
+    replies were not all read: what stopped that, as Ctrl-C may, leaves a program that can only be closed."""
 
     def __init__(self) -> None:
         self.before: Callable[[], None] = lambda: None
@@ -31,8 +31,8 @@ class Program:
         # Until the child has its session, Ctrl-C would be for it, too.
         mask = signal.pthread_sigmask(signal.SIG_BLOCK, {signal.SIGINT})
         try:
-            self.process = subprocess.Popen([self.path, "script"], stdin=subprocess.PIPE, stdout=subprocess.PIPE, bufsize=-1,
-                                            start_new_session=True)
+            self.process = subprocess.Popen([self.path, "script"], stdin=subprocess.PIPE, stdout=subprocess.PIPE,
+                                            bufsize=-1, start_new_session=True)
         except OSError as error:
             raise Mistake("the program cannot be run: %s" % error.strerror, self.path) from None
         finally:
@@ -47,7 +47,8 @@ class Program:
         return self.say_all([line])[0]
 
     def say_all(self, lines: Iterable[str]) -> List[List[str]]:
-        """The reply to each line, in order. Lines go out in parts that the pipe holds, so that neither side waits for the other."""
+        """The reply to each line, in order. Lines go out in parts that the pipe holds, so that neither side waits for
+        the other."""
         replies: List[List[str]] = []
         part: List[str] = []
         size = 0
@@ -64,12 +65,15 @@ class Program:
 
         Lines are written while replies are read, so that the program never waits: the fastest way to play many."""
         spoken = [line for line in map(_one_line, lines) if not is_silent(line)]
+        content = "".join(map(ended, spoken)).encode("latin-1")
         self.before()
         self.is_torn = True
-        writer = threading.Thread(target=self._write, args=("".join(map(ended, spoken)).encode("latin-1"),), daemon=True)
-        writer.start()
+        writer = threading.Thread(target=self._write, args=(content,), daemon=True)
+        # What the pipe holds needs nobody who writes beside.
+        (writer.start if len(content) > AT_ONCE else writer.run)()
         replies = [self._line() for _ in spoken]
-        writer.join()
+        if writer.is_alive():
+            writer.join()
         self.is_torn = False
         return replies
 

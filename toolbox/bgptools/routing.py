@@ -2,18 +2,23 @@
 all pictures of a script."""
 from __future__ import annotations
 
+import bisect
+import functools
 import math
-from typing import Dict, Iterable, List, Tuple
+from typing import Dict, Iterable, List, Sequence, Set, Tuple
 
 from .layout import Box, Layout
-from .shapes import Curve, width_of
+from .shapes import Curve, Point, width_of
 
 Key = Tuple[str, str, bool]
+# The edges of a box: left, right, upper and lower.
+Edges = Tuple[float, float, float, float]
 STEPS = 16
 BOWS = (0, 20, -20, 40, -40, 66, -66, 100, -100, 140, -140, 190, -190, 250, -250)
 BESIDE = (14, -14, 28, -28)
 PLACES = (0.5, 0.42, 0.58, 0.35, 0.65, 0.28, 0.72)
 SHORT, ASIDE = 64.0, 11.0
+SQUARE = 96.0
 # Past so many boxes lines take the first way that there is, and labels the first place.
 MANY = 150
 GROUP_SIZE, LABEL_SIZE = 13.0, 11.0
@@ -24,62 +29,124 @@ def routed(layout: Layout, keys: Iterable[Key]) -> Dict[Key, Curve]:
     third box if that can be."""
     found: Dict[Key, Curve] = {}
     taken: Dict[Tuple[str, str], int] = {}
+    edges = {a: _edges(box, 0) for a, box in layout.spots.items()}
     for one, other, is_link in sorted(keys, key=lambda key: (not key[2], key)):
         beside = taken.get((one, other))
         bows = list(BOWS)
         if beside is not None:
             bows = [beside + each for each in BESIDE] + [bow for bow in BOWS if abs(bow - beside) > 10]
         bows = bows if len(layout.spots) <= MANY else bows[:1]
-        found[one, other, is_link], taken[one, other] = _route(layout.spots, one, other, bows)
+        ends = edges[one], edges[other]
+        others = _around_ends(ends, bows, edges, (one, other)) if len(bows) > 1 else []
+        found[one, other, is_link], taken[one, other] = _route(*ends, tuple(bows), tuple(others))
     return found
 
 
-def _route(spots: Dict[str, Box], one: str, other: str, bows: List[int]) -> Tuple[Curve, int]:
-    """The first of these bows that is clear of other boxes, or the one that meets the fewest; and its curve."""
-    start, end = spots[one], spots[other]
-    if len(bows) == 1:
-        return _clipped(_bowed(start, end, bows[0]), start, end), bows[0]
+def _around_ends(ends: Tuple[Edges, Edges], bows: List[int], edges: Dict[str, Edges],
+                 names: Tuple[str, str]) -> List[Edges]:
+    """The boxes that a curve between two may meet."""
+    (x, y), (end_x, end_y) = map(_middle, ends)
     reach = max(abs(bow) for bow in bows) + 20
-    middle = Box((start.x + end.x) / 2, (start.y + end.y) / 2,
-                 abs(start.x - end.x) + 2 * reach, abs(start.y - end.y) + 2 * reach)
-    others = [box for a, box in spots.items() if a not in (one, other) and box.meets(middle)]
+    left, right = min(x, end_x) - reach, max(x, end_x) + reach
+    top, bottom = min(y, end_y) - reach, max(y, end_y) + reach
+    return [each for a, each in edges.items() if each[0] < right and left < each[1] and each[2] < bottom
+            and top < each[3] and a not in names]
+
+
+@functools.lru_cache(maxsize=8192)
+def _route(start: Edges, end: Edges, bows: Tuple[int, ...], others: Tuple[Edges, ...]) -> Tuple[Curve, int]:
+    """The first of these bows between two boxes that is clear of others, or the one that meets the fewest; and its
+    curve."""
     best, fewest = bows[0], math.inf
-    for bow in bows:
-        met = sum(_passes(_bowed(start, end, bow), box, 4) for box in others)
+    for bow in bows if len(bows) > 1 else ():
+        met = _met(_bowed(_middle(start), _middle(end), bow), others, fewest)
         if met < fewest:
             best, fewest = bow, met
         if not met:
             break
-    return _clipped(_bowed(start, end, best), start, end), best
+    return _clipped(_bowed(_middle(start), _middle(end), best), start, end), best
 
 
-def _bowed(start: Box, end: Box, bow: float) -> Curve:
+def _met(curve: Curve, others: Iterable[Edges], most: float) -> int:
+    """How many boxes a curve passes through, or nearly; where it is so many, others are not looked at."""
+    points = [curve.at(step / STEPS) for step in range(1, STEPS)]
+    low, high, upper, lower = _bounds(points)
+    count = 0
+    for left, right, top, bottom in others:
+        if left - 4 <= high and low <= right + 4 and top - 4 <= lower and upper <= bottom + 4:
+            left, right, top, bottom = left - 4, right + 4, top - 4, bottom + 4
+            count += any(left <= x <= right and top <= y <= bottom for x, y in points)
+            if count >= most:
+                break
+    return count
+
+
+def _holds(edges: Edges, x: float, y: float, gap: float) -> bool:
+    """Whether a point is in a box, or nearer than the gap."""
+    return edges[0] - gap <= x <= edges[1] + gap and edges[2] - gap <= y <= edges[3] + gap
+
+
+def _middle(edges: Edges) -> Point:
+    return (edges[0] + edges[1]) / 2, (edges[2] + edges[3]) / 2
+
+
+def _edges(box: Box, gap: float) -> Edges:
+    """The edges of a box with so much around it."""
+    across, down = box.width / 2 + gap, box.height / 2 + gap
+    return box.x - across, box.x + across, box.y - down, box.y + down
+
+
+def _bowed(start: Point, end: Point, bow: float) -> Curve:
     """A curve of two middles that is so far out in its own middle."""
-    length = math.hypot(end.x - start.x, end.y - start.y) or 1
-    across = (-(end.y - start.y) / length, (end.x - start.x) / length)
-    x, y = ((a + b) / 2 + 2 * bow * part for a, b, part in zip((start.x, start.y), (end.x, end.y), across))
-    return Curve((start.x, start.y), (x, y), (end.x, end.y))
+    (sx, sy), (ex, ey) = start, end
+    length = math.hypot(ex - sx, ey - sy) or 1
+    x = (sx + ex) / 2 + 2 * bow * (-(ey - sy) / length)
+    y = (sy + ey) / 2 + 2 * bow * ((ex - sx) / length)
+    return Curve(start, (x, y), end)
 
 
-def _passes(curve: Curve, box: Box, gap: float) -> bool:
-    return any(box.holds(*curve.at(step / STEPS), gap) for step in range(1, STEPS))
-
-
-def _clipped(curve: Curve, start: Box, end: Box) -> Curve:
+def _clipped(curve: Curve, start: Edges, end: Edges) -> Curve:
     """The piece of the curve that is outside of the boxes at its ends."""
     low, high = _leaves(curve, start, 0.0, 1.0), _leaves(curve, end, 1.0, 0.0)
     return curve.between(low, high) if low < high else curve
 
 
-def _leaves(curve: Curve, box: Box, inside: float, outside: float) -> float:
+def _leaves(curve: Curve, edges: Edges, inside: float, outside: float) -> float:
     """Where a curve that begins in a box leaves it."""
     for _ in range(20):
         middle = (inside + outside) / 2
-        if box.holds(*curve.at(middle), 1):
+        if _holds(edges, *curve.at(middle), 1):
             inside = middle
         else:
             outside = middle
     return outside
+
+
+class Taken:
+    """Places that are taken: by boxes, and by labels. Those in each square are known, so that few are looked at."""
+
+    def __init__(self, boxes: Iterable[Box]) -> None:
+        self.squares: Dict[Tuple[int, int], List[Edges]] = {}
+        for box in boxes:
+            self.add(box)
+
+    def add(self, box: Box) -> None:
+        """Takes a place."""
+        edges = _edges(box, 0)
+        for square in _squares(edges):
+            self.squares.setdefault(square, []).append(edges)
+
+    def met(self, box: Box, gap: float = 0) -> Set[Edges]:
+        """The places that a box comes nearer to than the gap."""
+        left, right, top, bottom = edges = _edges(box, gap)
+        return {each for square in _squares(edges) for each in self.squares.get(square, ())
+                if each[0] < right and left < each[1] and each[2] < bottom and top < each[3]}
+
+
+def _squares(edges: Edges) -> List[Tuple[int, int]]:
+    """The squares that a box is in."""
+    left, right, top, bottom = (math.floor(each / SQUARE) for each in edges)
+    return [(x, y) for x in range(left, right + 1) for y in range(top, bottom + 1)]
 
 
 class Labels:
@@ -87,28 +154,49 @@ class Labels:
 
     def __init__(self, layout: Layout, curves: Dict[Key, Curve]) -> None:
         self.layout, self.curves = layout, curves
-        self.taken: List[Box] = list(layout.spots.values())
-        self.fixed = list(self.taken)
+        self.taken = Taken(layout.spots.values())
+        self.fixed = list(layout.spots.values())
+        self.beside: List[Box] = []
 
     def of_groups(self) -> Dict[int, Box]:
         """Where the label of each AS stands: in or at its box, where no line crosses it."""
         found: Dict[int, Box] = {}
-        lines = [point for curve in self.curves.values() for point in _points(curve)]
+        lines = list(map(_points, self.curves.values()))
         for asn, group in self.layout.groups.items():
             width = width_of("AS %d" % asn, GROUP_SIZE, True) + 8
-            near = [point for point in lines if group.holds(*point, 40)]
-            found[asn] = min(_around(group, width, GROUP_SIZE + 6), key=lambda box: self._trouble(box, near))
-            self.taken.append(found[asn])
-        self.fixed = list(self.taken)
-        self.taken += [Box(*badge_place(curve, is_first), 17, 17)
-                       for key, curve in self.curves.items() if not key[2] for is_first in (True, False)]
+            left, right, top, bottom = around = _edges(group, 40)
+            near = [point for points, edges in lines if _touch(edges, around) for point in points
+                    if left <= point[0] <= right and top <= point[1] <= bottom]
+            found[asn] = self._least(_around(group, width, GROUP_SIZE + 6), near)
+            self.taken.add(found[asn])
+            self.fixed.append(found[asn])
+        for key, curve in self.curves.items():
+            for is_first in (True, False) if not key[2] else ():
+                self.taken.add(Box(*badge_place(curve, is_first), 17, 17))
         return found
 
-    def _trouble(self, box: Box, points: List[Tuple[float, float]]) -> int:
-        """How much stands in the way of a label of an AS: other boxes, other ASes, and lines."""
-        over = sum(box.meets(each, 1) for each in self.taken)
+    def _least(self, rows: List[List[Box]], points: List[Point]) -> Box:
+        """The first place, of these rows of places, that has the least in its way."""
+        best, least = rows[0][0], math.inf
+        for row in rows:
+            _, _, top, bottom = _edges(row[0], 3)
+            across = sorted(x for x, y in points if top <= y <= bottom)
+            for box in row:
+                left, right, _, _ = _edges(box, 3)
+                trouble = bisect.bisect_right(across, right) - bisect.bisect_left(across, left)
+                if trouble < least:
+                    trouble += self._trouble(box)
+                if trouble < least:
+                    best, least = box, trouble
+                if not least:
+                    return best
+        return best
+
+    def _trouble(self, box: Box) -> int:
+        """How much stands in the way of a label of an AS: other boxes, and other ASes."""
+        over = len(self.taken.met(box, 1))
         edges = sum(box.meets(group) and not _contains(group, box) for group in self.layout.groups.values())
-        return 1000 * over + 1000 * max(edges - 1, 0) + sum(box.holds(x, y, 3) for x, y in points)
+        return 1000 * over + 1000 * max(edges - 1, 0)
 
     def on_line(self, key: Key, text: str) -> Box:
         """Where a label stands on a line, or beside one that is short."""
@@ -118,14 +206,17 @@ class Labels:
             boxes = _beside(curve, width) + boxes
         chosen = boxes[0]
         if len(self.layout.spots) <= MANY:
-            chosen = next((box for box in boxes if not any(box.meets(each) for each in self.taken)), chosen)
-        self.taken.append(chosen)
+            chosen = next((box for box in boxes if not self.taken.met(box)), chosen)
+        self.taken.add(chosen)
+        self.beside.append(chosen)
         return chosen
 
     def over_line(self, key: Key, width: float, height: float) -> Box:
-        """Where something stands on a line for a while: over as few boxes and labels of ASes as can be."""
+        """Where something stands on a line for a while: over as few boxes and labels of ASes as can be, and then over
+        as few other labels."""
         boxes = [Box(*self.curves[key].at(part), width, height) for part in PLACES]
-        return min(boxes, key=lambda box: sum(box.meets(each) for each in self.fixed))
+        return min(boxes, key=lambda box: (sum(box.meets(each) for each in self.fixed),
+                                           sum(box.meets(each) for each in self.beside)))
 
 
 def badge_place(curve: Curve, is_first: bool) -> Tuple[float, float]:
@@ -134,10 +225,12 @@ def badge_place(curve: Curve, is_first: bool) -> Tuple[float, float]:
     return curve.at(part if is_first else 1 - part)
 
 
-def _points(curve: Curve) -> List[Tuple[float, float]]:
-    """Points on a curve, at most three apart."""
+@functools.lru_cache(maxsize=8192)
+def _points(curve: Curve) -> Tuple[Tuple[Point, ...], Edges]:
+    """Points on a curve, at most three apart, and the box that holds them."""
     count = int(curve.length / 3) + 1
-    return [curve.at(step / count) for step in range(count + 1)]
+    points = tuple(curve.at(step / count) for step in range(count + 1))
+    return points, _bounds(points)
 
 
 def _beside(curve: Curve, width: float) -> List[Box]:
@@ -154,9 +247,20 @@ def _contains(outer: Box, inner: Box) -> bool:
         inner.left + inner.width <= outer.left + outer.width and inner.top + inner.height <= outer.top + outer.height)
 
 
-def _around(group: Box, width: float, height: float) -> List[Box]:
-    """The places for an AS's label: in its upper and lower margin, then outside above and below."""
+def _around(group: Box, width: float, height: float) -> List[List[Box]]:
+    """The places for an AS's label, row by row: in its upper and lower margin, then outside above and below."""
     count = max(int((group.width - width - 12) / 12), 0) + 1
     lefts = [group.left + 6 + number * 12 for number in range(count)]
     tops = (group.top + 3, group.top + group.height - height - 1, group.top - height - 1, group.top + group.height + 1)
-    return [Box(left + width / 2, top + height / 2, width, height) for top in tops for left in lefts]
+    return [[Box(left + width / 2, top + height / 2, width, height) for left in lefts] for top in tops]
+
+
+def _bounds(points: Sequence[Point]) -> Edges:
+    """The edges of a box that holds these."""
+    xs, ys = zip(*points)
+    return min(xs), max(xs), min(ys), max(ys)
+
+
+def _touch(one: Edges, other: Edges) -> bool:
+    """Whether two boxes have a point in common."""
+    return one[0] <= other[1] and other[0] <= one[1] and one[2] <= other[3] and other[2] <= one[3]

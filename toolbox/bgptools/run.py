@@ -22,7 +22,8 @@ DRAWN = 8
 class Run(Answers):
     """A program, what it was told, and where messages may wait.
 
-    With `tries_others` a network that does not settle in the order of the run is tried in others. The program is another one then."""
+    With `tries_others` a network that does not settle in the order of the run is tried in others. The program is
+    another one then."""
 
     def __init__(self, order: Optional[Order] = None, most: Optional[int] = None, tries_others: bool = False) -> None:
         self.network = Network()
@@ -41,7 +42,8 @@ class Run(Answers):
         self.program.accepted = accepted
 
     def say(self, line: str) -> List[str]:
-        """The reply to a line. A command that changes something is kept, if it was accepted, and so is a comment that names a router."""
+        """The reply to a line. A command that changes something is kept, if it was accepted, and so is a comment that
+        names a router."""
         reply = self.program.say(line)
         if is_accepted(reply):
             words = words_of(line)
@@ -51,13 +53,15 @@ class Run(Answers):
             self.program.keep(line)
         return reply
 
-    def repeat(self, lines: List[str]) -> None:
-        """Gives the accepted lines of a run that is quiet after them to this one, which is new."""
-        self.program.give(lines)
+    def repeat(self, lines: List[str]) -> List[str]:
+        """Gives the next lines that another run accepted to this one: the replies to those that have one. Where
+        messages may wait is not learned from them: the other run was quiet after them, or nothing is settled here."""
+        replies = self.program.give(lines)
         for line in lines:
             if not self.network.names.take(line):
                 self.network.take(words_of(line))
         self.settler.waiting.knows_all = False
+        return replies
 
     def ask(self, questions: Iterable[str]) -> List[List[str]]:
         """The replies to questions, which change nothing."""
@@ -74,13 +78,15 @@ class Run(Answers):
         self.settler.order, self.settler.most = order, most
 
     def settle(self) -> Settling:
-        """Delivers until all queues are empty, or never will be. What the run then has accepted are the deliveries that are told."""
+        """Delivers until all queues are empty, or never will be. What the run then has accepted are the deliveries that
+        are told."""
         before = len(self.lines)
         done = self.settler.settle()
         return self._otherwise(done, self.lines[:before]) if self.tries_others and not done.is_settled else done
 
     def _otherwise(self, first: Settling, lines: List[str]) -> Settling:
-        """The same deliveries in other orders, from where they began. The first one that settles takes the place of what was tried.
+        """The same deliveries in other orders, from where they began. The first one that settles takes the place of
+        what was tried.
 
         All are tried once, so as to tell in how many states they end; at a later place only until one settles."""
         found, chosen, states = [], None, set()
@@ -104,7 +110,9 @@ class Run(Answers):
 
     def _attempt(self, order: Order, lines: List[str]) -> "Run":
         """Another run, of this network, given these lines."""
-        most = 2000 + 4 * len(self.network.directions()) * len(self.network.prefixes) if self.most is None else self.most
+        most = self.most
+        if most is None:
+            most = 2000 + 4 * len(self.network.directions()) * len(self.network.prefixes)
         made = Run(order, most)
         made.program.give(lines)
         made.network = self.network
@@ -158,14 +166,16 @@ def _how(done: Settling, names: Names) -> str:
     """How one order does not settle."""
     told = ["%s the same state comes back every %d deliveries" % (done.order.words, done.period) if done.period
             else "%s it is not quiet after %d deliveries" % (done.order.words, len(done.deliveries))]
-    told += ["%s keeps changing at %s" % (prefix, ", ".join(map(names.shown, routers))) for prefix, routers in done.restless.items()]
+    told += ["%s keeps changing at %s" % (prefix, ", ".join(map(names.shown, routers)))
+             for prefix, routers in done.restless.items()]
     return "; ".join(told)
 
 
 def _tried(others: List[Settling]) -> str:
     """The orders that were tried, in few words."""
     drawn = sum(done.order.is_drawn for done in others)
-    return ", ".join([done.order.words for done in others if not done.order.is_drawn] + (["%d drawn" % drawn] if drawn else []))
+    fixed = [done.order.words for done in others if not done.order.is_drawn]
+    return ", ".join(fixed + (["%d drawn" % drawn] if drawn else []))
 
 
 def unsettled(done: Settling, names: Optional[Names] = None) -> str:
@@ -183,8 +193,8 @@ def settled_otherwise(done: Settling, names: Optional[Names] = None) -> str:
     told = _how(done.first, names or Names()) + "; it settles " + done.order.words
     quiet = [each for each in done.others if each.is_settled]
     if len(done.others) > 1 or done.states > 1:
-        told += "; of %d other orders (%s) %d settle, in %d stable state%s" % (len(done.others), _tried(done.others), len(quiet), done.states,
-                                                                           "" if done.states == 1 else "s")
+        told += "; of %d other orders (%s) %d settle, in %d stable state%s" % (
+            len(done.others), _tried(done.others), len(quiet), done.states, "" if done.states == 1 else "s")
     return told
 
 

@@ -1,4 +1,4 @@
-"""The server of `share`: a Unix socket, and lines of JSON from and to each who is joined. docs/SHARE.md has the words.
+"""The server of `share`: a Unix socket, and lines of JSON from and to each who is joined.
 
 Nobody can hold up another one: a request has a largest size, one request of each is served in turn, and of one who
 reads nothing no further request is served. What such a one is to be told is held for a while, and then he is let go."""
@@ -17,15 +17,14 @@ import threading
 import time
 from typing import Any, Callable, Dict, List, Optional, Set, Tuple
 
-from . import proposals, replaying
-from .connection import Connection, Request, bytes_of, encoded, number_in, shown, text_in, texts_in
+from .answering import Answering, Done, Work
+from .calling import Answer
+from .connection import Connection, Request, bytes_of, encoded, shown, text_in
+from .happening import Event
+from .lasting import Lost
 from .mistakes import Mistake
 from .record import Unkept
-from .shared import Answer, Event, Lost, Shared
-
-# So many lines of a script are told at once, and so many messages delivered by one `step`.
-LINES, STEPS = 4096, 1000
-VERSION = 1
+from .shared import Shared
 
 
 class Hub:
@@ -42,11 +41,10 @@ class Hub:
         self.timer: Optional[asyncio.TimerHandle] = None
         self.fault: Optional[BaseException] = None
         self.signal = 0
-        self.words: Dict[str, Callable[[Connection, int, Request], Optional[Dict[str, Any]]]] = {
-            "ask": self._ask, "script": self._script, "waiting": self._ways, "next": self._next, "watch": self._watch,
-            "who": self._who, "blame": self._blame, "undo": self._undo, "pause": self._pause, "go": self._go,
-            "pace": self._pace, "step": self._step, "wait": self._wait, "propose": self._propose,
-            "accept": self._accept, "decline": self._decline, "check": self._check}
+        self.answering = Answering(shared, self._later, self._beside, self._wait)
+        self.words = self.answering.words
+        # Others than the connections who hear what happens.
+        self.hearers: List[Callable[[Event], None]] = []
 
     def serve(self, listening: socket.socket, ready: Callable[[], None]) -> int:
         """Serves until a signal comes: its number. Says when it is ready for both. Raises what went wrong."""
@@ -129,7 +127,7 @@ class Hub:
     def _answer(self, each: Connection, request: Request) -> None:
         """Answers a request, or says why it is not done."""
         try:
-            answer = self._other(each, request)
+            answer = self.answering.answer(each, request)
         except Unkept:
             raise
         except Mistake as mistake:
@@ -155,30 +153,25 @@ class Hub:
                 continue
             wrong = {"id": request.get("id"), "error": "`line` of the request has to be a text"}
             self.answers.append((each, encoded(wrong)))
-        for (each, request), answer in zip(calls, self.shared.calls(given)):
+        for (each, request), answer in zip(calls, self.shared.calling.calls(given)):
             self.answers.append((each, encoded({"id": request.get("id"), **_answered(answer)})))
-
-    def _other(self, each: Connection, request: Request) -> Optional[Dict[str, Any]]:
-        if request["do"] == "enter":
-            return self._enter(each, request)
-        if each.seat is None:
-            raise Mistake("`enter` comes first, with a name")
-        if request["do"] not in self.words:
-            raise Mistake("there is no request `%s`" % request["do"][:80])
-        return self.words[request["do"]](each, each.seat, request)
 
     def _work(self) -> None:
         now = time.monotonic()
-        if self.shared.due(now) == 0:
-            self.shared.work(now)
+        if self.shared.deliveries.due(now) == 0:
+            self.shared.deliveries.work(now)
         with contextlib.suppress(Lost):
             self._answer_waiting()
+
+    def _wait(self, each: Connection, request: Request) -> None:
+        """Somebody waits until it is quiet."""
+        self.waiting.append((each, request))
 
     def _answer_waiting(self) -> None:
         """Answers those who wait until it is quiet, where it is, or nobody delivers."""
         answer: Optional[Dict[str, Any]] = None
-        if self.waiting and self.shared.is_quiet():
-            answer = {"quiet": True, "step": self.shared.step}
+        if self.waiting and self.shared.program.is_quiet():
+            answer = {"quiet": True, "step": self.shared.ledger.step}
         elif self.waiting and not self.shared.workers.is_going:
             answer = {"error": "messages wait, and %s" % self.shared.workers.told()}
         if answer:
@@ -188,13 +181,15 @@ class Hub:
 
     def _spread(self) -> None:
         """Tells what happened, and then the answers."""
-        for event in self.shared.happened():
+        for event in self.shared.happening.taken():
             self._tell(event)
         answers, self.answers = self.answers, []
         for each, answer in answers:
             each.send(answer, is_answer=True)
 
     def _tell(self, event: Event) -> None:
+        for hear in self.hearers:
+            hear(event)
         if event["event"] == "changes":
             changes = [dict(each, line=shown(each["line"])) for each in event["changes"]]
             edits = [each for each in changes if not each["line"].startswith("deliver ")]
@@ -218,7 +213,7 @@ class Hub:
         if self.timer:
             self.timer.cancel()
             self.timer = None
-        due = self.shared.due(time.monotonic())
+        due = self.shared.deliveries.due(time.monotonic())
         if due == 0 or self.answers or any(each.is_ready for each in self.connections):
             self.wake()
         elif due is not None:
@@ -235,121 +230,14 @@ class Hub:
             each.seat = None
         self.wake()
 
-    # Requests
+    # Long work
 
-    def _enter(self, each: Connection, request: Request) -> Dict[str, Any]:
-        if each.seat is not None:
-            raise Mistake("you have a seat already")
-        name = text_in(request, "as")
-        each.seat = self.shared.enter(name)
-        return {"seat": each.seat, "name": name, "step": self.shared.step, "version": VERSION,
-                "workers": self.shared.workers_now()}
-
-    def _ask(self, _: Connection, __: int, request: Request) -> Dict[str, Any]:
-        return {"reply": self.shared.ask([bytes_of(text_in(request, "line"))])[0], "step": self.shared.step}
-
-    def _script(self, _: Connection, __: int, request: Request) -> Dict[str, Any]:
-        start = number_in(request, "from", 1 << 32)
-        return {"lines": list(map(shown, self.shared.run.lines[start:start + LINES])), "step": self.shared.step}
-
-    def _ways(self, _: Connection, __: int, ___: Request) -> Dict[str, Any]:
-        return {"ways": self.shared.waiting()}
-
-    def _next(self, _: Connection, seat: int, __: Request) -> Dict[str, Any]:
-        entry = self.shared.next(seat)
-        if entry is None:
-            return {"quiet": True, "step": self.shared.step}
-        return {"line": entry.line, "reply": entry.reply, "step": self.shared.step}
-
-    def _watch(self, each: Connection, _: int, request: Request) -> Dict[str, Any]:
-        what = text_in(request, "what")
-        if what not in ("all", "edits", "off"):
-            raise Mistake("`what` is all, edits or off")
-        each.watches = what
-        return {"what": what, "step": self.shared.step}
-
-    def _who(self, _: Connection, __: int, ___: Request) -> Dict[str, Any]:
-        return self.shared.who()
-
-    def _blame(self, _: Connection, __: int, request: Request) -> Dict[str, Any]:
-        return {"edits": self.shared.blame(text_in(request, "router"))}
-
-    def _undo(self, _: Connection, seat: int, __: Request) -> Dict[str, Any]:
-        return {"text": self.shared.undo(seat), "step": self.shared.step}
-
-    def _pause(self, _: Connection, seat: int, __: Request) -> Dict[str, Any]:
-        self.shared.pause(seat)
-        return self.shared.workers_now()
-
-    def _go(self, _: Connection, seat: int, __: Request) -> Dict[str, Any]:
-        self.shared.go(seat)
-        return self.shared.workers_now()
-
-    def _pace(self, _: Connection, seat: int, request: Request) -> Dict[str, Any]:
-        given = request.get("a_second")
-        if given is not None and (not isinstance(given, (int, float)) or isinstance(given, bool)):
-            raise Mistake("`a_second` is a number, or null for as many as they can")
-        self.shared.pace(seat, given)
-        return self.shared.workers_now()
-
-    def _step(self, _: Connection, seat: int, request: Request) -> Dict[str, Any]:
-        entries = self.shared.steps(seat, number_in(request, "count", STEPS))
-        return {"deliveries": [{"line": each.line, "reply": each.reply} for each in entries], "step": self.shared.step}
-
-    def _wait(self, each: Connection, _: int, request: Request) -> None:
-        self.waiting.append((each, request))
-
-    def _check(self, each: Connection, _: int, request: Request) -> None:
-        path, size, end = replaying.now(self.shared.log)
-        calls = self.shared.log.count
-
-        def done(found: str, mistake: Optional[Mistake]) -> None:
-            self._later(each, request, {"error": str(mistake)} if mistake else {"verdict": found, "calls": calls})
-        self._beside(lambda: replaying.verdict(path, size, end, self.processes.add), done)
-
-    def _propose(self, each: Connection, seat: int, request: Request) -> None:
-        name, given = text_in(request, "name"), list(map(bytes_of, texts_in(request, "lines")))
-        made = self.shared.propose(seat, name, given)
-
-        def failed(mistake: Optional[Mistake]) -> None:
-            if mistake:
-                self.shared.proposals.pop(made.number, None)
-            shown_so = {"number": made.number, "text": made.text}
-            self._later(each, request, {"error": str(mistake)} if mistake else shown_so)
-        self._show(made, failed)
-
-    def _show(self, made: proposals.Proposal, done: Callable[[Optional[Mistake]], None]) -> None:
-        """Finds out what a proposal does, and shows that to all."""
-        lines, edits = list(self.shared.run.lines), len(self.shared.history.edits)
-
-        def shown_to_all(text: str, mistake: Optional[Mistake]) -> None:
-            if not mistake:
-                self.shared.shown(made, edits, text)
-            done(mistake)
-            self.wake()
-        self._beside(lambda: proposals.what_if(lines, made.name, made.given, self.processes.add), shown_to_all)
-
-    def _accept(self, _: Connection, seat: int, request: Request) -> Dict[str, Any]:
-        number = self._numbered(request)
-        if self.shared.is_stale(number):
-            made = self.shared.proposals[number]
-            self._show(made, lambda mistake: self.shared.failed(made, mistake))
-            raise Mistake("the network was edited since proposal %d was shown: it is shown anew" % number)
-        return {"text": self.shared.accept(seat, number), "step": self.shared.step}
-
-    def _decline(self, _: Connection, seat: int, request: Request) -> Dict[str, Any]:
-        return {"text": self.shared.decline(seat, self._numbered(request))}
-
-    def _numbered(self, request: Request) -> int:
-        """The proposal that a request is about: the only one, where it has no number."""
-        return self.shared.only() if request.get("number") is None else number_in(request, "number", 1 << 32)
-
-    def _beside(self, work: Callable[[], str], done: Callable[[str, Optional[Mistake]], None]) -> None:
+    def _beside(self, work: Work, done: Done) -> None:
         """Does long work in a thread, while the others are served."""
         def worked() -> None:
             found, mistake = "", None  # type: str, Optional[Mistake]
             try:
-                found = work()
+                found = work(self.processes.add)
             except Mistake as fault:
                 mistake = fault
             except OSError as fault:
@@ -359,10 +247,11 @@ class Hub:
                 self.loop.call_soon_threadsafe(self._worked, done, found, mistake)
         threading.Thread(target=worked, daemon=True).start()
 
-    def _worked(self, done: Callable[[str, Optional[Mistake]], None], found: str, mistake: Optional[Mistake]) -> None:
+    def _worked(self, done: Done, found: str, mistake: Optional[Mistake]) -> None:
         """Long work is done."""
         self.processes.difference_update([each for each in list(self.processes) if each.poll() is not None])
         done(found, mistake)
+        self.wake()
 
 
 def _answered(answer: Answer) -> Dict[str, Any]:

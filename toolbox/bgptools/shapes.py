@@ -2,6 +2,7 @@
 makes the same PNG and PDF."""
 from __future__ import annotations
 
+import functools
 import html
 import math
 from dataclasses import dataclass
@@ -15,12 +16,14 @@ NARROW, BROAD = " .,:;/'|!()[]{}-ijltfrI", "mwMW@%"
 DASHES = {"dashed": "6 4", "dotted": "1.5 3.5"}
 
 
+@functools.lru_cache(maxsize=65536)
 def width_of(text: str, size: float, is_bold: bool = False) -> float:
     """About how broad a text is."""
     ems = sum(0.33 if c in NARROW else 0.86 if c in BROAD else 0.69 if c.isupper() else 0.56 for c in text)
     return ems * size * (1.06 if is_bold else 1)
 
 
+@functools.lru_cache(maxsize=65536)
 def _number(value: float) -> str:
     return ("%.1f" % value).rstrip("0").rstrip(".").replace("-0", "0" if abs(value) < 0.05 else "-0")
 
@@ -138,9 +141,9 @@ class Curve(Shape):
     def at(self, part: float) -> Point:
         """The point at a part of it, 0 to 1."""
         rest = 1 - part
-        points = zip(self.start, self.bend, self.end)
-        x, y = (rest * rest * a + 2 * rest * part * b + part * part * c for a, b, c in points)
-        return x, y
+        (ax, ay), (bx, by), (cx, cy) = self.start, self.bend, self.end
+        one, two, three = rest * rest, 2 * rest * part, part * part
+        return one * ax + two * bx + three * cx, one * ay + two * by + three * cy
 
     def between(self, low: float, high: float) -> "Curve":
         """A piece of it."""
@@ -210,6 +213,10 @@ class Part:
     name: str = ""
 
     def svg(self) -> str:
+        return self._svg
+
+    @functools.cached_property
+    def _svg(self) -> str:
         inside = "".join(shape.svg() for shape in self.shapes)
         return "<g><title>%s</title>%s</g>" % (html.escape(self.name), inside) if self.name else inside
 

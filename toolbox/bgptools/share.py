@@ -50,8 +50,8 @@ def opened(chosen: argparse.Namespace, lines: List[Line]) -> Shared:
     is_there = os.path.exists(path)
     shared = Shared(path, chosen.workers, chosen.log is None, chosen.most, _told)
     try:
-        if chosen.script is not None and shared.entries:
-            raise Mistake("it has %d calls already: no script is played into it" % shared.entries, path)
+        if chosen.script is not None and shared.ledger.entries:
+            raise Mistake("it has %d calls already: no script is played into it" % shared.ledger.entries, path)
         shared.play(lines)
     except BaseException:
         shared.close()
@@ -64,7 +64,7 @@ def opened(chosen: argparse.Namespace, lines: List[Line]) -> Shared:
 
 def _say(path: str, shared: Shared) -> None:
     """Says where it is shared."""
-    print("shared at %s, with %d calls so far in %s" % (path, shared.entries, shared.log.path))
+    print("shared at %s, with %d calls so far in %s" % (path, shared.ledger.entries, shared.log.path))
     print("`join %s --as NAME` joins it; Ctrl-C ends it" % path)
     sys.stdout.flush()
 

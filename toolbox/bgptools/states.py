@@ -57,7 +57,8 @@ def _routes(run: Run) -> Dict[Cell, Route]:
 
 
 def look_for(lines: List[Line], count: int, is_at_end: bool, most: Optional[int]) -> Found:
-    """The stable states that so many drawn orders end in. Where no limit is given, an order may take ten thousand deliveries and more."""
+    """The stable states that so many drawn orders end in. Where no limit is given, an order may take ten thousand
+    deliveries and more."""
     found, progress = Found(), Progress()
     for seed in range(1, count + 1):
         with Run(Drawn(seed), most) as run:
@@ -78,16 +79,20 @@ def _state(found: Found, at: int) -> List[str]:
     state, lines = found.states[at], []
     for router, prefix in found.differing():
         route = state.routes.get((router, prefix))
-        lines.append("  %s at %s: %s" % (prefix, found.names.shown(router), route_text(route, found.names) if route else "no route"))
-    return ["State %d: in %d of %d, as with --seed %d" % (at + 1, len(state.seeds), found.count, state.seeds[0])] + lines
+        told = route_text(route, found.names) if route else "no route"
+        lines.append("  %s at %s: %s" % (prefix, found.names.shown(router), told))
+    seen = (at + 1, len(state.seeds), found.count, state.seeds[0])
+    return ["State %d: in %d of %d, as with --seed %d" % seen] + lines
 
 
 def text_of(found: Found) -> str:
     """What was found, for a reader."""
     count = len(found.states)
-    lines = ["%d stable state%s in %d drawn order%s" % (count, "" if count == 1 else "s", found.count, "" if found.count == 1 else "s")]
+    ends = ["" if number == 1 else "s" for number in (count, found.count)]
+    lines = ["%d stable state%s in %d drawn order%s" % (count, ends[0], found.count, ends[1])]
     lines += [line for at in range(count) for line in _state(found, at)] if count > 1 else []
     if found.endless:
         seed, done = next(iter(found.endless.items()))
-        lines.append("%d of %d did not settle, as with --seed %d: %s" % (len(found.endless), found.count, seed, unsettled(done, found.names)))
+        lines.append("%d of %d did not settle, as with --seed %d: %s" % (
+            len(found.endless), found.count, seed, unsettled(done, found.names)))
     return "\n".join(lines) + "\n"

@@ -49,8 +49,8 @@ def _word(line: Line) -> str:
 class Steps:
     """Plays a script step by step. Lines up to `start` are one step; pictures that are equal are one.
 
-    Where the network does not settle after a line, or settles in another order, `told` says so. Where it does not, nothing is
-    delivered after later lines."""
+    Where the network does not settle after a line, or settles in another order, `told` says so. Where it does not,
+    nothing is delivered after later lines."""
 
     def __init__(self, run: Run, view: View, does_settle: bool, start: int = 0) -> None:
         self.run, self.view, self.does_settle, self.start = run, view, does_settle, start

@@ -24,7 +24,7 @@ from .pages import WORK, Gone, Lab, Stream
 ADDRESS = "127.0.0.1"
 LONGEST, MOST, PATIENCE, BREATH = 1 << 16, 500, 60, 15
 FILES = {"": ("lab.html", "text/html"), "lab.css": ("lab.css", "text/css"), "lab.js": ("lab.js", "text/javascript"),
-         "drawn.js": ("drawn.js", "text/javascript")}
+         **{name: (name, "text/javascript") for name in ("drawn.js", "moving.js", "changes.js")}}
 POLICY = ("default-src 'none'; script-src 'self'; style-src 'self'; connect-src 'self'; base-uri 'none'; "
           "form-action 'none'; frame-ancestors 'none'")
 HEADERS = {"Content-Security-Policy": POLICY, "X-Content-Type-Options": "nosniff", "Referrer-Policy": "no-referrer",
@@ -172,7 +172,8 @@ class Handler(BaseHTTPRequestHandler):
         lines = self.server.lab.lines()
         way = _way(query)
         step = self._step(query, lines)
-        self._json(self.server.lab.viewer.picture(lines, step, query.get("prefix"), way))
+        told = self.server.lab.viewer.picture(lines, step, query.get("prefix"), way)
+        self._send(200, "application/json", told.encode("ascii"))
 
     def _table(self, query: Query) -> None:
         lines = self.server.lab.lines()
@@ -196,6 +197,7 @@ class Handler(BaseHTTPRequestHandler):
         lab = self.server.lab
         key, stream = lab.within(lambda: lab.open(role, name))
         self.close_connection = True
+        stream.cut = self._cut
         try:
             self.send_response(200)
             self.send_header("Content-Type", "text/event-stream")
@@ -206,6 +208,11 @@ class Handler(BaseHTTPRequestHandler):
         finally:
             with contextlib.suppress(Gone):
                 lab.later(lambda: lab.close(key, stream))
+
+    def _cut(self) -> None:
+        """Ends the connection, whatever waits to be sent."""
+        with contextlib.suppress(OSError):
+            self.connection.shutdown(socket.SHUT_RDWR)
 
     def _pass(self, stream: Stream) -> bool:
         """Sends the next line; whether there may be others."""

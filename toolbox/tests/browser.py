@@ -9,7 +9,7 @@ import sys
 import time
 
 CHROMIUM = os.environ.get("CHROMIUM") or shutil.which("chromium") or shutil.which("chromium-browser")
-KEYS = {"ArrowRight": 39, "ArrowLeft": 37, " ": 32, "Home": 36, "End": 35, "PageDown": 34, "Tab": 9, "Enter": 13}
+KEYS = {"ArrowRight": 39, "ArrowLeft": 37, " ": 32, "Home": 36, "End": 35, "PageDown": 34, "Tab": 9, "Enter": 13, "Escape": 27}
 # Runs a command with two pipes where the browser wants them.
 AT_3_AND_4 = """import fcntl, os, sys
 given, told = (fcntl.fcntl(int(each), fcntl.F_DUPFD_CLOEXEC, 10) for each in sys.argv[1:3])
@@ -39,7 +39,7 @@ class Browser:
         end = time.monotonic() + 60
         while True:
             try:
-                return self.until("location.protocol !== 'about:' && document.readyState === 'complete'")
+                return self.until("(location.protocol !== 'about:' || location.hash) && document.readyState === 'complete'")
             except AssertionError as fault:
                 if "execution context" not in str(fault) or time.monotonic() > end:
                     raise
@@ -92,9 +92,31 @@ class Browser:
     def click(self, selector):
         """Clicks into the middle of an element."""
         box = "document.querySelector(%s).getBoundingClientRect()" % json.dumps(selector)
+        self.value("document.querySelector(%s).scrollIntoView({ block: 'nearest' })" % json.dumps(selector))
         x, y = self.value("[%s.x + %s.width / 2, %s.y + %s.height / 2]" % (box, box, box, box))
         for kind in ("mousePressed", "mouseReleased"):
             self.ask("Input.dispatchMouseEvent", type=kind, x=x, y=y, button="left", clickCount=1)
+
+    def go(self, url):
+        """Goes to another page, and waits until it is there."""
+        self.ask("Page.navigate", url=url)
+        self._opened()
+
+    def call(self, expression):
+        """The value that a promise of the page comes to."""
+        told = self.ask("Runtime.evaluate", expression=expression, returnByValue=True, awaitPromise=True)
+        if "exceptionDetails" in told:
+            raise AssertionError("%s: %s" % (expression, told["exceptionDetails"]))
+        return told["result"].get("value")
+
+    def media(self, kind="", **features):
+        """Lets the page believe that it is printed, or that its reader wants less motion; without words, neither."""
+        wanted = [{"name": name.replace("_", "-"), "value": value} for name, value in features.items()]
+        self.ask("Emulation.setEmulatedMedia", media=kind, features=wanted)
+
+    def screenshot(self, path):
+        """Writes a picture of what is to be seen of the page."""
+        path.write_bytes(base64.b64decode(self.ask("Page.captureScreenshot", format="png")["data"]))
 
     def sheets(self):
         """How many sheets the page prints."""

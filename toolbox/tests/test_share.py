@@ -156,6 +156,19 @@ class Served(AtSocket):
         self.assertEqual(anna.until("told")["text"], "the share has ended")
         self.assertIsNone(anna.hear())
 
+    def test_no_network_address_is_offered(self):
+        """Of all sockets that it has none is one of the internet's."""
+        process = self.start("--workers", 1)
+        self.join("anna")
+        places = pathlib.Path("/proc/%d/fd" % process.pid).iterdir()
+        held = {found.group(1) for found in (re.fullmatch(r"socket:\[([0-9]+)\]", os.readlink(place))
+                                             for place in places) if found}
+        self.assertGreaterEqual(len(held), 2)
+        for table in ("tcp", "tcp6", "udp", "udp6", "raw", "raw6"):
+            with contextlib.suppress(FileNotFoundError):
+                rows = pathlib.Path("/proc/net/" + table).read_text().split("\n")[1:-1]
+                self.assertEqual(held & {row.split()[9] for row in rows}, set(), table)
+
     def test_a_script_is_played_and_a_log_taken_up(self):
         process = self.start(THREE, wanted="with 11 calls so far in ")
         self.assertEqual(self.end(process, signal.SIGTERM), (128 + signal.SIGTERM, "11 calls in %s\n" % self.log))
@@ -513,10 +526,25 @@ class AtTerminal(AtSocket):
                       "    2 commands of more.bgp, 1 refused\n", told)
         anna.end()
 
+    def test_what_if_draw_and_the_forms_of_commands(self):
+        """They work on a copy: to look changes nothing, and only questions of the tool are asked of what is shared."""
+        process = self.start(THREE)
+        anna = self.typed("anna")
+        self.assertIn("  rule A B in|out MATCH ACT  ", anna.type("? rule\n", "anna> "))
+        self.file("slow.change", "metric 1.0.0.1 2.0.0.1 9\n")
+        self.assertIn("Messages until it was quiet", anna.type("what-if slow.change\n", "anna> "))
+        self.assertIn("net.dot", anna.type("draw net.dot --prefix 203.0.113.0/24\n", "anna> "))
+        self.assertIn('"1.0.0.1" -- "2.0.0.1"', (self.folder / "net.dot").read_text())
+        self.assertIn("    1 via 2.0.0.1\n", anna.type("cost 1.0.0.1 2.0.0.1\n", "anna> "))
+        anna.end()
+        self.assertEqual(self.end(process)[1].split("\n")[1], "replay: ok 12")
+
     def test_ctrl_c_ends_a_wait_and_not_the_prompt(self):
         self.start(THREE, "--workers", 1)
         anna, ben = self.typed("anna"), self.join("ben")
         ben.ask("pace", a_second=0.01)
+        # What is told redraws the prompt: before anything is typed.
+        anna.until("    * ben sets the pace: 1 worker, going at most 0.01 a second\nanna> ")
         for _ in range(2):
             ben.call("fail 1.0.0.1 3.0.0.1")
             ben.call("mend 1.0.0.1 3.0.0.1")

@@ -8,8 +8,7 @@ import signal
 import sys
 import unittest.mock
 
-from bgptools import counted, record, replaying, where
-from bgptools import shared as shared_module
+from bgptools import counted, ledger, record, replaying, where
 from bgptools.mistakes import Mistake
 from bgptools.record import Unkept
 from bgptools.script import lines_of
@@ -56,7 +55,7 @@ class Held(Case):
         made = Shared(str(self.log), workers, **more)
         self.addCleanup(made.close)
         anna = made.enter("anna")
-        for answer in made.calls((anna, line) for line in lines):
+        for answer in made.calling.calls((anna, line) for line in lines):
             self.assertEqual((answer.reply, answer.error), (["ok"], ""))
         return made, anna
 
@@ -67,14 +66,14 @@ class Held(Case):
 
     def said(self, shared, seat, line):
         """The reply to one line."""
-        return shared.calls([(seat, line)])[0].reply
+        return shared.calling.calls([(seat, line)])[0].reply
 
     def settled(self, shared):
         """Lets the workers deliver until they have nothing to do."""
         for _ in range(1000):
-            if shared.due(0.0) != 0:
+            if shared.deliveries.due(0.0) != 0:
                 return
-            shared.work(0.0)
+            shared.deliveries.work(0.0)
         self.fail("they never end")
 
 
@@ -85,8 +84,8 @@ class Logs(Held):
         ben = shared.enter("ben")
         lines = [(ben, "origin  1.0.0.1   10.0.0.0/8 "), (anna, "rooter 1.0.0.1 1"), (anna, "# a comment"), (ben, ""),
                  (ben, "metric 1.0.0.1 3.0.0.1 5"), (anna, "queue 1.0.0.1 2.0.0.1"), (anna, "deliver 1.0.0.1 2.0.0.1")]
-        replies = [answer.reply for answer in shared.calls(lines)]
-        self.assertEqual(shared.ask(["quiet"]), [["yes"]])
+        replies = [answer.reply for answer in shared.calling.calls(lines)]
+        self.assertEqual(shared.program.ask(["quiet"]), [["yes"]])
         message = "update 10.0.0.0/8 path=1 origin=igp next=1.0.0.1 med=- pref=- oid=- clusters=-"
         self.assertEqual(replies, [["ok"], ["refused 1 syntax"], [], [], ["refused 2 no-router"], [message, "end 1"],
                                    ["took 10.0.0.0/8 update"]])
@@ -101,7 +100,7 @@ class Logs(Held):
         shared, anna = self.shared()
         lines = ("router 1.0.0.1 1", "router 1.0.0.1 2", "link 1.0.0.1 2.0.0.1 1", "router 2.0.0.1 2",
                  "join 1.0.0.1 2.0.0.1")
-        self.assertEqual([answer.told for answer in shared.calls((anna, line) for line in lines)], [
+        self.assertEqual([answer.told for answer in shared.calling.calls((anna, line) for line in lines)], [
             [], ["-- 1.0.0.1 is there already: a router of AS 1"], ["-- there is no router or virtual peer 2.0.0.1"],
             [], ["-- 1.0.0.1 is in AS 1 and 2.0.0.1 in AS 2: an external session needs a link between them, "
                  "`link 1.0.0.1 2.0.0.1 M`"]])
@@ -111,23 +110,23 @@ class Logs(Held):
         shared, anna = self.shared(*PEER, "virtual 8.0.0.1 8", "link 1.0.0.1 8.0.0.1 1", "join 1.0.0.1 8.0.0.1",
                                    "feed 7.0.0.1 1.0.0.1 update 10.0.0.0/8 7 igp - comm=4294967041")
         lines = ("deliver 7.0.0.1 1.0.0.1", "out 1.0.0.1 8.0.0.1", "stop 1.0.0.1 7.0.0.1")
-        told = shared.calls((anna, line) for line in lines)[1].told
+        told = shared.calling.calls((anna, line) for line in lines)[1].told
         self.assertEqual(told, ["-- not told to 8.0.0.1, since it carries 4294967041 (NO_EXPORT): 10.0.0.0/8"])
 
     def test_lines_that_are_not_given_to_the_program(self):
         shared, anna = self.shared()
         for line in ("quiet\nquiet", "quiet \u20ac", "x" * 70000):
             with self.subTest(line=line[:10]):
-                answers = shared.calls([(anna, "quiet"), (anna, line), (anna, "quiet")])
+                answers = shared.calling.calls([(anna, "quiet"), (anna, line), (anna, "quiet")])
                 self.assertEqual([answer.reply for answer in answers], [["yes"], [], ["yes"]])
                 self.assertTrue(answers[1].error)
         self.assertEqual(self.said(shared, anna, " " * 5000), ["refused 1 syntax"])
-        self.assertRaises(Mistake, shared.ask, ["deliver 1.0.0.1 2.0.0.1"])
+        self.assertRaises(Mistake, shared.program.ask, ["deliver 1.0.0.1 2.0.0.1"])
 
     def test_a_log_is_written_before_the_answer(self):
         """The file has the entry when the answer is there, by no other way than the file itself."""
         shared, anna = self.shared()
-        shared.calls([(anna, "router 1.0.0.1 1")])
+        shared.calling.calls([(anna, "router 1.0.0.1 1")])
         self.assertEqual(self.log.read_text(), "bgpsim log 2\n@1 router 1.0.0.1 1\n= ok\n")
 
     def test_a_disk_that_is_full(self):
@@ -138,7 +137,7 @@ class Logs(Held):
         old = signal.signal(signal.SIGXFSZ, signal.SIG_IGN)
         resource.setrlimit(resource.RLIMIT_FSIZE, (len(before) + 5, hard))
         try:
-            self.assertRaises(Unkept, shared.calls, [(anna, "origin 1.0.0.1 10.0.0.0/8")])
+            self.assertRaises(Unkept, shared.calling.calls, [(anna, "origin 1.0.0.1 10.0.0.0/8")])
         finally:
             resource.setrlimit(resource.RLIMIT_FSIZE, (soft, hard))
             signal.signal(signal.SIGXFSZ, old)
@@ -155,7 +154,7 @@ class TakenUp(Held):
     def test_a_log_that_ends_anywhere_is_taken_up_from_its_whole_entries(self):
         shared, anna = self.shared(*TWO)
         lines = ("origin 1.0.0.1 10.0.0.0/8", "quiet", "cost 1.0.0.1 2.0.0.1", "mend 1.0.0.1 9.0.0.1")
-        shared.calls((anna, line) for line in lines)
+        shared.calling.calls((anna, line) for line in lines)
         self.ended(shared)
         content = self.log.read_bytes()
         ends = [place.end() for place in re.finditer(rb"\n", content)]
@@ -165,9 +164,9 @@ class TakenUp(Held):
                 count, told = self.whole(content[:size]), []
                 again = Shared(str(self.log), tell=told.append)
                 self.addCleanup(again.close)
-                self.assertEqual(again.entries, count)
+                self.assertEqual(again.ledger.entries, count)
                 self.assertEqual(not told, bool(WHOLE.fullmatch(content[:size])), told)
-                self.assertEqual(again.calls([(again.enter("anna"), "quiet")])[0].reply, ["no" if count > 4 else "yes"])
+                self.assertEqual(self.said(again, again.enter("anna"), "quiet"), ["no" if count > 4 else "yes"])
                 self.assertEqual(self.ended(again), "ok %d" % (count + 1))
 
     def test_a_report_that_is_cut(self):
@@ -177,7 +176,7 @@ class TakenUp(Held):
         self.log.write_text(self.log.read_text()[:-len("= end 1\n")])
         told = []
         again, anna = self.shared(tell=told.append)
-        self.assertEqual(again.entries, 5)
+        self.assertEqual(again.ledger.entries, 5)
         cut = "the last entry was cut off, and is left out: `@1 queue 1.0.0.1 2.0.0.1`"
         self.assertEqual(told, ["%s:12: %s" % (self.log, cut)])
         self.said(again, anna, "quiet")
@@ -204,8 +203,8 @@ class TakenUp(Held):
     def test_seats_names_times_and_undo_are_there_again(self):
         shared, anna = self.shared(*TWO, workers=2, clock=lambda: 1000.0)
         ben = shared.enter("ben")
-        shared.calls([(ben, "metric 1.0.0.1 2.0.0.1 7"), (ben, "# name 1.0.0.1 K\xc3\xb6ln"),
-                      (anna, "metric 1.0.0.1 2.0.0.1 8")])
+        shared.calling.calls([(ben, "metric 1.0.0.1 2.0.0.1 7"), (ben, "# name 1.0.0.1 K\xc3\xb6ln"),
+                              (anna, "metric 1.0.0.1 2.0.0.1 8")])
         shared.undo(anna)
         before = shared.blame("2.0.0.1")
         shared.close()
@@ -395,8 +394,9 @@ class Blamed(Held):
         times = iter(range(100, 1000))
         shared, _ = self.shared(*TWO, clock=lambda: next(times))
         ben = shared.enter("ben")
-        shared.calls((ben, line) for line in ("metric 2.0.0.1 1.0.0.1 5", "origin 2.0.0.1 20.0.0.0/8", "routes 2.0.0.1",
-                                              "fail 1.0.0.1 9.0.0.1", "cluster 2.0.0.1 1.0.0.1"))
+        lines = ("metric 2.0.0.1 1.0.0.1 5", "origin 2.0.0.1 20.0.0.0/8", "routes 2.0.0.1", "fail 1.0.0.1 9.0.0.1",
+                 "cluster 2.0.0.1 1.0.0.1")
+        shared.calling.calls((ben, line) for line in lines)
         found = shared.blame("1.0.0.1")
         self.assertEqual([(each["who"], each["line"]) for each in found], [
             ("anna", TWO[0]), ("anna", TWO[2]), ("anna", TWO[3]), ("ben", "metric 2.0.0.1 1.0.0.1 5")])
@@ -413,7 +413,7 @@ class Working(Held):
         shared, _ = self.shared(*lines, *("origin %s %d.0.0.0/8" % (router, number) for number in (20, 30, 40)
                                           for router in ("1.0.0.1", "2.0.0.2")), workers=2)
         self.settled(shared)
-        self.assertTrue(shared.is_quiet())
+        self.assertTrue(shared.program.is_quiet())
         self.assertEqual(self.ended(shared), "ok 21")
         taken = re.findall(r"@([0-9]+) deliver (\S+) (\S+)\n", self.log.read_text())
         # The order of queues is that of their addresses; worker 1 has the even receivers, and worker 2 the odd ones.
@@ -431,28 +431,30 @@ class Working(Held):
     def test_pause_step_and_go(self):
         shared, anna = self.shared(*TWO, "origin 1.0.0.1 10.0.0.0/8", "origin 1.0.0.1 20.0.0.0/8",
                                    "origin 2.0.0.1 30.0.0.0/8", workers=1)
-        shared.pause(anna)
-        self.assertIsNone(shared.due(0.0))
-        self.assertEqual((shared.work(0.0), shared.is_quiet()), (0, False))
-        self.assertEqual([each.line for each in shared.steps(anna, 2)],
+        shared.deliveries.pause(anna)
+        self.assertIsNone(shared.deliveries.due(0.0))
+        self.assertEqual((shared.deliveries.work(0.0), shared.program.is_quiet()), (0, False))
+        self.assertEqual([each.line for each in shared.deliveries.steps(anna, 2)],
                          ["deliver 1.0.0.1 2.0.0.1", "deliver 2.0.0.1 1.0.0.1"])
-        self.assertEqual((shared.waiting(), shared.is_quiet()), ([("1.0.0.1", "2.0.0.1")], False))
-        shared.go(anna)
+        self.assertEqual((shared.program.waiting(), shared.program.is_quiet()), ([("1.0.0.1", "2.0.0.1")], False))
+        shared.deliveries.go(anna)
         self.settled(shared)
-        self.assertEqual((shared.is_quiet(), shared.steps(anna, 1), shared.next(anna)), (True, [], None))
-        self.assertEqual([event["text"] for event in shared.happened() if event["event"] == "workers"], [
+        by_hand = shared.deliveries
+        self.assertEqual((shared.program.is_quiet(), by_hand.steps(anna, 1), by_hand.next(anna)), (True, [], None))
+        self.assertEqual([event["text"] for event in shared.happening.taken() if event["event"] == "workers"], [
             "anna pauses the workers", "anna lets the workers deliver 2, and pauses them", "anna lets the workers go",
             "anna lets the workers deliver 0, and pauses them"])
 
     def test_by_hand_where_there_are_no_workers(self):
         shared, anna = self.shared(*TWO, "origin 1.0.0.1 10.0.0.0/8")
-        self.assertIsNone(shared.due(0.0))
-        for word in (shared.pause, shared.go, lambda seat: shared.steps(seat, 1), lambda seat: shared.pace(seat, 5)):
+        self.assertIsNone(shared.deliveries.due(0.0))
+        for word in (shared.deliveries.pause, shared.deliveries.go, lambda seat: shared.deliveries.steps(seat, 1),
+                     lambda seat: shared.deliveries.pace(seat, 5)):
             self.assertRaisesRegex(Mistake, "there are no workers", word, anna)
-        entry = shared.next(anna)
+        entry = shared.deliveries.next(anna)
         self.assertEqual((entry.seat, entry.line, entry.reply),
                          (anna, "deliver 1.0.0.1 2.0.0.1", ["took 10.0.0.0/8 update"]))
-        self.assertIsNone(shared.next(anna))
+        self.assertIsNone(shared.deliveries.next(anna))
 
     def test_a_pace(self):
         """Ten a second: one each tenth of a second, and after a pause not all that were missed at once."""
@@ -475,7 +477,7 @@ class Working(Held):
         shared.play(lines_of(endless.encode(), "endless"))
         self.settled(shared)
         self.assertFalse(shared.workers.is_going)
-        told = [event["text"] for event in shared.happened() if event["event"] == "workers"]
+        told = [event["text"] for event in shared.happening.taken() if event["event"] == "workers"]
         self.assertRegex(told[-1], "the workers pause: after 3[0-9][0-9] deliveries without an edit it is not quiet")
         self.assertRegex(self.ended(shared), "^ok ")
 
@@ -485,7 +487,7 @@ class Limits(Held):
         with unittest.mock.patch.object(counted, "MOST_LINES", 40):
             shared, anna = self.shared(*TWO)
             for _ in range(10):
-                answers = shared.calls([(anna, "cost 1.0.0.1 2.0.0.1")] * 17)
+                answers = shared.calling.calls([(anna, "cost 1.0.0.1 2.0.0.1")] * 17)
                 self.assertEqual([answer.reply for answer in answers], [["1 via 2.0.0.1"]] * 17)
             self.assertGreater(shared.run.program.count_of_all, 170 + 4)
         self.assertEqual(self.ended(shared), "ok 174")
@@ -494,12 +496,13 @@ class Limits(Held):
         """Of 100 lines of a run 99 can be changes; then questions alone are answered, and workers deliver nothing."""
         with unittest.mock.patch.object(counted, "MOST_LINES", 100), contextlib.redirect_stderr(io.StringIO()) as told:
             shared, anna = self.shared(*TWO, workers=1)
-            shared.pause(anna)
-            answers = [shared.calls([(anna, "metric 1.0.0.1 2.0.0.1 %d" % number)])[0] for number in range(1, 98)]
+            shared.deliveries.pause(anna)
+            answers = [shared.calling.calls([(anna, "metric 1.0.0.1 2.0.0.1 %d" % number)])[0]
+                       for number in range(1, 98)]
             self.assertEqual([answer.error[:19] for answer in answers], [""] * 95 + ["99 lines have been "] * 2)
-            shared.go(anna)
-            self.assertIsNone(shared.due(0.0))
-            self.assertRaisesRegex(Mistake, "99 lines have been made", shared.next, anna)
+            shared.deliveries.go(anna)
+            self.assertIsNone(shared.deliveries.due(0.0))
+            self.assertRaisesRegex(Mistake, "99 lines have been made", shared.deliveries.next, anna)
             replies = [self.said(shared, anna, "cost 1.0.0.1 2.0.0.1") for _ in range(4)]
             self.assertEqual(replies, [["95 via 2.0.0.1"]] * 4)
         self.assertIn("of the 100 lines are used", told.getvalue())
@@ -508,14 +511,14 @@ class Limits(Held):
     def test_near_its_end_a_log_has_changes_alone(self):
         lines = ("quiet", "metric 1.0.0.1 2.0.0.1 %d", "mend 1.0.0.1 9.0.0.1")
         with unittest.mock.patch.object(record, "MOST_LINES", 100), \
-                unittest.mock.patch.object(shared_module, "RESERVE", 60):
+                unittest.mock.patch.object(ledger, "RESERVE", 60):
             shared, anna = self.shared(*TWO)
             for number in range(1, 20):
-                shared.calls((anna, line % number if "%" in line else line) for line in lines)
+                shared.calling.calls((anna, line % number if "%" in line else line) for line in lines)
         text = self.log.read_text()
         # Nine lines, and then six for each number until 39 are there; two for each from then on.
         self.assertEqual([text.count(word) for word in (" quiet\n", " mend ", " metric ")], [5, 5, 19])
-        told = [event["text"] for event in shared.happened() if event["event"] == "told"]
+        told = [event["text"] for event in shared.happening.taken() if event["event"] == "told"]
         self.assertEqual(told, ["the log has 39 lines: from here on changes alone stand in it"])
         self.assertEqual(self.ended(shared), "ok 33")
 
@@ -526,21 +529,21 @@ class Limits(Held):
         path.chmod(0o755)
         with unittest.mock.patch.dict(os.environ, {"PROGRAM": str(path)}):
             shared, anna = self.shared(*TWO, "origin 1.0.0.1 10.0.0.0/8", workers=1)
-            answers = shared.calls([(anna, "origin 1.0.0.1 20.0.0.0/8"), (anna, "metric 1.0.0.1 2.0.0.1 9")])
+            answers = shared.calling.calls([(anna, "origin 1.0.0.1 20.0.0.0/8"), (anna, "metric 1.0.0.1 2.0.0.1 9")])
             self.assertEqual([answer.reply for answer in answers], [[], []])
             for answer in answers:
                 self.assertRegex(answer.error, "dies: the program ended before it had answered, with status 7; it is")
             lines = ("best 1.0.0.1 20.0.0.0/8", "metric 1.0.0.1 2.0.0.1 9", "cost 1.0.0.1 2.0.0.1")
-            answers = shared.calls((anna, line) for line in lines)
+            answers = shared.calling.calls((anna, line) for line in lines)
             self.assertEqual([answer.reply for answer in answers], [["none"], ["ok"], ["9 via 2.0.0.1"]])
-            shared.happened()
+            shared.happening.taken()
             # So it is where workers lose it: at a delivery, and at the question that comes behind it.
             for word in ("deliver", "quiet"):
                 here.write_text(word)
                 self.settled(shared)
-                told = [event["text"] for event in shared.happened() if event["event"] == "workers"]
+                told = [event["text"] for event in shared.happening.taken() if event["event"] == "workers"]
                 self.assertRegex(told[-1], "^the workers pause: .*dies: the program ended before it had answered, ")
-                shared.go(anna)
+                shared.deliveries.go(anna)
             self.settled(shared)
             self.assertEqual(self.said(shared, anna, "best 2.0.0.1 10.0.0.0/8")[0][:24], "10.0.0.0/8 from 1.0.0.1 ")
             self.assertEqual(self.said(shared, anna, "origin 1.0.0.1 30.0.0.0/8"), ["ok"])
@@ -548,14 +551,14 @@ class Limits(Held):
             here.write_text("memory")
             self.settled(shared)
             why = "deliver 1.0.0.1 2.0.0.1: refused 20 memory: memory was refused"
-            told = [event["text"] for event in shared.happened() if event["event"] == "workers"]
+            told = [event["text"] for event in shared.happening.taken() if event["event"] == "workers"]
             self.assertEqual(told[-1], "the workers pause: " + why)
-            self.assertRaisesRegex(Mistake, why, shared.next, anna)
-            self.assertEqual(shared.waiting(), [("1.0.0.1", "2.0.0.1")])
+            self.assertRaisesRegex(Mistake, why, shared.deliveries.next, anna)
+            self.assertEqual(shared.program.waiting(), [("1.0.0.1", "2.0.0.1")])
             here.write_text("quiet")
             path.chmod(0)
             with self.assertRaisesRegex(Unkept, "and it cannot be run anew: .*Permission denied"):
-                shared.calls([(anna, "quiet")])
-        shared.run = Shared(str(self.folder / "other")).run
+                shared.calling.calls([(anna, "quiet")])
+        shared.program.run = Shared(str(self.folder / "other")).run
         self.addCleanup(shared.run.close)
         self.assertEqual(self.ended(shared), "ok 11")

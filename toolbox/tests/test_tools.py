@@ -17,9 +17,9 @@ import unittest.mock
 from common import TOP, Case
 
 import model
-from simtools import (believed, bench_tables, commands, language, loads, logs, planted, programs, random_interiors,
-                      random_scripts, real_routers, refuse_allocations, refusing, run_toolbox_tests, running, speaker,
-                      teams, wants_memory)
+from simtools import (believed, bench_tables, commands, language, left_out, loads, logs, planted, programs,
+                      random_interiors, random_scripts, real_routers, refuse_allocations, refusing,
+                      run_toolbox_tests, running, speaker, teams, wants_memory)
 
 NOWHERE = "/nowhere/bgpsim"
 NOT_THERE = "there is no program %s: PROGRAM= names it\n" % NOWHERE
@@ -508,7 +508,7 @@ class Teams(Case):
 
 class Planted(Case):
     """A repository of one crate, and an rt that proves whatever has no `wrong` in it, and else prints what stands after
-    that."""
+    that. It notes its words."""
     SOURCE = "fn half(n: u8) -> u8 {\n    good\n}\n\nfn whole(n: u8) -> u8 {\n    fair\n}\nconst MOST: u8 = 3;\n"
     GOAL = "note: src/lib.rt:2:5: it is not proved that what the function ensures holds when it returns (`returns`)"
     PROOF = "./proofs/half/Answers.antt:3:9: error: `returns`: expected type `1 ≡ 2`, but this has type `1 ≡ 1`"
@@ -531,15 +531,21 @@ class Planted(Case):
             self.file("crates/low/planted/%s.edit" % name, "file: src/lib.rt\nold: %s\nnew: %s\n" % (old, new))
         for name, lines in self.TOLD.items():
             self.file("bin/" + name, "\n".join(lines) + "\nlogic=not-proved\n")
-        proves = "#!/bin/sh\nfor it in $(sed -n 's/.*wrong \\(.\\).*/\\1/p' src/lib.rt); do cat %s/$it; exit 1; done\n"
-        self.file("bin/rt", proves % (self.folder / "bin")).chmod(0o755)
+        proves = ("#!/bin/sh\necho \"$*\" >>%s/words\n"
+                  "for it in $(sed -n 's/.*wrong \\(.\\).*/\\1/p' src/lib.rt); do cat %s/$it; exit 1; done\n")
+        self.file("bin/rt", proves % (self.folder, self.folder / "bin")).chmod(0o755)
         with unittest.mock.patch.object(planted, "TOP", self.folder), \
+                unittest.mock.patch.object(planted, "RT", ["rt"]), \
                 unittest.mock.patch.dict(os.environ, {"PATH": "%s:%s" % (self.folder / "bin", os.environ["PATH"])}):
             status, told = called(planted.main)
+        asked = (self.folder / "words").read_text().splitlines()
+        alone = "check --jobs 1 --allow-holes --only low::half"
+        self.assertEqual((asked.count("check --jobs 1"), asked.count(alone), len(asked)), (5, 8, 13))
         self.assertEqual((status, re.sub(r" \([0-9]+ s\)", "", told)), (1, (
             "low/a: refused by a goal: `returns` of low::half\n"
             "low/b: refused by a goal: `returns` of low::fn::half::byte\n"
             "low/c: refused by a goal, beside a proof file: `returns` of low::half\n"
+            "low/as it is: proved\n"
             "low/d: refused elsewhere: `returns` of low::whole\n"
             "low/e: refused at a limit: `returns` of low::half\n"
             "low/f: refused BY A PROOF FILE alone: %s\n"
@@ -556,24 +562,52 @@ class Planted(Case):
         for name, old, new in (("a", "good", "wrong a"), ("b", "fair", "wrong b"), ("c", "good", "better")):
             edits.append(self.file("low/planted/%s.edit" % name, "file: src/lib.rt\nold: %s\nnew: %s\n" % (old, new)))
         self.file("low/src/lib.rt", self.SOURCE)
-        self.assertEqual(planted.rounds_of(edits, self.folder / "low"), [[edits[0], edits[1]], [edits[2]]])
+        low = planted.Copied(self.folder / "low", left_out.bodies(self.folder / "low"))
+        self.assertEqual(planted.rounds_of(edits, low), [[edits[0], edits[1]], [edits[2]]])
         other = "note: src/lib.rt:6:5: it is not proved that what the function ensures holds when it returns (`gives`)"
-        for lines, found in (
-                ((self.GOAL, "fn low::half: not proved", other, "fn low::whole: not proved"), {
-                    edits[0]: ("refused by a goal", "`returns` of low::half"),
-                    edits[1]: ("refused by a goal", "`gives` of low::whole")}),
-                ((other, "fn low::whole: not proved"), {edits[1]: ("refused by a goal", "`gives` of low::whole")}),
-                ((self.PROOF, "fn low::half: not proved"), {}), (("src/lib.rt:2:5: error: `half`: gone",), {})):
+        by_goal = {edits[0]: ("refused by a goal", "`returns` of low::half"),
+                   edits[1]: ("refused by a goal", "`gives` of low::whole")}
+        for lines, found, checks in (
+                ((self.GOAL, "fn low::half: not proved", other, "fn low::whole: not proved"), by_goal, 1),
+                ((other, "fn low::whole: not proved"), {edits[1]: by_goal[edits[1]]}, 1),
+                ((self.PROOF, "fn low::half: not proved"),
+                 {edits[0]: ("refused BY A PROOF FILE alone", self.PROOF)}, 1),
+                ((self.PROOF, "fn low::half: proved"), {}, 1), (self.TOLD["g"], {}, 3)):
             seen = []
 
-            def check(folder, lines=lines, seen=seen):
-                seen.append((folder / "src/lib.rt").read_text())
-                return 1, [*lines, "logic=not-proved"]
+            def check(folder, functions, lines=lines, seen=seen):
+                seen.append(((folder / "src/lib.rt").read_text(), functions))
+                return 1, [*lines, "only=2 proved=0"]
 
             with self.subTest(lines=lines), unittest.mock.patch.object(planted, "check", check):
-                self.assertEqual(planted.at_once(edits[:2], self.folder / "low"), found)
-            self.assertEqual(seen, [self.SOURCE.replace("good", "wrong a").replace("fair", "wrong b")])
+                self.assertEqual(planted.at_once(edits[:2], low), found)
+            text = self.SOURCE.replace("good", "wrong a").replace("fair", "wrong b")
+            self.assertEqual((seen[0], len(seen)), ((text, {"low::half", "low::whole"}), checks))
         self.assertEqual((self.folder / "low/src/lib.rt").read_text(), self.SOURCE)
+
+    def test_proofs_that_are_left_out(self):
+        self.file("low/src/lib.rt", "mod net;\nfn walk() { walk(); }\nfn main() { run(1); }\n#[test]\nfn t() {}\n")
+        self.file("low/src/net.rt", "struct Net;\nimpl Net { fn get() {} fn put() { get(); } }\n"
+                                    "impl Same for Net { fn is_same() {} }\nimpl Line<Held> for Net { fn at() {} }\n"
+                                    "impl Same for Other { fn is_same() {} }\nfn free() {}\n#[cfg(test)]\nmod tests;\n")
+        self.file("low/src/net/tests.rt", "fn helper() {}\n")
+        answers = self.file("low/proofs/net/Net/get/Answers.antt", "")
+        kept = self.file("low/proofs/net/Net/put/Answers.antt", "")
+        left_out.leave_out(self.folder / "low", ["low::net::Net::put"])
+        holes = sorted(str(path.relative_to(self.folder / "low/proofs"))
+                       for path in (self.folder / "low").rglob("Proof.antt"))
+        self.assertEqual(holes, ["net/Net/get/Proof.antt", "net/NetSame/is_same/Proof.antt", "net/free/Proof.antt"])
+        self.assertEqual((answers.exists(), kept.exists()), (False, True))
+        self.assertEqual((answers.parent / "Proof.antt").read_text(), (
+            "use Rattle.low.proofs.net.Net.get.Statement.{statement}\n\npub get_spec : {M : Type 1} → statement M\n"
+            "get_spec = ?\n"))
+
+    def test_what_is_asked_for(self):
+        edit = self.file("crates/low/must-fail/a.edit", "")
+        with unittest.mock.patch.object(planted, "TOP", self.folder):
+            self.assertEqual(planted.asked_edits([str(edit)], ["low"]), {"low": [edit.resolve()]})
+            for word in ("high", str(self.folder / "gone.edit")):
+                self.assertRaises(ValueError, planted.asked_edits, [word], ["low"])
 
 
 class Toolbox(Case):

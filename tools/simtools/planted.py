@@ -1,14 +1,16 @@
 """Tries the planted bugs that the gate leaves out: rt check has to refuse each edit crates/CRATE/planted/*.edit, as
 it does those of must-fail/, and by a goal that has no proof.
 
-    tools/planted [CRATE..]        without a crate: all that have planted/
+    tools/planted [--jobs N] [CRATE | EDIT ..]        without a word: all crates that have planted/
 
-An edit is a line `file: src/lib.rt` and pairs of lines `old: TEXT` and `new: TEXT`, as in must-fail/. Each crate is
-copied with the crates below it and with what earlier checks kept in out/, so the files here stay as they are; as
-many copies are tried side by side as there are processors, each with up to 48 edits of one crate. What has not
-been checked before is proved first. Edits of functions with other names are tried in one check, up to sixteen at
-once: a contract is all that others see of a function, so none hides or helps another. Each one that such a check
-does not show to be refused by a goal of its own is tried again alone. Of each edit it tells how it was refused:
+An EDIT is such a file; one of must-fail/ is tried in the same way. It is a line `file: src/lib.rt` and pairs of lines
+`old: TEXT` and `new: TEXT`. Each crate is copied with the crates below it, whose libraries have to be built, and with
+what earlier checks kept in out/, so the files here stay as they are; N copies are tried side by side, as many as there
+are processors where nothing is said. Edits of functions that do not call one another are tried in one check, up to 40
+at once. It checks those functions alone, and takes all others by what they state, without their proofs: a contract is
+all that others see of a function, so none hides or helps another. What such a check does not settle, and what stands in
+no function, is tried alone, by a check of the whole crate, which is proved as it is before. Of each edit it tells how
+it was refused:
 
     by a goal             a goal of the function that the edit stands in has no proof; it is named
     by a goal, beside ..  so too, but a proof of that function, written by hand, does not fit the edited text either:
@@ -28,20 +30,25 @@ import pathlib
 import re
 import shutil
 import subprocess
+import sys
 import tempfile
 import threading
 import time
 from dataclasses import dataclass, field
 from typing import Collection, Dict, Iterator, List, Optional, Sequence, Set, Tuple
 
-from . import commands
+from . import commands, left_out
 from . import rattle_source as reading
 from .programs import TOP
 from .running import side_by_side
 
 PARTS = ("src", "specs", "proofs", "c")
 # The most edits that are tried in one copy of a crate, and in one check.
-EDITS_A_COPY, EDITS_A_CHECK = 48, 16
+EDITS_A_COPY, EDITS_A_CHECK = 160, 40
+# `rt`, which reads the files of each library once there.
+RT: Sequence[str] = (sys.executable, "-B", str(pathlib.Path(__file__).resolve().parent.parent / "build"), "--rt", "--")
+# Where checks keep their work, in a crate's folder.
+KEPT = "out/incremental"
 # What is told of a text that cannot be read; an edit that only makes a statement false reads well.
 UNREAD = re.compile(r"is not in scope|has no field|is no name|operand is missing|expected the end|cannot continue")
 # How an edit is refused.
@@ -49,7 +56,7 @@ BY_GOAL, BESIDE, ELSEWHERE = "refused by a goal", "refused by a goal, beside a p
 AT_LIMIT, BY_PROOF = "refused at a limit", "refused BY A PROOF FILE alone"
 # What a check prints of a goal that has no proof, then of its function; and of a proof that does not fit.
 GOAL = re.compile(r"note: \S+:\d+:\d+: .* \(`(\S+)`\)(.*)")
-FUNCTION = re.compile(r"fn (\S+): ")
+FUNCTION = re.compile(r"fn (\S+): (not proved|no proof)?")
 PROOF = re.compile(r"(?:\./)?(proofs/\S+)\.antt:\d+:\d+: error")
 Texts = Dict[pathlib.Path, str]
 printing = threading.Lock()
@@ -76,6 +83,14 @@ def link(source: str, target: str) -> None:
         shutil.copy2(source, target)
 
 
+def link_what_was_checked(source: str, target: str) -> None:
+    """Links what a check replaces, and never writes into; copies the rest."""
+    if source.endswith(".oantt"):
+        link(source, target)
+    else:
+        shutil.copy2(source, target)
+
+
 def copy(crate: str, others: Set[str], room: pathlib.Path) -> None:
     """A repository of the crate and those below it, with what was kept of them: of those below, their libraries
     alone."""
@@ -83,13 +98,12 @@ def copy(crate: str, others: Set[str], room: pathlib.Path) -> None:
     lines = (TOP / "crates.txt").read_text().splitlines()
     kept = [line for line in lines if line.partition(":")[0].strip() in others | {crate}]
     (room / "crates.txt").write_text("\n".join(kept) + "\n")
-    parts = [(name, part) for name in others | {crate}
-             for part in [*PARTS, "out/incremental" if name == crate else "out/rlib"]]
-    for name, part in parts:
+    how = {KEPT: link_what_was_checked, "out/rlib": link}
+    for name, part in [(name, part) for name in others | {crate}
+                       for part in [*PARTS, KEPT if name == crate else "out/rlib"]]:
         source = TOP / "crates" / name / part
         if source.is_dir():
-            copied = link if part == "out/rlib" else shutil.copy2
-            shutil.copytree(source, room / "crates" / name / part, copy_function=copied)
+            shutil.copytree(source, room / "crates" / name / part, copy_function=how.get(part, shutil.copy2))
 
 
 def texts_of(edit: pathlib.Path, folder: pathlib.Path, edited: Optional[Texts] = None) -> Tuple[Texts, Optional[str]]:
@@ -116,13 +130,15 @@ def texts_of(edit: pathlib.Path, folder: pathlib.Path, edited: Optional[Texts] =
     return texts, None if texts else "no 'old:' and 'new:' pair"
 
 
-def check(folder: pathlib.Path) -> Tuple[int, List[str]]:
-    """The status of a check, and the lines of what it told. Missing where there is no rt."""
-    try:
-        ran = subprocess.run(["rt", "check", "--jobs", "1"], cwd=folder, stdin=subprocess.DEVNULL,
-                             stdout=subprocess.PIPE, stderr=subprocess.STDOUT, text=True, errors="replace")
-    except FileNotFoundError:
-        raise commands.Missing("there is no rt on the path: the Rattle kit has it") from None
+def check(folder: pathlib.Path, functions: Collection[str] = ()) -> Tuple[int, List[str]]:
+    """The status of a check of the crate, or of these functions past the holes of others, and the lines of what it
+    told. Missing where there is no rt."""
+    if shutil.which("rt") is None:
+        raise commands.Missing("there is no rt on the path: the Rattle kit has it")
+    words = [word for function in sorted(functions) for word in ("--only", function)]
+    holes = ["--allow-holes"] if functions else []
+    ran = subprocess.run([*RT, "check", "--jobs", "1", *holes, *words], cwd=folder, stdin=subprocess.DEVNULL,
+                         stdout=subprocess.PIPE, stderr=subprocess.STDOUT, text=True, errors="replace")
     return ran.returncode, ran.stdout.splitlines()
 
 
@@ -165,6 +181,12 @@ def is_of(function: str, own: Collection[str]) -> bool:
     return any(re.search(r"(?:^|::)%s$|::fn::%s::" % (name, name), function) for name in own)
 
 
+def is_by(line: str, own: Collection[str]) -> bool:
+    """Whether a proof that does not fit is one of these functions."""
+    found = PROOF.match(line)
+    return found is not None and bool(set(found[1].split("/")) & set(own))
+
+
 def refusal(told: List[str], own: Collection[str]) -> Tuple[str, str]:
     """How a check refused an edit of these functions, and by what."""
     goals = list(open_goals(told))
@@ -174,91 +196,36 @@ def refusal(told: List[str], own: Collection[str]) -> Tuple[str, str]:
     function, name = (here + found + [goal[:2] for goal in goals] + [("", "")])[0]
     why = "`%s` of %s" % (name, function)
     if here:
-        is_beside = any(set(PROOF.match(line)[1].split("/")) & set(own) for line in proofs)
-        return BESIDE if is_beside else BY_GOAL, why
+        return BESIDE if any(is_by(line, own) for line in proofs) else BY_GOAL, why
     if found:
         return ELSEWHERE, why
     return (AT_LIMIT, why) if goals else (BY_PROOF, (proofs + ["no goal is open"])[0])
 
 
+def settled(told: List[str], own: Collection[str]) -> Optional[Tuple[str, str]]:
+    """How a check in which other functions are edited too refused an edit of these functions, where what it told of
+    them says so."""
+    goals = [goal for goal in open_goals(told) if is_of(goal[0], own)]
+    if goals:
+        of_limits = (AT_LIMIT, "`%s` of %s" % (goals[0][1], goals[0][0]))
+        return of_limits if all(is_at_limit for _, _, is_at_limit in goals) else refusal(told, own)
+    states = [(found[1], found[2]) for found in map(FUNCTION.match, told) if found and is_of(found[1], own)]
+    proofs = [line for line in told if PROOF.match(line) and is_by(line, own)]
+    return (BY_PROOF, proofs[0]) if proofs and any(state for _, state in states) else None
+
+
+def not_read(told: List[str], changed: Collection[str]) -> Optional[str]:
+    """The line that says that a check of edited files did not reach the prover, if it did not."""
+    unread = [line for line in told if is_unread(line, changed)]
+    judged = any(line.startswith(("logic=not-proved", "only=")) for line in told)
+    return unread[0] if unread else None if judged else (told or ["?"])[0]
+
+
 def verdict(status: int, told: List[str], changed: Collection[str], own: Collection[str]) -> Tuple[str, str]:
     if status == 0:
         return "PROVED", "the crate is still proved with this edit"
-    unread = [line for line in told if is_unread(line, changed)]
-    if unread or not any(line.startswith("logic=not-proved") for line in told):
-        return "BAD", "it did not reach the prover: %s" % (unread or told or ["?"])[0]
-    return refusal(told, own)
-
-
-@dataclass
-class Applied:
-    """Edits that stand in the files at once: the texts, and of each edit its files and its functions."""
-    texts: Texts = field(default_factory=dict)
-    edits: List[pathlib.Path] = field(default_factory=list)
-    files: List[Set[str]] = field(default_factory=list)
-    own: List[Set[str]] = field(default_factory=list)
-
-    def add(self, edit: pathlib.Path, folder: pathlib.Path) -> Optional[str]:
-        """Puts the edit to the others. Why it does not apply, if it does not."""
-        texts, why = texts_of(edit, folder, self.texts)
-        if why:
-            return why
-        were = {path: self.texts.get(path) or path.read_text() for path in texts}
-        self.edits.append(edit)
-        self.files.append({str(path.relative_to(folder)) for path in texts})
-        self.own.append({name for path, text in texts.items() for name in functions_at(path, were[path], text)})
-        self.texts.update(texts)
-        return None
-
-    def check(self, folder: pathlib.Path) -> Tuple[int, List[str]]:
-        """A check with these edits; then the files are as before."""
-        were = {path: path.read_text() for path in self.texts}
-        try:
-            for path, text in self.texts.items():
-                path.write_text(text)
-            return check(folder)
-        finally:
-            for path, text in were.items():
-                path.write_text(text)
-
-
-def attempt(edit: pathlib.Path, folder: pathlib.Path) -> Tuple[str, Optional[str]]:
-    """Tries the edit alone."""
-    applied = Applied()
-    why = applied.add(edit, folder)
-    if why:
-        return "BAD", why
-    return verdict(*applied.check(folder), applied.files[0], applied.own[0])
-
-
-def rounds_of(edits: List[pathlib.Path], folder: pathlib.Path) -> List[List[pathlib.Path]]:
-    """The edits in rounds, in each of which no two are of functions of one name."""
-    rounds: List[Applied] = []
-    for edit in edits:
-        alone = Applied()
-        if alone.add(edit, folder) is None and alone.own[0]:
-            fits = (it for it in rounds if len(it.edits) < EDITS_A_CHECK and all(it.own)
-                    and not any(own & alone.own[0] for own in it.own))
-            if any(it.add(edit, folder) is None for it in fits):
-                continue
-        alone.edits, alone.own = [edit], alone.own or [set()]
-        rounds.append(alone)
-    return [it.edits for it in rounds]
-
-
-def at_once(edits: List[pathlib.Path], folder: pathlib.Path) -> Dict[pathlib.Path, Tuple[str, Optional[str]]]:
-    """Of the edits, tried in one check, those that it shows to be refused by a goal of their own."""
-    applied = Applied()
-    for edit in edits:
-        applied.add(edit, folder)
-    status, told = applied.check(folder)
-    found: Dict[pathlib.Path, Tuple[str, Optional[str]]] = {}
-    if status and verdict(status, told, set().union(*applied.files), set())[0] != "BAD":
-        for edit, own in zip(applied.edits, applied.own):
-            word, why = refusal(told, own)
-            if word in (BY_GOAL, BESIDE):
-                found[edit] = word, why
-    return found
+    why = not_read(told, changed)
+    return ("BAD", "it did not reach the prover: %s" % why) if why else refusal(told, own)
 
 
 def tell(crate: str, what: str, word: str, start: float, why: Optional[str]) -> None:
@@ -267,32 +234,166 @@ def tell(crate: str, what: str, word: str, start: float, why: Optional[str]) -> 
         print("%s/%s: %s (%.0f s)%s" % (crate, what, word, time.monotonic() - start, reason), flush=True)
 
 
+@dataclass
+class Copied:
+    """A copy of a crate, its functions, and whether the crate as it is was found to be proved."""
+    folder: pathlib.Path
+    bodies: List[left_out.Body] = field(default_factory=list)
+    proved: Optional[bool] = None
+
+    def functions(self, file: str, own: Collection[str]) -> List[left_out.Body]:
+        """The functions of a file with these names."""
+        module = left_out.module(pathlib.PurePath(file).relative_to("src")) if file.startswith("src/") else None
+        return [body for body in self.bodies if body.module == module and body.name in own]
+
+    def check(self, functions: Collection[str]) -> Tuple[int, List[str]]:
+        """A check of these functions without the proofs of the others, or of the whole crate."""
+        proofs, kept = self.folder / "proofs", self.folder / "out" / "proofs"
+        if not kept.is_dir():
+            proofs.mkdir(exist_ok=True)
+            shutil.copytree(proofs, kept)
+        shutil.rmtree(proofs, ignore_errors=True)
+        shutil.copytree(kept, proofs)
+        if functions:
+            left_out.leave_out(self.folder, functions)
+        return check(self.folder, functions)
+
+    def is_proved(self) -> bool:
+        """Whether the crate as it is is proved, which is told once."""
+        if self.proved is None:
+            start = time.monotonic()
+            status, told = self.check(())
+            self.proved = status == 0
+            word, why = ("proved", None) if self.proved else ("NOT PROVED", (told or ["?"])[-1])
+            tell(self.folder.name, "as it is", word, start, why)
+        return self.proved
+
+
+@dataclass
+class Applied:
+    """Edits that stand in the files at once: the texts, and of each edit its files, the names of its functions, these
+    as a check names them, where each can be checked alone, and what they call."""
+    texts: Texts = field(default_factory=dict)
+    edits: List[pathlib.Path] = field(default_factory=list)
+    files: List[Set[str]] = field(default_factory=list)
+    own: List[Set[str]] = field(default_factory=list)
+    functions: List[Set[str]] = field(default_factory=list)
+    calls: List[Set[str]] = field(default_factory=list)
+
+    def add(self, edit: pathlib.Path, copied: Copied) -> Optional[str]:
+        """Puts the edit to the others. Why it does not apply, if it does not."""
+        texts, why = texts_of(edit, copied.folder, self.texts)
+        if why:
+            return why
+        own = {str(path.relative_to(copied.folder)):
+               functions_at(path, self.texts.get(path) or path.read_text(), text) for path, text in texts.items()}
+        self.edits.append(edit)
+        self.files.append(set(own))
+        self.own.append(set().union(*own.values()))
+        found = [body for file, names in own.items() for body in copied.functions(file, names)]
+        names = {body.place.printed(copied.folder.name) for body in found if body.place}
+        can_be_alone = all(own.values()) and all(body.place and not body.is_recursive for body in found)
+        self.functions.append(names if can_be_alone else set())
+        self.calls.append(set().union(*(body.calls for body in found)))
+        self.texts.update(texts)
+        return None
+
+    def fits(self, other: Applied) -> bool:
+        """Whether another edit's functions, and none of these, can be checked at once: they are others, and call none
+        of one another."""
+        own, calls = other.own[0], other.calls[0]
+        return len(self.edits) < EDITS_A_CHECK and all(self.functions) and not any(
+            own & mine or own & called or mine & calls for mine, called in zip(self.own, self.calls))
+
+    def check(self, copied: Copied, functions: Collection[str]) -> Tuple[int, List[str]]:
+        """A check with these edits; then the files are as before."""
+        were = {path: path.read_text() for path in self.texts}
+        try:
+            for path, text in self.texts.items():
+                path.write_text(text)
+            return copied.check(functions)
+        finally:
+            for path, text in were.items():
+                path.write_text(text)
+
+
+Outcome = Tuple[str, Optional[str]]
+
+
+def attempt(edit: pathlib.Path, copied: Copied) -> Outcome:
+    """Tries the edit alone, by a check of the whole crate."""
+    applied = Applied()
+    why = applied.add(edit, copied)
+    if why or not copied.is_proved():
+        return "BAD", why or "the crate is not proved as it is"
+    return verdict(*applied.check(copied, ()), applied.files[0], applied.own[0])
+
+
+def rounds_of(edits: List[pathlib.Path], copied: Copied) -> List[List[pathlib.Path]]:
+    """The edits in rounds, in each of which no two hide one another."""
+    rounds: List[Applied] = []
+    for edit in edits:
+        alone = Applied()
+        if alone.add(edit, copied) is None and alone.functions[0]:
+            if any(it.add(edit, copied) is None for it in rounds if it.fits(alone)):
+                continue
+        alone.edits, alone.functions = [edit], alone.functions or [set()]
+        rounds.append(alone)
+    return [it.edits for it in rounds]
+
+
+def at_once(edits: List[pathlib.Path], copied: Copied) -> Dict[pathlib.Path, Outcome]:
+    """What a check with these edits of functions settles of each. Where one cannot be read, each is tried in a check
+    of its own."""
+    applied = Applied()
+    for edit in edits:
+        applied.add(edit, copied)
+    if not applied.functions or not all(applied.functions):
+        return {}
+    status, told = applied.check(copied, set().union(*applied.functions))
+    if status and not_read(told, set().union(*applied.files)):
+        return {edit: word for one in edits for edit, word in at_once([one], copied).items()} if len(edits) > 1 else {}
+    found = [(edit, settled(told, own)) for edit, own in zip(applied.edits, applied.own)]
+    return {edit: outcome for edit, outcome in found if outcome}
+
+
 def try_edits(crate: str, others: Set[str], edits: List[pathlib.Path]) -> List[str]:
     """The words that these edits of the crate came to."""
     words = []
     with tempfile.TemporaryDirectory(prefix="planted-") as room:
-        folder, start = pathlib.Path(room) / "crates" / crate, time.monotonic()
+        copied = Copied(pathlib.Path(room) / "crates" / crate)
         copy(crate, others, pathlib.Path(room))
-        status, told = check(folder)
-        if status:
-            tell(crate, "as it is", "NOT PROVED", start, told[-1] if told else "")
-            return ["BAD"]
-        for at_a_time in rounds_of(edits, folder):
+        copied.bodies = left_out.bodies(copied.folder)
+        for at_a_time in rounds_of(edits, copied):
             start = time.monotonic()
-            found = at_once(at_a_time, folder) if len(at_a_time) > 1 else {}
+            found = at_once(at_a_time, copied)
             for edit in at_a_time:
-                word, why = found.get(edit) or attempt(edit, folder)
+                word, why = found.get(edit) or attempt(edit, copied)
                 words.append(word)
                 tell(crate, edit.stem, word, start, why)
     return words
 
 
-def parts_of(crates: Sequence[str]) -> List[Tuple[str, List[pathlib.Path]]]:
-    """The edits of the crates, or of all, in parts for a copy each; those with the most edits first."""
-    edits = {crate: sorted((TOP / "crates" / crate / "planted").glob("*.edit")) for crate in crates}
+def parts_of(edits: Dict[str, List[pathlib.Path]]) -> List[Tuple[str, List[pathlib.Path]]]:
+    """The edits of the crates in parts for a copy each; those with the most edits first."""
     parts = [(crate, edits[crate][at:at + EDITS_A_COPY]) for crate in edits
              for at in range(0, len(edits[crate]), EDITS_A_COPY)]
     return sorted(parts, key=lambda part: -len(part[1]))
+
+
+def asked_edits(words: Sequence[str], crates: Collection[str]) -> Dict[str, List[pathlib.Path]]:
+    """The edits that are asked for, by their crates. Raises ValueError for a word that is neither a crate nor the file
+    of an edit in one."""
+    found: Dict[str, List[pathlib.Path]] = {}
+    for word in words or list(crates):
+        path = pathlib.Path(word).resolve()
+        if word in crates:
+            found.setdefault(word, []).extend(sorted((TOP / "crates" / word / "planted").glob("*.edit")))
+        elif word.endswith(".edit") and path.is_file() and path.parent.parent.name in crates:
+            found.setdefault(path.parent.parent.name, []).append(path)
+        else:
+            raise ValueError("crates.txt has no %s, and it is no edit of a crate" % word)
+    return found
 
 
 def counted(came: Sequence[str]) -> int:
@@ -310,12 +411,13 @@ def counted(came: Sequence[str]) -> int:
 def main(words: Sequence[str]) -> int:
     """The command."""
     asked = commands.parser(__doc__)
-    asked.add_argument("crates", nargs="*", metavar="CRATE")
-    crates, stands_on = asked.parse_args(words).crates, below()
-    unknown = [crate for crate in crates if crate not in stands_on]
-    if unknown:
-        asked.error("crates.txt has no %s" % " ".join(unknown))
-    parts = parts_of(crates or list(stands_on))
-    tried = side_by_side(lambda part: try_edits(part[0], stands_on[part[0]], part[1]), parts)
+    asked.add_argument("--jobs", type=commands.number, default=0, metavar="N")
+    asked.add_argument("crates", nargs="*", metavar="CRATE | EDIT")
+    chosen, stands_on = asked.parse_args(words), below()
+    try:
+        parts = parts_of(asked_edits(chosen.crates, stands_on))
+    except ValueError as wrong:
+        asked.error(str(wrong))
+    tried = side_by_side(lambda part: try_edits(part[0], stands_on[part[0]], part[1]), parts, jobs=chosen.jobs)
     came = [word for some in tried for word in some]
     return counted(came)

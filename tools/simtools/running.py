@@ -30,8 +30,8 @@ def run(words: Sequence[Word], given: bytes = b"", **more: Any) -> Ran:
     return Ran(ran.stdout or b"", ran.stderr or b"", ran.returncode)
 
 
-def side_by_side(work: Callable[..., Result], *each: Iterable[Any]) -> Iterator[Result]:
-    """What the work comes to for each, in order, as many at once as there are processors. What is not begun when the
-    caller stops reading is left out."""
-    with concurrent.futures.ThreadPoolExecutor(len(os.sched_getaffinity(0))) as pool:
+def side_by_side(work: Callable[..., Result], *each: Iterable[Any], jobs: int = 0) -> Iterator[Result]:
+    """What the work comes to for each, in order, so many at once, or as many as there are processors. What is not begun
+    when the caller stops reading is left out."""
+    with concurrent.futures.ThreadPoolExecutor(jobs or len(os.sched_getaffinity(0))) as pool:
         yield from pool.map(work, *each)

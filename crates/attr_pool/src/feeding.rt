@@ -1,4 +1,5 @@
-//! What a hash reads of attributes, in words of eight bytes: a hasher takes these whole, and shorter pieces byte by byte.
+//! What a hash reads of attributes, in words of eight bytes: a hasher takes these whole, and shorter pieces byte by
+//! byte.
 
 ghost use Rattle.std.specs.Prelude.{◌≡◌, ◌++◌, fold};
 ghost use Rattle.std.specs.List.{flat_map};

@@ -77,7 +77,8 @@ fn best_place(med_always: bool, entries: &[(Source, Standing)]) -> u32
     best_position(med_always, entries) as u32
 }
 
-/// The position of the best once an entry was put in at a position, where the best of the others stood at the other one.
+/// The position of the best once an entry was put in at a position, where the best of the others stood at the other
+/// one.
 fn best_beside(med_always: bool, entries: &[(Source, Standing)], at: usize, best: u32) -> u32
     requires ranked { AreRanked med_always entries.now }
     requires few { length entries.now ≤ most_entries }

@@ -158,8 +158,8 @@ pub(crate) fn best_position(med_always: bool, entries: &[(Source, Standing)]) ->
     best
 }
 
-/// Whether the best of the others stays the best beside a new entry: it does where that is excluded, and where its route
-/// is not ahead without MED, and does not lead the best one's group.
+/// Whether the best of the others stays the best beside a new entry: it does where that is excluded, and where its
+/// route is not ahead without MED, and does not lead the best one's group.
 pub(crate) fn keeps_best(
     med_always: bool,
     new: Option<&Candidate>,

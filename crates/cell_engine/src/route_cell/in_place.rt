@@ -156,8 +156,8 @@ fn receive(
     Ok(sends)
 }
 
-/// Takes the message into the choice, which compares as the router does, and into the routes that were received. What is
-/// sent for it is admitted, and has places. An error changes neither.
+/// Takes the message into the choice, which compares as the router does, and into the routes that were received. What
+/// is sent for it is admitted, and has places. An error changes neither.
 fn take_news<S: Selector>(
     alloc: Global,
     site: &SiteConf,
