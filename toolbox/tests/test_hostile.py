@@ -84,7 +84,7 @@ class Growths(Case):
     def test_what_a_copy_may_write(self):
         tried = refuse_growths.Growths("", (), refuse_growths.Case("here", [b"a\n"], b""), None)
         want = refuse_growths.WANT
-        one = refuse_growths.Expected(b"a\n", 2, want + b"x\n", b"ok\nx\n")
+        one = refuse_growths.Expected(b"a\n", 2, [want + b"x\n"], b"ok\nx\n")
         for out, is_refused, status, is_well in (
                 (want + b"x\n", True, 0, True), (want + b"x\n", False, 0, False), (want + b"y\n", True, 0, False),
                 (b"ok\nx\n", True, 0, True), (b"ok\nx\n", False, 0, True), (b"ok\ny\n", True, 0, False),
@@ -93,12 +93,35 @@ class Growths(Case):
             self.assertEqual(told == [], is_well, (out, is_refused, status))
 
     def test_who_may_want_memory(self):
+        tried = refuse_growths.Growths("", (), refuse_growths.Case("here", [], b""), None)
         for line, reply, may in ((b"feed 1.0.0.1 2.0.0.1 update x", b"refused 19 limit\n", True),
                                  (b"feed 1.0.0.1 2.0.0.1 update x", b"refused 1 syntax\n", False),
                                  (b"feed 1.0.0.1 2.0.0.1 withdraw x", b"refused 2 no-router\n", False),
                                  (b"router x", b"refused 3 router-exists\n", False), (b"router x", b"ok\n", True),
                                  (b"quiet", b"yes\n", False)):
-            self.assertEqual(refuse_growths.may_want(refuse_growths.Expected(line, 1, b"", reply)), may, line)
+            self.assertEqual(tried.may_want(refuse_growths.Expected(line, 1, [], reply)), may, line)
+
+    def test_calls_of_a_room(self):
+        path = self.file("here.calls", "# a comment\njob\n> none\nopen\nbook\n> edits 0\n> ok\n")
+        case = refuse_growths.calls_in(path)
+        self.assertEqual(case.lines, [b"# a comment\n", b"job\n", b"open\n", b"book\n"])
+        self.assertEqual(case.replies, b"none\nok\nedits 0\nok\n")
+        room = refuse_growths.RoomGrowths("", (), case, None)
+        for reply, may in ((b"none\n", False), (b"stale: edits 1, now 2\n", False), (b"edits 0\n", False),
+                           (b"refused 1 syntax\n", False), (b"refused 2 no-router\n", True), (b"yes\n", True),
+                           (b"stale: no message\n", True), (b"done\n", True)):
+            self.assertEqual(room.may_want(refuse_growths.Expected(b"x\n", 1, [], reply)), may, reply)
+
+    def test_calls_that_are_made_together(self):
+        """Of two deliveries none or one is made where memory was refused; the third is not there."""
+        room = refuse_growths.RoomGrowths("", (), refuse_growths.Case("here", [], b""), None)
+        given = room.once(refuse_growths.TOGETHER)
+        self.assertEqual([one.count(b"commit\n") for one in given], [0, 1, 2, 3])
+        self.assertEqual([one.count(b"commit\n") for one in room.once(b"quiet\n")], [0])
+        two = b"from a to b\ndone\ntook p update\n"
+        once = [b"0\nok\n2\n", two + b"1\nok\n2\n", 2 * two + b"2\nok\n2\n", 2 * two + b"none\nnone\nnone\n2\nok\n2\n"]
+        left = room.left(refuse_growths.TOGETHER, b"ok\n2\nok\n2\n", once)
+        self.assertEqual(left, [refuse_growths.WANT + b"0\nok\n2\n", refuse_growths.WANT + b"1\nok\n2\n"])
 
     def test_questions_ask_for_all_there_is(self):
         asked = refuse_growths.questions([b"router 1.0.0.1 1\n", b"virtual 2.0.0.1 2\n", b"join 1.0.0.1 2.0.0.1\n",

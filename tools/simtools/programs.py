@@ -13,6 +13,8 @@ TOP = pathlib.Path(__file__).resolve().parent.parent.parent
 MODEL = (sys.executable, str(TOP / "tools" / "model.py"))
 # The machines that machine_scripts serves a script by.
 MACHINES = ("plain", "sorted", "trie")
+# And what has it take lines as calls of a room.
+ROOM = "room"
 MACHINE_SCRIPTS = TOP / "crates" / "machine_scripts" / "out" / "machine_scripts"
 
 

@@ -1,17 +1,19 @@
-"""Refuses each growth of memory in turn, of each line of a script, of its log and of a team.
+"""Refuses each growth of memory in turn, of each line of a script, of its log and of a team, and of each call of a room.
 
     tools/refuse-growths                   the worked scripts of cases/, their logs, some growths of their teams and of
-                                           edits that threads decide: a part of the gate
+                                           edits that threads decide, and tools/calls: a part of the gate
     tools/refuse-growths --all             all growths of these
-    tools/refuse-growths [--all] PATH..    those of cases, or folders of them
+    tools/refuse-growths [--all] PATH..    those of cases, or folders of them, and of lists of calls (NAME.calls)
 
 Of each line on the program and on the three machines the first allocation is refused, then the second, until a run
 meets none. Each time the line is answered as its case wants it, or `refused 20 memory`, and so only where an
 allocation was refused; after that every question is answered as before, and the line, given again, as its case wants
 it. A line that the case wants refused otherwise stays refused so, but the feed of a route. `bgpsim replay` ends with
 `memory` or as ever, of each line of the script's log; and so does a team of one engineer and two workers, whose log
-has no call that was refused. It needs cc. The last line is `N passed, M failed`. PROGRAM= is another program than
-crates/bgpsim/out/bgpsim, which is then tried alone.
+has no call that was refused. A room (`machine_scripts room`) takes each line of a script as a call of `Room::step`, and
+those of tools/calls as calls of its others and of `Desk::open`; beside every question its history, seats, what is in
+hand, the log at its end and how many routes were decided anew are as before. It needs cc. The last line is
+`N passed, M failed`. PROGRAM= is another program than crates/bgpsim/out/bgpsim, which is then tried alone.
 """
 from __future__ import annotations
 
@@ -32,6 +34,14 @@ WORKED = ("rows", "selection", "reflection", "refusals/refusals.bgp", "memory")
 THREADS = "threads"
 WANT = b"refused 20 memory\n"
 QUESTIONS = ("routes", "best", "why", "in", "out", "queue", "quiet", "cost", "trace")
+CALLS, OF_CALLS = TOP / "tools" / "calls", ".calls"
+# What is asked of a room beside all questions, and how a copy of it ends: with its log and its count.
+BOOK, CLOSE = b"book\n", b"close\n"
+# The calls that deliver one message each; of several that are made together the first may be put in when memory is
+# refused to the next.
+DELIVERY, TOGETHER, MOST_TOGETHER = b"job\nwork\ncommit\n", b"turns\n", 4
+# The answers of a room that no memory is needed for, beside a fault of syntax.
+WITHOUT_MEMORY = (b"refused 1 ", b"none\n", b"stale: edits ", b"edits ")
 # Of a script of more lines only the edits among the last so many are tried, and asked what it asks itself.
 LONG, LAST = 500, 60
 # So many growths of such an edit are enough for the gate.
@@ -40,6 +50,8 @@ ENOUGH = 40
 TEAMS_STEP = 7
 MOST_TOLD = 5
 MEMORY = 5 << 8
+# Of a program that ended too early.
+NO_COPY = Copy(b"", b"", 0, False, 0)
 Words = Tuple[str, ...]
 # What is wrong, in lines, and how the runs ended in which an allocation was refused.
 Came = Tuple[List[str], Counter[str]]
@@ -64,10 +76,10 @@ class Case(NamedTuple):
 
 
 class Expected(NamedTuple):
-    """Of a line: how many allocations it makes; what a copy has to write where one is refused, and where none is."""
+    """Of a line: how many allocations it makes; what a copy may write where one is refused, and has to where none is."""
     line: bytes
     made: int
-    refused: bytes
+    refused: List[bytes]
     ever: bytes
 
 
@@ -104,10 +116,12 @@ def own_questions(lines: Iterable[bytes]) -> bytes:
 
 class Growths:
     """A script on a program, with what each of its lines has to come to."""
+    # What else is asked after each line, and how a copy ends.
+    more, end = b"", b""
 
     def __init__(self, library: str, words: Words, case: Case, enough: Optional[int]):
         self.library, self.words, self.case, self.enough = library, words, case, enough
-        self.asked = own_questions(case.lines) if case.is_long() else questions(case.lines)
+        self.asked = (own_questions(case.lines) if case.is_long() else questions(case.lines)) + self.more
         self.counts: Counter[str] = collections.Counter()
 
     def run(self, blocks: Callable[[int], bytes]) -> growths.Tried:
@@ -116,19 +130,33 @@ class Growths:
         return tried(self.library, self.words, b"".join(
             (blocks(i) if i in numbers else b"") + line for i, line in enumerate(self.case.lines)))
 
+    def twice(self, n: int, line: bytes) -> bytes:
+        """A copy that is given the line two times, each time with all questions, allocation n of the first refused."""
+        return block(n, 2 * (line + self.asked) + self.end)
+
+    def once(self, line: bytes) -> List[bytes]:
+        """What copies are given that show what is left where a line was refused, and then was not."""
+        return [self.asked + line + self.asked + self.end]
+
     def expected(self) -> Tuple[List[Expected], List[str]]:
         """What each line that is tried has to come to, by copies in which nothing is refused; and what is wrong with
         those, in lines."""
-        asked, lines = self.asked, self.case.lines
-        ran = self.run(lambda i: block(0, asked) + block(0, lines[i] + asked) + block(0, 2 * (lines[i] + asked)))
+        lines = [self.case.lines[i] for i in self.case.tries()]
+        ran = self.run(lambda i: self.twice(0, self.case.lines[i]) + b"".join(
+            block(0, given) for given in self.once(self.case.lines[i])))
         wrong = ["with nothing refused: status %d, %r" % (ran.status, ran.err)] if ran.status or ran.err else []
         if ran.own() != self.case.replies:
             wrong.append("with nothing refused it does not answer what its case wants")
-        wrong += ["%r is told that memory was wanted, and none was refused" % lines[i]
-                  for i, one in zip(self.case.tries(), ran.copies[2::3]) if WANT in one.out]
-        copies = zip(self.case.tries(), ran.copies[0::3], ran.copies[1::3], ran.copies[2::3])
-        return [Expected(lines[i], twice.made, WANT + before.out + once.out, twice.out)
-                for i, before, once, twice in copies], wrong
+        copies = iter(ran.copies)
+        found = [(line, [next(copies, NO_COPY) for _ in range(1 + len(self.once(line)))]) for line in lines]
+        wrong += ["%r is told that memory was wanted, and none was refused" % line
+                  for line, (twice, *_) in found if WANT in twice.out]
+        return [Expected(line, twice.made, self.left(line, twice.out, [copy.out for copy in once]), twice.out)
+                for line, (twice, *once) in found], wrong
+
+    def left(self, line: bytes, ever: bytes, once: List[bytes]) -> List[bytes]:
+        """What a copy may write where the line was refused."""
+        return [WANT + out for out in once]
 
     def numbers(self, count: int) -> List[int]:
         """Which allocations are refused of so many, and the first that is not there."""
@@ -144,8 +172,7 @@ class Growths:
         if wrong:
             return wrong, self.counts
         blocks = {i: [(n, one) for n in self.numbers(one.made)] for i, one in zip(self.case.tries(), expected)}
-        ran = self.run(lambda i: b"".join(
-            block(n, 2 * (one.line + self.asked)) for n, one in blocks[i]))
+        ran = self.run(lambda i: b"".join(self.twice(n, one.line) for n, one in blocks[i]))
         tries = [pair for i in self.case.tries() for pair in blocks[i]]
         for (n, one), copy in zip(tries, ran.copies):
             wrong += self.judged(n, one, copy)
@@ -158,18 +185,54 @@ class Growths:
         if copy.status == 0 and copy.out == one.ever:
             self.counts["as ever"] += copy.is_refused
             return []
-        if copy.status == 0 and copy.is_refused and may_want(one) and copy.out == one.refused:
+        if copy.status == 0 and copy.is_refused and self.may_want(one) and copy.out in one.refused:
             self.counts["refused 20, and done when asked again"] += 1
             return []
         return ["allocation %d of %r refused: status %d, %r" % (n, one.line, copy.status, copy.out[:300])]
 
+    def may_want(self, one: Expected) -> bool:
+        """Whether the line may be answered 20: its case has it done, and it is not `quiet`; or it is the feed of a
+        route, which takes memory before anything but its syntax is tested."""
+        if one.ever.startswith(b"refused "):
+            return one.line.split()[0::3][:2] == [b"feed", b"update"] and not one.ever.startswith(b"refused 1 ")
+        return word(one.line) != "quiet"
 
-def may_want(one: Expected) -> bool:
-    """Whether the line may be answered 20: its case has it done, and it is not `quiet`; or it is the feed of a route,
-    which takes memory before anything but its syntax is tested."""
-    if one.ever.startswith(b"refused "):
-        return one.line.split()[0::3][:2] == [b"feed", b"update"] and not one.ever.startswith(b"refused 1 ")
-    return word(one.line) != "quiet"
+
+class RoomGrowths(Growths):
+    """A script, or other calls, in a room, whose history keeps each call."""
+    more, end = BOOK, CLOSE
+
+    def once(self, line: bytes) -> List[bytes]:
+        first = super().once(line)[0]
+        return [n * DELIVERY + first for n in range(MOST_TOGETHER if line == TOGETHER else 1)]
+
+    def left(self, line: bytes, ever: bytes, once: List[bytes]) -> List[bytes]:
+        """Where calls are made together, so many of the first were, but not all; and where memory was wanted for a
+        job behind the first, so few were taken, and all of these were committed."""
+        if line != TOGETHER:
+            return super().left(line, ever, once)
+        cut = [out.split(b"\n", 3 * n) for n, out in enumerate(once)]
+        few = [lines[-1] for lines in cut if b"none" not in lines[:-1]]
+        few = [out for out in few if out != ever.split(b"\n", 1)[1]]
+        return [WANT + out for out in few] + [b"ok\n" + out for out in few[1:]]
+
+    def may_want(self, one: Expected) -> bool:
+        """All that a room keeps takes memory, be it refused."""
+        return not one.ever.startswith(WITHOUT_MEMORY)
+
+
+def calls_in(path: pathlib.Path) -> Case:
+    """A list of calls. The replies to each stand under it, behind `> `; without any it is `ok`. A comment has none."""
+    lines: List[bytes] = []
+    replies: List[List[bytes]] = []
+    for line in path.read_bytes().splitlines(keepends=True):
+        if line.startswith(b"> "):
+            replies[-1].append(line[2:])
+        else:
+            lines.append(line)
+            replies.append([])
+    wanted = [b"".join(told) or (b"" if line.startswith(b"#") else b"ok\n") for line, told in zip(lines, replies)]
+    return Case(run_cases.name(path), lines, b"".join(wanted))
 
 
 # A log
@@ -262,17 +325,22 @@ def cases_at(paths: Iterable[pathlib.Path]) -> Iterator[Case]:
             yield Case(run_cases.name(path), run_cases.given(path).splitlines(keepends=True), wanted.out)
 
 
-def tries(cases: Sequence[Case], are_all: bool, library: str, refusing: Refuser) -> Iterator[Tuple[str, Try]]:
+def tries(cases: Sequence[Case], calls: Sequence[Case], are_all: bool, library: str,
+          refusing: Refuser) -> Iterator[Tuple[str, Try]]:
     """What is tried, by names."""
     on: List[Words] = [(programs.bgpsim(), "script")]
+    room: List[Words] = []
     if not programs.is_chosen():
         on += [(programs.machine_scripts(), machine) for machine in programs.MACHINES]
-    for words in on:
+        room = [(programs.machine_scripts(), programs.ROOM)]
+    for words in on + room:
         yield "%s, before a line" % words[1], partial(beginning_faults, refusing, words)
     for case, words in ((case, words) for case in cases for words in on):
         enough = None if are_all or not case.is_long() else ENOUGH
         yield "%s, %s" % (case.name, words[1]), Growths(library, words, case, enough).faults
     short = [case for case in cases if not case.is_long()]
+    for case, words in ((case, words) for case in [*calls, *short] for words in room):
+        yield "%s, %s" % (case.name, words[1]), RoomGrowths(library, words, case, None).faults
     for number, case in enumerate(short):
         log = logs.log_of(b"".join(case.lines).decode("latin-1"), 3)
         yield "%s, replay" % case.name, Replay(library, log).faults
@@ -283,17 +351,23 @@ def called(named: Tuple[str, Try]) -> Came:
     return named[1]()
 
 
-def refuse(paths: Iterable[pathlib.Path], are_all: bool) -> int:
-    cases, failed = list(cases_at(paths)), 0
+def refuse(paths: Sequence[pathlib.Path], are_all: bool) -> int:
+    calls = sorted(file for path in paths for file in ([path] if path.is_file() else path.glob("*" + OF_CALLS))
+                   if file.suffix == OF_CALLS)
+    cases, failed = list(cases_at(path for path in paths if path not in calls and path != CALLS)), 0
     counts: Counter[str] = collections.Counter()
+    refusals: Counter[str] = collections.Counter()
     with growths.library() as library, refuser() as refusing:
-        named = list(tries(cases, are_all, library, refusing))
+        named = list(tries(cases, list(map(calls_in, calls)), are_all, library, refusing))
         for (name, _), (wrong, ended) in zip(named, side_by_side(called, named)):
             failed += bool(wrong)
             counts.update(ended)
+            refusals[name.split(", ")[-1]] += sum(ended.values())
             print("".join("FAILED %s: %s\n" % (name, line) for line in wrong[:MOST_TOLD]), end="", flush=True)
+    idle = [where for where, count in refusals.items() if not count]
+    print("".join("FAILED %s: no allocation was refused: %s\n" % (where, growths.SOURCE.name) for where in idle), end="")
     print("allocations refused: " + ", ".join("%s: %d" % one for one in sorted(counts.items())))
-    return commands.counted(len(named) - failed, failed)
+    return commands.counted(len(named) - failed, failed + len(idle))
 
 
 def main(words: Sequence[str]) -> int:
@@ -302,5 +376,5 @@ def main(words: Sequence[str]) -> int:
     asked.add_argument("--all", action="store_true")
     asked.add_argument("paths", nargs="*", type=pathlib.Path, metavar="PATH")
     given = asked.parse_args(words)
-    default = [TOP / "cases" / name for name in WORKED + (THREADS,)]
+    default = [CALLS] + [TOP / "cases" / name for name in WORKED + (THREADS,)]
     return commands.as_part(lambda: refuse([path.resolve() for path in given.paths] or default, given.all))

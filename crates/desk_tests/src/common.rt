@@ -1,11 +1,11 @@
 //! What several modules use: the desk of the program's engine, and calls and replies as text.
 
-ghost use Rattle.std.specs.Prelude.{◌≡◌};
+ghost use Rattle.std.specs.Prelude.{◌≡◌, ◌<◌};
 ghost use Rattle.desk.specs.Desks.{IsDeskLedger};
 
 use cell_engine::Cell;
 use command_text::read_line;
-use desk::{Desk, Gate, OpenFault, Record, Room, Seat};
+use desk::{Desk, Done, Gate, OpenFault, Record, Room, Seat};
 use log_replay::{Replayed, replay};
 use log_text::write_log;
 use prefix_table::{SortedTable, TrieTable};
@@ -72,6 +72,13 @@ impl Gate for Open {
     fn may_hold(&self) -> bool {
         false
     }
+}
+
+/// Takes a job, and works it.
+pub fn worked<L: Ledger, R: Wait>(rt: &R, desk: &GroupDesk<L>) -> Option<Done<GroupCell>>
+    requires { 0 < desk.now.shards }
+{
+    desk.take(rt, 0).ok()??.work().ok()
 }
 
 /// Makes the calls from the seat, one after another. Whether each gets its reply.

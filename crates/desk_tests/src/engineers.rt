@@ -52,7 +52,7 @@ fn two_engineers<L: Ledger + Send + Sync, R: Threads + Wait + Abort + Sync>(
     closes_with_all_seats(rt, alloc, desk.end(), seats, 9);
 }
 
-/// The room is not closed while a seat is missing, which hands back room and seats; with all of them it is.
+/// The room is not closed while its last seat is missing, which hands back room and seats; with all of them it is.
 fn closes_with_all_seats<L: Ledger, R: Threads + Abort + Sync>(
     rt: &R,
     alloc: Global,
@@ -61,6 +61,7 @@ fn closes_with_all_seats<L: Ledger, R: Threads + Abort + Sync>(
     entries: u64,
 ) {
     let last = seats.pop().expect(rt, "a last seat");
+    assert_eq!(rt; usize::from(last.number()), seats.len());
     let left = room.close(seats).err().expect(rt, "a seat is missing");
     let CloseFault {
         fault,
@@ -121,14 +122,12 @@ fn with_workers<L: Ledger + Send + Sync, R: Threads + Wait + Abort + Sync>(
 )
     requires ledger { IsDeskLedger blank.name blank.parts L.name L.parts }
 {
-    let (desk, mut workers) = opened::<L, R>(rt, alloc, 4, 2, blank);
-    let mut seats = Vec::new(alloc);
-    seats
-        .push(workers.pop().expect(rt, "a seat"))
-        .expect(rt, "memory");
-    seats
-        .push(workers.pop().expect(rt, "a seat"))
-        .expect(rt, "memory");
+    let (desk, mut seats) = opened::<L, R>(rt, alloc, 4, 2, blank);
+    let last = seats.pop().expect(rt, "a seat");
+    let third = seats.pop().expect(rt, "a seat");
+    let mut workers = Vec::new(alloc);
+    workers.push(third).expect(rt, "memory");
+    workers.push(last).expect(rt, "memory");
     let (made, mut workers) = join(
         rt,
         || {

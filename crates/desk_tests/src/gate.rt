@@ -2,8 +2,8 @@
 
 ghost use Rattle.desk.specs.Desks.{IsDeskLedger};
 
-use crate::common::{Asked, GroupDesk, STAR, are_answered, is_answered, opened};
-use desk::{Gate, Seat, run_workers};
+use crate::common::{Asked, GroupDesk, STAR, are_answered, is_answered, opened, worked};
+use desk::{Committed, Gate, Newer, Seat, run_workers};
 use std::alloc::Global;
 use std::marker::Brand;
 use std::process::Abort;
@@ -110,7 +110,8 @@ fn meet<L: Ledger + Send + Sync, R: Threads + Wait + Abort + Sync>(
     assert!(rt; are_answered(rt, alloc, &desk, &mut engineer, &TAKEN));
 }
 
-/// Edits the configuration while worker 0 has its first job, and ends the calls once it has another.
+/// Edits the configuration while worker 0 has its first job, and ends the calls once it has another. Whether an outcome
+/// of before is told which versions it and the desk have: eight edits were made, and one since.
 fn edit_meanwhile<L: Ledger, R: Threads + Wait + Sync>(
     rt: &R,
     alloc: Global,
@@ -119,6 +120,7 @@ fn edit_meanwhile<L: Ledger, R: Threads + Wait + Sync>(
     gate: &Meeting,
 ) -> bool {
     gate.await_that(&gate.has_worked);
+    let before = if desk.shards() > 0 { worked(rt, desk) } else { None };
     let is_edited = is_answered(
         rt,
         alloc,
@@ -127,8 +129,22 @@ fn edit_meanwhile<L: Ledger, R: Threads + Wait + Sync>(
         "metric 1.0.0.1 2.0.0.2 7",
         "ok\n",
     );
+    let is_told = match before {
+        Some(done) => desk
+            .commit(rt, engineer, done)
+            .is_ok_and(|committed| is_one_edit_late(&committed)),
+        None => false,
+    };
     gate.is_edited.store(true, Ordering::SeqCst);
     gate.await_that(&gate.takes_again);
     desk.finish_calls(rt);
-    is_edited
+    is_edited && is_told
+}
+
+/// Whether the outcome is stale, being of version 8 where the desk has 9.
+fn is_one_edit_late(committed: &Committed) -> bool {
+    matches!(
+        committed,
+        Committed::Stale(Newer::ConfMoved { had: 8, now: 9 })
+    )
 }

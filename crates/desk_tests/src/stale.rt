@@ -3,7 +3,7 @@
 ghost use Rattle.std.specs.Prelude.{◌<◌};
 ghost use Rattle.desk.specs.Desks.{IsDeskLedger};
 
-use crate::common::{Asked, GroupDesk, are_answered, is_answered, opened};
+use crate::common::{Asked, GroupDesk, are_answered, is_answered, opened, worked};
 use desk::{Committed, Done, Newer, Seat};
 use net_prefix::Addr;
 use path_attr::{Attr, Origin};
@@ -168,13 +168,6 @@ fn is_older_by(committed: &Committed, edits: u64) -> bool {
         Committed::Stale(Newer::ConfMoved { had, now }) => had.checked_add(edits) == Some(*now),
         _ => false,
     }
-}
-
-/// Takes a job, and works it.
-fn worked<L: Ledger, R: Wait>(rt: &R, desk: &GroupDesk<L>) -> Option<Done<GroupCell>>
-    requires { 0 < desk.now.shards }
-{
-    desk.take(rt, 0).ok()??.work().ok()
 }
 
 /// Commits the outcome. Whether it was put in.

@@ -1,13 +1,14 @@
 -- What the command line may say.
 use Rattle.std.specs.Prelude.{◌≡◌, ◌⊎◌, ℕ, List, [], ◌∷◌, codes, Option, Some, None}
 use Rattle.machine_scripts.specs.declared.command_line.Kind.{Kind}
-use Rattle.machine_scripts.specs.declared.command_line.Kind.TheVariants.{Plain, Sorted, Trie}
+use Rattle.machine_scripts.specs.declared.command_line.Kind.TheVariants.{Plain, Sorted, Trie, Room}
 
 -- the name of a machine
 abbrev pub name_of : Kind → List ℕ
 name_of Plain = codes "plain"
 name_of Sorted = codes "sorted"
 name_of Trie = codes "trie"
+name_of Room = codes "room"
 
 -- the machine that the word names, if it names one
 abbrev pub Names : List ℕ → Option Kind → Type 0

@@ -12,6 +12,8 @@ pub(crate) enum Kind {
     Sorted,
     /// The engine with tries, whose cells keep groups.
     Trie,
+    /// No machine of its own: a room, whose calls are lines.
+    Room,
 }
 
 /// The machine that the words ask for. The first word is the program's name; a last word `script` says nothing more.
@@ -33,6 +35,7 @@ fn kind_named(word: &[u8]) -> Option<Kind>
         b"plain" => Some(Kind::Plain),
         b"sorted" => Some(Kind::Sorted),
         b"trie" => Some(Kind::Trie),
+        b"room" => Some(Kind::Room),
         _ => None,
     }
 }
