@@ -113,7 +113,7 @@ class Growths(Case):
             self.assertEqual(room.may_want(refuse_growths.Expected(b"x\n", 1, [], reply)), may, reply)
 
     def test_calls_that_are_made_together(self):
-        """Of two deliveries none or one is made where memory was refused; the third is not there."""
+        """Of two deliveries none or one is made where memory was refused, or one is taken; the third is not there."""
         room = refuse_growths.RoomGrowths("", (), refuse_growths.Case("here", [], b""), None)
         given = room.once(refuse_growths.TOGETHER)
         self.assertEqual([one.count(b"commit\n") for one in given], [0, 1, 2, 3])
@@ -121,7 +121,8 @@ class Growths(Case):
         two = b"from a to b\ndone\ntook p update\n"
         once = [b"0\nok\n2\n", two + b"1\nok\n2\n", 2 * two + b"2\nok\n2\n", 2 * two + b"none\nnone\nnone\n2\nok\n2\n"]
         left = room.left(refuse_growths.TOGETHER, b"ok\n2\nok\n2\n", once)
-        self.assertEqual(left, [refuse_growths.WANT + b"0\nok\n2\n", refuse_growths.WANT + b"1\nok\n2\n"])
+        want = refuse_growths.WANT
+        self.assertEqual(left, [want + b"0\nok\n2\n", want + b"1\nok\n2\n", b"ok\n1\nok\n2\n"])
 
     def test_questions_ask_for_all_there_is(self):
         asked = refuse_growths.questions([b"router 1.0.0.1 1\n", b"virtual 2.0.0.1 2\n", b"join 1.0.0.1 2.0.0.1\n",
