@@ -120,7 +120,11 @@ fn edit_meanwhile<L: Ledger, R: Threads + Wait + Sync>(
     gate: &Meeting,
 ) -> bool {
     gate.await_that(&gate.has_worked);
-    let before = if desk.shards() > 0 { worked(rt, desk) } else { None };
+    let before = if desk.shards() > 0 {
+        worked(rt, desk)
+    } else {
+        None
+    };
     let is_edited = is_answered(
         rt,
         alloc,

@@ -282,10 +282,7 @@ fn both<L: Ledger>(
 }
 
 /// The outcomes of jobs that were taken at one time. Where there is no memory for one, there is none for all.
-fn outcomes_of(
-    alloc: Global,
-    jobs: Jobs<GroupCell>,
-) -> Result<Outcomes<GroupCell>, AllocError> {
+fn outcomes_of(alloc: Global, jobs: Jobs<GroupCell>) -> Result<Outcomes<GroupCell>, AllocError> {
     let mut outcomes = Vec::new(alloc);
     for job in jobs.into_vec() {
         let Ok(done) = job.work() else {

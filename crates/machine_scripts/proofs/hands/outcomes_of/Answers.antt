@@ -18,8 +18,7 @@ loop-job-preserved c =
     let old : List Job = c.loop-job.outcomes.items in
     let room = c.loop-job.invariant.2.0 in
     let seen : All (IsSeenIn room) (x ∷ rest) = subst (All (IsSeenIn room)) c.in-Some.ensures.steps.0 c.loop-job.invariant.2.1 in
-    let done : IsSeenIn room c.in-Ok.done = subst (IsSeenIn room) (sym c.in-Ok.ensures.done) (All-head (IsSeenIn room) x rest seen) in
-    (
+    let done : IsSeenIn room c.in-Ok.done = subst (IsSeenIn room) (sym c.in-Ok.ensures.done) (All-head (IsSeenIn room) x rest seen) in (
       tt,
       tt,
       (
