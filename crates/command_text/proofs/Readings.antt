@@ -14,6 +14,13 @@ pub reads_some : {X : Type 0} (IsIn : X → Type 0) (spelling : X → List ℕ) 
 reads_some IsIn spelling text (Some x) reads one = refl
 reads_some IsIn spelling text None reads one = absurd (reads one.0 one.1 one.2)
 
+-- what was read, at what it is
+pub reads_at : {X S : Type 0} (IsIn : X → Type 0) (spelling : X → S) (text : S) (r : Option X) (x : X) → r ≡ Some x → Reads IsIn spelling text r → IsIn x × (text ≡ spelling x)
+reads_at IsIn spelling text r x is h = subst (Reads IsIn spelling text) is h
+
+pub none_at : {X : Type 0} (IsIn : X → Type 0) (spelling : X → List ℕ) (text : List ℕ) (r : Option X) → r ≡ None → Reads IsIn spelling text r → HasOne IsIn spelling text → ⊥
+none_at IsIn spelling text r is h one = (subst (Reads IsIn spelling text) is h) one.0 one.1 one.2
+
 -- the number that is read, by another name
 pub spelled_as : (text : List ℕ) (m n : ℕ) → m ≡ n → IsAsNumber n × (text ≡ decimal n) → IsAsNumber m × (text ≡ decimal m)
 spelled_as text m n e h = subst (λ k. IsAsNumber k × (text ≡ decimal k)) (sym e) h

@@ -1,17 +1,19 @@
 -- Texts of segments, and of segments that are joined by underscores.
-use Rattle.std.proofs.Common.{◌≡◌, ◌≢◌, ℕ, ◌≤◌, List, [], ◌∷◌, ◌++◌, map, length, refl, sym, ap, subst, ◌∙◌, arith, length-append}
+use Rattle.std.proofs.Common.{◌≡◌, ◌≢◌, ℕ, ◌≤◌, List, [], ◌∷◌, ◌++◌, map, length, Option, Some, None, Result, Ok, Err, IfSome, IfNone, IfOk, refl, sym, ap, subst, ◌∙◌, arith, length-append}
 use Rattle.std.specs.List.{AllByRecursion, join_with_byte}
+use Rattle.std.specs.Option.{SomeIff}
 use Rattle.std.proofs.lemmas.List.{append_cancel_right}
 use Rattle.std.proofs.lemmas.List.Elements.{All-nil, All-cons, All-append, All-head, All-from_recursion, recursion_from_All}
 use Rattle.std.proofs.lemmas.List.Sums.{sum_by-cons}
 use Rattle.decimal.specs.Separators.{Lacks}
 use Rattle.path_attr.specs.declared.path.Segment.{Segment}
 use Rattle.path_attr.specs.declared.path.Segment.TheVariants.{Seq as Sequence, Set}
-use Rattle.path_attr.specs.Path.{IsAscending, AreSegments, numbers_of, number_count}
+use Rattle.path_attr.specs.Path.{IsAscending, IsPath, AreSegments, numbers_of, number_count}
 use Rattle.sim_event.specs.Events.{IsAsNumber, HasAsNumbers}
 use Rattle.sim_event.specs.Wording.{none_text, numbers_text, segment_text, path_text}
 use Rattle.command_text.specs.Lines.{most_command_bytes}
 use Rattle.command_text.specs.Ascending.{HasAscending}
+use Rattle.command_text.specs.Reading.{Reads}
 use Rattle.command_text.specs.Paths.{AreNumbers, HasNumbers, IsPart, HasSegment, AreParts, HasSegments, IsAsPath, HasPath}
 use Rattle.command_text.proofs.Joins.{has_first, has_after, has_more, has_last, has_one, GoesOn, goes_more, goes_last}
 use Rattle.command_text.proofs.Numbers.{numbers_lack, numbers_within}
@@ -51,6 +53,21 @@ sequence_of text ns are = ((are.0, All-from_recursion IsAsNumber ns are.1), are.
 
 pub numbers_sequence : (text : List ℕ) → HasNumbers text → HasSegment text
 numbers_sequence text has = let made = sequence_of text has.0 has.1 in (Sequence has.0, made.0, made.1)
+
+-- what was read of a text in braces, and of another
+pub set_read : {E : Type 0} (text inner : List ℕ) (r : Result (Option Segment) E) → text ≡ braced inner →
+    IfOk r (λ made. IfSome made (λ part. IsPart part × (braced inner ≡ segment_text part))) → IfOk r (λ made. IfNone made (HasAscending 1 inner → ⊥)) →
+    IfOk r (λ made. Reads IsPart segment_text text made)
+set_read text inner (Ok (Some s)) e found none = (found.0, e ∙ found.1)
+set_read text inner (Ok None) e found none = λ s h is. none (set_ascending text inner e (s, h, is))
+set_read text inner (Err x) e found none = tt
+
+pub sequence_read : {E : Type 0} (text : List ℕ) (r : Result (Option Segment) E) → ((inner : List ℕ) → text ≡ braced inner → ⊥) →
+    IfOk r (λ made. IfSome made (λ part. IsPart part × (text ≡ segment_text part))) → IfOk r (λ made. IfNone made (HasNumbers text → ⊥)) →
+    IfOk r (λ made. Reads IsPart segment_text text made)
+sequence_read text (Ok (Some s)) other found none = found
+sequence_read text (Ok None) other found none = λ s h is. none (sequence_numbers text other (s, h, is))
+sequence_read text (Err x) other found none = tt
 
 -- segments joined by underscores
 pub segments_first : (text first after : List ℕ) → text ≡ first ++ (95 ∷ after) → Lacks 95 first → HasSegments text → HasSegment first
@@ -120,3 +137,11 @@ pub path_segments : (text : List ℕ) → (text ≡ none_text → ⊥) → HasPa
 unfolding path_text
 path_segments text other ([], h, e) = absurd (other e)
 path_segments text other (s ∷ ss, h, e) = (s ∷ ss, (omega arith, segments_parts (s ∷ ss) h.0.0 h.1, e))
+
+-- the path of segments that were read, and none where none were
+pub path_read : (ss : List Segment) (text : List ℕ) (p : Option (List Segment)) → length text ≤ most_command_bytes → AreParts ss text → SomeIff p (IsPath ss) ss → Reads IsAsPath path_text text p
+path_read ss text (Some p) short are is = subst (λ p. IsAsPath p × (text ≡ path_text p)) (sym is.1) (path_of ss text short are)
+path_read ss text None short are is = absurd (is (path_of ss text short are).0.0)
+
+pub no_path : (text : List ℕ) → (text ≡ none_text → ⊥) → (HasSegments text → ⊥) → (p : List Segment) → IsAsPath p → text ≡ path_text p → ⊥
+no_path text other none p h e = none (path_segments text other (p, h, e))

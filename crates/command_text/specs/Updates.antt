@@ -1,17 +1,16 @@
--- No public contract cites this file. The words of an update, whose path and communities are tested, and not made yet.
+-- No public contract cites this file. The words of an update: all but the path are tested, and the communities are not made yet.
 use Rattle.std.specs.Prelude.{ℕ, ◌<◌, ◌≤◌, ◌^◌, List, ◌∷◌, IfSome, length}
 use Rattle.net_prefix.specs.Prefix.{prefix_text}
 use Rattle.sim_event.specs.Events.{IsPrefix}
 use Rattle.sim_event.specs.Wording.{origin_text, maybe_number_text}
 use Rattle.command_text.specs.declared.feed.UpdateWords.{UpdateWords}
 use Rattle.command_text.specs.Lines.{tokens, most_command_bytes}
-use Rattle.command_text.specs.Paths.{HasPath}
 use Rattle.command_text.specs.CommunityWords.{HasCommunities}
 
 abbrev pub update_words : UpdateWords → List (List ℕ)
 update_words u = prefix_text u.prefix ∷ u.path.now ∷ origin_text u.origin ∷ maybe_number_text u.med ∷ tokens u.communities.now
 
--- they spell a route
+-- they spell a route, where the path's word spells a path
 abbrev pub AreUpdateWords : UpdateWords → Type 0
 AreUpdateWords u =
-    IsPrefix u.prefix × HasPath u.path.now × (length u.path.now ≤ most_command_bytes) × IfSome u.med (λ m. m < 2 ^ 32) × HasCommunities (tokens u.communities.now)
+    IsPrefix u.prefix × (length u.path.now ≤ most_command_bytes) × IfSome u.med (λ m. m < 2 ^ 32) × HasCommunities (tokens u.communities.now)

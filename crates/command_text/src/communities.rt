@@ -1,5 +1,5 @@
-//! The communities of a fed route: nothing, or one word that names them. They are tested before any memory is taken, as
-//! a path is.
+//! The communities of a fed route: nothing, or one word that names them. They are tested before any memory is
+//! taken.
 
 ghost use Rattle.std.specs.Prelude.{◌≡◌, ◌↔◌, IfOk, IsTrue};
 ghost use Rattle.sim_event.specs.Events.{AreCommunities};

@@ -5,12 +5,12 @@ ghost use Rattle.sim_event.specs.declared.event.FedRoute.{FedRoute};
 ghost use Rattle.sim_event.specs.Events.{IsEvent, IsFedRoute, IsNews};
 ghost use Rattle.command_text.specs.Words.{words_of, fed_words, news_words};
 ghost use Rattle.command_text.specs.Lines.{tokens, is_route, feeds_route, most_command_bytes};
-ghost use Rattle.command_text.specs.Reading.{Makes};
+ghost use Rattle.command_text.specs.Reading.{Makes, Reads};
 ghost use Rattle.command_text.specs.Updates.{update_words, AreUpdateWords};
 
 use crate::arguments::{next_address, next_prefix};
 use crate::communities::{are_communities, build_communities};
-use crate::path::{build_path, is_path};
+use crate::path::{is_path, read_path};
 use crate::values::{med_of, origin_of, prefix_of};
 use crate::words::{next_two_words, next_word, one_word};
 use net_conf::Refusal;
@@ -62,13 +62,20 @@ fn read_update(alloc: Global, words: &[u8]) -> Result<News, Refusal>
     let Some(update) = update_of(words) else {
         return Err(Refusal::Syntax);
     };
-    match build_route(alloc, update) {
-        Ok(route) => Ok(News::Update(route)),
-        Err(_) => Err(Refusal::Memory),
+    let path = update.path;
+    match read_route(alloc, update) {
+        Ok(Some(route)) => Ok(News::Update(route)),
+        Ok(None) => Err(Refusal::Syntax),
+        Err(_) => {
+            if !is_path(path) {
+                return Err(Refusal::Syntax);
+            }
+            Err(Refusal::Memory)
+        }
     }
 }
 
-/// The words of an update. Path and communities are tested, and not made yet.
+/// The words of an update. All but the path are tested, and the communities are not made yet.
 #[derive(Clone, Copy)]
 struct UpdateWords<'a> {
     prefix: Prefix,
@@ -90,9 +97,6 @@ fn update_of(words: &[u8]) -> Option<UpdateWords<'_>>
     };
     let (path, rest) = next_word(rest)?;
     let (origin, med, rest) = next_two_words(rest)?;
-    if !is_path(path) {
-        return None;
-    }
     if !are_communities(rest) {
         return None;
     }
@@ -105,16 +109,19 @@ fn update_of(words: &[u8]) -> Option<UpdateWords<'_>>
     })
 }
 
-/// The route that the words spell.
-fn build_route(alloc: Global, update: UpdateWords<'_>) -> Result<FedRoute, AllocError>
+/// The route that the words spell. None where that of the path spells none.
+fn read_route(alloc: Global, update: UpdateWords<'_>) -> Result<Option<FedRoute>, AllocError>
     requires { AreUpdateWords update }
-    ensures { IfOk result (λ r. IsFedRoute r × (update_words update.entry ≡ fed_words r)) }
+    ensures { IfOk result (λ route. Reads IsFedRoute fed_words (update_words update.entry) route) }
 {
-    Ok(FedRoute {
+    let Some(path) = read_path(alloc, update.path)? else {
+        return Ok(None);
+    };
+    Ok(Some(FedRoute {
         prefix: update.prefix,
-        path: build_path(alloc, update.path)?,
+        path,
         origin: update.origin,
         med: update.med,
         comms: build_communities(alloc, update.communities)?,
-    })
+    }))
 }

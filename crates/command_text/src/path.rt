@@ -1,9 +1,12 @@
-//! AS paths: segments joined by underscores, numbers joined by commas, sets in braces. The whole text is tested
-//! before any memory is taken, so that want of memory never hides a fault of syntax.
+//! AS paths: segments joined by underscores, numbers joined by commas, sets in braces. A path is made as it is read;
+//! where there is no memory for that, `is_path` tells whether there is one, so that want of memory never hides a fault of
+//! syntax.
 
 ghost use Rattle.std.specs.Prelude.{◌≡◌, ◌↔◌, ℕ, ◌≤◌, List, [], ◌∷◌, ◌++◌, length, IfSome, IfNone, IfOk, IsTrue};
 ghost use Rattle.command_text.specs.Lines.{most_command_bytes};
+ghost use Rattle.command_text.specs.Ascending.{HasAscending};
 ghost use Rattle.command_text.specs.Paths.{HasNumber, HasNumbers, AreNumbers, IsPart, HasSegment, AreParts, HasSegments, IsAsPath, HasPath};
+ghost use Rattle.command_text.specs.Reading.{Reads};
 ghost use Rattle.sim_event.specs.Wording.{segment_text, path_text};
 
 use crate::ascending::are_ascending;
@@ -21,18 +24,19 @@ pub(crate) fn is_path(text: &[u8]) -> bool
     is_dash(text) || are_segments(text)
 }
 
-/// The path that the text spells.
-pub(crate) fn build_path(alloc: Global, text: &[u8]) -> Result<AsPath, AllocError>
-    requires spelled { HasPath text.now }
-    requires short { length text.now ≤ most_command_bytes }
-    ensures { IfOk result (λ p. IsAsPath p × (text.now ≡ path_text p)) }
+/// The path that the text spells. None where it spells none.
+pub(crate) fn read_path(alloc: Global, text: &[u8]) -> Result<Option<AsPath>, AllocError>
+    requires { length text.now ≤ most_command_bytes }
+    ensures { IfOk result (λ path. Reads IsAsPath path_text text.now path) }
 {
     if is_dash(text) {
-        return Ok(AsPath::empty());
+        return Ok(Some(AsPath::empty()));
     }
-    let segments = build_segments(alloc, text)?;
+    let Some(segments) = read_segments(alloc, text)? else {
+        return Ok(None);
+    };
     let shared = SharedSeq::of(alloc, segments)?;
-    Ok(AsPath::new(shared).unwrap())
+    Ok(AsPath::new(shared))
 }
 
 /// Whether the text spells segments joined by underscores.
@@ -49,19 +53,25 @@ fn are_segments(text: &[u8]) -> bool
     is_segment(rest)
 }
 
-/// The segments that the text spells.
-fn build_segments(alloc: Global, text: &[u8]) -> Result<Vec<Segment>, AllocError>
-    requires { HasSegments text.now }
-    ensures { IfOk result (λ segments. AreParts segments.items text.now) }
+/// The segments that the text spells. None where it spells none.
+fn read_segments(alloc: Global, text: &[u8]) -> Result<Option<Vec<Segment>>, AllocError>
+    ensures found { IfOk result (λ made. IfSome made (λ segments. AreParts segments.items text.now)) }
+    ensures none { IfOk result (λ made. IfNone made (HasSegments text.now → ⊥)) }
 {
     let mut segments = Vec::new(alloc);
     let mut rest = text;
     while let Some((first, after)) = cut_at(rest, b'_') {
-        segments.push(build_segment(alloc, first)?)?;
+        let Some(segment) = read_segment(alloc, first)? else {
+            return Ok(None);
+        };
+        segments.push(segment)?;
         rest = after;
     }
-    segments.push(build_segment(alloc, rest)?)?;
-    Ok(segments)
+    let Some(segment) = read_segment(alloc, rest)? else {
+        return Ok(None);
+    };
+    segments.push(segment)?;
+    Ok(Some(segments))
 }
 
 /// What stands between the braces of a set.
@@ -85,15 +95,40 @@ fn is_segment(text: &[u8]) -> bool
     }
 }
 
-/// The segment that the text spells.
-fn build_segment(alloc: Global, text: &[u8]) -> Result<Segment, AllocError>
-    requires { HasSegment text.now }
-    ensures { IfOk result (λ segment. IsPart segment × (text.now ≡ segment_text segment)) }
+/// The segment that the text spells. None where it spells none.
+fn read_segment(alloc: Global, text: &[u8]) -> Result<Option<Segment>, AllocError>
+    ensures { IfOk result (λ segment. Reads IsPart segment_text text.now segment) }
 {
     match within_braces(text) {
-        Some(numbers) => Ok(Segment::Set(build_numbers(alloc, numbers)?)),
-        None => Ok(Segment::Seq(build_numbers(alloc, text)?)),
+        Some(inner) => read_set(alloc, inner),
+        None => read_sequence(alloc, text),
     }
+}
+
+/// The sequence of the numbers that the text spells. None where it spells none.
+fn read_sequence(alloc: Global, text: &[u8]) -> Result<Option<Segment>, AllocError>
+    ensures found { IfOk result (λ made. IfSome made (λ part. IsPart part × (text.now ≡ segment_text part))) }
+    ensures none { IfOk result (λ made. IfNone made (HasNumbers text.now → ⊥)) }
+{
+    let Some(numbers) = read_numbers(alloc, text)? else {
+        return Ok(None);
+    };
+    Ok(Some(Segment::Seq(numbers)))
+}
+
+/// The set of the numbers that the text between the braces spells. None where it spells none.
+fn read_set(alloc: Global, inner: &[u8]) -> Result<Option<Segment>, AllocError>
+    ensures found { IfOk result (λ made. IfSome made (λ part. IsPart part
+        × (123 ∷ inner.now ++ (125 ∷ []) ≡ segment_text part))) }
+    ensures none { IfOk result (λ made. IfNone made (HasAscending 1 inner.now → ⊥)) }
+{
+    if !are_ascending(inner, 1) {
+        return Ok(None);
+    }
+    let Some(numbers) = read_numbers(alloc, inner)? else {
+        return Ok(None);
+    };
+    Ok(Some(Segment::Set(numbers)))
 }
 
 /// Whether the text spells AS numbers joined by commas.
@@ -117,17 +152,23 @@ fn is_number(text: &[u8]) -> bool
     asn_of(text).is_some()
 }
 
-/// The AS numbers that the text spells.
-fn build_numbers(alloc: Global, text: &[u8]) -> Result<Seq<Asn>, AllocError>
-    requires { HasNumbers text.now }
-    ensures { IfOk result (λ numbers. AreNumbers numbers text.now) }
+/// The AS numbers that the text spells. None where it spells none.
+fn read_numbers(alloc: Global, text: &[u8]) -> Result<Option<Seq<Asn>>, AllocError>
+    ensures found { IfOk result (λ made. IfSome made (λ numbers. AreNumbers numbers text.now)) }
+    ensures none { IfOk result (λ made. IfNone made (HasNumbers text.now → ⊥)) }
 {
     let mut numbers = Seq::new(alloc);
     let mut rest = text;
     while let Some((first, after)) = cut_at(rest, b',') {
-        numbers.push(asn_of(first).unwrap())?;
+        let Some(number) = asn_of(first) else {
+            return Ok(None);
+        };
+        numbers.push(number)?;
         rest = after;
     }
-    numbers.push(asn_of(rest).unwrap())?;
-    Ok(numbers)
+    let Some(number) = asn_of(rest) else {
+        return Ok(None);
+    };
+    numbers.push(number)?;
+    Ok(Some(numbers))
 }
