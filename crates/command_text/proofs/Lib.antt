@@ -8,4 +8,5 @@ mod Settings
 mod FirstWords
 mod Spelled
 mod Fronts
+mod FrontNumbers
 mod Telling

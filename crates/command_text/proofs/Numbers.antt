@@ -15,7 +15,7 @@ use Rattle.command_text.proofs.Joins.{joins_first, joins_one, joins_more, joins_
 pub small_exact : (m n : ℕ) → m < 2 ^ 32 → n < 2 ^ 32 → decimal m ≡ decimal n → m ≡ n
 small_exact m n h g e = decimal_exact m n (omega (arith, h)) (omega (arith, g)) e
 
-from_lacks : (least n : ℕ) → IsFrom least n → Lacks 44 (decimal n)
+pub from_lacks : (least n : ℕ) → IsFrom least n → Lacks 44 (decimal n)
 from_lacks least n h = decimal_lacks 44 (λ digit. omega arith) n
 
 pub numbers_first : (least : ℕ) (text first after : List ℕ) → text ≡ first ++ (44 ∷ after) → Lacks 44 first → HasFrom least text → HasOne (IsFrom least) decimal first

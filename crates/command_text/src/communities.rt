@@ -7,6 +7,7 @@ ghost use Rattle.command_text.specs.Words.{communities_words};
 ghost use Rattle.command_text.specs.Lines.{tokens};
 ghost use Rattle.command_text.specs.Ascending.{HasFrom, AreFrom};
 ghost use Rattle.command_text.specs.CommunityWords.{HasCommunities};
+ghost use Rattle.command_text.specs.Reading.{Reads};
 
 use crate::ascending::{are_ascending, number_from};
 use crate::words::{is_blank, only_value};
@@ -25,8 +26,24 @@ pub(crate) fn are_communities(words: &[u8]) -> bool
     }
 }
 
+/// The communities that the words spell. None where they spell none.
+pub(crate) fn read_communities(
+    alloc: Global,
+    words: &[u8],
+) -> Result<Option<Communities>, AllocError>
+    ensures { IfOk result (λ made. Reads AreCommunities communities_words (tokens words.now) made) }
+{
+    if is_blank(words) {
+        return Ok(Some(Communities::none()));
+    }
+    if !are_communities(words) {
+        return Ok(None);
+    }
+    Ok(Some(build_communities(alloc, words)?))
+}
+
 /// The communities that the words spell.
-pub(crate) fn build_communities(alloc: Global, words: &[u8]) -> Result<Communities, AllocError>
+fn build_communities(alloc: Global, words: &[u8]) -> Result<Communities, AllocError>
     requires { HasCommunities (tokens words.now) }
     ensures { IfOk result (λ cs. AreCommunities cs × (tokens words.now ≡ communities_words cs)) }
 {

@@ -1,16 +1,18 @@
 //! Feeds: the news that a virtual peer tells a router.
 
-ghost use Rattle.std.specs.Prelude.{◌≡◌, ◌≤◌, ◌∷◌, length, codes, IfSome, IfNone, IfOk};
+ghost use Rattle.std.specs.Prelude.{◌≡◌, ◌↔◌, ℕ, ◌<◌, ◌≤◌, ◌^◌, List, ◌∷◌, length, codes, Option, IfSome, IfNone, IfOk, IsTrue};
 ghost use Rattle.sim_event.specs.declared.event.FedRoute.{FedRoute};
+ghost use Rattle.path_attr.specs.declared.origin.Origin.{Origin};
 ghost use Rattle.sim_event.specs.Events.{IsEvent, IsFedRoute, IsNews};
+ghost use Rattle.sim_event.specs.Wording.{origin_text, maybe_number_text};
 ghost use Rattle.command_text.specs.Words.{words_of, fed_words, news_words};
 ghost use Rattle.command_text.specs.Lines.{tokens, is_route, feeds_route, most_command_bytes};
 ghost use Rattle.command_text.specs.Reading.{Makes, Reads};
-ghost use Rattle.command_text.specs.Updates.{update_words, AreUpdateWords};
+ghost use Rattle.command_text.specs.Updates.{update_words, AreUpdateWords, HasRoute};
 
 use crate::arguments::{next_address, next_prefix};
-use crate::communities::{are_communities, build_communities};
-use crate::path::{is_path, read_path};
+use crate::communities::{are_communities, read_communities};
+use crate::path::{is_path, next_path};
 use crate::values::{med_of, origin_of, prefix_of};
 use crate::words::{next_two_words, next_word, one_word};
 use net_conf::Refusal;
@@ -59,15 +61,11 @@ fn read_update(alloc: Global, words: &[u8]) -> Result<News, Refusal>
     requires { length words.now ≤ most_command_bytes }
     ensures { Makes IsNews is_route news_words (codes "update" ∷ tokens words.now) result }
 {
-    let Some(update) = update_of(words) else {
-        return Err(Refusal::Syntax);
-    };
-    let path = update.path;
-    match read_route(alloc, update) {
+    match read_route(alloc, words) {
         Ok(Some(route)) => Ok(News::Update(route)),
         Ok(None) => Err(Refusal::Syntax),
         Err(_) => {
-            if !is_path(path) {
+            if !is_route(words) {
                 return Err(Refusal::Syntax);
             }
             Err(Refusal::Memory)
@@ -75,7 +73,7 @@ fn read_update(alloc: Global, words: &[u8]) -> Result<News, Refusal>
     }
 }
 
-/// The words of an update. All but the path are tested, and the communities are not made yet.
+/// The words of an update: all but the path are tested, and path and communities are not made.
 #[derive(Clone, Copy)]
 struct UpdateWords<'a> {
     prefix: Prefix,
@@ -96,32 +94,64 @@ fn update_of(words: &[u8]) -> Option<UpdateWords<'_>>
         return None;
     };
     let (path, rest) = next_word(rest)?;
-    let (origin, med, rest) = next_two_words(rest)?;
+    let (origin, med, rest) = next_origin_and_med(rest)?;
     if !are_communities(rest) {
         return None;
     }
     Some(UpdateWords {
         prefix,
         path,
-        origin: origin_of(origin)?,
-        med: med_of(med)?,
+        origin,
+        med,
         communities: rest,
     })
 }
 
-/// The route that the words spell. None where that of the path spells none.
-fn read_route(alloc: Global, update: UpdateWords<'_>) -> Result<Option<FedRoute>, AllocError>
-    requires { AreUpdateWords update }
-    ensures { IfOk result (λ route. Reads IsFedRoute fed_words (update_words update.entry) route) }
+/// ORIGIN and MED, and the text after them.
+fn next_origin_and_med(words: &[u8]) -> Option<(Origin, Option<u32>, &[u8])>
+    ensures range { IfSome result (λ next. IfSome next.1 (λ m. m < 2 ^ 32)) }
+    ensures found { IfSome result (λ next. tokens words.now
+        ≡ origin_text next.0 ∷ maybe_number_text next.1 ∷ tokens next.2.now) }
+    ensures none { IfNone result ((o : Origin) (m : Option ℕ) (more : List (List ℕ)) → IfSome m (λ m. m < 2 ^ 32) →
+        tokens words.now ≡ origin_text o ∷ maybe_number_text m ∷ more → ⊥) }
 {
-    let Some(path) = read_path(alloc, update.path)? else {
+    let (origin, med, rest) = next_two_words(words)?;
+    Some((origin_of(origin)?, med_of(med)?, rest))
+}
+
+/// Whether the words spell a route. It takes no memory.
+fn is_route(words: &[u8]) -> bool
+    requires { length words.now ≤ most_command_bytes }
+    ensures { IsTrue result ↔ HasRoute (tokens words.now) }
+{
+    match update_of(words) {
+        Some(update) => is_path(update.path),
+        None => false,
+    }
+}
+
+/// The route that the words spell. None where they spell none.
+fn read_route(alloc: Global, words: &[u8]) -> Result<Option<FedRoute>, AllocError>
+    requires { length words.now ≤ most_command_bytes }
+    ensures { IfOk result (λ route. Reads IsFedRoute fed_words (tokens words.now) route) }
+{
+    let Some(first) = next_prefix(words) else {
+        return Ok(None);
+    };
+    let Some((path, rest)) = next_path(alloc, first.1)? else {
+        return Ok(None);
+    };
+    let Some((origin, med, rest)) = next_origin_and_med(rest) else {
+        return Ok(None);
+    };
+    let Some(comms) = read_communities(alloc, rest)? else {
         return Ok(None);
     };
     Ok(Some(FedRoute {
-        prefix: update.prefix,
+        prefix: first.0,
         path,
-        origin: update.origin,
-        med: update.med,
-        comms: build_communities(alloc, update.communities)?,
+        origin,
+        med,
+        comms,
     }))
 }

@@ -12,6 +12,7 @@ mod limits;
 mod line;
 mod path;
 mod rule;
+mod sequence;
 mod values;
 mod verb;
 mod words;

@@ -3,14 +3,18 @@
 //! syntax.
 
 ghost use Rattle.std.specs.Prelude.{◌≡◌, ◌↔◌, ℕ, ◌≤◌, List, [], ◌∷◌, ◌++◌, length, IfSome, IfNone, IfOk, IsTrue};
-ghost use Rattle.command_text.specs.Lines.{most_command_bytes};
+ghost use Rattle.std.specs.Option.{SomeIff};
+ghost use Rattle.path_attr.specs.Path.{IsPath};
+ghost use Rattle.command_text.specs.Lines.{tokens, most_command_bytes};
 ghost use Rattle.command_text.specs.Ascending.{HasAscending};
 ghost use Rattle.command_text.specs.Paths.{HasNumber, HasNumbers, AreNumbers, IsPart, HasSegment, AreParts, HasSegments, IsAsPath, HasPath};
 ghost use Rattle.command_text.specs.Reading.{Reads};
 ghost use Rattle.sim_event.specs.Wording.{segment_text, path_text};
 
 use crate::ascending::are_ascending;
+use crate::sequence::front_numbers;
 use crate::values::{asn_of, is_dash};
+use crate::words::next_word;
 use decimal::cut_at;
 use path_attr::{AsPath, Asn, Segment};
 use seq::{Seq, SharedSeq};
@@ -24,8 +28,18 @@ pub(crate) fn is_path(text: &[u8]) -> bool
     is_dash(text) || are_segments(text)
 }
 
+/// The path of one sequence, of these numbers.
+fn sequence_path(alloc: Global, numbers: Seq<Asn>) -> Result<Option<AsPath>, AllocError>
+    ensures { IfOk result (λ made. SomeIff made (IsPath (Segment.Seq numbers ∷ [])) (Segment.Seq numbers ∷ [])) }
+{
+    let mut segments = Vec::with_capacity(alloc, 1)?;
+    segments.push(Segment::Seq(numbers))?;
+    let shared = SharedSeq::of(alloc, segments)?;
+    Ok(AsPath::new(shared))
+}
+
 /// The path that the text spells. None where it spells none.
-pub(crate) fn read_path(alloc: Global, text: &[u8]) -> Result<Option<AsPath>, AllocError>
+fn read_path(alloc: Global, text: &[u8]) -> Result<Option<AsPath>, AllocError>
     requires { length text.now ≤ most_command_bytes }
     ensures { IfOk result (λ path. Reads IsAsPath path_text text.now path) }
 {
@@ -37,6 +51,28 @@ pub(crate) fn read_path(alloc: Global, text: &[u8]) -> Result<Option<AsPath>, Al
     };
     let shared = SharedSeq::of(alloc, segments)?;
     Ok(AsPath::new(shared))
+}
+
+/// The path that stands first, and the text after it. One of a single sequence with one space behind it, as most are,
+/// is read in one pass, and any other by its word.
+pub(crate) fn next_path(alloc: Global, words: &[u8]) -> Result<Option<(AsPath, &[u8])>, AllocError>
+    requires { length words.now ≤ most_command_bytes }
+    ensures found { IfOk result (λ made. IfSome made (λ next. IsAsPath next.0
+        × (tokens words.now ≡ path_text next.0 ∷ tokens next.1.now))) }
+    ensures none { IfOk result (λ made. IfNone made ((p : List Segment) (more : List (List ℕ)) → IsAsPath p →
+        tokens words.now ≡ path_text p ∷ more → ⊥)) }
+{
+    if let Some((numbers, rest)) = front_numbers(alloc, words)? {
+        let path = sequence_path(alloc, numbers)?;
+        return Ok(Some((path.unwrap(), rest)));
+    }
+    let Some((word, rest)) = next_word(words) else {
+        return Ok(None);
+    };
+    let Some(path) = read_path(alloc, word)? else {
+        return Ok(None);
+    };
+    Ok(Some((path, rest)))
 }
 
 /// Whether the text spells segments joined by underscores.
