@@ -51,6 +51,7 @@ fn address_before(text: &[u8], end: u8) -> Option<(Addr, &[u8])>
 }
 
 /// The first three octets of an address, and what stands after the third dot.
+#[inline(always)]
 fn upper_octets(text: &[u8]) -> Option<(u8, u8, u8, &[u8])>
     ensures octets { IfSome result (λ next. (next.0 < 256) × (next.1 < 256) × (next.2 < 256)) }
     ensures found { IfSome result (λ next. text.now ≡ decimal next.0 ++ (46 ∷ decimal next.1 ++ (46 ∷ decimal next.2
@@ -75,6 +76,7 @@ fn octet(text: &[u8]) -> Option<u8>
 }
 
 /// The octet before this byte, and what stands after the byte.
+#[inline(always)]
 fn octet_before(text: &[u8], end: u8) -> Option<(u8, &[u8])>
     ensures octet { IfSome result (λ next. next.0 < 256) }
     ensures found { IfSome result (λ next. text.now ≡ decimal next.0 ++ (end ∷ next.1.now)) }
