@@ -26,25 +26,26 @@ pub(crate) fn answer_line<W: Write, M: Machine>(
     ensures { (answer : List ℕ) × IsAnswer (M.network machine.old) line.now answer (M.network machine.new)
         × Writes output.old answer result output.new }
 {
-    answer(rt, read_line(alloc, line), output, machine)
+    let reading = read_line(alloc, line);
+    answer(rt, &reading, output, machine)
 }
 
 /// Writes the answer to what was read of a line. An event is always taken.
 fn answer<W: Write, M: Machine>(
     rt: &(impl Threads + Sync),
-    reading: Result<Option<Event>, Refusal>,
+    reading: &Result<Option<Event>, Refusal>,
     output: &mut Output<W>,
     machine: &mut M,
 ) -> Result<(), WriterFailed>
-    ensures { (answer : List ℕ) × IsAnswerTo reading (M.network machine.old) answer (M.network machine.new)
+    ensures { (answer : List ℕ) × IsAnswerTo reading.now (M.network machine.old) answer (M.network machine.new)
         × Writes output.old answer result output.new }
 {
     match reading {
         Ok(None) => Ok(()),
         Ok(Some(event)) => {
-            let reply = machine.step(rt, &event);
+            let reply = machine.step(rt, event);
             write_reply(&reply, output)
         }
-        Err(refusal) => write_refusal(refusal, output),
+        Err(refusal) => write_refusal(*refusal, output),
     }
 }
