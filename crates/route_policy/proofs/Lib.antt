@@ -1,2 +1,2 @@
 mod Comparing
-pub mod MarkedPaths
+pub mod MarkedNumbers

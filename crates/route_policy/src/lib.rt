@@ -1,6 +1,7 @@
 //! Policies: the rules by which a router denies routes, or permits them with settings.
 #![tactic(auto)]
 
+mod marked_route;
 mod marks;
 mod policy;
 mod repeat;

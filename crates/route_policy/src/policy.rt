@@ -6,7 +6,7 @@ ghost use Rattle.route_policy.specs.Limits.{most_rules, is_full};
 ghost use Rattle.route_policy.specs.Sameness.{same_policy};
 ghost use Rattle.route_policy.specs.declared.policy.AddFault.TheVariants.{Limit};
 
-use crate::marks::MarkedRoute;
+use crate::marked_route::MarkedRoute;
 use crate::rule::{Action, Rule};
 use net_prefix::Prefix;
 use path_attr::Attr;
