@@ -1,2 +1,4 @@
 mod Comparing
+mod Lists
 pub mod MarkedNumbers
+pub mod PathSplits

@@ -3,6 +3,7 @@
 
 mod marked_route;
 mod marks;
+mod path_split;
 mod policy;
 mod repeat;
 mod rule;
