@@ -5,7 +5,7 @@ use Rattle.std.specs.Option.{option_to_list}
 use Rattle.std.proofs.lemmas.List.{take_more}
 use Rattle.std.proofs.lemmas.List.Elements.{filter_map-append}
 
-cons_option-nil : {Y : Type 0} (o : Option Y) → cons_option o [] ≡ option_to_list o
+pub cons_option-nil : {Y : Type 0} (o : Option Y) → cons_option o [] ≡ option_to_list o
 cons_option-nil None = refl
 cons_option-nil (Some y) = refl
 

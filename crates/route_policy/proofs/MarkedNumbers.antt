@@ -1,13 +1,14 @@
 -- Each number that was marked has its marks, and no mark is taken away.
-use Rattle.std.proofs.Common.{◌≡◌, ◌⊎◌, inl, inr, ℕ, ◌*◌, ◌/◌, ◌%◌, ◌^◌, ◌<◌, ◌≤◌, Bool, true, false, ◌||◌, ◌&&◌, nat_eq, List, [], ◌∷◌, length, get_or, set, refl, sym, ap, subst, ◌∙◌, arith, w64, bit_or}
+use Rattle.std.proofs.Common.{◌≡◌, ◌⊎◌, inl, inr, ℕ, ◌*◌, ◌/◌, ◌%◌, ◌^◌, ◌<◌, ◌≤◌, Bool, true, false, ◌||◌, ◌&&◌, nat_eq, List, [], ◌∷◌, ◌++◌, length, get_or, set, refl, sym, ap, subst, ◌∙◌, arith, w64, bit_or}
 use Rattle.std.specs.Int.{bit_at}
 use Rattle.std.proofs.lemmas.List.{get_or-set_same, get_or-set_other, length-set}
+use Rattle.std.proofs.lemmas.List.Folds.{list_any-append}
 use Rattle.std.proofs.lemmas.Bool.{cases_eq, true≢false}
 use Rattle.std.proofs.lemmas.Nat.Bits.{bit_at_set_same, bit_at_or, bit_at-lt}
 use Rattle.std.specs.List.{list_any}
 use Rattle.path_attr.specs.Path.{holds, numbers_of}
 use Rattle.path_attr.specs.declared.path.Segment.{Segment}
-use Rattle.route_policy.specs.Marks.{spread, first_place, second_place, with_place, with_mark, with_marks, with_path, is_set, is_marked, AreMarked}
+use Rattle.route_policy.specs.Marks.{spread, first_place, second_place, with_place, with_mark, with_marks, with_path, is_set, is_marked, AreMarked, AreAllMarked}
 
 first_small : (n : ℕ) → first_place n < 8192
 unfolding first_place spread
@@ -89,7 +90,7 @@ marked_longer ws [] long = long
 marked_longer ws (n ∷ ns) long = marked_longer (with_mark ws n) ns (longer ws n long)
 
 -- whatever was marked before, each of the numbers is marked after
-pub numbers_marked : (ws : List ℕ) (ns : List ℕ) (n : ℕ) → 128 ≤ length ws → list_any (nat_eq n) ns ≡ true → is_marked n (with_marks ws ns) ≡ true
+numbers_marked : (ws : List ℕ) (ns : List ℕ) (n : ℕ) → 128 ≤ length ws → list_any (nat_eq n) ns ≡ true → is_marked n (with_marks ws ns) ≡ true
 numbers_marked ws [] n long held = absurd (true≢false (sym held))
 numbers_marked ws (k ∷ ns) n long held = by (cases_eq n k) (numbers_marked (with_mark ws k) ns n (longer ws k long))
   where
@@ -97,14 +98,29 @@ numbers_marked ws (k ∷ ns) n long held = by (cases_eq n k) (numbers_marked (wi
     by (inl same) rest = marks_stay (with_mark ws k) ns n (longer ws k long) (ap (λ m. is_marked m (with_mark ws k)) same ∙ own_mark ws k long)
     by (inr other) rest = rest (grind (arith, held, other))
 
+or_parts : (a b : Bool) → (a || b) ≡ true → (a ≡ true) ⊎ (b ≡ true)
+or_parts true b held = inl refl
+or_parts false b held = inr held
+
+same_one : (n k : ℕ) → (nat_eq n k || false) ≡ true → n ≡ k
+same_one n k held = grind (arith, held)
+
+-- where each number was marked, each is with one more
+pub one_more_marked : (ws : List ℕ) (ns : List ℕ) (k : ℕ) → AreAllMarked ns ws → AreAllMarked (ns ++ k ∷ []) (with_mark ws k)
+one_more_marked ws ns k all = (longer ws k all.0, λ n held. by n (or_parts _ _ (sym (list_any-append (nat_eq n) ns (k ∷ [])) ∙ held)))
+  where
+    by : (n : ℕ) → ((list_any (nat_eq n) ns ≡ true) ⊎ ((nat_eq n k || false) ≡ true)) → is_marked n (with_mark ws k) ≡ true
+    by n (inl before) = mark_stays ws k n all.0 (all.1 n before)
+    by n (inr last) = ap (λ m. is_marked m (with_mark ws k)) (same_one n k last) ∙ own_mark ws k all.0
+
+-- whatever was marked before, all of these are marked after
+pub all_marked : (ws : List ℕ) (ns : List ℕ) → 128 ≤ length ws → AreAllMarked ns (with_marks ws ns)
+all_marked ws ns long = (marked_longer ws ns long, λ n held. numbers_marked ws ns n long held)
+
 path_stays : (ws : List ℕ) (ss : List Segment) (n : ℕ) → 128 ≤ length ws → is_marked n ws ≡ true → is_marked n (with_path ws ss) ≡ true
 path_stays ws [] n long marked = marked
 path_stays ws (s ∷ ss) n long marked =
     path_stays (with_marks ws (numbers_of s)) ss n (marked_longer ws (numbers_of s) long) (marks_stay ws (numbers_of s) n long marked)
-
-or_parts : (a b : Bool) → (a || b) ≡ true → (a ≡ true) ⊎ (b ≡ true)
-or_parts true b held = inl refl
-or_parts false b held = inr held
 
 -- whatever was marked before, each number of the path is marked after
 pub path_marked : (ws : List ℕ) (ss : List Segment) → 128 ≤ length ws → AreMarked ss (with_path ws ss)

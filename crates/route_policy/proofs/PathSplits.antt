@@ -1,13 +1,16 @@
 -- Where no number of a policy's rules by path stands in the path, the other rules decide alone.
-use Rattle.std.proofs.Common.{◌≡◌, ◌⊎◌, inl, inr, ℕ, Bool, true, false, ◌||◌, cond, nat_eq, is_some, List, [], ◌∷◌, Option, Some, None, refl, sym, ap, subst, ◌∙◌, arith}
+use Rattle.std.proofs.Common.{◌≡◌, ◌⊎◌, inl, inr, ℕ, Bool, true, false, ◌||◌, cond, nat_eq, is_some, List, [], ◌∷◌, ◌++◌, Option, Some, None, refl, sym, ap, subst, ◌∙◌, arith}
 use Rattle.std.proofs.lemmas.Bool.{cases_eq, true≢false}
+use Rattle.std.proofs.lemmas.List.Elements.{filter_map-append}
 use Rattle.std.specs.List.{list_any, find, filter_map, cons_option}
+use Rattle.std.specs.Option.{option_to_list}
 use Rattle.net_prefix.specs.Prefix.{Prefix}
 use Rattle.path_attr.specs.Path.{holds, numbers_of}
 use Rattle.path_attr.specs.declared.attr.Attr.{Attr}
 use Rattle.path_attr.specs.declared.path.Segment.{Segment}
 use Rattle.route_policy.specs.Judging.{matches}
-use Rattle.route_policy.specs.PathSplit.{path_number, path_numbers, other_rule, other_rules, share_one, names_any}
+use Rattle.route_policy.specs.PathSplit.{path_number, path_numbers, other_rule, other_rules, split_of, split_with, share_one, names_any}
+use Rattle.route_policy.proofs.Lists.{cons_option-nil}
 use Rattle.route_policy.specs.declared.rule.Match.{Match}
 use Rattle.route_policy.specs.declared.rule.Match.TheVariants.{Any, Is, Under, Path, First, Comm}
 use Rattle.route_policy.specs.declared.rule.Rule.{Rule}
@@ -76,3 +79,13 @@ module _ (p : Prefix) (a : Attr) where
 pub passed_by : (p : Prefix) (a : Attr) (rs : List Rule) → names_any (path_numbers rs) a.path ≡ false →
     find (λ r. matches r.cond p a) (other_rules rs) ≡ find (λ r. matches r.cond p a) rs
 passed_by p a rs none = passed p a rs (λ n among. unheld a.path (path_numbers rs) n none among)
+
+-- what is split of the rules with one more at the end
+numbers_with : (rs : List Rule) (r : Rule) → path_numbers (rs ++ r ∷ []) ≡ path_numbers rs ++ option_to_list (path_number r.cond)
+numbers_with rs r = filter_map-append (λ r. path_number r.cond) rs (r ∷ []) ∙ ap (λ ns. path_numbers rs ++ ns) (cons_option-nil (path_number r.cond))
+
+others_with : (rs : List Rule) (r : Rule) → other_rules (rs ++ r ∷ []) ≡ other_rules rs ++ option_to_list (other_rule r)
+others_with rs r = filter_map-append other_rule rs (r ∷ []) ∙ ap (λ os. other_rules rs ++ os) (cons_option-nil (other_rule r))
+
+pub split_longer : (rs : List Rule) (r : Rule) → split_with (split_of rs) r ≡ split_of (rs ++ r ∷ [])
+split_longer rs r = λ i. record { numbers = sym (numbers_with rs r) i; others = sym (others_with rs r) i }

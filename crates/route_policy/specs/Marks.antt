@@ -1,7 +1,7 @@
 -- No public contract cites this file. Marks of AS numbers, 8,192 of them in words of 64. Each number has two, which it may share with others.
-use Rattle.std.specs.Prelude.{◌≡◌, ℕ, ◌*◌, ◌/◌, ◌%◌, ◌^◌, Bool, true, ◌&&◌, nat_eq, List, get_or, slice_set, bit_or}
+use Rattle.std.specs.Prelude.{◌≡◌, ℕ, ◌*◌, ◌/◌, ◌%◌, ◌^◌, Bool, true, ◌&&◌, nat_eq, ◌≤◌, List, length, get_or, slice_set, bit_or}
 use Rattle.std.specs.Int.{bit_at}
-use Rattle.std.specs.List.{fold}
+use Rattle.std.specs.List.{fold, list_any}
 use Rattle.path_attr.specs.Path.{holds, numbers_of}
 use Rattle.path_attr.specs.declared.path.Segment.{Segment}
 
@@ -43,3 +43,7 @@ is_marked n words = is_set (first_place n) words && is_set (second_place n) word
 -- each number of the path has its marks
 abbrev pub AreMarked : List Segment → List ℕ → Type 0
 AreMarked path words = (n : ℕ) → holds n path ≡ true → is_marked n words ≡ true
+
+-- each of the numbers has its marks, among all of them
+abbrev pub AreAllMarked : List ℕ → List ℕ → Type 0
+AreAllMarked ns words = (128 ≤ length words) × ((n : ℕ) → list_any (nat_eq n) ns ≡ true → is_marked n words ≡ true)

@@ -1,6 +1,7 @@
 -- No public contract cites this file. The rules of a policy in two: the AS numbers that its rules by path are about, and its other rules.
-use Rattle.std.specs.Prelude.{◌≡◌, ℕ, Bool, nat_eq, List, Option, Some, None, is_some, IfSome, if◌then◌else◌}
+use Rattle.std.specs.Prelude.{◌≡◌, ℕ, ◌++◌, Bool, nat_eq, List, Option, Some, None, is_some, IfSome, if◌then◌else◌}
 use Rattle.std.specs.List.{list_any, filter_map}
+use Rattle.std.specs.Option.{option_to_list}
 use Rattle.std.specs.declared.alloc.Global.{Global}
 use Rattle.std.specs.declared.sync.Arc.{Arc}
 use Rattle.std.specs.Arc.{arc_value}
@@ -35,6 +36,10 @@ pub record Split : Type 0 where
 
 abbrev pub split_of : List Rule → Split
 split_of rules = record { numbers = path_numbers rules; others = other_rules rules }
+
+-- that of the rules with one more at the end
+abbrev pub split_with : Split → Rule → Split
+split_with s r = record { numbers = s.numbers ++ option_to_list (path_number r.cond); others = s.others ++ option_to_list (other_rule r) }
 
 -- one of the first numbers is among the second
 abbrev pub share_one : List ℕ → List ℕ → Bool

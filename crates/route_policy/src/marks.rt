@@ -26,7 +26,7 @@ impl Marks {
     }
 
     /// Marks the number.
-    fn add(&mut self, asn: Asn)
+    pub(crate) fn add(&mut self, asn: Asn)
         ensures { self.new.words ≡ with_mark self.old.words asn }
     {
         set(&mut self.words, first_place(asn));

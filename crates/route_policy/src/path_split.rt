@@ -1,10 +1,10 @@
 //! The rules of a policy in two: the AS numbers that its rules by path are about, and its other rules. One pass over a
 //! long path mostly tells that it holds none of the numbers: then the other rules decide alone.
 
-ghost use Rattle.std.specs.Prelude.{◌≡◌, false, nat_eq, IfOk};
+ghost use Rattle.std.specs.Prelude.{◌≡◌, ◌++◌, ◌∷◌, [], false, nat_eq, IfOk};
 ghost use Rattle.std.specs.List.{list_any};
 ghost use Rattle.std.specs.Option.{option_copied};
-ghost use Rattle.route_policy.specs.PathSplit.{path_numbers, other_rules, other_rule, split_of, share_one, names_any, IsSplitOf};
+ghost use Rattle.route_policy.specs.PathSplit.{path_numbers, other_rules, other_rule, split_of, split_with, share_one, names_any, IsSplitOf};
 
 use crate::marks::Marks;
 use crate::rule::Rule;
@@ -26,16 +26,14 @@ pub(crate) struct PathSplit {
 }
 
 impl Model for PathSplit {
-    ghost use Rattle.std.specs.Prelude.{◌≡◌, ℕ, true, nat_eq};
-    ghost use Rattle.std.specs.List.{list_any};
-    ghost use Rattle.route_policy.specs.Marks.{is_marked};
+    ghost use Rattle.route_policy.specs.Marks.{AreAllMarked};
     ghost use Rattle.route_policy.specs.PathSplit.{Split};
 
     ghost Value = { Split };
 
     ghost view = { λ s. record { numbers = s.numbers; others = s.others } };
 
-    ghost invariant = { λ s. (n : ℕ) → list_any (nat_eq n) s.numbers ≡ true → is_marked n s.marks.words ≡ true };
+    ghost invariant = { λ s. AreAllMarked s.numbers s.marks.words };
 }
 
 impl PathSplit {
@@ -44,6 +42,50 @@ impl PathSplit {
         ensures { result.now ≡ self.now.others }
     {
         self.others.as_slice()
+    }
+
+    /// That of the rules with one more at the end.
+    pub(crate) fn with_rule(&self, alloc: Global, rule: &Rule) -> Result<PathSplit, AllocError>
+        ensures { IfOk result (λ split. split ≡ split_with self.now rule.now) }
+    {
+        match rule.cond.path_number() {
+            Some(asn) => self.with_number(alloc, asn),
+            None => self.with_other(alloc, *rule),
+        }
+    }
+
+    /// The same other rules, and one number more.
+    fn with_number(&self, alloc: Global, asn: Asn) -> Result<PathSplit, AllocError>
+        ensures { IfOk result (λ split.
+            split ≡ record { numbers = self.now.numbers ++ asn ∷ []; others = self.now.others }) }
+    {
+        let others = Seq::copy_of(alloc, self.others.as_slice())?;
+        let mut numbers = Vec::with_capacity(alloc, self.numbers.len().saturating_add(1))?;
+        numbers.extend_from_slice(self.numbers.as_slice())?;
+        numbers.push(asn)?;
+        let mut marks = self.marks;
+        marks.add(asn);
+        Ok(PathSplit {
+            numbers: Seq::of(numbers),
+            others,
+            marks,
+        })
+    }
+
+    /// The same numbers, and one other rule more.
+    fn with_other(&self, alloc: Global, rule: Rule) -> Result<PathSplit, AllocError>
+        ensures { IfOk result (λ split.
+            split ≡ record { numbers = self.now.numbers; others = self.now.others ++ rule ∷ [] }) }
+    {
+        let numbers = Seq::copy_of(alloc, self.numbers.as_slice())?;
+        let mut others = Vec::from_slice(alloc, self.others.as_slice())?;
+        // A slice of one, since the proof of a `push` of a rule is not generated.
+        others.extend_from_slice(&[rule])?;
+        Ok(PathSplit {
+            numbers,
+            others: Seq::of(others),
+            marks: self.marks,
+        })
     }
 
     /// Whether one of the numbers stands in the path.
@@ -76,7 +118,6 @@ impl PathSplit {
 }
 
 /// The split with these numbers and other rules.
-#[tactic(auto, using(crate::proofs::MarkedNumbers::numbers_marked))]
 fn with_marks(numbers: Seq<Asn>, others: Seq<Rule>) -> PathSplit
     ensures { result ≡ record { numbers = numbers; others = others } }
 {
@@ -93,7 +134,7 @@ fn with_marks(numbers: Seq<Asn>, others: Seq<Rule>) -> PathSplit
 fn path_numbers(alloc: Global, rules: &[Rule]) -> Result<Vec<Asn>, AllocError>
     ensures { IfOk result (λ numbers. numbers.items ≡ path_numbers rules.now) }
 {
-    let mut numbers = Vec::new(alloc);
+    let mut numbers = Vec::with_capacity(alloc, rules.len())?;
     for rule in rules {
         push_some(&mut numbers, rule.cond.path_number())?;
     }
@@ -156,7 +197,13 @@ impl SharedSplit {
             return Ok(SharedSplit::none());
         }
         let others = other_rules(alloc, rules)?;
-        let split = with_marks(Seq::of(numbers), Seq::of(others));
+        SharedSplit::shared(alloc, with_marks(Seq::of(numbers), Seq::of(others)))
+    }
+
+    /// The split, from now on shared. Want of memory is the only fault.
+    pub(crate) fn shared(alloc: Global, split: PathSplit) -> Result<Self, AllocError>
+        ensures { IfOk result (λ shared. shared ≡ Some split) }
+    {
         Ok(SharedSplit {
             split: Some(Arc::new(alloc, split)?),
         })

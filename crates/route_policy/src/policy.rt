@@ -3,7 +3,7 @@
 ghost use Rattle.std.specs.Prelude.{◌≡◌, ◌↔◌, ◌≤◌, ◌∷◌, ◌++◌, [], false, length, find, option_map, IsTrue, IfSome, IfOk, OnOk, OnErr, IsErrOf};
 ghost use Rattle.route_policy.specs.Judging.{matches, judged};
 ghost use Rattle.route_policy.specs.Limits.{most_rules, is_full};
-ghost use Rattle.route_policy.specs.PathSplit.{path_numbers, other_rules, names_any};
+ghost use Rattle.route_policy.specs.PathSplit.{path_numbers, other_rules, names_any, IsSplitOf};
 ghost use Rattle.route_policy.specs.Sameness.{same_policy};
 ghost use Rattle.route_policy.specs.declared.policy.AddFault.TheVariants.{Limit};
 
@@ -138,13 +138,25 @@ impl Policy {
         ensures err { OnErr result (self.new ≡ self.old) }
     {
         let rules = longer(self.alloc, self.rules.as_slice(), rule)?;
-        let split = SharedSplit::of(self.alloc, rules.as_slice())?;
+        let split = self.split_with(rules.as_slice(), &rule)?;
         *self = Policy {
             rules,
             split,
             alloc: self.alloc,
         };
         Ok(())
+    }
+
+    /// The split of these rules, which are the policy's with this one at the end.
+    #[tactic(auto, using(crate::proofs::PathSplits::split_longer))]
+    fn split_with(&self, rules: &[Rule], rule: &Rule) -> Result<SharedSplit, AllocError>
+        requires { rules.now ≡ self.now ++ rule.now ∷ [] }
+        ensures { IfOk result (λ split. IsSplitOf split rules.now) }
+    {
+        match self.split.get() {
+            Some(split) => SharedSplit::shared(self.alloc, split.with_rule(self.alloc, rule)?),
+            None => SharedSplit::of(self.alloc, rules),
+        }
     }
 
     /// Takes all rules away.
@@ -193,18 +205,29 @@ pub fn judge(policy: &Policy, prefix: Prefix, attr: &Attr) -> Action
     first_action(policy, prefix, attr).unwrap_or(Action::PLAIN_PERMIT)
 }
 
-/// The action of the first rule that a route to the prefix with these attributes matches. A long path is looked through
-/// once for many rules: mostly it holds none of the numbers that those by path are about, and the others decide alone.
+/// The action of the first rule that a route to the prefix with these attributes matches. Where many rules are by path,
+/// the path mostly holds none of the numbers that they are about, and the others decide alone.
 fn first_action(policy: &Policy, prefix: Prefix, attr: &Attr) -> Option<Action>
     ensures { result ≡ option_map (λ r. r.act) (find (λ r. matches r.cond prefix attr.now) policy.now) }
 {
     let rules = policy.rules();
-    if attr.path.number_count() < WORTH_MARKS || rules.len() < WORTH_RULES {
+    if rules.len() < WORTH_RULES {
         return first_of(rules, prefix, attr);
     }
     match policy.others_alone(&attr.path) {
         Some(others) => first_of(others, prefix, attr),
-        None => first_of_marked(rules, prefix, attr),
+        None => first_of_many(rules, prefix, attr),
+    }
+}
+
+/// The same, of many rules. A long path is looked through once, and again only for a rule about an AS that it may hold.
+fn first_of_many(rules: &[Rule], prefix: Prefix, attr: &Attr) -> Option<Action>
+    ensures { result ≡ option_map (λ r. r.act) (find (λ r. matches r.cond prefix attr.now) rules.now) }
+{
+    if attr.path.number_count() < WORTH_MARKS {
+        first_of(rules, prefix, attr)
+    } else {
+        first_of_marked(rules, prefix, attr)
     }
 }
 
