@@ -1,2 +1,4 @@
 mod Comparing
-pub mod MarkedPaths
+mod Lists
+pub mod MarkedNumbers
+pub mod PathSplits

@@ -5,3 +5,4 @@ pub mod Sameness
 pub mod SameLaws
 pub mod Faults
 pub mod Marks
+pub mod PathSplit

@@ -1,7 +1,9 @@
 //! Policies: the rules by which a router denies routes, or permits them with settings.
 #![tactic(auto)]
 
+mod marked_route;
 mod marks;
+mod path_split;
 mod policy;
 mod repeat;
 mod rule;

@@ -1,87 +1,102 @@
-//! A route with marks of its path's numbers: by them a rule about an AS mostly sees at once that a long path does not
-//! hold it.
+//! Marks of AS numbers: by them it is mostly seen at once that a number is not among many.
 
-ghost use Rattle.std.specs.Prelude.{◌≡◌, ◌%◌, false};
-ghost use Rattle.path_attr.specs.Path.{holds};
-ghost use Rattle.route_policy.specs.Judging.{matches};
-ghost use Rattle.route_policy.specs.Marks.{with_marks, with_path};
+ghost use Rattle.std.specs.Prelude.{◌≡◌, ◌<◌, length};
+ghost use Rattle.route_policy.specs.Marks.{spread, first_place, second_place, is_set, is_marked, with_place, with_mark, with_marks, with_path};
 
-use crate::rule::Match;
-use net_prefix::Prefix;
-use path_attr::{Asn, Attr, Segment};
-use std::marker::Model;
+use path_attr::{Asn, Segment};
 
-/// How many marks there are. Numbers with one remainder share a mark.
-const MARKS: usize = 1_024;
+/// How many words there are, of 64 marks each.
+const WORDS: usize = 128;
 
-/// A route's attributes, with marks of the numbers of its path.
-#[derive(Drop)]
-pub(crate) struct MarkedRoute<'a> {
-    attr: &'a Attr,
-    marks: [bool; MARKS],
+/// An odd number by which numbers that stand close together are spread over 32 bits.
+const SPREAD: u32 = 0x9E37_79B1;
+
+/// Marks of AS numbers. Each number has two of 8,192, which it may share with others.
+#[derive(Clone, Copy, Debug)]
+pub(crate) struct Marks {
+    words: [u64; WORDS],
 }
 
-impl<'a> Model for MarkedRoute<'a> {
-    ghost use Rattle.path_attr.specs.declared.attr.Attr.{Attr};
-    ghost use Rattle.route_policy.specs.Marks.{AreMarked};
-
-    ghost Value = { Attr };
-
-    ghost view = { λ r. r.attr.now };
-
-    ghost invariant = { λ r. AreMarked r.attr.now.path r.marks };
-}
-
-impl<'a> MarkedRoute<'a> {
-    /// The route with these attributes.
-    #[tactic(auto, using(crate::proofs::MarkedPaths::path_marked))]
-    pub(crate) fn of(attr: &'a Attr) -> Self
-        ensures { result ≡ attr.now }
+impl Marks {
+    /// No marks.
+    pub(crate) fn new() -> Marks
+        ensures { length result.words ≡ 128 }
     {
-        let mut marks = [false; MARKS];
-        mark_path(&mut marks, attr.path.segments());
-        MarkedRoute { attr, marks }
+        Marks { words: [0; WORDS] }
     }
 
-    /// Whether it is one of those that the rule is about, as a route to the prefix.
-    pub(crate) fn matches(&self, cond: Match, prefix: Prefix) -> bool
-        ensures { result ≡ matches cond prefix self.now }
+    /// Marks the number.
+    pub(crate) fn add(&mut self, asn: Asn)
+        ensures { self.new.words ≡ with_mark self.old.words asn }
     {
-        match cond {
-            Match::Path(asn) => self.is_marked(asn) && self.attr.path.holds(asn),
-            _ => cond.matches(prefix, self.attr),
+        set(&mut self.words, first_place(asn));
+        set(&mut self.words, second_place(asn));
+    }
+
+    /// Marks these numbers.
+    pub(crate) fn add_all(&mut self, numbers: &[Asn])
+        ensures { self.new.words ≡ with_marks self.old.words numbers.now }
+    {
+        for number in numbers {
+            self.add(*number);
         }
     }
 
-    /// Whether the number's mark is set, as that of each number of the path is.
-    fn is_marked(&self, asn: Asn) -> bool
-        ensures { result ≡ false → holds asn self.now.path ≡ false }
+    /// Marks the numbers of these segments.
+    pub(crate) fn add_path(&mut self, segments: &[Segment])
+        ensures { self.new.words ≡ with_path self.old.words segments.now }
     {
-        self.marks[mark_of(asn)]
+        for segment in segments {
+            self.add_all(segment.numbers());
+        }
+    }
+
+    /// Whether the number is marked, as each is that was added. Others may be too.
+    pub(crate) fn has(&self, asn: Asn) -> bool
+        ensures { result ≡ is_marked asn self.now.words }
+    {
+        is_set(&self.words, first_place(asn)) && is_set(&self.words, second_place(asn))
     }
 }
 
-/// The number's mark.
-fn mark_of(asn: Asn) -> usize
-    ensures { result ≡ asn % 1024 }
+/// Sets the mark at the place.
+fn set(words: &mut [u64; WORDS], place: usize)
+    requires { place < 8192 }
+    ensures { words.new ≡ with_place words.old place }
 {
-    asn.number() as usize % MARKS
+    words[place / 64] |= 1 << (place % 64);
 }
 
-/// Marks the numbers of these segments.
-fn mark_path(marks: &mut [bool; MARKS], segments: &[Segment])
-    ensures { marks.new ≡ with_path marks.old segments.now }
+/// Whether the mark at the place is set.
+fn is_set(words: &[u64; WORDS], place: usize) -> bool
+    requires { place < 8192 }
+    ensures { result ≡ is_set place words.now }
 {
-    for segment in segments {
-        mark(marks, segment.numbers());
-    }
+    (words[place / 64] >> (place % 64)) % 2 == 1
 }
 
-/// Marks these numbers.
-fn mark(marks: &mut [bool; MARKS], numbers: &[Asn])
-    ensures { marks.new ≡ with_marks marks.old numbers.now }
+/// The number, spread over 32 bits.
+#[tactic(auto, unfolding(crate::specs::Marks::spread))]
+fn spread(asn: Asn) -> u32
+    ensures { result ≡ spread asn }
 {
-    for number in numbers {
-        marks[mark_of(*number)] = true;
-    }
+    asn.number().wrapping_mul(SPREAD)
+}
+
+/// The place of the number's first mark.
+#[tactic(auto, unfolding(crate::specs::Marks::first_place))]
+fn first_place(asn: Asn) -> usize
+    ensures value { result ≡ first_place asn }
+    ensures small { result < 8192 }
+{
+    (spread(asn) / 524_288) as usize
+}
+
+/// The place of its second mark.
+#[tactic(auto, unfolding(crate::specs::Marks::second_place))]
+fn second_place(asn: Asn) -> usize
+    ensures value { result ≡ second_place asn }
+    ensures small { result < 8192 }
+{
+    (spread(asn) % 8192) as usize
 }

@@ -1,15 +1,17 @@
 //! Policies.
 
-ghost use Rattle.std.specs.Prelude.{◌≡◌, ◌↔◌, ◌≤◌, ◌∷◌, ◌++◌, [], false, length, find, option_map, IsTrue, IfOk, OnOk, OnErr, IsErrOf};
+ghost use Rattle.std.specs.Prelude.{◌≡◌, ◌↔◌, ◌≤◌, ◌∷◌, ◌++◌, [], false, length, find, option_map, IsTrue, IfSome, IfOk, OnOk, OnErr, IsErrOf};
 ghost use Rattle.route_policy.specs.Judging.{matches, judged};
 ghost use Rattle.route_policy.specs.Limits.{most_rules, is_full};
+ghost use Rattle.route_policy.specs.PathSplit.{path_numbers, other_rules, names_any, IsSplitOf};
 ghost use Rattle.route_policy.specs.Sameness.{same_policy};
 ghost use Rattle.route_policy.specs.declared.policy.AddFault.TheVariants.{Limit};
 
-use crate::marks::MarkedRoute;
+use crate::marked_route::MarkedRoute;
+use crate::path_split::SharedSplit;
 use crate::rule::{Action, Rule};
 use net_prefix::Prefix;
-use path_attr::Attr;
+use path_attr::{AsPath, Attr};
 use seq::{Copied, SharedSeq};
 use std::alloc::{AllocError, Global};
 use std::error::Error;
@@ -55,6 +57,7 @@ impl Error for AddFault {}
 #[derive(Debug, Drop)]
 pub struct Policy {
     rules: SharedSeq<Rule>,
+    split: SharedSplit,
     alloc: Global,
 }
 
@@ -62,12 +65,13 @@ impl Model for Policy {
     ghost use Rattle.std.specs.Prelude.{List, ◌≤◌, length};
     ghost use Rattle.route_policy.specs.declared.rule.Rule.{Rule};
     ghost use Rattle.route_policy.specs.Limits.{most_rules};
+    ghost use Rattle.route_policy.specs.PathSplit.{IsSplitOf};
 
     ghost Value = { List Rule };
 
     ghost view = { λ p. p.rules };
 
-    ghost invariant = { λ p. length p.rules ≤ most_rules };
+    ghost invariant = { λ p. (length p.rules ≤ most_rules) × IsSplitOf p.split p.rules };
 }
 
 impl Policy {
@@ -77,6 +81,7 @@ impl Policy {
     {
         Policy {
             rules: SharedSeq::empty(),
+            split: SharedSplit::none(),
             alloc,
         }
     }
@@ -132,15 +137,51 @@ impl Policy {
         ensures ok { OnOk result (self.new ≡ self.old ++ rule ∷ []) }
         ensures err { OnErr result (self.new ≡ self.old) }
     {
-        self.rules = longer(self.alloc, self.rules.as_slice(), rule)?;
+        let rules = longer(self.alloc, self.rules.as_slice(), rule)?;
+        let split = self.split_with(rules.as_slice(), &rule)?;
+        *self = Policy {
+            rules,
+            split,
+            alloc: self.alloc,
+        };
         Ok(())
+    }
+
+    /// The split of these rules, which are the policy's with this one at the end.
+    #[tactic(auto, using(crate::proofs::PathSplits::split_longer))]
+    fn split_with(&self, rules: &[Rule], rule: &Rule) -> Result<SharedSplit, AllocError>
+        requires { rules.now ≡ self.now ++ rule.now ∷ [] }
+        ensures { IfOk result (λ split. IsSplitOf split rules.now) }
+    {
+        match self.split.get() {
+            Some(split) => SharedSplit::shared(self.alloc, split.with_rule(self.alloc, rule)?),
+            None => SharedSplit::of(self.alloc, rules),
+        }
     }
 
     /// Takes all rules away.
     pub fn clear(&mut self)
         ensures { self.new ≡ [] }
     {
-        self.rules = SharedSeq::empty();
+        *self = Policy::new(self.alloc);
+    }
+
+    /// The rules that are not by path, where the path holds none of the numbers that the others are about. None too
+    /// where that was not looked at.
+    fn others_alone(&self, path: &AsPath) -> Option<&[Rule]>
+        ensures { IfSome result (λ rules.
+            (rules.now ≡ other_rules self.now) × (names_any (path_numbers self.now) path.now ≡ false)) }
+    {
+        match self.split.get() {
+            Some(split) => {
+                if split.names_any(path) {
+                    None
+                } else {
+                    Some(split.others())
+                }
+            }
+            None => None,
+        }
     }
 }
 
@@ -161,15 +202,29 @@ fn longer(alloc: Global, rules: &[Rule], rule: Rule) -> Result<SharedSeq<Rule>, 
 pub fn judge(policy: &Policy, prefix: Prefix, attr: &Attr) -> Action
     ensures { result ≡ judged policy.now prefix attr.now }
 {
-    first_action(policy.rules(), prefix, attr).unwrap_or(Action::PLAIN_PERMIT)
+    first_action(policy, prefix, attr).unwrap_or(Action::PLAIN_PERMIT)
 }
 
-/// The action of the first rule that a route to the prefix with these attributes matches. A long path is looked through
-/// once, and again only for a rule about an AS that it may hold.
-fn first_action(rules: &[Rule], prefix: Prefix, attr: &Attr) -> Option<Action>
+/// The action of the first rule that a route to the prefix with these attributes matches. Where many rules are by path,
+/// the path mostly holds none of the numbers that they are about, and the others decide alone.
+fn first_action(policy: &Policy, prefix: Prefix, attr: &Attr) -> Option<Action>
+    ensures { result ≡ option_map (λ r. r.act) (find (λ r. matches r.cond prefix attr.now) policy.now) }
+{
+    let rules = policy.rules();
+    if rules.len() < WORTH_RULES {
+        return first_of(rules, prefix, attr);
+    }
+    match policy.others_alone(&attr.path) {
+        Some(others) => first_of(others, prefix, attr),
+        None => first_of_many(rules, prefix, attr),
+    }
+}
+
+/// The same, of many rules. A long path is looked through once, and again only for a rule about an AS that it may hold.
+fn first_of_many(rules: &[Rule], prefix: Prefix, attr: &Attr) -> Option<Action>
     ensures { result ≡ option_map (λ r. r.act) (find (λ r. matches r.cond prefix attr.now) rules.now) }
 {
-    if attr.path.number_count() < WORTH_MARKS || rules.len() < WORTH_RULES {
+    if attr.path.number_count() < WORTH_MARKS {
         first_of(rules, prefix, attr)
     } else {
         first_of_marked(rules, prefix, attr)
@@ -201,6 +256,7 @@ impl Copied for Policy {
     fn copy(&self, _alloc: Global) -> Result<Policy, AllocError> {
         Ok(Policy {
             rules: self.rules.share()?,
+            split: self.split.share()?,
             alloc: self.alloc,
         })
     }
@@ -212,6 +268,7 @@ impl Clone for Policy {
     fn clone(&self) -> Result<Policy, AllocError> {
         Ok(Policy {
             rules: self.rules.share()?,
+            split: self.split.share()?,
             alloc: self.alloc,
         })
     }

@@ -66,6 +66,17 @@ pub struct Rule {
 
 impl Match {
     ghost use Rattle.route_policy.specs.Judging.{Meets, matches};
+    ghost use Rattle.route_policy.specs.PathSplit.{path_number};
+
+    /// The AS that has to stand in the path, where it is about that.
+    pub(crate) fn path_number(self) -> Option<Asn>
+        ensures { result ≡ path_number self }
+    {
+        match self {
+            Match::Path(asn) => Some(asn),
+            Match::Any | Match::Is(_) | Match::Under(_) | Match::First(_) | Match::Comm(_) => None,
+        }
+    }
 
     /// Whether a route to the prefix with these attributes is one of them.
     pub fn matches(self, prefix: Prefix, attr: &Attr) -> bool
