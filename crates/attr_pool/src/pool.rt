@@ -1,6 +1,6 @@
 //! Attributes by number.
 
-ghost use Rattle.std.specs.Prelude.{◌≡◌, false, [], length, Some, slice_get, option_copied, IfOk, IfErr, IfSome, OnOk, OnErr};
+ghost use Rattle.std.specs.Prelude.{◌≡◌, true, false, [], length, Some, slice_get, option_copied, IsTrue, IfOk, IfErr, IfSome, OnOk, OnErr};
 ghost use Rattle.attr_pool.specs.Pooled.{has_attr, with_attr, KeepsNumbers, HaveOneNumber};
 
 use crate::attr_id::AttrId;
@@ -75,6 +75,17 @@ impl Pool {
         ensures { HaveOneNumber self.now }
     {
         let _ = &self.attrs;
+    }
+
+    /// Whether these attributes were asked for last: then they are in the pool. Nothing is hashed.
+    #[tactic(auto, using(crate::proofs::Numbers::has_of_number))]
+    pub fn is_last(&self, attr: &Attr) -> bool
+        ensures { IsTrue result → has_attr self.now attr.now ≡ true }
+    {
+        match self.last_number(attr) {
+            Some(_) => true,
+            None => false,
+        }
     }
 
     /// The number that was asked for last, where it is that of these attributes. Nothing is hashed.

@@ -3,3 +3,4 @@ pub mod Places
 pub mod Tables
 pub mod Trie
 pub mod Values
+pub mod Ways

@@ -13,6 +13,7 @@ mod sorted;
 mod table;
 mod trie;
 mod walk;
+mod way;
 
 pub use adjust::Adjust;
 pub use sorted::SortedTable;

@@ -8,6 +8,7 @@ ghost use Rattle.prefix_table.specs.Numbers.{HasRoom};
 ghost use Rattle.prefix_table.specs.Tables.{seen, IsLongestMatch, HasNoMatch, first_after, adjusted};
 ghost use Rattle.prefix_table.specs.Trie.{IsClosest};
 ghost use Rattle.prefix_table.specs.Values.{IsIndex, table_in};
+ghost use Rattle.prefix_table.specs.Ways.{IsNear};
 
 use crate::adjust::Adjust;
 use crate::descent::closest;
@@ -17,6 +18,7 @@ use crate::index::{find_place, longest_place, next_place, place_near};
 use crate::node::{Node, NodeId};
 use crate::table::PrefixTable;
 use crate::walk::refer_to;
+use crate::way::{Way, place_by, way_to};
 use net_prefix::{Addr, Prefix};
 use std::alloc::{AllocError, Global};
 use std::marker::Model;
@@ -28,12 +30,15 @@ use std::marker::Model;
 pub struct TrieTable<V> {
     nodes: Vec<Node>,
     values: Vec<V>,
+    /// Where the prefix stands whose value was replaced last: mostly it is replaced once more.
+    last: Option<Way>,
 }
 
 impl<V> Model for TrieTable<V> {
     ghost use Rattle.std.specs.FinMap as map;
     ghost use Rattle.prefix_table.specs.Tables.{Table, coded_prefix};
     ghost use Rattle.prefix_table.specs.Values.{IsIndex, table_in};
+    ghost use Rattle.prefix_table.specs.Ways.{IsOnWay};
 
     ghost Value = { Table V };
 
@@ -41,7 +46,7 @@ impl<V> Model for TrieTable<V> {
 
     ghost view = { λ s. table_in s.nodes.items s.values.items };
 
-    ghost invariant = { λ s. IsIndex s.nodes.items s.values.items };
+    ghost invariant = { λ s. IsIndex s.nodes.items s.values.items × IsOnWay s.nodes.items s.last };
 }
 
 /// The prefix's value.
@@ -110,9 +115,16 @@ fn put_in<V: Drop>(
     Ok(None)
 }
 
-/// Gives a prefix that has a value this one.
-fn replace_in<V>(nodes: &[Node], values: &mut Vec<V>, prefix: Prefix, value: V) -> Result<V, V>
-    requires { IsIndex nodes.now values.old.items }
+/// Gives a prefix that has a value this one. The node that comes closest to it is known, if there is a node.
+fn replace_in<V>(
+    nodes: &[Node],
+    values: &mut Vec<V>,
+    near: &Option<Way>,
+    prefix: Prefix,
+    value: V,
+) -> Result<V, V>
+    requires index { IsIndex nodes.now values.old.items }
+    requires near { IsNear nodes.now prefix near.now }
     ensures index { IsIndex nodes.now values.new.items }
     ensures before { IfOk result (λ before. map.get (table_in nodes.now values.old.items) prefix ≡ Some before) }
     ensures replaced { OnOk result
@@ -121,7 +133,7 @@ fn replace_in<V>(nodes: &[Node], values: &mut Vec<V>, prefix: Prefix, value: V) 
     ensures absent { OnErr result (map.get (table_in nodes.now values.old.items) prefix ≡ None) }
     ensures same { OnErr result (values.new.items ≡ values.old.items) }
 {
-    match find_place(nodes, prefix) {
+    match place_by(nodes, near, prefix) {
         Some(place) => Ok(write(values, place, value)),
         None => Err(value),
     }
@@ -184,6 +196,7 @@ impl<V: Drop> PrefixTable<V> for TrieTable<V> {
         TrieTable {
             nodes: Vec::new(alloc),
             values: Vec::new(alloc),
+            last: None,
         }
     }
 
@@ -192,11 +205,13 @@ impl<V: Drop> PrefixTable<V> for TrieTable<V> {
     }
 
     fn insert(&mut self, prefix: Prefix, value: V) -> Result<Option<V>, V> {
+        self.last = None;
         put_in(&mut self.nodes, &mut self.values, prefix, value)
     }
 
     fn replace(&mut self, prefix: Prefix, value: V) -> Result<V, V> {
-        replace_in(&self.nodes, &mut self.values, prefix, value)
+        self.last = way_to(&self.nodes, &self.last, prefix);
+        replace_in(&self.nodes, &mut self.values, &self.last, prefix, value)
     }
 
     fn adjust<A: Adjust<V>>(&mut self, prefix: Prefix, change: &A) -> bool {

@@ -4,3 +4,4 @@ pub mod Traces
 pub mod Originated
 mod Onward
 mod Peers
+pub mod Ends

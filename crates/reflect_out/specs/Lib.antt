@@ -1,1 +1,2 @@
 pub mod Advertising
+pub mod Telling

@@ -5,6 +5,9 @@
 ghost use Rattle.std.specs.Prelude.{◌≡◌, ℕ, ◌∷◌, Some, IfOk, if◌then◌else◌};
 ghost use Rattle.reflect_out.specs.Advertising.{is_from, is_kept_back, to_other_as, to_own_as, reflected, is_client_of, reflected_to, inside, permitted, advertised_over, advert};
 
+mod adverts;
+
+pub use adverts::Adverts;
 use net_conf::{SiteConf, SiteSession};
 use net_prefix::{Addr, Prefix};
 use path_attr::{Attr, Communities, NO_ADVERTISE, NO_EXPORT, NO_EXPORT_SUBCONFED};
@@ -36,7 +39,7 @@ pub fn advert(
 }
 
 /// Whether the route was learned from this peer.
-fn is_from(peer: Addr, source: Source) -> bool
+pub(crate) fn is_from(peer: Addr, source: Source) -> bool
     ensures { result ≡ is_from peer source }
 {
     match source {
@@ -46,7 +49,7 @@ fn is_from(peer: Addr, source: Source) -> bool
 }
 
 /// Whether the route's communities keep it at its router, or within its AS.
-fn is_kept_back(external: bool, communities: &Communities) -> bool
+pub(crate) fn is_kept_back(external: bool, communities: &Communities) -> bool
     ensures { result ≡ is_kept_back external communities.now }
 {
     communities.carries(NO_ADVERTISE)
@@ -93,7 +96,7 @@ fn permitted(
 }
 
 /// The attributes towards another AS.
-fn to_other_as(
+pub(crate) fn to_other_as(
     alloc: Global,
     site: &SiteConf,
     settings: Settings,
@@ -132,7 +135,11 @@ fn inside(
 
 /// The attributes inside the AS, of the router's own route or an external one. They share its lists and take no memory:
 /// the only fault is that 2^63 owners share one.
-fn to_own_as(site: &SiteConf, to: &SiteSession, best: &Candidate) -> Result<Attr, AllocError>
+pub(crate) fn to_own_as(
+    site: &SiteConf,
+    to: &SiteSession,
+    best: &Candidate,
+) -> Result<Attr, AllocError>
     ensures { IfOk result (λ a. a ≡ to_own_as site.now to.now best.now) }
 {
     let mut told = best.attr.share()?;
@@ -165,7 +172,7 @@ fn reflected_to(
 }
 
 /// Whether the peer is a client of the router.
-fn is_client_of(site: &SiteConf, peer: Addr) -> bool
+pub(crate) fn is_client_of(site: &SiteConf, peer: Addr) -> bool
     ensures { result ≡ is_client_of site.now peer }
 {
     match site.session(peer) {
@@ -175,7 +182,12 @@ fn is_client_of(site: &SiteConf, peer: Addr) -> bool
 }
 
 /// The attributes of a route that is reflected.
-fn reflected(alloc: Global, site: &SiteConf, peer: Addr, attr: &Attr) -> Result<Attr, AllocError>
+pub(crate) fn reflected(
+    alloc: Global,
+    site: &SiteConf,
+    peer: Addr,
+    attr: &Attr,
+) -> Result<Attr, AllocError>
     ensures { IfOk result (λ a. a ≡ reflected site.now peer attr.now) }
 {
     let mut reflected = attr.share()?;

@@ -1,14 +1,14 @@
 //! The queues of all directions.
 
-ghost use Rattle.std.specs.Prelude.{◌≡◌, ◌+◌, ◌<◌, ◌≤◌, ◌↔◌, [], ◌∷◌, ◌++◌, true, false, length, max, drop, slice_get, option_map, IsTrue, IfSome, IfNone, OnOk, OnErr};
+ghost use Rattle.std.specs.Prelude.{◌≡◌, ◌+◌, ◌<◌, ◌≤◌, ◌↔◌, [], ◌∷◌, ◌++◌, true, false, length, max, drop, slice_get, Some, option_map, IsTrue, IfOk, IfSome, IfNone, OnOk, OnErr};
 ghost use Rattle.attr_pool.specs.Pooled.{has_attr, with_attr};
 
 use crate::direction::Direction;
 use crate::message::Message;
-use crate::numbered::numbered_in;
+use crate::numbered::{Numbered, numbered_in};
 use crate::numbered_queues::NumberedQueues;
 use crate::view::View;
-use attr_pool::Pool;
+use attr_pool::{AttrId, Pool};
 use net_prefix::Addr;
 use path_attr::Attr;
 use std::alloc::{AllocError, Global};
@@ -37,6 +37,7 @@ impl Model for Queues {
 }
 
 impl Queues {
+    ghost use Rattle.session_queue.specs.Numbers.{message_by, IsGiven};
     ghost use Rattle.session_queue.specs.Shards.{shard_of};
     ghost use Rattle.session_queue.specs.Telling.{message_of};
     ghost use Rattle.session_queue.specs.Waiting.{queue_at, spare_at, IsAdmitted, KeepsAdmitted, KeepsOthers, IsQuiet, IsPast, SkipsNone};
@@ -79,6 +80,9 @@ impl Queues {
         ensures absent { OnErr result (has_attr self.old.admitted attr.now ≡ false) }
         ensures err { OnErr result (self.new ≡ self.old) }
     {
+        if self.pool.is_last(attr) {
+            return Ok(());
+        }
         match attr.share() {
             Ok(copy) => self.admit_own(copy),
             // 2^63 owners share one of its lists: what is there wants no copy.
@@ -97,8 +101,25 @@ impl Queues {
         ensures absent { OnErr result (has_attr self.old.admitted attr ≡ false) }
         ensures err { OnErr result (self.new ≡ self.old) }
     {
+        match self.number_of(attr) {
+            Ok(_id) => Ok(()),
+            Err(fault) => Err(fault),
+        }
+    }
+
+    /// The number of these attributes, which come to be admitted.
+    fn number_of(&mut self, attr: Attr) -> Result<AttrId, AllocError>
+        ensures number { IfOk result (λ id. slice_get self.new.admitted id ≡ Some attr) }
+        ensures admitted { OnOk result (self.new.admitted ≡ with_attr self.old.admitted attr) }
+        ensures ok { OnOk result (has_attr self.new.admitted attr ≡ true) }
+        ensures keeps { KeepsAdmitted self.old self.new }
+        ensures queue { (from to : Addr) → queue_at self.new from to ≡ queue_at self.old from to }
+        ensures spare { (from to : Addr) → spare_at self.new from to ≡ spare_at self.old from to }
+        ensures absent { OnErr result (has_attr self.old.admitted attr ≡ false) }
+        ensures err { OnErr result (self.new ≡ self.old) }
+    {
         match self.pool.intern(attr) {
-            Ok(_id) => return Ok(()),
+            Ok(id) => return Ok(id),
             Err(refused) => {
                 drop(refused);
                 return Err(AllocError);
@@ -116,6 +137,46 @@ impl Queues {
         ensures admitted { self.new.admitted ≡ self.old.admitted }
     {
         let numbered = numbered_in(&mut self.pool, message);
+        self.queues.push(from, to, numbered);
+    }
+
+    /// Adds a message at the end of the direction's queue, with the memory that this takes: its attributes come to be
+    /// admitted, and it gets a place. An error, which is want of memory, changes no queue.
+    pub fn put(&mut self, from: Addr, to: Addr, message: Message) -> Result<(), AllocError>
+        ensures queue { OnOk result (queue_at self.new from to ≡ queue_at self.old from to ++ message ∷ []) }
+        ensures same { OnErr result (queue_at self.new from to ≡ queue_at self.old from to) }
+        ensures others { KeepsOthers from to self.old self.new }
+        ensures keeps { KeepsAdmitted self.old self.new }
+    {
+        let numbered = self.number(message)?;
+        self.reserve(from, to, 1)?;
+        self.push_numbered(from, to, numbered);
+        Ok(())
+    }
+
+    /// The message by its number: its attributes come to be admitted. The error is want of memory, and changes nothing.
+    fn number(&mut self, message: Message) -> Result<Numbered, AllocError>
+        ensures message { IfOk result (λ n. message_by self.new.admitted n ≡ message) }
+        ensures given { IfOk result (IsGiven self.new.admitted) }
+        ensures keeps { KeepsAdmitted self.old self.new }
+        ensures queue { (from to : Addr) → queue_at self.new from to ≡ queue_at self.old from to }
+        ensures spare { (from to : Addr) → spare_at self.new from to ≡ spare_at self.old from to }
+    {
+        match message {
+            Message::Update(prefix, attr) => Ok(Numbered::Update(prefix, self.number_of(attr)?)),
+            Message::Withdraw(prefix) => Ok(Numbered::Withdraw(prefix)),
+        }
+    }
+
+    /// Adds a numbered message at the end of the direction's queue. It takes no memory.
+    fn push_numbered(&mut self, from: Addr, to: Addr, numbered: Numbered)
+        requires room { 0 < spare_at self.old from to }
+        requires given { IsGiven self.old.admitted numbered }
+        ensures queue { queue_at self.new from to ≡
+            queue_at self.old from to ++ message_by self.old.admitted numbered ∷ [] }
+        ensures others { KeepsOthers from to self.old self.new }
+        ensures admitted { self.new.admitted ≡ self.old.admitted }
+    {
         self.queues.push(from, to, numbered);
     }
 

@@ -1,6 +1,8 @@
 //! What a virtual peer feeds.
 
-ghost use Rattle.std.specs.Prelude.{◌≡◌, IfOk};
+ghost use Rattle.std.specs.Prelude.{◌≡◌, true, false, IfOk};
+ghost use Rattle.net_conf.specs.Configured.{IsConfigured};
+ghost use Rattle.net_conf.specs.Costs.{is_up};
 ghost use Rattle.reference_machine.specs.Machine.{has_foreign_first, is_too_long, carries_too_many, feed_refusal, fed_attr, fed_message};
 
 use crate::limits::{MOST_FED_COMMUNITIES, MOST_FED_NUMBERS};
@@ -39,9 +41,40 @@ fn carries_too_many(news: &News) -> bool
     }
 }
 
-/// Why the feed is refused, if it is.
-#[tactic(auto, unfolding(crate::specs::Machine::feed_refusal))]
+/// Why the feed is refused, if it is. Where the session is up, both ends are there, and are not looked up for that.
 pub fn feed_refusal(conf: &Conf, feed: &Feed) -> Option<Refusal>
+    ensures { result ≡ feed_refusal conf.now feed.now }
+{
+    conf.facts();
+    if conf.is_up(feed.from, feed.to) {
+        refusal_while_up(conf, feed)
+    } else {
+        refusal_while_down(conf, feed)
+    }
+}
+
+/// The same, where the session is up.
+#[tactic(auto, using(crate::proofs::Ends::feed_tests))]
+fn refusal_while_up(conf: &Conf, feed: &Feed) -> Option<Refusal>
+    requires configured { IsConfigured conf.now }
+    requires up { is_up conf.now feed.now.from feed.now.to ≡ true }
+    ensures { result ≡ feed_refusal conf.now feed.now }
+{
+    if !conf.is_virtual(feed.from) || conf.is_virtual(feed.to) {
+        Some(Refusal::BadEnd)
+    } else if has_foreign_first(conf, feed.from, &feed.news) {
+        Some(Refusal::FirstAs)
+    } else if is_too_long(&feed.news) || carries_too_many(&feed.news) {
+        Some(Refusal::Limit)
+    } else {
+        None
+    }
+}
+
+/// The same, where no session of the two is up.
+#[tactic(auto, unfolding(crate::specs::Machine::feed_refusal))]
+fn refusal_while_down(conf: &Conf, feed: &Feed) -> Option<Refusal>
+    requires { is_up conf.now feed.now.from feed.now.to ≡ false }
     ensures { result ≡ feed_refusal conf.now feed.now }
 {
     if !(conf.has_node(feed.from) && conf.has_node(feed.to)) {
@@ -50,14 +83,8 @@ pub fn feed_refusal(conf: &Conf, feed: &Feed) -> Option<Refusal>
         Some(Refusal::BadEnd)
     } else if !conf.has_session(feed.from, feed.to) {
         Some(Refusal::NoSession)
-    } else if !conf.is_up(feed.from, feed.to) {
-        Some(Refusal::SessionDown)
-    } else if has_foreign_first(conf, feed.from, &feed.news) {
-        Some(Refusal::FirstAs)
-    } else if is_too_long(&feed.news) || carries_too_many(&feed.news) {
-        Some(Refusal::Limit)
     } else {
-        None
+        Some(Refusal::SessionDown)
     }
 }
 

@@ -3,7 +3,7 @@ use Rattle.attr_pool.specs.Pooled.{has_attr}
 use Rattle.session_queue.specs.Numbers.{shown}
 use Rattle.session_queue.specs.Waiting.{queue_at, spare_at}
 use Rattle.session_queue.proofs.Shown.{queue_kept, spare_kept, has_attr_itself}
-use Rattle.session_queue.proofs.queues.Queues.admit_own.Goals as goal
+use Rattle.session_queue.proofs.queues.Queues.number_of.Goals as goal
 
 pub returns-in-Ok-clause-ok : goal.returns-in-Ok-clause-ok
 returns-in-Ok-clause-ok c =
