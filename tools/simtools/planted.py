@@ -96,7 +96,7 @@ def copy(crate: str, others: Set[str], room: pathlib.Path) -> None:
     alone."""
     shutil.copy(TOP / "HANDLES", room)
     lines = (TOP / "crates.txt").read_text().splitlines()
-    kept = [line for line in lines if line.partition(":")[0].strip() in others | {crate}]
+    kept = [line for line in lines if set(line.partition(":")[0].split()[:1]) & (others | {crate})]
     (room / "crates.txt").write_text("\n".join(kept) + "\n")
     how = {KEPT: link_what_was_checked, "out/rlib": link}
     for name, part in [(name, part) for name in others | {crate}
