@@ -1,6 +1,6 @@
 //! The commands. Those of one shape have one reader.
 
-ghost use Rattle.std.specs.Prelude.{◌≤◌, ◌∷◌, length, codes};
+ghost use Rattle.std.specs.Prelude.{◌≡◌, ◌↔◌, ◌≤◌, ◌∷◌, length, codes, IsTrue};
 ghost use Rattle.sim_event.specs.Events.{IsEvent};
 ghost use Rattle.command_text.specs.Words.{words_of};
 ghost use Rattle.command_text.specs.Verbs.{verb_word, node_word, link_word, pair_word, setting_word, prefix_word};
@@ -23,13 +23,27 @@ pub(crate) fn read_command(alloc: Global, first: &[u8], words: &[u8]) -> Result<
     requires { length words.now ≤ most_command_bytes }
     ensures { Makes IsEvent feeds_route words_of (first.now ∷ tokens words.now) result }
 {
-    if first == b"feed".as_slice() {
+    if is_feed(first) {
         return read_feed(alloc, words);
     }
     let Some(verb) = verb_of(first) else {
         return Err(Refusal::Syntax);
     };
     read_verb(verb, words).ok_or(Refusal::Syntax)
+}
+
+/// Whether the word is that of a feed.
+fn is_feed(first: &[u8]) -> bool
+    ensures { IsTrue result ↔ (first.now ≡ codes "feed") }
+{
+    matches!(first, b"feed")
+}
+
+/// The event of `deliver` and the words after it.
+pub(crate) fn read_deliver(words: &[u8]) -> Result<Event, Refusal>
+    ensures { Makes IsEvent feeds_route words_of (codes "deliver" ∷ tokens words.now) result }
+{
+    read_pair(PairVerb::Deliver, words).ok_or(Refusal::Syntax)
 }
 
 /// The event that the verb and the words after it spell.

@@ -1,6 +1,6 @@
 //! Feeds: the news that a virtual peer tells a router.
 
-ghost use Rattle.std.specs.Prelude.{◌≡◌, ◌↔◌, ℕ, ◌<◌, ◌≤◌, ◌^◌, List, ◌∷◌, length, codes, Option, IfSome, IfNone, IfOk, IsTrue};
+ghost use Rattle.std.specs.Prelude.{◌≡◌, ◌↔◌, ℕ, ◌<◌, ◌≤◌, ◌^◌, List, ◌∷◌, length, codes, Option, IfSome, IfNone, IfOk, IsTrue, ⊤};
 ghost use Rattle.sim_event.specs.declared.event.FedRoute.{FedRoute};
 ghost use Rattle.path_attr.specs.declared.origin.Origin.{Origin};
 ghost use Rattle.sim_event.specs.Events.{IsEvent, IsFedRoute, IsNews};
@@ -8,7 +8,8 @@ ghost use Rattle.sim_event.specs.Wording.{origin_text, maybe_number_text};
 ghost use Rattle.command_text.specs.Words.{words_of, fed_words, news_words};
 ghost use Rattle.command_text.specs.Lines.{tokens, is_route, feeds_route, most_command_bytes};
 ghost use Rattle.command_text.specs.Reading.{Makes, Reads};
-ghost use Rattle.command_text.specs.Updates.{update_words, AreUpdateWords, HasRoute};
+ghost use Rattle.command_text.specs.declared.feed.NewsKind.{NewsKind};
+ghost use Rattle.command_text.specs.Updates.{kind_word, update_words, AreUpdateWords, HasRoute};
 
 use crate::arguments::{next_address, next_prefix};
 use crate::communities::{are_communities, read_communities};
@@ -37,13 +38,53 @@ fn read_news(alloc: Global, words: &[u8]) -> Result<News, Refusal>
     requires { length words.now ≤ most_command_bytes }
     ensures { Makes IsNews is_route news_words (tokens words.now) result }
 {
-    let (first, rest) = next_word(words).ok_or(Refusal::Syntax)?;
-    if first == b"update".as_slice() {
-        read_update(alloc, rest)
-    } else if first == b"withdraw".as_slice() {
-        read_withdraw(rest)
-    } else {
-        Err(Refusal::Syntax)
+    let (kind, rest) = next_kind(words).ok_or(Refusal::Syntax)?;
+    match kind {
+        NewsKind::Update => read_update(alloc, rest),
+        NewsKind::Withdraw => read_withdraw(rest),
+    }
+}
+
+/// What kind of news is fed.
+#[derive(Clone, Copy)]
+enum NewsKind {
+    Update,
+    Withdraw,
+}
+
+/// The kind of news that stands first, and the text after it. `update` with one space behind it, as it mostly stands, is
+/// not searched for its end.
+fn next_kind(words: &[u8]) -> Option<(NewsKind, &[u8])>
+    ensures found { IfSome result (λ next. tokens words.now ≡ kind_word next.0 ∷ tokens next.1.now) }
+    ensures shorter { IfSome result (λ next. length next.1.now ≤ length words.now) }
+    ensures none { IfNone result ((k : NewsKind) (more : List (List ℕ)) → tokens words.now ≡ kind_word k ∷ more → ⊥) }
+{
+    if let Some(rest) = behind_update(words) {
+        return Some((NewsKind::Update, rest));
+    }
+    let (first, rest) = next_word(words)?;
+    Some((kind_of(first)?, rest))
+}
+
+/// What stands behind `update` and one space at the front.
+fn behind_update(words: &[u8]) -> Option<&[u8]>
+    ensures found { IfSome result (λ rest. tokens words.now ≡ codes "update" ∷ tokens rest.now) }
+    ensures shorter { IfSome result (λ rest. length rest.now ≤ length words.now) }
+{
+    match words {
+        [b'u', b'p', b'd', b'a', b't', b'e', b' ', rest @ ..] => Some(rest),
+        _ => None,
+    }
+}
+
+/// The kind of news that the word is.
+fn kind_of(word: &[u8]) -> Option<NewsKind>
+    ensures { Reads (λ _. ⊤) kind_word word.now result }
+{
+    match word {
+        b"update" => Some(NewsKind::Update),
+        b"withdraw" => Some(NewsKind::Withdraw),
+        _ => None,
     }
 }
 

@@ -1,9 +1,9 @@
 //! A line of input.
 
-ghost use Rattle.std.specs.Prelude.{◌≡◌, ℕ, List, ◌∷◌};
-ghost use Rattle.command_text.specs.Lines.{IsReading, are_silent};
+ghost use Rattle.std.specs.Prelude.{◌≡◌, ℕ, List, ◌∷◌, codes, IfSome};
+ghost use Rattle.command_text.specs.Lines.{IsReading, are_silent, tokens};
 
-use crate::command::read_command;
+use crate::command::{read_command, read_deliver};
 use crate::limits::MAX_LINE;
 use crate::words::next_word;
 use net_conf::Refusal;
@@ -20,6 +20,9 @@ pub fn read_line(alloc: Global, line: &[u8]) -> Result<Option<Event>, Refusal>
     if line.len() > MAX_LINE {
         return Err(Refusal::Syntax);
     }
+    if let Some(words) = behind_deliver(line) {
+        return Ok(Some(read_deliver(words)?));
+    }
     let Some((first, rest)) = next_word(line) else {
         return Ok(None);
     };
@@ -27,6 +30,17 @@ pub fn read_line(alloc: Global, line: &[u8]) -> Result<Option<Event>, Refusal>
         return Ok(None);
     }
     Ok(Some(read_command(alloc, first, rest)?))
+}
+
+/// What stands behind `deliver` and one space at the head of the line, as most deliveries are written. Other lines are
+/// read by their first word.
+fn behind_deliver(line: &[u8]) -> Option<&[u8]>
+    ensures { IfSome result (λ words. tokens line.now ≡ codes "deliver" ∷ tokens words.now) }
+{
+    match line {
+        [b'd', b'e', b'l', b'i', b'v', b'e', b'r', b' ', words @ ..] => Some(words),
+        _ => None,
+    }
 }
 
 /// Whether a line with this first word is a comment.

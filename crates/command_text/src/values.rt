@@ -73,7 +73,7 @@ pub(crate) fn med_of(word: &[u8]) -> Option<Option<u32>>
 pub(crate) fn is_dash(word: &[u8]) -> bool
     ensures { IsTrue result ↔ (word.now ≡ none_text) }
 {
-    word == b"-".as_slice()
+    matches!(word, b"-")
 }
 
 /// A switch: on or off.

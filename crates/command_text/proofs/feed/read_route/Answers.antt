@@ -1,12 +1,9 @@
-use Rattle.std.proofs.Common.{◌≡◌, ℕ, ◌<◌, ◌^◌, List, ◌∷◌, Option, IfSome}
+use Rattle.std.proofs.Common.{◌≡◌, ℕ, List, ◌∷◌}
 use Rattle.net_prefix.specs.Prefix.{Prefix, prefix_text}
 use Rattle.path_attr.specs.declared.path.Segment.{Segment}
-use Rattle.path_attr.specs.declared.origin.Origin.{Origin}
 use Rattle.sim_event.specs.declared.event.FedRoute.{FedRoute}
-use Rattle.sim_event.specs.Events.{IsFedRoute}
 use Rattle.sim_event.specs.Wording.{origin_text, maybe_number_text, path_text}
 use Rattle.command_text.specs.Words.{communities_words, fed_words}
-use Rattle.command_text.specs.Paths.{IsAsPath}
 use Rattle.command_text.proofs.Readings.{at_none, at_some}
 use Rattle.command_text.proofs.feed.read_route.Goals as goal
 

@@ -1,4 +1,4 @@
-use Rattle.std.proofs.Common.{◌≡◌, refl, ap, codes, ◌∷◌}
+use Rattle.std.proofs.Common.{refl, ap, codes, ◌∷◌}
 use Rattle.sim_event.specs.declared.event.News.TheVariants.{Update}
 use Rattle.command_text.proofs.feed.read_update.Goals as goal
 

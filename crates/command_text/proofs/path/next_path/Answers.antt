@@ -1,4 +1,4 @@
-use Rattle.std.proofs.Common.{◌≡◌, List, ◌∷◌, [], subst}
+use Rattle.std.proofs.Common.{◌∷◌, [], subst}
 use Rattle.std.specs.Option.{SomeIff}
 use Rattle.path_attr.specs.declared.path.Segment.TheVariants.{Seq as Sequence}
 use Rattle.path_attr.specs.Path.{IsPath}
