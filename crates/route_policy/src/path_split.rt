@@ -1,10 +1,10 @@
 //! The rules of a policy in two: the AS numbers that its rules by path are about, and its other rules. One pass over a
-//! long path mostly tells that it holds none of the numbers: then the other rules decide alone.
+//! path tells which of the numbers that it holds comes first: mostly none, and then the other rules decide alone.
 
-ghost use Rattle.std.specs.Prelude.{◌≡◌, ◌++◌, ◌∷◌, [], false, nat_eq, IfOk};
-ghost use Rattle.std.specs.List.{list_any};
+ghost use Rattle.std.specs.Prelude.{◌≡◌, ◌++◌, ◌∷◌, [], false, length, nat_eq, IfOk};
+ghost use Rattle.std.specs.List.{list_any, position};
 ghost use Rattle.std.specs.Option.{option_copied};
-ghost use Rattle.route_policy.specs.PathSplit.{path_numbers, other_rules, other_rule, split_of, split_with, share_one, names_any, IsSplitOf};
+ghost use Rattle.route_policy.specs.PathSplit.{path_numbers, other_rules, other_rule, split_of, split_with, first_with, first_among, first_held, IsSplitOf};
 
 use crate::marks::Marks;
 use crate::rule::Rule;
@@ -88,25 +88,45 @@ impl PathSplit {
         })
     }
 
-    /// Whether one of the numbers stands in the path.
-    pub(crate) fn names_any(&self, path: &AsPath) -> bool
-        ensures { result ≡ names_any self.now.numbers path.now }
+    /// How many numbers there are.
+    pub(crate) fn number_count(&self) -> usize
+        ensures { result ≡ length self.now.numbers }
     {
-        path.segments().iter().any(|s| self.has_any(s.numbers()))
+        self.numbers.len()
     }
 
-    /// Whether one of these is among the numbers.
-    fn has_any(&self, numbers: &[Asn]) -> bool
-        ensures { result ≡ share_one numbers.now self.now.numbers }
+    /// The first place of a number that stands in the path; how many numbers there are, where none does.
+    pub(crate) fn first_held(&self, path: &AsPath) -> usize
+        ensures { result ≡ first_held self.now.numbers path.now }
     {
-        numbers.iter().any(|n| self.has(*n))
+        let mut first = self.numbers.len();
+        for segment in path.segments() {
+            first = self.first_among(first, segment.numbers());
+        }
+        first
     }
 
-    /// Whether the AS is among the numbers.
-    fn has(&self, asn: Asn) -> bool
-        ensures { result ≡ list_any (nat_eq asn) self.now.numbers }
+    /// The first of this place and the places of these numbers.
+    fn first_among(&self, first: usize, numbers: &[Asn]) -> usize
+        ensures { result ≡ first_among self.now.numbers first numbers.now }
     {
-        self.is_marked(asn) && self.numbers.as_slice().iter().any(|n| asn == *n)
+        let mut least = first;
+        for number in numbers {
+            least = self.first_with(least, *number);
+        }
+        least
+    }
+
+    /// The place of the number, where that comes before this place; else this place.
+    #[tactic(auto, using(crate::proofs::PathSplits::first_without))]
+    fn first_with(&self, first: usize, asn: Asn) -> usize
+        ensures { result ≡ first_with self.now.numbers first asn }
+    {
+        if self.is_marked(asn) {
+            first_before(self.numbers.as_slice(), first, asn)
+        } else {
+            first
+        }
     }
 
     /// Whether the AS is marked, as each of the numbers is.
@@ -115,6 +135,20 @@ impl PathSplit {
     {
         self.marks.has(asn)
     }
+}
+
+/// The place of the number among these, where that comes before this place; else this place.
+fn first_before(numbers: &[Asn], first: usize, asn: Asn) -> usize
+    ensures { result ≡ first_with numbers.now first asn }
+{
+    place_in(&numbers[..first.min(numbers.len())], asn).unwrap_or(first)
+}
+
+/// The place of the number among these.
+fn place_in(numbers: &[Asn], asn: Asn) -> Option<usize>
+    ensures { result ≡ position (nat_eq asn) numbers.now }
+{
+    numbers.iter().position(|n| asn == *n)
 }
 
 /// The split with these numbers and other rules.

@@ -3,15 +3,15 @@
 ghost use Rattle.std.specs.Prelude.{◌≡◌, ◌↔◌, ◌≤◌, ◌∷◌, ◌++◌, [], false, length, find, option_map, IsTrue, IfSome, IfOk, OnOk, OnErr, IsErrOf};
 ghost use Rattle.route_policy.specs.Judging.{matches, judged};
 ghost use Rattle.route_policy.specs.Limits.{most_rules, is_full};
-ghost use Rattle.route_policy.specs.PathSplit.{path_numbers, other_rules, names_any, IsSplitOf};
+ghost use Rattle.route_policy.specs.PathSplit.{split_of, by_place, IsSplitOf};
 ghost use Rattle.route_policy.specs.Sameness.{same_policy};
 ghost use Rattle.route_policy.specs.declared.policy.AddFault.TheVariants.{Limit};
 
 use crate::marked_route::MarkedRoute;
-use crate::path_split::SharedSplit;
+use crate::path_split::{PathSplit, SharedSplit};
 use crate::rule::{Action, Rule};
 use net_prefix::Prefix;
-use path_attr::{AsPath, Attr};
+use path_attr::Attr;
 use seq::{Copied, SharedSeq};
 use std::alloc::{AllocError, Global};
 use std::error::Error;
@@ -166,22 +166,11 @@ impl Policy {
         *self = Policy::new(self.alloc);
     }
 
-    /// The rules that are not by path, where the path holds none of the numbers that the others are about. None too
-    /// where that was not looked at.
-    fn others_alone(&self, path: &AsPath) -> Option<&[Rule]>
-        ensures { IfSome result (λ rules.
-            (rules.now ≡ other_rules self.now) × (names_any (path_numbers self.now) path.now ≡ false)) }
+    /// The split of its rules, where it keeps one.
+    fn split(&self) -> Option<&PathSplit>
+        ensures { IfSome result (λ split. split.now ≡ split_of self.now) }
     {
-        match self.split.get() {
-            Some(split) => {
-                if split.names_any(path) {
-                    None
-                } else {
-                    Some(split.others())
-                }
-            }
-            None => None,
-        }
+        self.split.get()
     }
 }
 
@@ -206,7 +195,7 @@ pub fn judge(policy: &Policy, prefix: Prefix, attr: &Attr) -> Action
 }
 
 /// The action of the first rule that a route to the prefix with these attributes matches. Where many rules are by path,
-/// the path mostly holds none of the numbers that they are about, and the others decide alone.
+/// the path is looked through once for all of them.
 fn first_action(policy: &Policy, prefix: Prefix, attr: &Attr) -> Option<Action>
     ensures { result ≡ option_map (λ r. r.act) (find (λ r. matches r.cond prefix attr.now) policy.now) }
 {
@@ -214,10 +203,41 @@ fn first_action(policy: &Policy, prefix: Prefix, attr: &Attr) -> Option<Action>
     if rules.len() < WORTH_RULES {
         return first_of(rules, prefix, attr);
     }
-    match policy.others_alone(&attr.path) {
-        Some(others) => first_of(others, prefix, attr),
+    match policy.split() {
+        Some(split) => first_by_split(rules, split, prefix, attr),
         None => first_of_many(rules, prefix, attr),
     }
+}
+
+/// The same, by the split of the rules. Mostly no rule by path matches, and the others decide alone.
+fn first_by_split(rules: &[Rule], split: &PathSplit, prefix: Prefix, attr: &Attr) -> Option<Action>
+    requires { split.now ≡ split_of rules.now }
+    ensures { result ≡ option_map (λ r. r.act) (find (λ r. matches r.cond prefix attr.now) rules.now) }
+{
+    let place = split.first_held(&attr.path);
+    if place == split.number_count() {
+        first_of(split.others(), prefix, attr)
+    } else {
+        first_by_place(rules, place, prefix, attr)
+    }
+}
+
+/// The same, where so many rules by path come before the first of them that matches.
+fn first_by_place(rules: &[Rule], place: usize, prefix: Prefix, attr: &Attr) -> Option<Action>
+    ensures { result ≡ option_map (λ r. r.act) (by_place prefix attr.now place rules.now) }
+{
+    let mut left = place;
+    for rule in rules {
+        if rule.cond.path_number().is_some() {
+            if left == 0 {
+                return Some(rule.act);
+            }
+            left -= 1;
+        } else if rule.cond.matches(prefix, attr) {
+            return Some(rule.act);
+        }
+    }
+    None
 }
 
 /// The same, of many rules. A long path is looked through once, and again only for a rule about an AS that it may hold.
