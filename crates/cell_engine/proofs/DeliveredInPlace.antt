@@ -1,6 +1,7 @@
 -- A delivery in the receiver's cell: places are made before the head is taken, and the rest is as where the outcome is put in.
-use Rattle.std.proofs.Common.{◌≡◌, ◌++◌, true, List, drop, slice_get, Option, Some, is_some, refl, sym, ap, subst, ◌∙◌}
+use Rattle.std.proofs.Common.{◌≡◌, ◌++◌, true, List, drop, slice_get, Option, Some, refl, sym, ap, subst, ◌∙◌}
 use Rattle.net_prefix.specs.declared.addr.Addr.{Addr}
+use Rattle.net_prefix.specs.Prefix.{MakePrefix}
 use Rattle.prefix_table.specs.Tables.{Table}
 use Rattle.session_queue.specs.declared.direction.Direction.{Direction}
 use Rattle.session_queue.specs.declared.message.Message.{Message}
@@ -13,7 +14,7 @@ use Rattle.net_conf.specs.RouterSites.{router_site}
 use Rattle.net_conf.specs.declared.site.SiteConf.{SiteConf}
 use Rattle.reference_machine.specs.Network.{messages_in}
 use Rattle.reference_machine.specs.Machine.{head_step}
-use Rattle.cell_engine.specs.RouterTables.{value_at, with_value}
+use Rattle.cell_engine.specs.RouterTables.{with_value}
 use Rattle.cell_engine.specs.Cells.{Cell, Outcome}
 use Rattle.cell_engine.specs.State.{State, IsConsistent, cell_at, network}
 use Rattle.cell_engine.specs.Changes.{AreOverSessionsUp}
@@ -34,8 +35,8 @@ module _ (e : State) (sound : IsConsistent e) (d : Direction) (m : Message) (sit
   tables_are : ts ≡ with_value d.to (prefix_of m) outcome.cell e.tables
   tables_are = tables ∙ ap (λ x. with_value d.to (prefix_of m) (outcome_by x (cell_at d.to (prefix_of m) e.tables) d.from m).cell e.tables) site_is
 
-  pub prefixes_then : is_some (value_at d.to (prefix_of m) e.tables) ≡ true → AreOfPrefixes e.tables → AreOfPrefixes ts
-  prefixes_then there are = subst AreOfPrefixes (sym tables_are) (prefixes_with_cell d.to (prefix_of m) outcome.cell e.tables (are d.to (prefix_of m) there) are)
+  pub prefixes_then : MakePrefix (prefix_of m).addr (prefix_of m).len → AreOfPrefixes e.tables → AreOfPrefixes ts
+  prefixes_then block are = subst AreOfPrefixes (sym tables_are) (prefixes_with_cell d.to (prefix_of m) outcome.cell e.tables block are)
 
   module _ (configured : IsConfigured e.conf) (first : slice_get (queue_at e.queues d.from d.to) 0 ≡ Some m) (sends : List (Addr × Message)) (sends_are : sends ≡ (outcome_by site (cell_at d.to (prefix_of m) e.tables) d.from m).sends) (ready q r : Queues) (kept : KeepsMessages e.queues ready) (popped : queue_at q d.from d.to ≡ drop 1 (queue_at ready d.from d.to)) (others : KeepsOthers d.from d.to ready q) (pushed : (f t : Addr) → queue_at r f t ≡ queue_at q f t ++ told_from d.to sends f t) where
     -- the engine, once all is ready

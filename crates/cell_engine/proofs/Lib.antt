@@ -13,6 +13,7 @@ mod InPlace
 mod Lent
 mod SenderPlaces
 pub mod Unchanged
+mod WithinSite
 mod MoveTests
 pub mod Knowing
 pub mod Widening

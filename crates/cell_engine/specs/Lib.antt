@@ -4,6 +4,7 @@ pub mod Cells
 pub mod CellCoding
 pub mod Senders
 pub mod Updates
+pub mod Within
 pub mod SiteMoves
 pub mod Recosting
 pub mod MoveTests

@@ -50,4 +50,16 @@ impl<S: Selector, T: PrefixTable<Cell<S>>> State<S, T> {
     {
         self.queues.push(direction.from, direction.to, message);
     }
+
+    /// Adds a message at the end of the queue of a session's direction, with the memory that this takes. The network
+    /// stays as it is at an error, which is want of memory.
+    pub fn feed(&mut self, direction: Direction, message: Message) -> Result<(), AllocError>
+        requires { has_session self.old.conf direction.from direction.to ≡ true }
+        ensures next { OnOk result
+            (network self.new ≡ record
+            (network self.old) { queues = with_message direction message (network self.old).queues }) }
+        ensures same { OnErr result (network self.new ≡ network self.old) }
+    {
+        self.queues.put(direction.from, direction.to, message)
+    }
 }

@@ -4,6 +4,7 @@ ghost use Rattle.std.specs.Prelude.{◌≡◌, ◌≤◌, length, slice_get, tru
 ghost use Rattle.std.specs.Option.{option_copied};
 ghost use Rattle.net_prefix.specs.declared.addr.Addr as addr;
 ghost use Rattle.net_conf.specs.Costs.{is_up};
+ghost use Rattle.net_conf.specs.RouterSites.{router_site};
 ghost use Rattle.session_queue.specs.Telling.{prefix_of};
 ghost use Rattle.session_queue.specs.Waiting.{queue_at, spare_at};
 ghost use Rattle.reference_machine.specs.Network.{messages_in};
@@ -13,7 +14,7 @@ ghost use Rattle.cell_engine.specs.Cells.{IsDecided};
 ghost use Rattle.cell_engine.specs.Deliveries.{outcome_by};
 ghost use Rattle.cell_engine.specs.InPlace.{ArePeersInOrder};
 ghost use Rattle.cell_engine.specs.Queueing.{KeepsMessages};
-ghost use Rattle.cell_engine.specs.RouterTables.{value_at, with_value};
+ghost use Rattle.cell_engine.specs.RouterTables.{with_value};
 ghost use Rattle.cell_engine.specs.Sending.{told};
 ghost use Rattle.cell_engine.specs.State.{cell_at, network};
 
@@ -28,8 +29,43 @@ use route_select::Selector;
 use session_queue::{Direction, Message, Queues};
 use std::alloc::{AllocError, Global};
 
-/// Takes the message in the receiver's cell, which is lent out of its table for that. What is sent is admitted, and has
-/// places. An error, which is want of memory, changes no table.
+/// Takes the message in a cell that the receiver does not have yet. What is sent is admitted, and has places. An error,
+/// which is want of memory, changes no table.
+fn take_new<S: Selector + Drop, T: PrefixTable<Cell<S>> + Drop>(
+    alloc: Global,
+    site: Option<&SiteConf>,
+    cell: Cell<S>,
+    tables: &mut RouterTables<Cell<S>, T>,
+    queues: &mut Queues,
+    direction: Direction,
+    message: &Message,
+) -> Result<Vec<(Addr, Message)>, AllocError>
+    requires decided { IsDecided (option_copied site) (prefix_of message.now) cell }
+    requires peers { ArePeersInOrder (option_copied site) }
+    requires one { (t : addr.Addr) →
+        length (told t (outcome_by (option_copied site) cell direction.from message.now).sends) ≤ 1 }
+    ensures cell { OnOk result
+        (tables.new ≡ with_value direction.to (prefix_of message.now)
+        (outcome_by (option_copied site.entry) cell direction.from message.now).cell tables.old) }
+    ensures sends { IfOk result (λ sends.
+        sends.items ≡ (outcome_by (option_copied site.entry) cell direction.from message.now).sends) }
+    ensures room { IfOk result (λ sends.
+        (t : addr.Addr) → length (told t sends.items) ≤ spare_at queues.new direction.to t) }
+    ensures admitted { IfOk result (λ sends. AreAdmitted queues.new.admitted sends.items) }
+    ensures queue { KeepsMessages queues.old queues.new }
+    ensures same { OnErr result (tables.new ≡ tables.old) }
+{
+    let mut cell = cell;
+    let sends = take_in(alloc, site, &mut cell, queues, direction, message)?;
+    match tables.insert(alloc, direction.to, message.prefix(), cell) {
+        Ok(()) => Ok(sends),
+        Err(_) => Err(AllocError),
+    }
+}
+
+/// Takes the message in the receiver's cell, which is lent out of its table for that, an empty one standing there
+/// meanwhile; or in an empty one, where it has none. What is sent is admitted, and has places. An error, which is want
+/// of memory, changes no table.
 fn take_lent<S: Selector + Drop, T: PrefixTable<Cell<S>> + Drop>(
     alloc: Global,
     site: Option<&SiteConf>,
@@ -38,7 +74,6 @@ fn take_lent<S: Selector + Drop, T: PrefixTable<Cell<S>> + Drop>(
     direction: Direction,
     message: &Message,
 ) -> Result<Vec<(Addr, Message)>, AllocError>
-    requires there { is_some (value_at direction.to (prefix_of message.now) tables.old) ≡ true }
     requires decided { IsDecided (option_copied site) (prefix_of message.now)
         (cell_at direction.to (prefix_of message.now) tables.old) }
     requires peers { ArePeersInOrder (option_copied site) }
@@ -59,8 +94,9 @@ fn take_lent<S: Selector + Drop, T: PrefixTable<Cell<S>> + Drop>(
     ensures same { OnErr result (tables.new ≡ tables.old) }
 {
     let (router, prefix) = (direction.to, message.prefix());
-    let Ok(mut cell) = tables.replace(router, prefix, Cell::new(alloc, false)) else {
-        unreachable!()
+    let mut cell = match tables.replace(router, prefix, Cell::new(alloc, false)) {
+        Ok(cell) => cell,
+        Err(empty) => return take_new(alloc, site, empty, tables, queues, direction, message),
     };
     let sends = take_in(alloc, site, &mut cell, queues, direction, message);
     match tables.replace(router, prefix, cell) {
@@ -71,34 +107,22 @@ fn take_lent<S: Selector + Drop, T: PrefixTable<Cell<S>> + Drop>(
 
 impl<S: Selector + Drop, T: PrefixTable<Cell<S>> + Drop> State<S, T> {
     /// Takes the message at the head of the direction's queue: the receiver's cell is changed where it stands, and the
-    /// receiver sends what changed. This is the machine's own next state. The network stays as it is at an error, which
-    /// is want of memory.
-    pub fn deliver(&mut self, direction: Direction, message: &Message) -> Result<(), AllocError>
+    /// receiver sends what changed. This is the machine's own next state. It says whether the receiver decides: a
+    /// virtual peer does not. The network stays as it is at an error, which is want of memory.
+    pub fn deliver(&mut self, direction: Direction, message: &Message) -> Result<bool, AllocError>
         requires up { is_up self.old.conf direction.from direction.to ≡ true }
         requires head { slice_get (queue_at self.old.queues direction.from direction.to) 0 ≡ Some message.now }
         ensures next { OnOk result
             (network self.new ≡ (head_step (network self.old) direction
             (messages_in (network self.old).queues direction)).next) }
-        ensures same { OnErr result (network self.new ≡ network self.old) }
-    {
-        self.facts();
-        self.make_cell(direction.to, message.prefix())?;
-        self.take_in_place(direction, message)
-    }
-
-    /// The same, where the receiver has a cell of the prefix.
-    fn take_in_place(&mut self, direction: Direction, message: &Message) -> Result<(), AllocError>
-        requires up { is_up self.old.conf direction.from direction.to ≡ true }
-        requires head { slice_get (queue_at self.old.queues direction.from direction.to) 0 ≡ Some message.now }
-        requires there { is_some (value_at direction.to (prefix_of message.now) self.old.tables) ≡ true }
-        ensures next { OnOk result
-            (network self.new ≡ (head_step (network self.old) direction
-            (messages_in (network self.old).queues direction)).next) }
+        ensures decides { IfOk result (λ decides. decides ≡ is_some (router_site self.old.conf direction.to)) }
         ensures same { OnErr result (network self.new ≡ network self.old) }
     {
         self.conf.facts();
-        let made = self.conf.get().made_site(self.alloc, direction.to)?;
-        let site = self.conf.get().site_in(&made, direction.to);
+        // The length tells that the prefix is one, which holds of all that have a cell.
+        let _ = message.prefix().len();
+        // A router that ends a session has its site kept.
+        let site = self.conf.get().kept_site(direction.to);
         let sends = take_lent(
             self.alloc,
             site,
@@ -107,8 +131,9 @@ impl<S: Selector + Drop, T: PrefixTable<Cell<S>> + Drop> State<S, T> {
             direction,
             message,
         )?;
+        let decides = site.is_some();
         self.queues.pop(direction.from, direction.to);
         push_all(&mut self.queues, direction.to, sends);
-        Ok(())
+        Ok(decides)
     }
 }

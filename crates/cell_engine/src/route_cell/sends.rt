@@ -8,11 +8,14 @@ ghost use Rattle.net_prefix.specs.Address.{addr_cmp};
 ghost use Rattle.std.specs.Option.{option_copied};
 ghost use Rattle.cell_engine.specs.Cells.{is_up_in, send_to, send_over, sends_of};
 ghost use Rattle.cell_engine.specs.Updates.{send_if_up, without_cost, costless};
+ghost use Rattle.cell_engine.specs.Within.{basis_of, told_by, send_within};
 
 use crate::route_cell::moves::SiteChange;
 use net_conf::{SiteConf, SiteSession};
 use net_prefix::{Addr, Prefix};
+use path_attr::Attr;
 use reference_machine::{advert_of, change_of};
+use reflect_out::Adverts;
 use route_select::Candidate;
 use seq::push_some;
 use session_queue::Message;
@@ -153,10 +156,85 @@ pub(crate) fn sends_at(
         sends.items ≡ sends_of site.now site.now prefix (option_copied had.entry) (option_copied has.entry)) }
 {
     if is_same_choice(had, has) {
-        Ok(Vec::new(alloc))
-    } else {
-        sends_of(alloc, site, site, prefix, had, has)
+        return Ok(Vec::new(alloc));
     }
+    let mut before = adverts_of(site, prefix, had);
+    let mut after = adverts_of(site, prefix, has);
+    sends_within(
+        alloc,
+        prefix,
+        &mut before,
+        &mut after,
+        site.sessions.as_slice(),
+    )
+}
+
+/// The adverts of the route, where one is chosen.
+fn adverts_of<'a>(
+    site: &'a SiteConf,
+    prefix: Prefix,
+    best: Option<&'a Candidate>,
+) -> Option<Adverts<'a>>
+    ensures { result ≡ basis_of site.now prefix (option_copied best.entry) }
+{
+    match best {
+        None => None,
+        Some(best) => Some(Adverts::of(site, prefix, best)),
+    }
+}
+
+/// What is advertised over the session, if anything is.
+fn told_by(
+    alloc: Global,
+    adverts: &mut Option<Adverts<'_>>,
+    to: &SiteSession,
+) -> Result<Option<Attr>, AllocError>
+    ensures told { IfOk result (λ attr. attr ≡ told_by adverts.old to.now) }
+    ensures same { adverts.new ≡ adverts.old }
+{
+    match adverts {
+        None => Ok(None),
+        Some(adverts) => adverts.over(alloc, to),
+    }
+}
+
+/// What is sent over the session, where the site stays: nothing while it is down.
+fn send_within(
+    alloc: Global,
+    prefix: Prefix,
+    before: &mut Option<Adverts<'_>>,
+    after: &mut Option<Adverts<'_>>,
+    to: &SiteSession,
+) -> Result<Option<(Addr, Message)>, AllocError>
+    ensures send { IfOk result (λ send. send ≡ send_within prefix before.old after.old to.now) }
+    ensures before { before.new ≡ before.old }
+    ensures after { after.new ≡ after.old }
+{
+    if !to.up {
+        return Ok(None);
+    }
+    let had = told_by(alloc, before, to)?;
+    let has = told_by(alloc, after, to)?;
+    Ok(send_to(to.peer, change_of(prefix, had, has)))
+}
+
+/// What is sent over these sessions, where the site stays.
+fn sends_within(
+    alloc: Global,
+    prefix: Prefix,
+    before: &mut Option<Adverts<'_>>,
+    after: &mut Option<Adverts<'_>>,
+    sessions: &[SiteSession],
+) -> Result<Vec<(Addr, Message)>, AllocError>
+    ensures { IfOk result (λ sends.
+        sends.items ≡ filter_map (send_within prefix before.old after.old) sessions.now) }
+{
+    let mut sends = Vec::new(alloc);
+    for to in sessions {
+        let send = send_within(alloc, prefix, before, after, to)?;
+        push_some(&mut sends, send)?;
+    }
+    Ok(sends)
 }
 
 /// What is sent where both sites were compared: no advert is made where settings and sessions stay, and the best routes

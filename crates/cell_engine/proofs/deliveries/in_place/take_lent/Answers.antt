@@ -11,9 +11,9 @@ use Rattle.cell_engine.proofs.Taken.{value_here}
 use Rattle.cell_engine.proofs.deliveries.in_place.take_lent.Goals as goal
 
 -- an empty cell stands where the other one is lent out
-pub unreachable-requires-in-Err : goal.unreachable-requires-in-Err
-unreachable-requires-in-Err g c =
-    none-some c.new.result (sym c.in-Err.ensures.absent ∙ ap (value_at c.args.direction.to c.prefix-prefix.result) c.in-Ok.ensures.replaced ∙ value_here c.args.direction.to c.prefix-prefix.result c.new.result c.args.tables.now)
+pub unreachable-requires : goal.unreachable-requires
+unreachable-requires g c =
+    none-some c.new.result (sym c.in-Err-replace.ensures.absent ∙ ap (value_at c.args.direction.to c.prefix-prefix.result) c.in-Ok.ensures.replaced ∙ value_here c.args.direction.to c.prefix-prefix.result c.new.result c.args.tables.now)
 
 at_ok : {A F P Q : Type 0} (r : Result A F) → (P → Q) → OnOk r P → OnOk r Q
 at_ok (Ok x) f p = f p
