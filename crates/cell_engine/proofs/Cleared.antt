@@ -1,15 +1,23 @@
 -- What is left once the queues over some sessions are cleared.
-use Rattle.std.proofs.Common.{◌≡◌, ℕ, ◌+◌, ◌<◌, Bool, true, false, not, ◌&&◌, ◌||◌, nat_le, List, [], ◌∷◌, take, length, get_or, All, if◌then◌else◌, refl, sym, ap, ◌∙◌}
+use Rattle.std.proofs.Common.{◌≡◌, ℕ, ◌+◌, ◌<◌, Bool, true, false, not, ◌&&◌, ◌||◌, nat_le, List, [], ◌∷◌, ◌++◌, take, length, get_or, Option, Some, None, All, if◌then◌else◌, refl, sym, ap, ◌∙◌}
 use Rattle.std.specs.Cmp.{unsigned_ties}
+use Rattle.std.specs.declared.cmp.Ordering.{Ordering}
+use Rattle.std.specs.declared.cmp.Ordering.TheVariants.{Less, Equal, Greater}
+use Rattle.std.specs.Ordering.{is_lt, ordering_reverse}
 use Rattle.std.specs.List.{list_any}
 use Rattle.std.specs.BTreeMap.{is_at}
 use Rattle.std.proofs.lemmas.Bool.{true≢false}
 use Rattle.std.proofs.lemmas.List.Elements.{All-head, All-tail, filter_passes}
-use Rattle.std.proofs.lemmas.List.Folds.{list_any_more}
+use Rattle.std.proofs.lemmas.List.{append-nil, take_more}
+use Rattle.std.proofs.lemmas.List.Concat.{flat_map-append}
+use Rattle.std.proofs.lemmas.List.Folds.{list_any_more, list_any-append}
 use Rattle.std.specs.Map.{keys_of}
 use Rattle.net_prefix.specs.declared.addr.Addr.{Addr}
 use Rattle.net_prefix.specs.Address.{same_addr}
-use Rattle.session_queue.specs.Waiting.{Queues, queue_at, spare_at, same_direction, KeepsOthers}
+use Rattle.session_queue.specs.declared.direction.Direction.{Direction}
+use Rattle.session_queue.specs.Waiting.{Queues, direction_cmp, queue_at, spare_at, same_direction, IsPast, KeepsOthers, SkipsNone}
+use Rattle.session_queue.proofs.Places.{direction_total}
+use Rattle.shared_map.specs.Chunks.{keys_in}
 use Rattle.net_conf.specs.declared.tables.Ends.{Ends}
 use Rattle.net_conf.specs.Configuration.{Configuration, ends_of, ends_cmp, has_session}
 use Rattle.net_conf.specs.Costs.{is_up, down_sessions}
@@ -17,6 +25,8 @@ use Rattle.net_conf.proofs.Concerns.{up_turned}
 use Rattle.net_conf.proofs.DownSessions.{is_down, among_if_down, session_there, up_of_ends}
 use Rattle.net_conf.proofs.KeptTrees.{same_address, same_ends, or_right, found_itself}
 use Rattle.cell_engine.specs.Edits.{is_of}
+use Rattle.cell_engine.proofs.Directions.{direction_exact}
+use Rattle.cell_engine.proofs.Offers.{same_addr_itself}
 
 -- ONE SESSION
 
@@ -61,6 +71,15 @@ pub one_more_cleared : (f t : Addr) (es : List Ends) (i : ℕ) (d : Ends) → i 
 one_more_cleared f t es i d lt q =
     either_cleared (list_any (is_of f t) (take i es)) (is_of f t (get_or es i d)) (queue_at q f t)
     ∙ ap (λ b. if b then [] else queue_at q f t) (sym (list_any_more (is_of f t) es i d lt))
+
+-- the sessions of one list more
+pub one_list_cleared : (f t : Addr) (lists : List (List Ends)) (i : ℕ) (d : List Ends) → i < length lists → (q : Queues) → (if list_any (is_of f t) (get_or lists i d) then [] else if list_any (is_of f t) (keys_in (take i lists)) then [] else queue_at q f t) ≡ (if list_any (is_of f t) (keys_in (take (i + 1) lists)) then [] else queue_at q f t)
+one_list_cleared f t lists i d lt q =
+    let here = get_or lists i d in
+    let more : keys_in (take (i + 1) lists) ≡ keys_in (take i lists) ++ here =
+    ap keys_in (take_more lists i d lt) ∙ flat_map-append (λ es. es) (take i lists) (here ∷ []) ∙ ap (λ es. keys_in (take i lists) ++ es) (append-nil here) in
+    either_cleared (list_any (is_of f t) (keys_in (take i lists))) (list_any (is_of f t) here) (queue_at q f t)
+    ∙ ap (λ b. if b then [] else queue_at q f t) (sym (ap (list_any (is_of f t)) more ∙ list_any-append (is_of f t) (keys_in (take i lists)) here))
 
 -- THE SESSIONS THAT ARE DOWN
 
@@ -115,3 +134,59 @@ down_is_one c f t there down = any_of f t (down_sessions c) (among_if_down c (en
 pub empty_still : {X : Type 0} (t : Bool) (q : List X) → q ≡ [] → (if t then [] else q) ≡ []
 empty_still true q is = refl
 empty_still false q is = is
+
+-- THE DIRECTIONS WITH A MESSAGE
+
+abbrev direction : Addr → Addr → Direction
+direction f t = record { from = f; to = t }
+
+-- a walk that has come past these has come by the direction: it is theirs, or before
+abbrev pub is_behind : Option (Addr × Addr) → Addr → Addr → Bool
+is_behind None f t = false
+is_behind (Some s) f t = not (is_lt (direction_cmp (direction s.0 s.1) (direction f t)))
+
+-- what is true on either side of a walk
+either_side : {X : Type 0} (past : Option (Addr × Addr)) (f t : Addr) → (IsPast past (f, t) → X) → (is_behind past f t ≡ true → X) → X
+either_side None f t ahead behind = ahead tt
+either_side {X} (Some s) f t ahead behind = by (direction_cmp (direction s.0 s.1) (direction f t)) refl
+  where
+    by : (o : Ordering) → direction_cmp (direction s.0 s.1) (direction f t) ≡ o → X
+    by Less is = ahead is
+    by Equal is = behind (ap (λ o. not (is_lt o)) is)
+    by Greater is = behind (ap (λ o. not (is_lt o)) is)
+
+module _ (c : Configuration) (q : Queues) (past : Option (Addr × Addr)) (behind : (f t : Addr) → is_behind past f t ≡ true → is_up c f t ≡ false → queue_at q f t ≡ []) where
+  -- at its end all is cleared
+  pub found_end : SkipsNone q past None → (f t : Addr) → is_up c f t ≡ false → queue_at q f t ≡ []
+  found_end none f t down = either_side past f t (λ ahead. none f t ahead) (λ is. behind f t is down)
+
+  module _ (from to : Addr) (r : Queues) (skips : SkipsNone q past (Some (from, to))) (step : (f t : Addr) → queue_at r f t ≡ (if not (is_up c from to) && same_direction from to f t then [] else queue_at q f t)) where
+    -- one direction more
+    pub found_step : (f t : Addr) → is_behind (Some (from, to)) f t ≡ true → is_up c f t ≡ false → queue_at r f t ≡ []
+    found_step f t is down = by (direction_cmp (direction from to) (direction f t)) refl
+      where
+        by : (o : Ordering) → direction_cmp (direction from to) (direction f t) ≡ o → queue_at r f t ≡ []
+        by Less less = absurd (true≢false (sym is ∙ ap (λ o. not (is_lt o)) less))
+        by Equal equal =
+            let same : direction from to ≡ direction f t = direction_exact (direction from to) (direction f t) equal in
+            step f t
+            ∙ (λ i. if not (is_up c (same i).from (same i).to) && same_direction (same i).from (same i).to f t then [] else queue_at q f t)
+            ∙ (λ i. if not (down i) && (same_addr_itself f i && same_addr_itself t i) then [] else queue_at q f t)
+        by Greater greater =
+            let before : direction_cmp (direction f t) (direction from to) ≡ Less = direction_total.antisymm (direction f t) (direction from to) ∙ ap ordering_reverse greater in
+            step f t ∙ empty_still (not (is_up c from to) && same_direction from to f t) (queue_at q f t) (either_side past f t (λ ahead. skips f t ahead before) (λ here. behind f t here down))
+
+    nowhere : (b : Bool) (f t : Addr) → (if b && false then [] else queue_at q f t) ≡ queue_at q f t
+    nowhere true f t = refl
+    nowhere false f t = refl
+
+    -- and what is up stays
+    pub found_up : (f t : Addr) → is_up c f t ≡ true → queue_at r f t ≡ queue_at q f t
+    found_up f t up = step f t ∙ by (same_addr f from) (same_addr t to) refl refl
+      where
+        by : (a b : Bool) → same_addr f from ≡ a → same_addr t to ≡ b → (if not (is_up c from to) && (same_addr f from && same_addr t to) then [] else queue_at q f t) ≡ queue_at q f t
+        by true true is is' =
+            let here : is_up c from to ≡ true = (λ i. is_up c (sym (same_address f from is) i) (sym (same_address t to is') i)) ∙ up in
+            λ i. if not (here i) && (same_addr f from && same_addr t to) then [] else queue_at q f t
+        by true false is is' = (λ i. if not (is_up c from to) && (is i && is' i) then [] else queue_at q f t) ∙ nowhere (not (is_up c from to)) f t
+        by false b is is' = (λ i. if not (is_up c from to) && (is i && same_addr t to) then [] else queue_at q f t) ∙ nowhere (not (is_up c from to)) f t

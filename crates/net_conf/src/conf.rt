@@ -1,10 +1,12 @@
 //! What is configured, what follows from it, and how an edit changes it.
 
-ghost use Rattle.std.specs.Prelude.{◌≡◌, true, None, Some, Ok, Err, IfOk, MatchResult, option_map};
+ghost use Rattle.std.specs.Prelude.{◌≡◌, nat_le, true, None, Some, Ok, Err, IfOk, MatchResult, option_map};
 ghost use Rattle.net_conf.specs.Configuration.{unconfigured, node_at, has_node, is_virtual, as_of, has_session, session_count, ends_session, origins_of};
 ghost use Rattle.net_conf.specs.Concerned.{ConcernsAlone};
 ghost use Rattle.net_conf.specs.Costs.{costs_of, session_up, is_up, down_sessions};
 ghost use Rattle.net_conf.specs.Configured.{IsConfigured};
+ghost use Rattle.net_conf.specs.Limits.{most_sessions};
+ghost use Rattle.shared_map.specs.Chunks.{keys_in};
 ghost use Rattle.net_conf.specs.Edits.{is_past_limit, refusal_of, edited, IsEdit, IsEdited};
 
 use crate::edit::Edit;
@@ -16,7 +18,7 @@ use igp_cost::{MAX_NODES, Tree};
 use net_prefix::{Addr, Prefix};
 use path_attr::Asn;
 use route_policy::MAX_RULES;
-use seq::Copied;
+use seq::{Copied, SharedSeq};
 use shared_map::ChunkedMap;
 use std::alloc::{AllocError, Global};
 use std::collections::BTreeSet;
@@ -86,24 +88,25 @@ impl Conf {
         match *edit {
             Edit::Router(_, _) | Edit::Virtual(_, _) => tables.node_count() >= MAX_NODES,
             Edit::Link(_, _, _) => tables.link_count() >= MAX_LINKS,
-            Edit::Join(one, other) => self.session_count(one) >= MAX_SESSIONS
-                || self.session_count(other) >= MAX_SESSIONS,
+            Edit::Join(one, other) => {
+                self.has_most_sessions(one) || self.has_most_sessions(other)
+            }
             Edit::Rule(router, peer, side, _) => tables.rule_count(router, peer, side) >= MAX_RULES,
             _ => false,
         }
     }
 
-    /// How many sessions the address has: those of a router stand in its site.
+    /// Whether the address has as many sessions as it may: those of a router stand in its site.
     #[tactic(auto, using(crate::proofs::SessionCounts::count_of_site, crate::proofs::SessionCounts::count_of_none))]
-    fn session_count(&self, addr: Addr) -> usize
-        ensures { result ≡ session_count self.now addr }
+    fn has_most_sessions(&self, addr: Addr) -> bool
+        ensures { result ≡ nat_le most_sessions (session_count self.now addr) }
     {
         if !self.ends_session(addr) {
-            return 0;
+            return false;
         }
         match self.kept_site(addr) {
-            Some(site) => site.sessions.len(),
-            None => self.sessions.tables().session_count(addr),
+            Some(site) => site.sessions.len() >= MAX_SESSIONS,
+            None => self.sessions.tables().has_many_sessions(addr, MAX_SESSIONS),
         }
     }
 
@@ -187,9 +190,9 @@ impl Conf {
         self.sessions.is_up(one, other)
     }
 
-    /// The sessions that are down, in order. It takes no memory.
-    pub fn down_sessions(&self) -> &[Ends]
-        ensures { result.now ≡ down_sessions self.now }
+    /// The sessions that are down, in order, in lists one after another. It takes no memory.
+    pub fn down_sessions(&self) -> &[SharedSeq<Ends>]
+        ensures { keys_in result.now ≡ down_sessions self.now }
     {
         self.sessions.down_sessions()
     }

@@ -1,12 +1,9 @@
 //! What one router sees of the configuration.
 
-ghost use Rattle.std.specs.Prelude.{◌≡◌};
-ghost use Rattle.net_conf.specs.Sites.{peer_in};
-
 use crate::conf::Conf;
 use crate::kept::ConfSessions;
 use crate::refusal::Refusal;
-use crate::tables::{ConfTables, Ends, Node};
+use crate::tables::{ConfTables, Node};
 use igp_cost::Tree;
 use net_prefix::{Addr, Prefix};
 use path_attr::Asn;
@@ -268,28 +265,12 @@ impl ConfSessions {
 
 impl ConfTables {
     ghost use Rattle.std.specs.Prelude.{◌≡◌, IfOk};
-    ghost use Rattle.net_conf.specs.Sites.{peer_in, peers_of};
+    ghost use Rattle.net_conf.specs.Sites.{peers_of};
 
     /// The peers with which the router has a session, in order of address.
     fn peers_of(&self, alloc: Global, router: Addr) -> Result<Vec<Addr>, AllocError>
         ensures { IfOk result (λ peers. peers.items ≡ peers_of self.now router) }
     {
-        self.sessions
-            .as_slice()
-            .iter()
-            .filter(|(ends, _)| ends.low == router || ends.high == router)
-            .map(|(ends, _)| peer_in(router, *ends))
-            .collect(alloc)
-    }
-}
-
-/// The other end.
-fn peer_in(router: Addr, ends: Ends) -> Addr
-    ensures { result ≡ peer_in router ends }
-{
-    if ends.low == router {
-        ends.high
-    } else {
-        ends.low
+        self.sessions.peers_of(alloc, router)
     }
 }

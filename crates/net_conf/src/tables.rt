@@ -1,12 +1,13 @@
 //! The configuration itself, as plain tables of the rows that stand here: look-ups (`conf_tables`), the tests that an
-//! edit has to pass (`checks`), what it does to the tables (`apply`), who originates what (`originations`), and the
-//! graph of the links that are up (`graph`).
+//! edit has to pass (`checks`), what it does to the tables (`apply`), the sessions (`session_table`), who originates
+//! what (`originations`), and the graph of the links that are up (`graph`).
 
 mod apply;
 mod checks;
 mod conf_tables;
 mod graph;
 mod originations;
+mod session_table;
 
 pub use conf_tables::ConfTables;
 pub(crate) use graph::are_few;

@@ -1,4 +1,4 @@
--- Keys in order, in chunks. No public contract cites this file; the model of the set does.
+-- Keys in order, in chunks.
 use Rattle.std.specs.Prelude.{◌≡◌, Bool, true, false, List, [], ◌∷◌, ◌++◌}
 use Rattle.std.specs.List.{flat_map, list_all, AllByRecursion}
 use Rattle.std.specs.List.Sorted.{IsStrictlySortedBy}

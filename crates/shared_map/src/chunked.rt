@@ -53,6 +53,13 @@ impl<K: Ord> ChunkedSet<K> {
         let _ = &self.chunks;
     }
 
+    /// The keys in order, in lists one after another, borrowed.
+    pub fn chunks(&self) -> &[SharedSeq<K>]
+        ensures { keys_in result.now ≡ self.now }
+    {
+        self.chunks.as_slice()
+    }
+
     /// How many keys there are.
     pub fn len(&self) -> usize
         ensures { result ≡ length self.now }

@@ -19,7 +19,7 @@ use crate::kept::edited::MadeTrees;
 use crate::tables::Ends;
 use igp_cost::lone_node_moves_no_tree;
 use net_prefix::Addr;
-use shared_map::SharedSet;
+use shared_map::ChunkedSet;
 use std::alloc::{AllocError, Global};
 use std::collections::BTreeSet;
 use std::thread::Threads;
@@ -36,7 +36,7 @@ pub(crate) struct MadeSessions {
 /// The sessions that are down after an edit, and whom it concerns besides those whose trees have moved.
 #[derive(Drop)]
 struct Turned {
-    down: SharedSet<Ends>,
+    down: ChunkedSet<Ends>,
     turned: BTreeSet<Addr>,
 }
 
@@ -158,14 +158,16 @@ impl ConfTrees {
 /// The ends of the sessions that are in one of the sets and not in the other.
 fn ends_that_differ(
     alloc: Global,
-    some: &SharedSet<Ends>,
-    others: &SharedSet<Ends>,
+    some: &ChunkedSet<Ends>,
+    others: &ChunkedSet<Ends>,
 ) -> Result<BTreeSet<Addr>, AllocError>
     ensures { IfOk result (λ ends. (r : Addr) (e : Ends) → is_among r ends.keys ≡ false → is_end r e ≡ true →
         list_any (is_at (ends_cmp e)) others.now ≡ list_any (is_at (ends_cmp e)) some.now) }
 {
-    let first = with_ends_unless(BTreeSet::new(alloc), some.as_slice(), others)?;
-    let both = with_ends_unless(first, others.as_slice(), some)?;
+    let these = some.keys(alloc)?;
+    let first = with_ends_unless(BTreeSet::new(alloc), &these, others)?;
+    let those = others.keys(alloc)?;
+    let both = with_ends_unless(first, &those, some)?;
     Ok(both)
 }
 
@@ -173,7 +175,7 @@ fn ends_that_differ(
 fn with_ends_unless(
     addrs: BTreeSet<Addr>,
     sessions: &[Ends],
-    known: &SharedSet<Ends>,
+    known: &ChunkedSet<Ends>,
 ) -> Result<BTreeSet<Addr>, AllocError>
     ensures known { IfOk result (λ more. (r : Addr) → is_among r more.keys ≡ false → is_among r addrs.keys ≡ false) }
     ensures added { IfOk result (λ more. (r : Addr) (e : Ends) → is_among r more.keys ≡ false → is_end r e ≡ true →
@@ -189,7 +191,7 @@ fn with_ends_unless(
 /// Adds the ends of the session, unless it is in the set.
 fn add_ends_unless(
     addrs: &mut BTreeSet<Addr>,
-    known: &SharedSet<Ends>,
+    known: &ChunkedSet<Ends>,
     ends: Ends,
 ) -> Result<(), AllocError>
     ensures known { OnOk result ((r : Addr) → is_among r addrs.new.keys ≡ false → is_among r addrs.old.keys ≡ false) }

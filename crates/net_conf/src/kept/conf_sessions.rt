@@ -4,13 +4,14 @@ ghost use Rattle.std.specs.Prelude.{◌≡◌, true, IfOk};
 ghost use Rattle.net_conf.specs.Configuration.{unconfigured, has_node, ends_session};
 ghost use Rattle.net_conf.specs.Configured.{IsConfigured};
 ghost use Rattle.net_conf.specs.Costs.{costs_of, session_up, is_up, down_sessions};
+ghost use Rattle.shared_map.specs.Chunks.{keys_in};
 
 use crate::kept::conf_trees::ConfTrees;
 use crate::tables::{ConfTables, Ends};
 use igp_cost::Tree;
 use net_prefix::Addr;
-use seq::Copied;
-use shared_map::SharedSet;
+use seq::{Copied, SharedSeq};
+use shared_map::ChunkedSet;
 use std::alloc::{AllocError, Global};
 use std::marker::Model;
 
@@ -18,7 +19,7 @@ use std::marker::Model;
 #[derive(Drop)]
 pub(crate) struct ConfSessions {
     pub(crate) trees: ConfTrees,
-    pub(crate) down: SharedSet<Ends>,
+    pub(crate) down: ChunkedSet<Ends>,
 }
 
 impl Model for ConfSessions {
@@ -39,7 +40,7 @@ impl ConfSessions {
     {
         ConfSessions {
             trees: ConfTrees::new(),
-            down: SharedSet::new(),
+            down: ChunkedSet::new(),
         }
     }
 
@@ -64,11 +65,11 @@ impl ConfSessions {
         self.trees.ends_session(addr)
     }
 
-    /// The sessions that are down, in order.
-    pub(crate) fn down_sessions(&self) -> &[Ends]
-        ensures { result.now ≡ down_sessions self.now }
+    /// The sessions that are down, in order, in lists one after another.
+    pub(crate) fn down_sessions(&self) -> &[SharedSeq<Ends>]
+        ensures { keys_in result.now ≡ down_sessions self.now }
     {
-        self.down.as_slice()
+        self.down.chunks()
     }
 
     /// Whether the session of the two is up (RFC 4271, 8), where they have one.

@@ -20,7 +20,7 @@ use igp_cost::{
     tree_of_is_a_tree,
 };
 use net_prefix::Addr;
-use shared_map::SharedSet;
+use shared_map::ChunkedSet;
 use std::alloc::{AllocError, Global};
 use std::collections::BTreeSet;
 
@@ -34,7 +34,7 @@ impl ConfSessions {
         one: Addr,
         other: Addr,
         moved: &BTreeSet<Addr>,
-    ) -> Result<SharedSet<Ends>, AllocError>
+    ) -> Result<ChunkedSet<Ends>, AllocError>
         requires linked { IsLinked self.now after.now one other }
         requires moved { CostsStayBut self.now after.now moved.now.keys }
         ensures { IfOk result (λ down. AreDown after.now down) }
@@ -43,13 +43,12 @@ impl ConfSessions {
         after.facts();
         let link = Ends::of(one, other);
         if after.tables().has_link_up(one, other) {
-            let down = self
-                .trees
-                .down_still(alloc, after, link, moved, self.down.as_slice())?;
-            SharedSet::of(alloc, down)
+            let were = self.down.keys(alloc)?;
+            let down = self.trees.down_still(alloc, after, link, moved, &were)?;
+            ChunkedSet::of(alloc, down)
         } else {
             let down = self.trees.down_then(alloc, after, link, moved, &self.down)?;
-            SharedSet::of(alloc, down)
+            ChunkedSet::of(alloc, down)
         }
     }
 
@@ -59,7 +58,7 @@ impl ConfSessions {
         alloc: Global,
         edit: &Edit,
         after: &ConfTrees,
-    ) -> Result<SharedSet<Ends>, AllocError>
+    ) -> Result<ChunkedSet<Ends>, AllocError>
         requires passes { refusal_of self.now edit.now ≡ None }
         requires made { after.now ≡ edited self.now edit.now }
         requires link { link_in edit.now ≡ None }
@@ -81,7 +80,7 @@ impl ConfSessions {
         after: &ConfTrees,
         one: Addr,
         other: Addr,
-    ) -> Result<SharedSet<Ends>, AllocError>
+    ) -> Result<ChunkedSet<Ends>, AllocError>
         requires { IsJoined self.now after.now one other }
         ensures { IfOk result (λ down. AreDown after.now down) }
     {
@@ -91,11 +90,11 @@ impl ConfSessions {
         let mut down = self.down.share()?;
         if after.is_up(one, other) {
             down.remove(alloc, &ends)?;
-            let _ = down.as_slice();
+            down.order();
             Ok(down)
         } else {
             down.insert(alloc, ends)?;
-            let _ = down.as_slice();
+            down.order();
             Ok(down)
         }
     }
@@ -174,7 +173,7 @@ impl ConfTrees {
         after: &ConfTrees,
         link: Ends,
         moved: &BTreeSet<Addr>,
-        down: &SharedSet<Ends>,
+        down: &ChunkedSet<Ends>,
     ) -> Result<Vec<Ends>, AllocError>
         requires linked { AreLinked self.now after.now link }
         requires moved { CostsStayBut self.now after.now moved.now.keys }
@@ -194,7 +193,7 @@ impl ConfTrees {
         after: &ConfTrees,
         link: Ends,
         moved: &BTreeSet<Addr>,
-        down: &SharedSet<Ends>,
+        down: &ChunkedSet<Ends>,
         sessions: &[Ends],
     ) -> Result<Vec<Ends>, AllocError>
         requires linked { AreLinked self.now after.now link }
@@ -219,7 +218,7 @@ impl ConfTrees {
         after: &ConfTrees,
         link: Ends,
         moved: &BTreeSet<Addr>,
-        down: &SharedSet<Ends>,
+        down: &ChunkedSet<Ends>,
         ends: Ends,
     ) -> bool
         requires linked { AreLinked self.now after.now link }
@@ -252,11 +251,7 @@ impl ConfTables {
     fn session_list(&self, alloc: Global) -> Result<Vec<Ends>, AllocError>
         ensures { IfOk result (λ v. v.items ≡ keys_of self.now.sessions) }
     {
-        self.sessions
-            .as_slice()
-            .iter()
-            .map(|(ends, _)| *ends)
-            .collect(alloc)
+        self.sessions.ends(alloc)
     }
 }
 

@@ -1,6 +1,6 @@
 //! What is configured, as plain tables.
 
-ghost use Rattle.std.specs.Prelude.{◌≡◌, IfOk, OnOk, OnErr, length};
+ghost use Rattle.std.specs.Prelude.{◌≡◌, nat_le, IfOk, OnOk, OnErr, length};
 ghost use Rattle.std.specs.Map.{remove_entry};
 ghost use Rattle.std.specs.BTreeMap.{insert_entry, is_at};
 ghost use Rattle.net_prefix.specs.Address.{addr_cmp};
@@ -8,6 +8,7 @@ ghost use Rattle.net_conf.specs.Configuration.{unconfigured, node_at, has_node, 
 ghost use Rattle.net_conf.specs.Configured.{IsInOrder};
 
 use crate::tables::originations::Originations;
+use crate::tables::session_table::SessionTable;
 use crate::tables::{End, Ends, Kind, Link, Node, Origination};
 use net_prefix::{Addr, Prefix};
 use path_attr::Asn;
@@ -24,7 +25,7 @@ use std::marker::Model;
 pub struct ConfTables {
     pub(crate) nodes: SharedMap<Addr, Node>,
     pub(crate) links: SharedMap<Ends, Link>,
-    pub(crate) sessions: SharedMap<Ends, bool>,
+    pub(crate) sessions: SessionTable,
     pub(crate) clients: SharedSet<End>,
     pub(crate) own_next: SharedSet<End>,
     pub(crate) imports: ChunkedMap<End, Policy>,
@@ -61,7 +62,7 @@ impl ConfTables {
         ConfTables {
             nodes: SharedMap::new(),
             links: SharedMap::new(),
-            sessions: SharedMap::new(),
+            sessions: SessionTable::new(),
             clients: SharedSet::new(),
             own_next: SharedSet::new(),
             imports: ChunkedMap::new(),
@@ -78,7 +79,7 @@ impl ConfTables {
     {
         let _ = self.nodes.as_slice();
         let _ = self.links.as_slice();
-        let _ = self.sessions.as_slice();
+        self.sessions.order();
         let _ = self.clients.as_slice();
         let _ = self.own_next.as_slice();
         self.imports.order();
@@ -163,25 +164,21 @@ impl ConfTables {
     pub fn session(&self, one: Addr, other: Addr) -> Option<bool>
         ensures { result ≡ session_between self.now one other }
     {
-        self.sessions.get(&Ends::of(one, other)).copied()
+        self.sessions.get(Ends::of(one, other))
     }
 
     /// Whether the two have a session.
     pub fn has_session(&self, one: Addr, other: Addr) -> bool
         ensures { result ≡ has_session self.now one other }
     {
-        self.sessions.contains_key(&Ends::of(one, other))
+        self.sessions.contains(Ends::of(one, other))
     }
 
-    /// How many sessions the address has.
-    pub fn session_count(&self, addr: Addr) -> usize
-        ensures { result ≡ session_count self.now addr }
+    /// Whether the address has so many sessions, or more.
+    pub fn has_many_sessions(&self, addr: Addr, many: usize) -> bool
+        ensures { result ≡ nat_le many (session_count self.now addr) }
     {
-        self.sessions
-            .as_slice()
-            .iter()
-            .filter(|(ends, _)| ends.low == addr || ends.high == addr)
-            .count()
+        self.sessions.has_many(addr, many)
     }
 
     /// Whether the router takes the peer for its client.
@@ -289,7 +286,7 @@ type Interior = (SharedMap<Addr, Node>, SharedMap<Ends, Link>);
 type RouterSettings = (SharedMap<Addr, Addr>, SharedSet<Addr>);
 
 /// Sessions, and the settings of their ends but for the policies.
-type Sessions = (SharedMap<Ends, bool>, SharedSet<End>, SharedSet<End>);
+type Sessions = (SessionTable, SharedSet<End>, SharedSet<End>);
 
 /// The policies for what comes in and for what goes out, and who originates what.
 type Policies = (

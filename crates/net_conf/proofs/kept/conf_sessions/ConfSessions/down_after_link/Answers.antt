@@ -15,7 +15,7 @@ of-requires c =
     let b = c.args.other in
     let up : has_link_up d a b ≡ true = ap (λ x. has_link_up x a b) (sym c.tables.ensures) ∙ sym c.has_link_up.ensures ∙ c.if-has_link_up.true in
     let linked = subst (λ x. IsLinked x d a b) (sym c.self.view_is) c.requires.linked in
-    let was : c.as_slice.result.now ≡ down_sessions s = c.as_slice.ensures.value ∙ c.self.invariant in
+    let was : c.deref.result.now ≡ down_sessions s = c.deref.ensures.value ∙ c.in_ok-were.ensures ∙ c.self.invariant in
     let is : c.in_ok-down.down.items ≡ down_sessions d = c.in_ok-down.ensures ∙ ap (filter (is_down d)) was ∙ left_down s d a b linked (c.turn_with_link.ensures.down (λ _. up)) in
     subst (IsStrictlySortedBy ends_cmp) (sym is) (down_in_order d c.facts.ensures.configured.ordered.sessions)
 
@@ -31,6 +31,6 @@ returns-in_ok-down c =
     let b = c.args.other in
     let up : has_link_up d a b ≡ true = ap (λ x. has_link_up x a b) (sym c.tables.ensures) ∙ sym c.has_link_up.ensures ∙ c.if-has_link_up.true in
     let linked = subst (λ x. IsLinked x d a b) (sym c.self.view_is) c.requires.linked in
-    let was : c.as_slice.result.now ≡ down_sessions s = c.as_slice.ensures.value ∙ c.self.invariant in
+    let was : c.deref.result.now ≡ down_sessions s = c.deref.ensures.value ∙ c.in_ok-were.ensures ∙ c.self.invariant in
     let is : c.in_ok-down.down.items ≡ down_sessions d = c.in_ok-down.ensures ∙ ap (filter (is_down d)) was ∙ left_down s d a b linked (c.turn_with_link.ensures.down (λ _. up)) in
     IfOk-weaker c.of.result (λ set. set ≡ c.in_ok-down.down.items) (λ set. AreDown d set) (λ set same. same ∙ is) c.of.ensures.ok

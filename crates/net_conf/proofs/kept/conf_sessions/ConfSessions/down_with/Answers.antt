@@ -22,7 +22,7 @@ returns-in_ok-remove c =
     ∙ down_without_one s d a b joined c.facts.ensures.configured.sessions_apart
     (down_in_order s c.facts.ensures.configured.ordered.sessions) c.facts-2.ensures.configured.ordered.sessions
     (sym c.is_up.ensures ∙ c.if-is_up.true)
-    (subst (IsStrictlySortedBy ends_cmp) is c.as_slice.ensures.ordered)
+    (subst (IsStrictlySortedBy ends_cmp) is c.order.ensures)
 
 pub returns-in_ok-insert : goal.returns-in_ok-insert
 returns-in_ok-insert c =
@@ -37,4 +37,4 @@ returns-in_ok-insert c =
     ∙ down_with_one s d a b joined c.facts.ensures.configured.sessions_apart
     (down_in_order s c.facts.ensures.configured.ordered.sessions) c.facts-2.ensures.configured.ordered.sessions
     (sym c.is_up.ensures ∙ c.if-is_up.false)
-    (subst (IsStrictlySortedBy ends_cmp) is c.as_slice-else-is_up.ensures.ordered)
+    (subst (IsStrictlySortedBy ends_cmp) is c.order-else-is_up.ensures)
