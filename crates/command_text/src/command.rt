@@ -81,6 +81,7 @@ fn read_link(verb: LinkVerb, words: &[u8]) -> Option<Event>
 }
 
 /// Two addresses after the verb
+#[inline(always)]
 fn read_pair(verb: PairVerb, words: &[u8]) -> Option<Event>
     ensures { Reads IsEvent words_of (pair_word verb ∷ tokens words.now) result }
 {
