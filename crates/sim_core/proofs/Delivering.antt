@@ -1,7 +1,10 @@
 -- A delivery without a plan: the head is taken.
-use Rattle.std.proofs.Common.{◌≡◌, true, ℕ, slice_get, length, Some, None, inl, sym, ap, subst, ◌∙◌}
+use Rattle.std.proofs.Common.{◌≡◌, Bool, true, false, ℕ, [], ◌∷◌, slice_get, length, Some, None, is_some, if◌then◌else◌, inl, refl, sym, ap, subst, ◌∙◌}
+use Rattle.net_prefix.specs.declared.addr.Addr.{Addr}
 use Rattle.net_prefix.specs.Prefix.{Prefix}
+use Rattle.net_conf.specs.Configuration.{Configuration}
 use Rattle.net_conf.specs.Costs.{is_up}
+use Rattle.net_conf.specs.RouterSites.{router_site}
 use Rattle.net_conf.specs.declared.refusal.Refusal.TheVariants.{Memory}
 use Rattle.session_queue.specs.declared.direction.Direction.{Direction}
 use Rattle.session_queue.specs.declared.message.Message.{Message}
@@ -16,6 +19,14 @@ use Rattle.sim_core.specs.Counting.{decided_at, raised, Counts}
 use Rattle.sim_core.proofs.Accepted.{delivery_takes, prefix_taken, delivery_is, delivery_up}
 use Rattle.sim_core.proofs.Answered.{denied_by}
 use Rattle.sim_core.proofs.Refusals.{delivery_wants}
+
+-- a router decides one route, a virtual peer none
+pub one_decided : (c : Configuration) (a : Addr) (p : Prefix) (decides : Bool) → decides ≡ is_some (router_site c a) → (if decides then 1 else 0) ≡ length (decided_at c a p)
+one_decided c a p decides is = ap (λ b. if b then 1 else 0) is ∙ by (is_some (router_site c a))
+  where
+    by : (b : Bool) → (if b then 1 else 0) ≡ length {A = Addr × Prefix} (if b then (a, p) ∷ [] else [])
+    by true = refl
+    by false = refl
 
 module _ (e : State) (sound : IsConsistent e) (d : Direction) (none : delivery_refusal e.conf d ≡ None) (m : Message) (first : slice_get (queue_at e.queues d.from d.to) 0 ≡ Some m) where
   -- it is counted as one decision of a router

@@ -1,6 +1,6 @@
 //! Deliveries.
 
-ghost use Rattle.std.specs.Prelude.{◌≡◌, true, Some, None, length, slice_get, IfOk, IfErr, OnOk};
+ghost use Rattle.std.specs.Prelude.{◌≡◌, true, Some, None, length, slice_get, if◌then◌else◌, IfOk, IfErr, OnOk};
 ghost use Rattle.net_prefix.specs.Prefix.{Prefix};
 ghost use Rattle.net_conf.specs.Costs.{is_up};
 ghost use Rattle.session_queue.specs.Waiting.{queue_at};
@@ -28,6 +28,7 @@ use std::alloc::{AllocError, Global};
 impl<S: Selector + Drop, T: PrefixTable<Cell<S>> + Drop> Sim<S, T> {
     /// Takes the message at the head of the direction's queue: the machine's own step, without a plan. The refusal is
     /// the machine's own, or want of memory.
+    #[inline(never)]
     pub(crate) fn take_delivery(&mut self, direction: Direction) -> Reply
         ensures step { IsStep (network self.old.engine) (Deliver direction.from direction.to) result
             (network self.new.engine) }
@@ -39,13 +40,21 @@ impl<S: Selector + Drop, T: PrefixTable<Cell<S>> + Drop> Sim<S, T> {
             Ok(message) => message,
             Err(refusal) => return Reply::Refused(refusal),
         };
-        let more = decisions_at(&self.state, direction.to);
-        if self.state.deliver(direction, &message).is_err() {
-            return Reply::Refused(Refusal::Memory);
+        match self.state.deliver(direction, &message) {
+            Ok(decides) => {
+                self.decided = raised(self.decided, decisions(decides));
+                return Reply::Took(message.prefix(), message.kind());
+            }
+            Err(_) => return Reply::Refused(Refusal::Memory),
         }
-        self.decided = raised(self.decided, more);
-        Reply::Took(message.prefix(), message.kind())
     }
+}
+
+/// How many routes a delivery decides anew: one where its receiver decides.
+fn decisions(decides: bool) -> usize
+    ensures { result ≡ (if decides then 1 else 0) }
+{
+    if decides { 1 } else { 0 }
 }
 
 /// Makes a delivery ready.

@@ -1,9 +1,9 @@
 //! Feeds.
 
-ghost use Rattle.std.specs.Prelude.{◌≡◌, ◌<◌, None, IfOk, OnOk};
+ghost use Rattle.std.specs.Prelude.{◌≡◌, ◌<◌, None, IfOk, OnOk, OnErr};
 ghost use Rattle.session_queue.specs.Waiting.{spare_at, IsAdmitted};
 ghost use Rattle.sim_event.specs.declared.event.Event.TheVariants.{Feed as AFeed};
-ghost use Rattle.reference_machine.specs.Machine.{feed_refusal, fed_message, IsStep};
+ghost use Rattle.reference_machine.specs.Machine.{after_feed, feed_refusal, fed_message, IsStep};
 ghost use Rattle.cell_engine.specs.State.{network};
 ghost use Rattle.cell_engine.specs.Deliveries.{KeepsSame};
 ghost use Rattle.sim_core.specs.Counting.{Counts};
@@ -24,6 +24,7 @@ use std::alloc::{AllocError, Global};
 impl<S: Selector + Drop, T: PrefixTable<Cell<S>> + Drop> Sim<S, T> {
     /// Puts what is fed on its way: the machine's own step, without a plan. It decides nothing. The refusal is the
     /// machine's own, or want of memory.
+    #[inline(never)]
     pub(crate) fn take_feed(&mut self, feed: &Feed) -> Reply
         ensures step { IsStep (network self.old.engine) (AFeed feed.now) result (network self.new.engine) }
         ensures decided { Counts (network self.old.engine) (AFeed feed.now) result self.old.decided self.new.decided }
@@ -32,18 +33,28 @@ impl<S: Selector + Drop, T: PrefixTable<Cell<S>> + Drop> Sim<S, T> {
         if let Some(refusal) = feed_refusal(self.state.conf(), feed) {
             return Reply::Refused(refusal);
         }
-        let direction = Direction {
-            from: feed.from,
-            to: feed.to,
-        };
-        match message_to_feed(&mut self.state, direction, feed) {
-            Ok(message) => {
-                self.state.push(direction, message);
-                Reply::Done
-            }
-            Err(_) => Reply::Refused(Refusal::Memory),
+        match put_on_its_way(&mut self.state, feed) {
+            Ok(()) => return Reply::Done,
+            Err(_) => return Reply::Refused(Refusal::Memory),
         }
     }
+}
+
+/// Puts what is fed, and not refused, at the end of its queue. An error, which is want of memory, changes nothing.
+fn put_on_its_way<S: Selector + Drop, T: PrefixTable<Cell<S>> + Drop>(
+    state: &mut State<S, T>,
+    feed: &Feed,
+) -> Result<(), AllocError>
+    requires { feed_refusal state.old.conf feed.now ≡ None }
+    ensures next { OnOk result (network state.new ≡ after_feed (network state.old) feed.now) }
+    ensures same { OnErr result (network state.new ≡ network state.old) }
+{
+    let direction = Direction {
+        from: feed.from,
+        to: feed.to,
+    };
+    let message = fed_message(feed.from, &feed.news)?;
+    state.feed(direction, message)
 }
 
 /// Makes a feed ready.

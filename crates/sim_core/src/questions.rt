@@ -20,6 +20,7 @@ use std::alloc::Global;
 
 impl<S: Selector, T: PrefixTable<Cell<S>>> Sim<S, T> {
     /// Answers the question, which changes nothing and decides nothing: no plan is made.
+    #[inline(never)]
     pub(crate) fn answer(&self, question: &Ask) -> Reply
         ensures step { IsStep (network self.now.engine) (AnAsk question.now) result (network self.now.engine) }
         ensures decided { Counts (network self.now.engine)

@@ -117,6 +117,7 @@ impl<S: Selector + Send + Sync + Drop, T: PrefixTable<Cell<S>> + Drop> Sim<S, T>
     }
 
     /// Takes the event by a plan.
+    #[inline(never)]
     fn step_by_plan<R: Threads + Sync>(&mut self, rt: &R, event: &Event) -> Reply
         ensures step { IsStep (network self.old.engine) event.now result (network self.new.engine) }
         ensures decided { Counts (network self.old.engine) event.now result self.old.decided self.new.decided }

@@ -32,6 +32,21 @@ pub fn ask<S: Selector, T: PrefixTable<Cell<S>>>(
 ) -> Result<Report, Refusal>
     ensures { IsAnswer (network state.now) ask.now result }
 {
+    if let Ask::Quiet = ask {
+        return Ok(Report::Quiet(queues::is_quiet(state)));
+    }
+    ask_of_somebody(alloc, state, ask)
+}
+
+/// The same, of a question that may be refused, or want memory.
+#[inline(never)]
+fn ask_of_somebody<S: Selector, T: PrefixTable<Cell<S>>>(
+    alloc: Global,
+    state: &State<S, T>,
+    ask: &Ask,
+) -> Result<Report, Refusal>
+    ensures { IsAnswer (network state.now) ask.now result }
+{
     match ask_refusal(state.conf(), ask) {
         Some(refusal) => Err(refusal),
         None => match report(alloc, state, ask) {

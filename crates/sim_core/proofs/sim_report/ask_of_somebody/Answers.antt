@@ -3,7 +3,7 @@ use Rattle.net_conf.specs.Edits.{refusal_or_memory}
 use Rattle.reference_machine.specs.Machine.{ask_refusal}
 use Rattle.cell_engine.specs.State.{network}
 use Rattle.sim_core.proofs.AcceptedQuestions.{quiet_is_answered}
-use Rattle.sim_core.proofs.sim_report.ask.Goals as goal
+use Rattle.sim_core.proofs.sim_report.ask_of_somebody.Goals as goal
 
 pub returns-in-Some : goal.returns-in-Some
 unfolding network

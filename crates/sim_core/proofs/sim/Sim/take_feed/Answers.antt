@@ -1,13 +1,13 @@
-use Rattle.std.proofs.Common.{◌≡◌, None, sym, ap, subst, ◌∙◌}
+use Rattle.std.proofs.Common.{sym, ap, subst, ◌∙◌}
 use Rattle.net_conf.specs.declared.refusal.Refusal.TheVariants.{Memory}
 use Rattle.sim_event.specs.declared.event.Event.TheVariants.{Feed as AFeed}
 use Rattle.sim_event.specs.declared.reply.Reply.TheVariants.{Done, Refused}
 use Rattle.reference_machine.specs.Machine.{feed_refusal, IsStep}
-use Rattle.cell_engine.specs.State.{State, network}
+use Rattle.cell_engine.specs.State.{network}
 use Rattle.sim_core.specs.Counting.{Counted, Counts}
 use Rattle.sim_core.proofs.Answered.{denied_by}
 use Rattle.sim_core.proofs.Refusals.{feed_denied}
-use Rattle.sim_core.proofs.Feeding.{counts, session_still, feeds, wants}
+use Rattle.sim_core.proofs.Feeding.{counts, feeds, wants}
 use Rattle.sim_core.proofs.sim.Sim.take_feed.Goals as goal
 
 pub returns-in-Some-clause-step : goal.returns-in-Some-clause-step
@@ -17,18 +17,12 @@ returns-in-Some-clause-step g c =
     subst (λ (s : Counted). IsStep (network s.engine) (AFeed f) (Refused c.in-Some.refusal) (network s.engine)) c.self.view_is
     (denied_by e (AFeed f) c.in-Some.refusal (feed_denied e f c.in-Some.refusal (sym (ap (λ k. feed_refusal k f) c.conf.ensures) ∙ sym c.feed_refusal.ensures ∙ c.in-Some.is)))
 
-pub push-requires-clause-session : goal.push-requires-clause-session
-push-requires-clause-session g c =
-    let f = c.args.feed.now in
-    let none = sym (ap (λ k. feed_refusal k f) c.conf.ensures) ∙ sym c.feed_refusal.ensures ∙ c.in_default.is in
-    session_still c.self.inside.state f none c.message_to_feed.new.state c.message_to_feed.ensures.same
-
 pub returns-in-Ok-clause-step : goal.returns-in-Ok-clause-step
 returns-in-Ok-clause-step g c =
     let f = c.args.feed.now in
     let none = sym (ap (λ k. feed_refusal k f) c.conf.ensures) ∙ sym c.feed_refusal.ensures ∙ c.in_default.is in
-    subst (λ (s : Counted). IsStep (network s.engine) (AFeed f) Done (network c.push.new.self)) c.self.view_is
-    (feeds c.self.inside.state f none c.message_to_feed.new.state c.message_to_feed.ensures.same c.in-Ok.message c.in-Ok.ensures.message (network c.push.new.self) c.push.ensures)
+    subst (λ (s : Counted). IsStep (network s.engine) (AFeed f) Done (network c.put_on_its_way.new.state)) c.self.view_is
+    (feeds c.self.inside.state f none (network c.put_on_its_way.new.state) c.in-Ok.ensures.next)
 
 pub returns-in-Ok-clause-decided : goal.returns-in-Ok-clause-decided
 returns-in-Ok-clause-decided g c =
@@ -39,5 +33,5 @@ pub returns-in-Err-clause-step : goal.returns-in-Err-clause-step
 returns-in-Err-clause-step g c =
     let f = c.args.feed.now in
     let none = sym (ap (λ k. feed_refusal k f) c.conf.ensures) ∙ sym c.feed_refusal.ensures ∙ c.in_default.is in
-    subst (λ (s : Counted). IsStep (network s.engine) (AFeed f) (Refused Memory) (network c.message_to_feed.new.state)) c.self.view_is
-    (wants c.self.inside.state f none c.message_to_feed.new.state c.message_to_feed.ensures.same)
+    subst (λ (s : Counted). IsStep (network s.engine) (AFeed f) (Refused Memory) (network c.put_on_its_way.new.state)) c.self.view_is
+    (wants c.self.inside.state f none c.put_on_its_way.new.state c.in-Err.ensures.same)
