@@ -32,7 +32,7 @@ fn begin(nodes: &[Node], known: &Option<Way>, prefix: Prefix) -> NodeId
     }
 }
 
-/// The prefix and the node that comes closest to it, if there is a node. What is known of another prefix does not count.
+/// The prefix and the node that comes closest to it, if there is a node. What is known of another prefix is not used.
 pub(crate) fn way_to(nodes: &[Node], known: &Option<Way>, prefix: Prefix) -> Option<Way>
     requires trie { IsTrie nodes.now }
     requires known { IsOnWay nodes.now known.now }
