@@ -52,8 +52,8 @@ enum NewsKind {
     Withdraw,
 }
 
-/// The kind of news that stands first, and the text after it. `update` with one space behind it, as it mostly stands, is
-/// not searched for its end.
+/// The kind of news that stands first, and the text after it. `update` with one space behind it, as it mostly stands,
+/// is not searched for its end.
 fn next_kind(words: &[u8]) -> Option<(NewsKind, &[u8])>
     ensures found { IfSome result (λ next. tokens words.now ≡ kind_word next.0 ∷ tokens next.1.now) }
     ensures shorter { IfSome result (λ next. length next.1.now ≤ length words.now) }

@@ -12,8 +12,8 @@ use std::alloc::Global;
 
 /// The event that a line spells, without its end: the first word names the command, and words are parted by spaces.
 /// None for a blank line and for a comment, whose first word begins with `#`. Over 4,096 bytes the line is a fault of
-/// syntax, whatever it holds. Only the path and the communities of a fed route take memory; where they want it, the line
-/// is tested to its end all the same.
+/// syntax, whatever it holds. Only the path and the communities of a fed route take memory; where they want it, the
+/// line is tested to its end all the same.
 pub fn read_line(alloc: Global, line: &[u8]) -> Result<Option<Event>, Refusal>
     ensures { IsReading line.now result }
 {

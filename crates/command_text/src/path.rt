@@ -1,6 +1,6 @@
 //! AS paths: segments joined by underscores, numbers joined by commas, sets in braces. A path is made as it is read;
-//! where there is no memory for that, `is_path` tells whether there is one, so that want of memory never hides a fault of
-//! syntax.
+//! where there is no memory for that, `is_path` tells whether there is one, so that want of memory never hides a fault
+//! of syntax.
 
 ghost use Rattle.std.specs.Prelude.{◌≡◌, ◌↔◌, ℕ, ◌≤◌, List, [], ◌∷◌, ◌++◌, length, IfSome, IfNone, IfOk, IsTrue};
 ghost use Rattle.std.specs.Option.{SomeIff};

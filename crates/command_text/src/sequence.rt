@@ -1,5 +1,5 @@
-//! AS numbers that stand at the front of a text, joined by commas, with one space behind the last, as in most paths: read
-//! in one pass. What is not found so is read by its word.
+//! AS numbers that stand at the front of a text, joined by commas, with one space behind the last, as in most paths:
+//! read in one pass. What is not found so is read by its word.
 
 ghost use Rattle.std.specs.Prelude.{◌≡◌, ℕ, List, ◌∷◌, ◌++◌, IfOk, IfSome};
 ghost use Rattle.std.specs.Fmt.{decimal};
