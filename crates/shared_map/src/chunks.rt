@@ -10,8 +10,12 @@ use crate::position::key_position;
 use seq::SharedSeq;
 use std::alloc::{AllocError, Global};
 
-/// The most keys of a chunk.
+/// The most entries of a chunk of a map.
 pub(crate) const CHUNK: usize = 256;
+
+/// The most keys of a chunk of a set: they are plain memory, of which this many are copied as soon as some hundred
+/// chunks are shared.
+const KEYS: usize = 1_024;
 
 /// The chunk in which a key can stand alone, with those before it and those after it.
 #[derive(Drop)]
@@ -92,7 +96,7 @@ pub(crate) fn add_keys<K: Copy>(
     ensures full { OnOk result (list_all has_key chunks.new.items ≡ true) }
     ensures keys { OnOk result (keys_in chunks.new.items ≡ keys_in chunks.old.items ++ keys.now) }
 {
-    let first = if keys.len() > CHUNK {
+    let first = if keys.len() > KEYS {
         keys.len() / 2
     } else {
         keys.len()
@@ -145,7 +149,7 @@ pub(crate) fn chunks_of<K: Copy>(alloc: Global, keys: &[K]) -> Result<Vec<Shared
     let mut chunks = Vec::new(alloc);
     let mut rest = keys;
     while !rest.is_empty() {
-        let (front, back) = rest.split_at(rest.len().min(CHUNK));
+        let (front, back) = rest.split_at(rest.len().min(KEYS));
         add_chunk(alloc, &mut chunks, Vec::from_slice(alloc, front)?)?;
         rest = back;
     }

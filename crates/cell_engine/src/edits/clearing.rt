@@ -14,9 +14,6 @@ use net_prefix::Addr;
 use seq::SharedSeq;
 use session_queue::Queues;
 
-/// How many directions with a message are asked first, for each list of sessions that are down.
-const ASKED_FIRST: usize = 64;
-
 /// Removes what is on its way over sessions that are down: the directions with a message are gone through, or where
 /// they are many the sessions that are down. It takes no memory.
 pub(crate) fn clear_down(queues: &mut Queues, conf: &Conf)
@@ -28,11 +25,18 @@ pub(crate) fn clear_down(queues: &mut Queues, conf: &Conf)
     ensures admitted { queues.new.admitted ≡ queues.old.admitted }
 {
     let down = conf.down_sessions();
-    let most = down.len().saturating_mul(ASKED_FIRST);
-    if clear_found(queues, conf, most) {
+    if clear_found(queues, conf, asked_first(down)) {
         return;
     }
     clear_all(queues, down);
+}
+
+/// How many directions with a message are asked first: about one for eight of the sessions in these lists.
+fn asked_first(lists: &[SharedSeq<Ends>]) -> usize {
+    match lists.first() {
+        Some(list) => list.len().saturating_mul(lists.len()) / 8 + 1,
+        None => 0,
+    }
 }
 
 /// Removes what is on its way over sessions that are down, of the first directions with a message, so many at most;
