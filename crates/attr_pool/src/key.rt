@@ -3,14 +3,14 @@
 ghost use Rattle.std.specs.Prelude.{◌≡◌};
 
 use crate::feeding::feed_attr;
-use path_attr::Attr;
+use path_attr::{Attr, SharedAttr};
 use std::hash::{Hash, Hasher};
 use std::marker::Model;
 
 /// Attributes, which are compared by all eight. A hash reads all eight whole.
 #[derive(Debug, Drop)]
 pub(crate) struct Key {
-    attr: Attr,
+    attr: SharedAttr,
 }
 
 impl Model for Key {
@@ -19,13 +19,11 @@ impl Model for Key {
     ghost Value = { Attr };
 
     ghost view = { λ k. k.attr };
-
-    ghost inverse = { λ attr. record { attr = attr } };
 }
 
 impl Key {
     /// The attributes as a key.
-    pub(crate) fn new(attr: Attr) -> Key
+    pub(crate) fn new(attr: SharedAttr) -> Key
         ensures { result ≡ attr }
     {
         Key { attr }
@@ -35,11 +33,18 @@ impl Key {
     pub(crate) fn attr(&self) -> &Attr
         ensures { result.now ≡ self.now }
     {
+        self.attr.attr()
+    }
+
+    /// The attributes, borrowed, of which more owners can be had.
+    pub(crate) fn shared(&self) -> &SharedAttr
+        ensures { result.now ≡ self.now }
+    {
         &self.attr
     }
 
     /// The attributes.
-    pub(crate) fn into_attr(self) -> Attr
+    pub(crate) fn into_shared(self) -> SharedAttr
         ensures { result ≡ self }
     {
         self.attr
@@ -55,7 +60,7 @@ impl PartialEq for Key {
     ghost laws = { attr_per };
 
     fn eq(&self, other: &Key) -> bool {
-        self.attr.is_same(&other.attr)
+        self.attr().is_same(other.attr())
     }
 }
 
@@ -73,6 +78,6 @@ impl Hash for Key {
     ghost respects_eq = { attr_alike };
 
     fn hash<H: Hasher>(&self, state: &mut H) {
-        feed_attr(&self.attr, state);
+        feed_attr(self.attr(), state);
     }
 }

@@ -7,7 +7,7 @@ use crate::attr_id::AttrId;
 use crate::first_hasher::FirstHasher;
 use crate::key::Key;
 use indexmap::IndexSet;
-use path_attr::Attr;
+use path_attr::{Attr, SharedAttr};
 use std::alloc::Global;
 use std::hash::RandomState;
 use std::marker::Model;
@@ -51,7 +51,7 @@ impl Pool {
     /// The number of these attributes, which are put into the pool where they are new. The error, for new ones alone,
     /// is want of memory or of numbers: it hands the attributes back, and changes nothing.
     #[tactic(auto, using(crate::proofs::Numbers::has_of_number, crate::proofs::Numbers::with_present))]
-    pub fn intern(&mut self, attr: Attr) -> Result<AttrId, Attr>
+    pub fn intern(&mut self, attr: SharedAttr) -> Result<AttrId, SharedAttr>
         ensures numbered { IfOk result (λ id. slice_get self.new id ≡ Some attr) }
         ensures pooled { OnOk result (self.new ≡ with_attr self.old attr) }
         ensures keeps { KeepsNumbers self.old self.new }
@@ -61,7 +61,7 @@ impl Pool {
         ensures err { OnErr result (self.new ≡ self.old) }
     {
         self.facts();
-        match self.last_number(&attr) {
+        match self.last_number(attr.attr()) {
             Some(id) => {
                 drop(attr);
                 Ok(id)
@@ -94,11 +94,15 @@ impl Pool {
     {
         let id = self.last?;
         let last = self.attr(id)?;
-        if last.is_same(attr) { Some(id) } else { None }
+        if last.attr().is_same(attr) {
+            Some(id)
+        } else {
+            None
+        }
     }
 
     /// The same, by their hash.
-    fn intern_hashed(&mut self, attr: Attr) -> Result<AttrId, Attr>
+    fn intern_hashed(&mut self, attr: SharedAttr) -> Result<AttrId, SharedAttr>
         ensures numbered { IfOk result (λ id. slice_get self.new id ≡ Some attr) }
         ensures pooled { OnOk result (self.new ≡ with_attr self.old attr) }
         ensures keeps { KeepsNumbers self.old self.new }
@@ -109,7 +113,7 @@ impl Pool {
     {
         let key = Key::new(attr);
         if self.attrs.len() == MOST && !self.attrs.contains(&key) {
-            return Err(key.into_attr());
+            return Err(key.into_shared());
         }
         match self.attrs.insert_full(key) {
             Ok((number, _)) => {
@@ -117,7 +121,7 @@ impl Pool {
                 self.last = Some(id);
                 return Ok(id);
             }
-            Err(refused) => return Err(refused.value.into_attr()),
+            Err(refused) => return Err(refused.value.into_shared()),
         }
     }
 
@@ -133,10 +137,10 @@ impl Pool {
     }
 
     /// The attributes of this number, where the pool has given it.
-    pub fn attr(&self, id: AttrId) -> Option<&Attr>
+    pub fn attr(&self, id: AttrId) -> Option<&SharedAttr>
         ensures { option_copied result ≡ slice_get self.now id }
     {
         let key = self.attrs.get_index(id.number())?;
-        Some(key.attr())
+        Some(key.shared())
     }
 }

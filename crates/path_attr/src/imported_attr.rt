@@ -38,6 +38,13 @@ impl ImportedAttr {
         ImportedAttr { shared, pref }
     }
 
+    /// The attributes that are shared: all but LOCAL_PREF.
+    pub fn shared(&self) -> &SharedAttr
+        ensures { self.now ≡ record result.now { pref = self.now.pref } }
+    {
+        &self.shared
+    }
+
     /// AS_PATH.
     pub fn path(&self) -> &AsPath
         ensures { result.now ≡ self.now.path }

@@ -8,7 +8,7 @@ ghost use Rattle.std.specs.Option.{option_to_list, option_copied};
 
 use net_conf::{SiteConf, SiteSession};
 use net_prefix::{Addr, Prefix};
-use path_attr::Attr;
+use path_attr::SharedAttr;
 use reference_machine::{RouteKey, put_own, put_received};
 use route_select::{Candidate, Selector};
 use seq::Copied;
@@ -17,11 +17,11 @@ use std::collections::BTreeMap;
 
 /// The route that the router has received from the peer for the prefix.
 pub fn route_from(
-    received: &BTreeMap<RouteKey, Attr>,
+    received: &BTreeMap<RouteKey, SharedAttr>,
     router: Addr,
     prefix: Prefix,
     peer: Addr,
-) -> Option<&Attr>
+) -> Option<&SharedAttr>
     ensures { option_copied result ≡ route_from received.now.entries router prefix peer }
 {
     received.get(&RouteKey {
@@ -37,7 +37,7 @@ fn add_peer<S: Selector>(
     chosen: &mut S,
     site: &SiteConf,
     prefix: Prefix,
-    received: &BTreeMap<RouteKey, Attr>,
+    received: &BTreeMap<RouteKey, SharedAttr>,
     from: &SiteSession,
 ) -> Result<(), AllocError>
     ensures { OnOk result
@@ -57,7 +57,7 @@ fn add_peers<S: Selector>(
     site: &SiteConf,
     sessions: &[SiteSession],
     prefix: Prefix,
-    received: &BTreeMap<RouteKey, Attr>,
+    received: &BTreeMap<RouteKey, SharedAttr>,
 ) -> Result<(), AllocError>
     ensures { OnOk result
         (S.standings chosen.new ≡ added (S.standings chosen.old)
@@ -74,12 +74,12 @@ pub fn standings<S: Selector + Drop>(
     alloc: Global,
     site: &SiteConf,
     prefix: Prefix,
-    received: &BTreeMap<RouteKey, Attr>,
+    received: &BTreeMap<RouteKey, SharedAttr>,
 ) -> Result<S, AllocError>
     ensures { IfOk result (λ chosen. S.standings chosen ≡ standings site.now prefix received.now.entries) }
 {
     let mut chosen = S::new(alloc, site.med_always);
-    put_own(&mut chosen, site, prefix)?;
+    put_own(alloc, &mut chosen, site, prefix)?;
     add_peers(
         alloc,
         &mut chosen,
@@ -96,7 +96,7 @@ pub fn best<S: Selector + Drop>(
     alloc: Global,
     site: &SiteConf,
     prefix: Prefix,
-    received: &BTreeMap<RouteKey, Attr>,
+    received: &BTreeMap<RouteKey, SharedAttr>,
 ) -> Result<Option<Candidate>, AllocError>
     ensures { IfOk result (λ route. route ≡ best_of (standings site.now prefix received.now.entries)) }
 {

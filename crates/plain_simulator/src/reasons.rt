@@ -12,7 +12,7 @@ ghost use Rattle.reference_machine.specs.Reports.{reasons_of, reasons_at};
 use crate::decide::{route_from, standings};
 use net_conf::{SiteConf, SiteSession};
 use net_prefix::Prefix;
-use path_attr::Attr;
+use path_attr::SharedAttr;
 use reference_machine::{RouteKey, is_originated};
 use route_select::{Chosen, Reason, Selector, Source};
 use std::alloc::{AllocError, Global};
@@ -23,7 +23,7 @@ pub fn reasons_at<S: Selector + Drop>(
     alloc: Global,
     site: &Option<SiteConf>,
     prefix: Prefix,
-    received: &BTreeMap<RouteKey, Attr>,
+    received: &BTreeMap<RouteKey, SharedAttr>,
 ) -> Result<Vec<(Source, Reason)>, AllocError>
     ensures { IfOk result (λ found. found.items ≡ reasons_at prefix received.now.entries site.now) }
 {
@@ -38,7 +38,7 @@ fn reasons_of<S: Selector + Drop>(
     alloc: Global,
     site: &SiteConf,
     prefix: Prefix,
-    received: &BTreeMap<RouteKey, Attr>,
+    received: &BTreeMap<RouteKey, SharedAttr>,
 ) -> Result<Vec<(Source, Reason)>, AllocError>
     ensures { IfOk result (λ found. found.items ≡ reasons_of (standings site.now prefix received.now.entries)) }
 {
@@ -78,7 +78,7 @@ fn sources_at(
     alloc: Global,
     site: &SiteConf,
     prefix: Prefix,
-    received: &BTreeMap<RouteKey, Attr>,
+    received: &BTreeMap<RouteKey, SharedAttr>,
 ) -> Result<BTreeSet<Source>, AllocError>
     ensures { IfOk result (λ sources.
         sources.keys ≡ finite.keys (standings site.now prefix received.now.entries).known) }
@@ -117,7 +117,7 @@ fn add_peers(
     site: &SiteConf,
     sessions: &[SiteSession],
     prefix: Prefix,
-    received: &BTreeMap<RouteKey, Attr>,
+    received: &BTreeMap<RouteKey, SharedAttr>,
 ) -> Result<(), AllocError>
     ensures { OnOk result
         (sources.new.keys ≡ fold (λ ks e. insert_key source_cmp ks e.0) sources.old.keys
@@ -134,7 +134,7 @@ fn add_peer(
     sources: &mut BTreeSet<Source>,
     site: &SiteConf,
     prefix: Prefix,
-    received: &BTreeMap<RouteKey, Attr>,
+    received: &BTreeMap<RouteKey, SharedAttr>,
     from: &SiteSession,
 ) -> Result<(), AllocError>
     ensures { OnOk result

@@ -17,7 +17,7 @@ use crate::reasons::reasons_at;
 use crate::state::State;
 use net_conf::SiteConf;
 use net_prefix::{Addr, Prefix};
-use path_attr::Attr;
+use path_attr::{Attr, SharedAttr};
 use reference_machine::{RouteKey, advert_of, cost_and_hop, held_of};
 use route_select::{Reason, Selector, Source};
 use seq::{Copied, Seq, copy_all, push_some};
@@ -87,7 +87,8 @@ impl State {
         let mut routes = Vec::new(alloc);
         for prefix in prefixes {
             let route = self.best_at::<S>(alloc, site, router, *prefix)?;
-            push_some(&mut routes, held_of(*prefix, route))?;
+            let held = held_of(*prefix, route.as_ref())?;
+            push_some(&mut routes, held)?;
         }
         Ok(routes)
     }
@@ -116,7 +117,7 @@ impl State {
     ) -> Result<Option<Held>, AllocError>
         ensures { IfOk result (λ held. held ≡ choice self.now router prefix) }
     {
-        Ok(held_of(prefix, self.best::<S>(alloc, router, prefix)?))
+        held_of(prefix, self.best::<S>(alloc, router, prefix)?.as_ref())
     }
 
     /// What the router has received from the peer, in order of prefix; nothing while the session is down.
@@ -149,7 +150,7 @@ impl State {
         let mut routes = Vec::new(alloc);
         for (key, attr) in self.received.iter() {
             if is_between(router, peer, *key) {
-                routes.push((key.prefix, attr.share()?))?;
+                routes.push((key.prefix, attr.attr().share()?))?;
             }
         }
         Ok(routes)
@@ -204,7 +205,7 @@ impl State {
     {
         match self.advertised::<S>(alloc, site, router, peer, prefix)? {
             None => Ok(None),
-            Some(attr) => Ok(Some((prefix, attr))),
+            Some(attr) => Ok(Some((prefix, attr.attr().share()?))),
         }
     }
 
@@ -217,7 +218,7 @@ impl State {
         router: Addr,
         peer: Addr,
         prefix: Prefix,
-    ) -> Result<Option<Attr>, AllocError>
+    ) -> Result<Option<SharedAttr>, AllocError>
         requires { site.now ≡ site_of self.now.conf router }
         ensures { IfOk result (λ attr. attr ≡ advertised self.now router peer prefix) }
     {

@@ -14,7 +14,7 @@ use crate::choices::{RouterChoices, choices_at, messages_of};
 use crate::{decide, queues};
 use net_conf::{Conf, SiteConf};
 use net_prefix::{Addr, Prefix};
-use path_attr::Attr;
+use path_attr::SharedAttr;
 use reference_machine::{Queue, RouteKey, sends};
 use route_select::{Candidate, Selector};
 use seq::Copied;
@@ -27,7 +27,7 @@ use std::marker::Model;
 #[derive(Drop)]
 pub struct State {
     pub(crate) conf: Conf,
-    pub(crate) received: BTreeMap<RouteKey, Attr>,
+    pub(crate) received: BTreeMap<RouteKey, SharedAttr>,
     pub(crate) queues: Vec<Queue>,
 }
 

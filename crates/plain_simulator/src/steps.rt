@@ -9,7 +9,7 @@ ghost use Rattle.reference_machine.specs.Machine.{step, edit_step, with_queues, 
 use crate::queues;
 use crate::state::{State, with_sent};
 use net_conf::{Conf, Edit, EditedConf, Refusal};
-use path_attr::Attr;
+use path_attr::SharedAttr;
 use reference_machine::{
     Queue, RouteKey, ask_refusal, delivery_refusal, fed_message, feed_refusal,
 };
@@ -76,7 +76,7 @@ impl State {
             from: feed.from,
             to: feed.to,
         };
-        let message = fed_message(feed.from, &feed.news)?;
+        let message = fed_message(alloc, feed.from, &feed.news)?;
         self.queues = queues::with_message(alloc, &self.queues, direction, &message)?;
         Ok(Reply::Done)
     }
@@ -141,7 +141,7 @@ fn after_edit<R: Threads + Sync>(
 fn reconfigured(
     alloc: Global,
     conf: Conf,
-    received: &BTreeMap<RouteKey, Attr>,
+    received: &BTreeMap<RouteKey, SharedAttr>,
     queues: Vec<Queue>,
 ) -> Result<State, AllocError>
     ensures { IfOk result (λ later. later ≡ reconfigured conf received.now.entries queues.items) }
@@ -164,8 +164,8 @@ fn reconfigured(
 /// What was received over sessions that are up.
 fn kept(
     conf: &Conf,
-    received: &BTreeMap<RouteKey, Attr>,
-) -> Result<BTreeMap<RouteKey, Attr>, AllocError>
+    received: &BTreeMap<RouteKey, SharedAttr>,
+) -> Result<BTreeMap<RouteKey, SharedAttr>, AllocError>
     ensures { IfOk result (λ after. after.entries ≡ filter (is_kept conf.now) received.now.entries) }
 {
     let mut after = copied(received)?;
@@ -174,7 +174,7 @@ fn kept(
 }
 
 /// Keeps what was received over sessions that are up.
-fn keep(conf: &Conf, received: &mut BTreeMap<RouteKey, Attr>)
+fn keep(conf: &Conf, received: &mut BTreeMap<RouteKey, SharedAttr>)
     ensures { received.new.entries ≡ filter (is_kept conf.now) received.old.entries }
 {
     received.retain(
@@ -187,7 +187,7 @@ fn keep(conf: &Conf, received: &mut BTreeMap<RouteKey, Attr>)
 }
 
 /// What was received, again.
-fn copied(received: &BTreeMap<RouteKey, Attr>) -> Result<BTreeMap<RouteKey, Attr>, AllocError>
+fn copied(received: &BTreeMap<RouteKey, SharedAttr>) -> Result<BTreeMap<RouteKey, SharedAttr>, AllocError>
     ensures { IfOk result (λ after. after.entries ≡ received.now.entries) }
 {
     received.clone()
@@ -241,10 +241,10 @@ fn with_queues(alloc: Global, queues: &[Queue], edit: &Edit) -> Result<Vec<Queue
 
 /// What was received, once the message has been taken.
 fn received_after(
-    received: &BTreeMap<RouteKey, Attr>,
+    received: &BTreeMap<RouteKey, SharedAttr>,
     direction: Direction,
     message: &Message,
-) -> Result<BTreeMap<RouteKey, Attr>, AllocError>
+) -> Result<BTreeMap<RouteKey, SharedAttr>, AllocError>
     ensures { IfOk result (λ after. after.entries ≡ received_after direction message.now received.now.entries) }
 {
     let key = RouteKey {
@@ -260,10 +260,10 @@ fn received_after(
 
 /// What was received, with this route in place of any of its key.
 fn with_route(
-    received: &BTreeMap<RouteKey, Attr>,
+    received: &BTreeMap<RouteKey, SharedAttr>,
     key: RouteKey,
-    attr: Attr,
-) -> Result<BTreeMap<RouteKey, Attr>, AllocError>
+    attr: SharedAttr,
+) -> Result<BTreeMap<RouteKey, SharedAttr>, AllocError>
     ensures { IfOk result (λ after. after.entries ≡ with_route key attr received.now.entries) }
 {
     let mut after = copied(received)?;
@@ -273,9 +273,9 @@ fn with_route(
 
 /// What was received, without the route of the key.
 fn without_route(
-    received: &BTreeMap<RouteKey, Attr>,
+    received: &BTreeMap<RouteKey, SharedAttr>,
     key: RouteKey,
-) -> Result<BTreeMap<RouteKey, Attr>, AllocError>
+) -> Result<BTreeMap<RouteKey, SharedAttr>, AllocError>
     ensures { IfOk result (λ after. after.entries ≡ without_route key received.now.entries) }
 {
     let mut after = copied(received)?;
@@ -283,7 +283,7 @@ fn without_route(
     Ok(after)
 }
 
-fn put(received: &mut BTreeMap<RouteKey, Attr>, key: RouteKey, attr: Attr) -> Result<(), AllocError>
+fn put(received: &mut BTreeMap<RouteKey, SharedAttr>, key: RouteKey, attr: SharedAttr) -> Result<(), AllocError>
     ensures { OnOk result (received.new.entries ≡ with_route key attr received.old.entries) }
 {
     received.insert(key, attr)?;

@@ -9,7 +9,7 @@ use Rattle.route_select.specs.declared.candidate.Source.TheVariants.{Own, Peer a
 use Rattle.route_select.specs.declared.candidate.Candidate.{Candidate}
 use Rattle.net_conf.specs.declared.site.SiteConf.{SiteConf}
 use Rattle.net_conf.specs.declared.site.SiteSession.{SiteSession}
-use Rattle.reflect_out.specs.Advertising.{is_from, is_client_of, advertised_over, to_other_as, reflected}
+use Rattle.reflect_out.specs.Advertising.{is_from, is_client_of, advertised_over, to_other_as, to_own_as, reflected}
 
 -- what adverts are made of: a router's part of the configuration, and the route that it chose for a prefix
 pub record Basis : Type 0 where
@@ -33,3 +33,7 @@ IsOutward site b kept = (s : Settings) (a : Attr) → kept ≡ Some (s, a) → a
 -- what is kept is what is reflected
 abbrev pub IsInward : SiteConf → Candidate → Option Attr → Type 0
 IsInward site b kept = (u : Addr) (a : Attr) → b.source ≡ FromPeer u → kept ≡ Some a → a ≡ reflected site u b.attr
+
+-- what is kept is what goes inside the AS to a peer for whom the router puts itself as NEXT_HOP, or does not
+abbrev pub IsInside : SiteConf → Candidate → Option (Bool × Attr) → Type 0
+IsInside site b kept = (to : SiteSession) (a : Attr) → kept ≡ Some (to.own_next, a) → a ≡ to_own_as site to b

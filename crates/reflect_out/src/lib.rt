@@ -10,8 +10,10 @@ mod adverts;
 pub use adverts::Adverts;
 use net_conf::{SiteConf, SiteSession};
 use net_prefix::{Addr, Prefix};
-use path_attr::{Attr, Communities, NO_ADVERTISE, NO_EXPORT, NO_EXPORT_SUBCONFED};
-use route_policy::{Action, Settings, judge};
+use path_attr::{
+    Attr, Communities, ImportedAttr, NO_ADVERTISE, NO_EXPORT, NO_EXPORT_SUBCONFED, SharedAttr,
+};
+use route_policy::{Action, Settings, judge_imported};
 use route_select::{Candidate, Source};
 use seq::SharedSeq;
 use std::alloc::{AllocError, Global};
@@ -26,7 +28,7 @@ pub fn advert(
     prefix: Prefix,
     best: &Candidate,
     to: Addr,
-) -> Result<Option<Attr>, AllocError>
+) -> Result<Option<SharedAttr>, AllocError>
     ensures { IfOk result (λ attr. attr ≡ advert site.now prefix best.now to) }
 {
     if is_from(to, best.source) {
@@ -64,13 +66,13 @@ fn advertised_over(
     prefix: Prefix,
     best: &Candidate,
     to: &SiteSession,
-) -> Result<Option<Attr>, AllocError>
+) -> Result<Option<SharedAttr>, AllocError>
     ensures { IfOk result (λ attr. attr ≡ advertised_over site.now prefix best.now to.now) }
 {
-    if is_kept_back(to.external, &best.attr.comms) {
+    if is_kept_back(to.external, best.attr.comms()) {
         return Ok(None);
     }
-    match judge(&to.policy_out, prefix, &best.attr) {
+    match judge_imported(&to.policy_out, prefix, &best.attr) {
         Action::Deny => Ok(None),
         Action::Permit(settings) => permitted(alloc, site, best, to, settings),
     }
@@ -83,7 +85,7 @@ fn permitted(
     best: &Candidate,
     to: &SiteSession,
     settings: Settings,
-) -> Result<Option<Attr>, AllocError>
+) -> Result<Option<SharedAttr>, AllocError>
     ensures { IfOk result (λ attr.
         attr ≡ (if to.now.external then Some (to_other_as site.now settings best.now.attr) else inside site.now to.now
         best.now)) }
@@ -100,21 +102,21 @@ pub(crate) fn to_other_as(
     alloc: Global,
     site: &SiteConf,
     settings: Settings,
-    attr: &Attr,
-) -> Result<Attr, AllocError>
+    attr: &ImportedAttr,
+) -> Result<SharedAttr, AllocError>
     ensures { IfOk result (λ a. a ≡ to_other_as site.now settings attr.now) }
 {
     let times = settings.prepend.map_or(0, |repeat| repeat.count());
     let path = attr
-        .path
+        .path()
         .prepended_times(alloc, site.asn, u16::from(times) + 1)?;
-    let comms = attr.comms.with_given(alloc, settings.add)?;
+    let comms = attr.comms().with_given(alloc, settings.add)?;
     let mut told = Attr::plain(site.me);
     told.path = path;
-    told.origin = attr.origin;
+    told.origin = attr.origin();
     told.med = settings.med;
     told.comms = comms;
-    Ok(told)
+    SharedAttr::new(alloc, told)
 }
 
 /// What is advertised inside the AS.
@@ -123,33 +125,33 @@ fn inside(
     site: &SiteConf,
     to: &SiteSession,
     best: &Candidate,
-) -> Result<Option<Attr>, AllocError>
+) -> Result<Option<SharedAttr>, AllocError>
     ensures { IfOk result (λ attr. attr ≡ inside site.now to.now best.now) }
 {
     if best.external {
-        Ok(Some(to_own_as(site, to, best)?))
+        Ok(Some(to_own_as(alloc, site, to, best)?))
     } else {
         reflected_to(alloc, site, to, best)
     }
 }
 
-/// The attributes inside the AS, of the router's own route or an external one. They share its lists and take no memory:
-/// the only fault is that 2^63 owners share one.
+/// The attributes inside the AS, of the router's own route or an external one, whose lists they share.
 pub(crate) fn to_own_as(
+    alloc: Global,
     site: &SiteConf,
     to: &SiteSession,
     best: &Candidate,
-) -> Result<Attr, AllocError>
+) -> Result<SharedAttr, AllocError>
     ensures { IfOk result (λ a. a ≡ to_own_as site.now to.now best.now) }
 {
-    let mut told = best.attr.share()?;
+    let mut told = best.attr.to_attr()?;
     if to.own_next {
         told.next = site.me;
     }
     told.pref = Some(best.pref);
     told.oid = None;
     told.clusters = SharedSeq::empty();
-    Ok(told)
+    SharedAttr::new(alloc, told)
 }
 
 /// An internal peer's route, inside the AS: only from a client, or to one.
@@ -158,7 +160,7 @@ fn reflected_to(
     site: &SiteConf,
     to: &SiteSession,
     best: &Candidate,
-) -> Result<Option<Attr>, AllocError>
+) -> Result<Option<SharedAttr>, AllocError>
     ensures { IfOk result (λ attr. attr ≡ reflected_to site.now to.now best.now best.now.source) }
 {
     let Source::Peer(peer) = best.source else {
@@ -186,14 +188,14 @@ pub(crate) fn reflected(
     alloc: Global,
     site: &SiteConf,
     peer: Addr,
-    attr: &Attr,
-) -> Result<Attr, AllocError>
+    attr: &ImportedAttr,
+) -> Result<SharedAttr, AllocError>
     ensures { IfOk result (λ a. a ≡ reflected site.now peer attr.now) }
 {
-    let mut reflected = attr.share()?;
-    reflected.oid = Some(attr.oid.unwrap_or(peer));
-    reflected.clusters = with_cluster(alloc, site.cluster, &attr.clusters)?;
-    Ok(reflected)
+    let mut reflected = attr.to_attr()?;
+    reflected.oid = Some(attr.oid().unwrap_or(peer));
+    reflected.clusters = with_cluster(alloc, site.cluster, attr.clusters())?;
+    SharedAttr::new(alloc, reflected)
 }
 
 /// The CLUSTER_LIST with the CLUSTER_ID in front.

@@ -81,7 +81,7 @@ impl Text for Message {
                     Part::Prefix(*prefix),
                     Part::Bytes(b" "),
                 ];
-                write_with_attr(&head, attr, output)
+                write_with_attr(&head, attr.attr(), output)
             }
             Message::Withdraw(prefix) => {
                 let parts = [

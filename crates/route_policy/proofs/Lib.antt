@@ -1,3 +1,4 @@
+pub mod AnyPreference
 mod Comparing
 mod Lists
 pub mod MarkedNumbers

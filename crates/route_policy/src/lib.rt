@@ -8,6 +8,6 @@ mod policy;
 mod repeat;
 mod rule;
 
-pub use policy::{AddFault, MAX_RULES, Policy, judge};
+pub use policy::{AddFault, MAX_RULES, Policy, judge, judge_imported};
 pub use repeat::Repeat;
 pub use rule::{Action, Match, Rule, Settings};

@@ -11,7 +11,7 @@ use crate::marked_route::MarkedRoute;
 use crate::path_split::{PathSplit, SharedSplit};
 use crate::rule::{Action, Rule};
 use net_prefix::Prefix;
-use path_attr::Attr;
+use path_attr::{Attr, ImportedAttr};
 use seq::{Copied, SharedSeq};
 use std::alloc::{AllocError, Global};
 use std::error::Error;
@@ -192,6 +192,14 @@ pub fn judge(policy: &Policy, prefix: Prefix, attr: &Attr) -> Action
     ensures { result ≡ judged policy.now prefix attr.now }
 {
     first_action(policy, prefix, attr).unwrap_or(Action::PLAIN_PERMIT)
+}
+
+/// The same of a route after import. No rule asks for LOCAL_PREF.
+#[tactic(auto, using(crate::proofs::AnyPreference::judged_at_any_preference))]
+pub fn judge_imported(policy: &Policy, prefix: Prefix, attr: &ImportedAttr) -> Action
+    ensures { result ≡ judged policy.now prefix attr.now }
+{
+    judge(policy, prefix, attr.shared().attr())
 }
 
 /// The action of the first rule that a route to the prefix with these attributes matches. Where many rules are by path,

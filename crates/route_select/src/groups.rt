@@ -32,7 +32,7 @@ fn group_rank(med_always: bool, candidate: &Candidate) -> u64
     if med_always {
         return 0;
     }
-    match candidate.attr.path.neighbour() {
+    match candidate.attr.path().neighbour() {
         Some(asn) => u64::from(asn.number()) + 1,
         None => 0,
     }

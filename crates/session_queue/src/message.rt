@@ -3,7 +3,7 @@
 ghost use Rattle.std.specs.Prelude.{◌≡◌, ◌↔◌, IsTrue};
 
 use net_prefix::Prefix;
-use path_attr::Attr;
+use path_attr::SharedAttr;
 use seq::Copied;
 use std::alloc::{AllocError, Global};
 
@@ -11,7 +11,7 @@ use std::alloc::{AllocError, Global};
 #[derive(Debug, Drop, PartialEq)]
 pub enum Message {
     /// A route to the prefix is advertised, in place of any that was advertised before.
-    Update(Prefix, Attr),
+    Update(Prefix, SharedAttr),
     /// The route that was advertised is withdrawn.
     Withdraw(Prefix),
 }

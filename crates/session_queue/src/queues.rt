@@ -10,7 +10,7 @@ use crate::numbered_queues::NumberedQueues;
 use crate::view::View;
 use attr_pool::{AttrId, Pool};
 use net_prefix::Addr;
-use path_attr::Attr;
+use path_attr::SharedAttr;
 use std::alloc::{AllocError, Global};
 use std::hash::RandomState;
 use std::marker::Model;
@@ -71,7 +71,7 @@ impl Queues {
 
     /// Sees to it that an update may have these attributes: a copy of new ones is kept. The error is want of memory,
     /// for new ones alone, and changes nothing.
-    pub fn admit(&mut self, attr: &Attr) -> Result<(), AllocError>
+    pub fn admit(&mut self, attr: &SharedAttr) -> Result<(), AllocError>
         ensures admitted { OnOk result (self.new.admitted ≡ with_attr self.old.admitted attr.now) }
         ensures ok { OnOk result (has_attr self.new.admitted attr.now ≡ true) }
         ensures keeps { KeepsAdmitted self.old self.new }
@@ -80,19 +80,19 @@ impl Queues {
         ensures absent { OnErr result (has_attr self.old.admitted attr.now ≡ false) }
         ensures err { OnErr result (self.new ≡ self.old) }
     {
-        if self.pool.is_last(attr) {
+        if self.pool.is_last(attr.attr()) {
             return Ok(());
         }
         match attr.share() {
             Ok(copy) => self.admit_own(copy),
-            // 2^63 owners share one of its lists: what is there wants no copy.
-            Err(_) if self.pool.has(attr) => Ok(()),
+            // 2^63 owners share them: what is there wants no copy.
+            Err(_) if self.pool.has(attr.attr()) => Ok(()),
             Err(fault) => Err(fault),
         }
     }
 
     /// The same, of attributes that are handed over.
-    fn admit_own(&mut self, attr: Attr) -> Result<(), AllocError>
+    fn admit_own(&mut self, attr: SharedAttr) -> Result<(), AllocError>
         ensures admitted { OnOk result (self.new.admitted ≡ with_attr self.old.admitted attr) }
         ensures ok { OnOk result (has_attr self.new.admitted attr ≡ true) }
         ensures keeps { KeepsAdmitted self.old self.new }
@@ -108,7 +108,7 @@ impl Queues {
     }
 
     /// The number of these attributes, which come to be admitted.
-    fn number_of(&mut self, attr: Attr) -> Result<AttrId, AllocError>
+    fn number_of(&mut self, attr: SharedAttr) -> Result<AttrId, AllocError>
         ensures number { IfOk result (λ id. slice_get self.new.admitted id ≡ Some attr) }
         ensures admitted { OnOk result (self.new.admitted ≡ with_attr self.old.admitted attr) }
         ensures ok { OnOk result (has_attr self.new.admitted attr ≡ true) }

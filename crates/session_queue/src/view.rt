@@ -6,14 +6,14 @@ use crate::message::{Message, MessageKind};
 use crate::numbered::Numbered;
 use attr_pool::Pool;
 use net_prefix::Prefix;
-use path_attr::Attr;
+use path_attr::SharedAttr;
 use std::alloc::AllocError;
 
 /// A message that stays in its queue, its attributes borrowed.
 #[derive(Clone, Copy, Debug, PartialEq)]
 pub enum View<'a> {
     /// A route to the prefix is advertised, in place of any that was advertised before.
-    Update(Prefix, &'a Attr),
+    Update(Prefix, &'a SharedAttr),
     /// The route that was advertised is withdrawn.
     Withdraw(Prefix),
 }
@@ -57,7 +57,7 @@ impl<'a> View<'a> {
         }
     }
 
-    /// A copy of the message, which shares the attributes' lists: the only fault is that 2^63 owners share one.
+    /// A copy of the message, which shares the attributes: the only fault is that 2^63 owners share them.
     pub fn to_message(&self) -> Result<Message, AllocError>
         ensures { IfOk result (λ message. message ≡ message_of self.now) }
     {

@@ -33,7 +33,7 @@ impl<S: Selector + Drop, T: PrefixTable<Cell<S>> + Drop> Sim<S, T> {
         if let Some(refusal) = feed_refusal(self.state.conf(), feed) {
             return Reply::Refused(refusal);
         }
-        match put_on_its_way(&mut self.state, feed) {
+        match put_on_its_way(self.alloc, &mut self.state, feed) {
             Ok(()) => return Reply::Done,
             Err(_) => return Reply::Refused(Refusal::Memory),
         }
@@ -42,6 +42,7 @@ impl<S: Selector + Drop, T: PrefixTable<Cell<S>> + Drop> Sim<S, T> {
 
 /// Puts what is fed, and not refused, at the end of its queue. An error, which is want of memory, changes nothing.
 fn put_on_its_way<S: Selector + Drop, T: PrefixTable<Cell<S>> + Drop>(
+    alloc: Global,
     state: &mut State<S, T>,
     feed: &Feed,
 ) -> Result<(), AllocError>
@@ -53,7 +54,7 @@ fn put_on_its_way<S: Selector + Drop, T: PrefixTable<Cell<S>> + Drop>(
         from: feed.from,
         to: feed.to,
     };
-    let message = fed_message(feed.from, &feed.news)?;
+    let message = fed_message(alloc, feed.from, &feed.news)?;
     state.feed(direction, message)
 }
 
@@ -89,7 +90,7 @@ fn plan_feed<S: Selector + Drop, T: PrefixTable<Cell<S>> + Drop>(
         from: feed.from,
         to: feed.to,
     };
-    let message = message_to_feed(state, direction, feed)?;
+    let message = message_to_feed(alloc, state, direction, feed)?;
     Ok(Plan {
         reply: Reply::Done,
         refreshed: Vec::new(alloc),
@@ -101,6 +102,7 @@ fn plan_feed<S: Selector + Drop, T: PrefixTable<Cell<S>> + Drop>(
 
 /// The message that is fed in the direction, which may be sent, and for which its queue has room.
 fn message_to_feed<S: Selector + Drop, T: PrefixTable<Cell<S>> + Drop>(
+    alloc: Global,
     state: &mut State<S, T>,
     direction: Direction,
     feed: &Feed,
@@ -111,7 +113,7 @@ fn message_to_feed<S: Selector + Drop, T: PrefixTable<Cell<S>> + Drop>(
     ensures room { OnOk result (0 < spare_at state.new.queues direction.from direction.to) }
     ensures admitted { IfOk result (IsAdmitted state.new.queues) }
 {
-    let message = fed_message(feed.from, &feed.news)?;
+    let message = fed_message(alloc, feed.from, &feed.news)?;
     state.reserve_one(direction, &message)?;
     Ok(message)
 }

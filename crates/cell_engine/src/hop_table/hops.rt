@@ -6,7 +6,7 @@ ghost use Rattle.path_attr.specs.declared.attr.Attr as attr;
 ghost use Rattle.cell_engine.specs.Hops.{Have, with_hop, with_hops};
 
 use net_prefix::Addr;
-use path_attr::Attr;
+use path_attr::SharedAttr;
 
 /// What is known of the NEXT_HOPs of some routes.
 #[derive(Clone, Copy, Debug, PartialEq, Eq)]
@@ -32,7 +32,7 @@ impl Hops {
     }
 
     /// What is known once there are these routes besides. Where there may be several, no route is looked at.
-    pub fn with(self, routes: &[(Addr, Attr)]) -> Hops
+    pub fn with(self, routes: &[(Addr, SharedAttr)]) -> Hops
         ensures value { result ≡ with_hops self routes.now }
         ensures covers { Have result routes.now }
         ensures keeps { (known : List (addr.Addr × attr.Attr)) → Have self known → Have result known }
@@ -42,7 +42,7 @@ impl Hops {
             if let Hops::Several = hops {
                 return hops;
             }
-            hops = hops.with_hop(route.1.next);
+            hops = hops.with_hop(route.1.attr().next);
         }
         hops
     }

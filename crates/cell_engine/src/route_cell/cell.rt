@@ -9,7 +9,7 @@ ghost use Rattle.cell_engine.specs.Senders.{AreInOrder, first_past, seen};
 
 use crate::route_cell::received_routes::ReceivedRoutes;
 use net_prefix::Addr;
-use path_attr::Attr;
+use path_attr::SharedAttr;
 use route_select::{Candidate, Chosen, Reason, Selector, Source};
 use seq::Copied;
 use std::alloc::{AllocError, Global};
@@ -87,14 +87,14 @@ impl<S: Chosen> Cell<S> {
     }
 
     /// The route that was received from the peer, as it was received.
-    pub fn received_from(&self, peer: Addr) -> Option<&Attr>
+    pub fn received_from(&self, peer: Addr) -> Option<&SharedAttr>
         ensures { option_copied result ≡ route_of self.now.received peer }
     {
         self.received.route_of(peer)
     }
 
     /// The routes that were received, as they were, each with its sender, by address.
-    pub fn received(&self) -> &[(Addr, Attr)]
+    pub fn received(&self) -> &[(Addr, SharedAttr)]
         ensures routes { result.now ≡ self.now.received }
         ensures order { AreInOrder self.now.received }
     {
@@ -103,7 +103,7 @@ impl<S: Chosen> Cell<S> {
 
     /// The first sender past this one, or with none the first of all, and its route. The senders come in order of
     /// address.
-    pub fn next_received(&self, past: Option<Addr>) -> Option<(Addr, &Attr)>
+    pub fn next_received(&self, past: Option<Addr>) -> Option<(Addr, &SharedAttr)>
         ensures next { seen result ≡ first_past self.now.received past }
         ensures order { AreInOrder self.now.received }
     {

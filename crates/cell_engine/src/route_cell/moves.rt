@@ -12,7 +12,7 @@ ghost use Rattle.cell_engine.specs.MoveTests.{stays_between, stays_of};
 use crate::route_cell::cell::Cell;
 use net_conf::{Conf, SharedSite, SiteConf, SiteSession};
 use net_prefix::{Addr, Prefix};
-use path_attr::Attr;
+use path_attr::{Attr, SharedAttr};
 use reference_machine::{exclusion, is_originated};
 use route_policy::judge;
 use route_select::{Reason, Selector};
@@ -165,13 +165,13 @@ impl<'a> SiteChange<'a> {
 
     /// The cost to the NEXT_HOP of a lone route after the edit. None where there is no cost before, or none after, or
     /// not one route.
-    fn lone_cost(&mut self, routes: &[(Addr, Attr)]) -> Option<u32>
+    fn lone_cost(&mut self, routes: &[(Addr, SharedAttr)]) -> Option<u32>
         ensures cost { result ≡ lone_cost self.entry.now routes.now }
         ensures stays { self.exit.now ≡ self.entry.now }
     {
         match routes {
             [route] => {
-                let look = self.look_at(route.1.next);
+                let look = self.look_at(route.1.attr().next);
                 look.old.and(look.new)
             }
             _ => None,
@@ -191,12 +191,12 @@ impl<'a> SiteChange<'a> {
     }
 
     /// Whether one of these routes moves.
-    fn moves_any(&mut self, prefix: Prefix, routes: &[(Addr, Attr)]) -> bool
+    fn moves_any(&mut self, prefix: Prefix, routes: &[(Addr, SharedAttr)]) -> bool
         ensures moves { result ≡ list_any (is_route_moved self.entry.now prefix) routes.now }
         ensures stays { self.exit.now ≡ self.entry.now }
     {
         for route in routes {
-            if self.moves_route(prefix, route.0, &route.1) {
+            if self.moves_route(prefix, route.0, route.1.attr()) {
                 return true;
             }
         }

@@ -15,7 +15,7 @@ use crate::route_cell::sends::is_up_in;
 use crate::router_tables::places::place;
 use net_conf::{Conf, SiteConf};
 use net_prefix::Addr;
-use path_attr::Attr;
+use path_attr::SharedAttr;
 use seq::Copied;
 use session_queue::Message;
 use std::alloc::{AllocError, Global};
@@ -24,7 +24,7 @@ use std::marker::Model;
 /// The routes to one prefix in a router's Adj-RIBs-In, by sender (RFC 4271, 3.2).
 #[derive(Drop)]
 pub(crate) struct ReceivedRoutes {
-    routes: Vec<(Addr, Attr)>,
+    routes: Vec<(Addr, SharedAttr)>,
 }
 
 impl Model for ReceivedRoutes {
@@ -51,7 +51,12 @@ impl ReceivedRoutes {
     }
 
     /// These routes, and this one in place of any that was from its sender.
-    pub(crate) fn with(&self, alloc: Global, sender: Addr, attr: &Attr) -> Result<Self, AllocError>
+    pub(crate) fn with(
+        &self,
+        alloc: Global,
+        sender: Addr,
+        attr: &SharedAttr,
+    ) -> Result<Self, AllocError>
         ensures { IfOk result (λ routes. routes ≡ insert_entry addr_cmp self.now sender attr.now) }
     {
         Ok(ReceivedRoutes {
@@ -126,7 +131,7 @@ impl ReceivedRoutes {
     }
 
     /// The senders with their routes, by sender.
-    pub(crate) fn routes(&self) -> &[(Addr, Attr)]
+    pub(crate) fn routes(&self) -> &[(Addr, SharedAttr)]
         ensures routes { result.now ≡ self.now }
         ensures order { AreInOrder self.now }
     {
@@ -134,14 +139,14 @@ impl ReceivedRoutes {
     }
 
     /// The route of this sender.
-    pub(crate) fn route_of(&self, sender: Addr) -> Option<&Attr>
+    pub(crate) fn route_of(&self, sender: Addr) -> Option<&SharedAttr>
         ensures { option_copied result ≡ route_of self.now sender }
     {
         route_in(&self.routes, sender)
     }
 
     /// The first sender past this one, or with none the first of all, and its route.
-    pub(crate) fn next(&self, past: Option<Addr>) -> Option<(Addr, &Attr)>
+    pub(crate) fn next(&self, past: Option<Addr>) -> Option<(Addr, &SharedAttr)>
         ensures next { seen result ≡ first_past self.now past }
         ensures order { AreInOrder self.now }
     {
@@ -160,8 +165,8 @@ impl Copied for ReceivedRoutes {
 /// Adds the routes of the senders before this one.
 fn add_before(
     alloc: Global,
-    kept: &mut Vec<(Addr, Attr)>,
-    routes: &[(Addr, Attr)],
+    kept: &mut Vec<(Addr, SharedAttr)>,
+    routes: &[(Addr, SharedAttr)],
     sender: Addr,
 ) -> Result<(), AllocError>
     ensures { OnOk result (kept.new.items ≡ kept.old.items ++ filter (λ e. is_gt (addr_cmp sender e.0)) routes.now) }
@@ -177,8 +182,8 @@ fn add_before(
 /// Adds the routes of the senders after this one.
 fn add_after(
     alloc: Global,
-    kept: &mut Vec<(Addr, Attr)>,
-    routes: &[(Addr, Attr)],
+    kept: &mut Vec<(Addr, SharedAttr)>,
+    routes: &[(Addr, SharedAttr)],
     sender: Addr,
 ) -> Result<(), AllocError>
     ensures { OnOk result (kept.new.items ≡ kept.old.items ++ filter (λ e. is_lt (addr_cmp sender e.0)) routes.now) }
@@ -194,10 +199,10 @@ fn add_after(
 /// The routes, and this one in place of any that was from its sender.
 fn with_route(
     alloc: Global,
-    routes: &[(Addr, Attr)],
+    routes: &[(Addr, SharedAttr)],
     sender: Addr,
-    attr: &Attr,
-) -> Result<Vec<(Addr, Attr)>, AllocError>
+    attr: &SharedAttr,
+) -> Result<Vec<(Addr, SharedAttr)>, AllocError>
     requires { AreInOrder routes.now }
     ensures { IfOk result (λ more. more.items ≡ insert_entry addr_cmp routes.now sender attr.now) }
 {
@@ -211,9 +216,9 @@ fn with_route(
 /// The routes but for the sender's.
 fn without_sender(
     alloc: Global,
-    routes: &[(Addr, Attr)],
+    routes: &[(Addr, SharedAttr)],
     sender: Addr,
-) -> Result<Vec<(Addr, Attr)>, AllocError>
+) -> Result<Vec<(Addr, SharedAttr)>, AllocError>
     requires { AreInOrder routes.now }
     ensures { IfOk result (λ less. less.items ≡ remove_entry (is_at (addr_cmp sender)) routes.now) }
 {
@@ -227,7 +232,7 @@ fn without_sender(
 const FEW: usize = 16;
 
 /// Makes room for a route more. An error changes nothing.
-fn make_room(routes: &mut Vec<(Addr, Attr)>) -> Result<(), AllocError>
+fn make_room(routes: &mut Vec<(Addr, SharedAttr)>) -> Result<(), AllocError>
     ensures { routes.new.items ≡ routes.old.items }
 {
     if routes.len() < FEW {
@@ -238,7 +243,11 @@ fn make_room(routes: &mut Vec<(Addr, Attr)>) -> Result<(), AllocError>
 }
 
 /// Puts the route in place of any that was from its sender. An error changes nothing.
-fn put_route(routes: &mut Vec<(Addr, Attr)>, sender: Addr, attr: Attr) -> Result<(), AllocError>
+fn put_route(
+    routes: &mut Vec<(Addr, SharedAttr)>,
+    sender: Addr,
+    attr: SharedAttr,
+) -> Result<(), AllocError>
     requires { AreInOrder routes.old.items }
     ensures ok { OnOk result (routes.new.items ≡ insert_entry addr_cmp routes.old.items sender attr) }
     ensures err { OnErr result (routes.new.items ≡ routes.old.items) }
@@ -256,7 +265,7 @@ fn put_route(routes: &mut Vec<(Addr, Attr)>, sender: Addr, attr: Attr) -> Result
 }
 
 /// Takes out the sender's route, if there is one.
-fn remove_route(routes: &mut Vec<(Addr, Attr)>, sender: Addr)
+fn remove_route(routes: &mut Vec<(Addr, SharedAttr)>, sender: Addr)
     requires { AreInOrder routes.old.items }
     ensures { routes.new.items ≡ remove_entry (is_at (addr_cmp sender)) routes.old.items }
 {
@@ -268,8 +277,8 @@ fn remove_route(routes: &mut Vec<(Addr, Attr)>, sender: Addr)
 /// Adds a copy of the route to those that are kept, of which there will be so many at most.
 fn add_kept(
     alloc: Global,
-    kept: &mut Vec<(Addr, Attr)>,
-    route: &(Addr, Attr),
+    kept: &mut Vec<(Addr, SharedAttr)>,
+    route: &(Addr, SharedAttr),
     most: usize,
 ) -> Result<(), AllocError>
     ensures { OnOk result (kept.new.items ≡ kept.old.items ++ (route.now ∷ [])) }
@@ -285,8 +294,8 @@ fn add_kept(
 fn kept_routes(
     alloc: Global,
     site: &SiteConf,
-    routes: &[(Addr, Attr)],
-) -> Result<Vec<(Addr, Attr)>, AllocError>
+    routes: &[(Addr, SharedAttr)],
+) -> Result<Vec<(Addr, SharedAttr)>, AllocError>
     ensures { IfOk result (λ kept. kept.items ≡ kept_routes site.now routes.now) }
 {
     let mut kept = Vec::new(alloc);
@@ -303,8 +312,8 @@ fn routes_over(
     alloc: Global,
     conf: &Conf,
     to: Addr,
-    routes: &[(Addr, Attr)],
-) -> Result<Vec<(Addr, Attr)>, AllocError>
+    routes: &[(Addr, SharedAttr)],
+) -> Result<Vec<(Addr, SharedAttr)>, AllocError>
     ensures { IfOk result (λ kept. kept.items ≡ filter (λ e. is_up conf.now e.0 to) routes.now) }
 {
     let mut kept = Vec::new(alloc);
@@ -317,7 +326,10 @@ fn routes_over(
 }
 
 /// Copies of the routes, in order.
-fn copy_routes(alloc: Global, routes: &[(Addr, Attr)]) -> Result<Vec<(Addr, Attr)>, AllocError>
+fn copy_routes(
+    alloc: Global,
+    routes: &[(Addr, SharedAttr)],
+) -> Result<Vec<(Addr, SharedAttr)>, AllocError>
     ensures { IfOk result (λ copies. copies.items ≡ routes.now) }
 {
     let mut copies = Vec::with_capacity(alloc, routes.len())?;
@@ -328,7 +340,7 @@ fn copy_routes(alloc: Global, routes: &[(Addr, Attr)]) -> Result<Vec<(Addr, Attr
 }
 
 /// The route of this sender.
-fn route_in(routes: &[(Addr, Attr)], sender: Addr) -> Option<&Attr>
+fn route_in(routes: &[(Addr, SharedAttr)], sender: Addr) -> Option<&SharedAttr>
     ensures { option_copied result ≡ route_of routes.now sender }
 {
     for route in routes {
@@ -350,7 +362,7 @@ fn is_past(past: Option<Addr>, sender: Addr) -> bool
 }
 
 /// The first sender past this one, or with none the first of all, and its route.
-fn next_in(routes: &[(Addr, Attr)], past: Option<Addr>) -> Option<(Addr, &Attr)>
+fn next_in(routes: &[(Addr, SharedAttr)], past: Option<Addr>) -> Option<(Addr, &SharedAttr)>
     ensures { seen result ≡ first_past routes.now past }
 {
     for route in routes {

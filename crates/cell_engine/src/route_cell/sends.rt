@@ -13,7 +13,7 @@ ghost use Rattle.cell_engine.specs.Within.{basis_of, told_by, send_within};
 use crate::route_cell::moves::SiteChange;
 use net_conf::{SiteConf, SiteSession};
 use net_prefix::{Addr, Prefix};
-use path_attr::Attr;
+use path_attr::SharedAttr;
 use reference_machine::{advert_of, change_of};
 use reflect_out::Adverts;
 use route_select::Candidate;
@@ -188,7 +188,7 @@ fn told_by(
     alloc: Global,
     adverts: &mut Option<Adverts<'_>>,
     to: &SiteSession,
-) -> Result<Option<Attr>, AllocError>
+) -> Result<Option<SharedAttr>, AllocError>
     ensures told { IfOk result (λ attr. attr ≡ told_by adverts.old to.now) }
     ensures same { adverts.new ≡ adverts.old }
 {

@@ -63,7 +63,7 @@ pub(crate) fn decide<S: Selector + Drop>(
     ensures { IfOk result (λ chosen. S.standings chosen ≡ standings_by site.now prefix received.now) }
 {
     let mut chosen = S::new(alloc, site.med_always);
-    put_own(&mut chosen, site, prefix)?;
+    put_own(alloc, &mut chosen, site, prefix)?;
     put_peers(
         alloc,
         &mut chosen,

@@ -6,7 +6,7 @@ ghost use Rattle.reference_machine.specs.Advertising.{advert_of, change_of, send
 
 use net_conf::{Conf, SiteConf};
 use net_prefix::{Addr, Prefix};
-use path_attr::Attr;
+use path_attr::SharedAttr;
 use reflect_out::advert;
 use route_select::Candidate;
 use session_queue::Message;
@@ -21,7 +21,7 @@ pub fn advert_of(
     peer: Addr,
     prefix: Prefix,
     chosen: Option<&Candidate>,
-) -> Result<Option<Attr>, AllocError>
+) -> Result<Option<SharedAttr>, AllocError>
     ensures { IfOk result (λ attr.
         attr ≡ advert_of up (option_copied site.entry) peer prefix (option_copied chosen.entry)) }
 {
@@ -32,7 +32,11 @@ pub fn advert_of(
 }
 
 /// The message that leads from what was advertised to what is advertised now: none where that is the same.
-pub fn change_of(prefix: Prefix, old: Option<Attr>, new: Option<Attr>) -> Option<Message>
+pub fn change_of(
+    prefix: Prefix,
+    old: Option<SharedAttr>,
+    new: Option<SharedAttr>,
+) -> Option<Message>
     ensures { result ≡ change_of prefix old new }
 {
     match (old, new) {

@@ -8,10 +8,10 @@ ghost use Rattle.reference_machine.specs.Machine.{has_foreign_first, is_too_long
 use crate::limits::{MOST_FED_COMMUNITIES, MOST_FED_NUMBERS};
 use net_conf::{Conf, Refusal};
 use net_prefix::Addr;
-use path_attr::Attr;
+use path_attr::{Attr, SharedAttr};
 use session_queue::Message;
 use sim_event::{FedRoute, Feed, News};
-use std::alloc::AllocError;
+use std::alloc::{AllocError, Global};
 
 /// Whether a fed path does not begin with the feeder's AS.
 fn has_foreign_first(conf: &Conf, feeder: Addr, news: &News) -> bool
@@ -88,13 +88,15 @@ fn refusal_while_down(conf: &Conf, feed: &Feed) -> Option<Refusal>
     }
 }
 
-/// The message that is fed: a route has its feeder as next hop. It shares the path and the communities: the only fault
-/// is that 2^63 owners share one.
-pub fn fed_message(feeder: Addr, news: &News) -> Result<Message, AllocError>
+/// The message that is fed: a route has its feeder as next hop. It shares the path and the communities.
+pub fn fed_message(alloc: Global, feeder: Addr, news: &News) -> Result<Message, AllocError>
     ensures { IfOk result (λ message. message ≡ fed_message feeder news.now) }
 {
     match news {
-        News::Update(route) => Ok(Message::Update(route.prefix, fed_attr(feeder, route)?)),
+        News::Update(route) => {
+            let attr = SharedAttr::new(alloc, fed_attr(feeder, route)?)?;
+            Ok(Message::Update(route.prefix, attr))
+        }
         News::Withdraw(prefix) => Ok(Message::Withdraw(*prefix)),
     }
 }

@@ -1,6 +1,7 @@
 //! Parts of the answers to questions.
 
 ghost use Rattle.std.specs.Prelude.{◌≡◌, true, IfOk};
+ghost use Rattle.std.specs.Option.{option_copied};
 ghost use Rattle.net_conf.specs.Configuration.{has_node};
 ghost use Rattle.reference_machine.specs.Reports.{held_of, cost_and_hop};
 
@@ -10,17 +11,18 @@ use route_select::Candidate;
 use sim_event::Held;
 use std::alloc::{AllocError, Global};
 
-/// The route that was chosen for the prefix, if one was, as the Loc-RIB holds it (RFC 4271, 3.2).
-pub fn held_of(prefix: Prefix, route: Option<Candidate>) -> Option<Held>
-    ensures { result ≡ held_of prefix route }
+/// The route that was chosen for the prefix, if one was, as the Loc-RIB holds it (RFC 4271, 3.2). It shares the route's
+/// lists: the only fault is that 2^63 owners share one.
+pub fn held_of(prefix: Prefix, route: Option<&Candidate>) -> Result<Option<Held>, AllocError>
+    ensures { IfOk result (λ held. held ≡ held_of prefix (option_copied route)) }
 {
     match route {
-        None => None,
-        Some(route) => Some(Held {
+        None => Ok(None),
+        Some(route) => Ok(Some(Held {
             prefix,
             source: route.source,
-            attr: route.attr,
-        }),
+            attr: route.attr.to_attr()?,
+        })),
     }
 }
 

@@ -1,6 +1,6 @@
 //! How routes to a prefix stand at a router, over its site.
 
-ghost use Rattle.std.specs.Prelude.{◌≡◌, Some, OnOk, OnErr, IfOk};
+ghost use Rattle.std.specs.Prelude.{◌≡◌, Some, IsTrue, OnOk, OnErr, IfOk};
 ghost use Rattle.std.specs.List.{list_any};
 ghost use Rattle.std.specs.Option.{option_to_list};
 ghost use Rattle.net_prefix.specs.Address.{same_addr};
@@ -8,7 +8,7 @@ ghost use Rattle.reference_machine.specs.Decision.{own_attr, own_candidate, is_o
 
 use net_conf::{SiteConf, SiteSession};
 use net_prefix::{Addr, Prefix};
-use path_attr::{Attr, Communities};
+use path_attr::{Attr, Communities, ImportedAttr, SharedAttr};
 use route_policy::{Action, judge};
 use route_select::{Candidate, Reason, Selector, Source, Standing};
 use std::alloc::{AllocError, Global};
@@ -16,27 +16,26 @@ use std::alloc::{AllocError, Global};
 /// The preference of a route that nothing sets.
 const DEFAULT_PREFERENCE: u32 = 100;
 
-/// The attributes of the router's own route. It takes no memory.
-fn own_attr(router: Addr) -> Attr
-    ensures { result ≡ own_attr router }
+/// The attributes of the router's own route.
+fn own_attr(alloc: Global, router: Addr) -> Result<ImportedAttr, AllocError>
+    ensures { IfOk result (λ attr. attr ≡ own_attr router) }
 {
-    let mut attr = Attr::plain(router);
-    attr.pref = Some(DEFAULT_PREFERENCE);
-    attr
+    let plain = SharedAttr::new(alloc, Attr::plain(router))?;
+    Ok(ImportedAttr::new(plain, Some(DEFAULT_PREFERENCE)))
 }
 
-/// The route that the router originates, as a candidate. It takes no memory.
-pub fn own_candidate(router: Addr) -> Candidate
-    ensures { result ≡ own_candidate router }
+/// The route that the router originates, as a candidate.
+pub fn own_candidate(alloc: Global, router: Addr) -> Result<Candidate, AllocError>
+    ensures { IfOk result (λ own. own ≡ own_candidate router) }
 {
-    Candidate {
+    Ok(Candidate {
         source: Source::Own,
-        attr: own_attr(router),
+        attr: own_attr(alloc, router)?,
         pref: DEFAULT_PREFERENCE,
         external: true,
         cost: 0,
         ident: router,
-    }
+    })
 }
 
 /// Whether the router originates the prefix.
@@ -135,36 +134,67 @@ fn preference(external: bool, action: &Action, attr: &Attr) -> u32
     }
 }
 
-/// The attributes after import, which share the lists that the policy leaves as they are. Memory is taken for a
-/// community that it adds.
-fn imported(alloc: Global, external: bool, action: &Action, attr: &Attr) -> Result<Attr, AllocError>
-    ensures { IfOk result (λ a. a ≡ imported external action.now attr.now) }
+/// Whether the policy leaves MULTI_EXIT_DISC and the communities as they are.
+fn leaves_as_received(action: &Action, attr: &Attr) -> bool
+    ensures med { IsTrue result → set_med action.now attr.now.med ≡ attr.now.med }
+    ensures comms { IsTrue result → set_communities action.now attr.now.comms ≡ attr.now.comms }
+{
+    let _ = attr;
+    match action {
+        Action::Deny => true,
+        Action::Permit(settings) => settings.med.is_none() && settings.add.is_none(),
+    }
+}
+
+/// The attributes with the MULTI_EXIT_DISC and the community that the policy gives them.
+fn set_by(alloc: Global, action: &Action, attr: &Attr) -> Result<Attr, AllocError>
+    ensures { IfOk result (λ a. a ≡ record attr.now {
+      med = set_med action.now attr.now.med;
+      comms = set_communities action.now attr.now.comms;
+    }) }
 {
     let comms = set_communities(alloc, action, &attr.comms)?;
     let mut taken = attr.share()?;
     taken.med = set_med(action, attr.med);
-    taken.pref = Some(preference(external, action, attr));
     taken.comms = comms;
     Ok(taken)
 }
 
-/// A peer's route as a candidate; its identifier is the peer's address. It shares the lists that the policy leaves as
-/// they are.
+/// The attributes after import: those that were received, shared, where the policy leaves all but LOCAL_PREF as it is.
+fn imported(
+    alloc: Global,
+    external: bool,
+    action: &Action,
+    attr: &SharedAttr,
+) -> Result<ImportedAttr, AllocError>
+    ensures { IfOk result (λ a. a ≡ imported external action.now attr.now) }
+{
+    let pref = Some(preference(external, action, attr.attr()));
+    let taken = if leaves_as_received(action, attr.attr()) {
+        attr.share()?
+    } else {
+        SharedAttr::new(alloc, set_by(alloc, action, attr.attr())?)?
+    };
+    Ok(ImportedAttr::new(taken, pref))
+}
+
+/// A peer's route as a candidate; its identifier is the peer's address. It shares the attributes that were received,
+/// where the policy leaves all but LOCAL_PREF as it is.
 pub fn peer_candidate(
     alloc: Global,
     site: &SiteConf,
     from: &SiteSession,
     action: &Action,
-    attr: &Attr,
+    attr: &SharedAttr,
 ) -> Result<Candidate, AllocError>
     ensures { IfOk result (λ c. c ≡ peer_candidate site.now from.now action.now attr.now) }
 {
     Ok(Candidate {
         source: Source::Peer(from.peer),
         attr: imported(alloc, from.external, action, attr)?,
-        pref: preference(from.external, action, attr),
+        pref: preference(from.external, action, attr.attr()),
         external: from.external,
-        cost: site.costs.cost(attr.next).unwrap_or(0),
+        cost: site.costs.cost(attr.attr().next).unwrap_or(0),
         ident: from.peer,
     })
 }
@@ -175,33 +205,34 @@ fn judged_standing(
     site: &SiteConf,
     from: &SiteSession,
     action: &Action,
-    attr: &Attr,
+    attr: &SharedAttr,
 ) -> Result<Standing, AllocError>
     ensures { IfOk result (λ standing. standing ≡ judged_standing site.now from.now action.now attr.now) }
 {
-    match exclusion(site, action, attr) {
+    match exclusion(site, action, attr.attr()) {
         Some(reason) => Ok(Standing::Excluded(reason)),
         None => Ok(Standing::Considered(peer_candidate(alloc, site, from, action, attr)?)),
     }
 }
 
-/// How a route from the peer of the session stands at the router. A candidate shares the lists that the import policy
-/// leaves as they are.
+/// How a route from the peer of the session stands at the router. A candidate shares the attributes that were received,
+/// where the import policy leaves all but LOCAL_PREF as it is.
 pub fn peer_standing(
     alloc: Global,
     site: &SiteConf,
     prefix: Prefix,
     from: &SiteSession,
-    attr: &Attr,
+    attr: &SharedAttr,
 ) -> Result<Standing, AllocError>
     ensures { IfOk result (λ standing. standing ≡ peer_standing site.now prefix from.now attr.now) }
 {
-    let action = judge(&from.policy_in, prefix, attr);
+    let action = judge(&from.policy_in, prefix, attr.attr());
     judged_standing(alloc, site, from, &action, attr)
 }
 
 /// Puts the router's own route to the prefix among the choice's, if it originates it. An error changes nothing.
 pub fn put_own<S: Selector>(
+    alloc: Global,
     chosen: &mut S,
     site: &SiteConf,
     prefix: Prefix,
@@ -210,7 +241,8 @@ pub fn put_own<S: Selector>(
     ensures err { OnErr result (S.standings chosen.new ≡ S.standings chosen.old) }
 {
     if is_originated(site, prefix) {
-        chosen.put(Source::Own, Standing::Considered(own_candidate(site.me)))?;
+        let own = own_candidate(alloc, site.me)?;
+        chosen.put(Source::Own, Standing::Considered(own))?;
     }
     Ok(())
 }
@@ -221,7 +253,7 @@ pub fn put_received<S: Selector>(
     chosen: &mut S,
     site: &SiteConf,
     prefix: Prefix,
-    attr: &Attr,
+    attr: &SharedAttr,
     from: &SiteSession,
 ) -> Result<(), AllocError>
     ensures ok { OnOk result

@@ -17,7 +17,7 @@ use crate::room::together::Outcomes;
 use cell_engine::{Cell, Outcome};
 use net_conf::SharedSite;
 use net_prefix::{Addr, Prefix};
-use path_attr::Attr;
+use path_attr::{Attr, SharedAttr};
 use prefix_table::PrefixTable;
 use route_select::Chosen;
 use seq::Copied;
@@ -215,7 +215,7 @@ impl<S: Chosen + Drop, T: PrefixTable<Cell<S>> + Drop, L: Ledger> Room<S, T, L> 
     }
 
     /// What the router has received of the prefix.
-    fn received_at(&self, router: Addr, prefix: Prefix) -> &[(Addr, Attr)]
+    fn received_at(&self, router: Addr, prefix: Prefix) -> &[(Addr, SharedAttr)]
         ensures { result.now ≡ (cell_at router prefix self.now.engine.tables).received }
     {
         match self.sim.state().cell(router, prefix) {
@@ -316,12 +316,12 @@ fn is_same_head(had: &Message, now: &Option<Message>) -> bool
 }
 
 /// The route from the peer.
-fn route_of(routes: &[(Addr, Attr)], peer: Addr) -> Result<Option<Attr>, AllocError>
+fn route_of(routes: &[(Addr, SharedAttr)], peer: Addr) -> Result<Option<Attr>, AllocError>
     ensures { IfOk result (λ route. route ≡ route_of routes.now peer) }
 {
     for route in routes {
         if peer.cmp(&route.0).is_eq() {
-            return Ok(Some(route.1.share()?));
+            return Ok(Some(route.1.attr().share()?));
         }
     }
     Ok(None)

@@ -8,7 +8,7 @@ ghost use Rattle.room.specs.Jobs.{CanDecide, outcome_of};
 use cell_engine::{Cell, Outcome, deliver, store};
 use net_conf::{Conf, SharedSite, SiteConf};
 use net_prefix::Addr;
-use path_attr::Attr;
+use path_attr::SharedAttr;
 use route_select::{Chosen, Selector};
 use session_queue::{Direction, Message};
 use std::alloc::{AllocError, Global};
@@ -98,7 +98,7 @@ impl<S: Chosen> Job<S> {
     }
 
     /// What the receiver had received of the prefix.
-    pub(super) fn received(&self) -> &[(Addr, Attr)]
+    pub(super) fn received(&self) -> &[(Addr, SharedAttr)]
         ensures received { result.now ≡ self.now.cell.received }
         ensures order { AreInOrder self.now.cell.received }
         ensures decided { CanDecide self.now }

@@ -4,10 +4,10 @@ ghost use Rattle.std.specs.Prelude.{◌≡◌, ◌↔◌, IsTrue};
 ghost use Rattle.room.specs.Differences.{same_route, lower, first_difference};
 
 use net_prefix::Addr;
-use path_attr::Attr;
+use path_attr::SharedAttr;
 
 /// The first sender whose route differs in two lists, each by sender. None where they are the same.
-pub(super) fn first_difference(had: &[(Addr, Attr)], now: &[(Addr, Attr)]) -> Option<Addr>
+pub(super) fn first_difference(had: &[(Addr, SharedAttr)], now: &[(Addr, SharedAttr)]) -> Option<Addr>
     ensures { result ≡ first_difference had.now now.now }
 {
     for (index, route) in had.iter().enumerate() {
@@ -27,7 +27,7 @@ pub(super) fn first_difference(had: &[(Addr, Attr)], now: &[(Addr, Attr)]) -> Op
 }
 
 /// Whether both are the same route from the same sender.
-fn is_same_route(route: &(Addr, Attr), other: &(Addr, Attr)) -> bool
+fn is_same_route(route: &(Addr, SharedAttr), other: &(Addr, SharedAttr)) -> bool
     ensures { result ≡ same_route route.now other.now }
 {
     route.0 == other.0 && route.1.is_same(&other.1)

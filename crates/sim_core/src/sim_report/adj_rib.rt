@@ -36,7 +36,7 @@ impl<S: Selector> Line<S, (Prefix, Attr)> for RouteFrom {
     ) -> Result<Option<(Prefix, Attr)>, AllocError> {
         match cell.received_from(self.peer) {
             None => Ok(None),
-            Some(attr) => Ok(Some((prefix, attr.share()?))),
+            Some(attr) => Ok(Some((prefix, attr.attr().share()?))),
         }
     }
 }
@@ -66,7 +66,7 @@ impl<'a, S: Selector> Line<S, (Prefix, Attr)> for AdvertTo<'a> {
     ) -> Result<Option<(Prefix, Attr)>, AllocError> {
         match advert_of(alloc, self.up, self.site, self.peer, prefix, cell.best())? {
             None => Ok(None),
-            Some(attr) => Ok(Some((prefix, attr))),
+            Some(attr) => Ok(Some((prefix, attr.attr().share()?))),
         }
     }
 }

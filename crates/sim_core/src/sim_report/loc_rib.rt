@@ -10,6 +10,7 @@ use crate::sim_report::cells::{Line, lines};
 use cell_engine::{Cell, State};
 use net_prefix::{Addr, Prefix};
 use prefix_table::PrefixTable;
+use reference_machine::held_of;
 use route_select::Selector;
 use sim_event::Held;
 use std::alloc::{AllocError, Global};
@@ -65,12 +66,5 @@ pub(crate) fn choice<S: Selector, T: PrefixTable<Cell<S>>>(
 fn held_in<S: Selector>(prefix: Prefix, cell: &Cell<S>) -> Result<Option<Held>, AllocError>
     ensures { IfOk result (λ held. held ≡ held_of prefix (best_of cell.now.standings)) }
 {
-    match cell.best() {
-        None => Ok(None),
-        Some(best) => Ok(Some(Held {
-            prefix,
-            source: best.source,
-            attr: best.attr.share()?,
-        })),
-    }
+    held_of(prefix, cell.best())
 }

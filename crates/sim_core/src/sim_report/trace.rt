@@ -117,7 +117,7 @@ fn by_route(costs: &Tree, at: Addr, prefix: Prefix, best: &Candidate) -> Look
 {
     match best.source {
         Source::Own => Look::Ends(TraceEnd::Reached(at)),
-        Source::Peer(_) => onward(at, prefix, costs.first_hop(best.attr.next)),
+        Source::Peer(_) => onward(at, prefix, costs.first_hop(best.attr.next())),
     }
 }
 
