@@ -1,5 +1,6 @@
 -- No public contract cites this file. What a hash reads of attributes: all eight, each whole, in words of eight bytes.
-use Rattle.std.specs.Prelude.{◌≡◌, ℕ, ◌+◌, ◌*◌, List, ◌++◌, IsTrue, Option, None, Some, option_map}
+use Rattle.std.specs.Prelude.{◌≡◌, ℕ, ◌+◌, ◌*◌, ◌%◌, ◌^◌, Bool, if◌then◌else◌, List, [], ◌∷◌, ◌++◌, length, IsTrue, Option, None, Some, is_some}
+use Rattle.std.specs.List.{flat_map}
 use Rattle.std.proofs.Common.{ap, refl}
 use Rattle.std.specs.Cmp.{IsEquivalence, equiv}
 use Rattle.std.specs.Hash as fed
@@ -13,39 +14,58 @@ use Rattle.path_attr.specs.Sameness.{attr_per, attrs_exact}
 abbrev pub word : ℕ → List (List ℕ)
 word n = fed.u64 n
 
--- a number of four bytes, and a small one above it
+-- two numbers of four bytes
 abbrev pub pair : ℕ → ℕ → List (List ℕ)
 pair low high = word (low + high * 4294967296)
 
--- 0 where there is none
-abbrev pub maybe_input : Option ℕ → List (List ℕ)
-maybe_input None = word 0
-maybe_input (Some n) = word (n + 1)
+-- how many there are, above marks of one byte. No memory has so many, 2 ^ 56, that any would be cut off
+abbrev pub marked : ℕ → ℕ → List (List ℕ)
+marked count marks = word ((count * 256 + marks) % 2 ^ 64)
 
-abbrev pub numbers_input : List ℕ → List (List ℕ)
-numbers_input ns = fed.slice word ns
+-- the items' numbers, two a word, and the last of an odd number alone
+abbrev pub paired : {A : Type 0} → (A → ℕ) → List A → List (List ℕ)
+paired number [] = []
+paired number (last ∷ []) = pair (number last) 0
+paired number (first ∷ second ∷ rest) = pair (number first) (number second) ++ paired number rest
 
--- whether it is a sequence or a set, and its numbers
+-- how many, and their numbers. Nothing of the empty list, which a mark tells
+abbrev pub list_input : {A : Type 0} → (A → ℕ) → List A → List (List ℕ)
+list_input number [] = []
+list_input number (x ∷ xs) = fed.usize (length (x ∷ xs)) ++ paired number (x ∷ xs)
+
+-- how many numbers, marked as a sequence or a set, and the numbers
 abbrev pub segment_input : Segment → List (List ℕ)
-segment_input (Sequence ns) = word 0 ++ numbers_input ns
-segment_input (Set ns) = word 1 ++ numbers_input ns
+segment_input (Sequence ns) = marked (length ns) 0 ++ paired (λ n. n) ns
+segment_input (Set ns) = marked (length ns) 1 ++ paired (λ n. n) ns
 
-abbrev pub path_input : List Segment → List (List ℕ)
-path_input ss = fed.slice segment_input ss
+-- LOCAL_PREF and ORIGINATOR_ID, where one is there: marks tell which
+abbrev pub local_input : Option ℕ → Option Addr → List (List ℕ)
+local_input None None = []
+local_input (Some pref) None = pair pref 0
+local_input None (Some oid) = pair 0 oid.0
+local_input (Some pref) (Some oid) = pair pref oid.0
 
--- MULTI_EXIT_DISC, LOCAL_PREF and ORIGINATOR_ID
-abbrev pub preferences_input : Attr → List (List ℕ)
-preferences_input a = maybe_input a.med ++ maybe_input a.pref ++ maybe_input (option_map (λ (o : Addr). o.0) a.oid)
+abbrev pub list_mark : {A : Type 0} → List A → ℕ
+list_mark [] = 0
+list_mark (x ∷ xs) = 1
 
-abbrev pub addr_input : Addr → List (List ℕ)
-addr_input a = word a.0
+abbrev pub mark : Bool → ℕ
+mark there = if there then 1 else 0
 
-abbrev pub clusters_input : List Addr → List (List ℕ)
-clusters_input cs = fed.slice addr_input cs
+-- ORIGIN, and which of the others are there
+abbrev pub marks : Attr → ℕ
+marks a =
+    mark (is_some a.med) + mark (is_some a.pref) * 2 + mark (is_some a.oid) * 4
+    + list_mark a.clusters * 8 + list_mark a.comms * 16 + origin_rank a.origin * 32
+
+abbrev pub or_zero : Option ℕ → ℕ
+or_zero None = 0
+or_zero (Some n) = n
 
 abbrev pub attr_input : Attr → List (List ℕ)
 attr_input a =
-    path_input a.path ++ pair a.next.0 (origin_rank a.origin) ++ preferences_input a ++ clusters_input a.clusters ++ numbers_input a.comms
+    marked (length a.path) (marks a) ++ pair a.next.0 (or_zero a.med) ++ local_input a.pref a.oid
+    ++ flat_map segment_input a.path ++ list_input (λ (c : Addr). c.0) a.clusters ++ list_input (λ n. n) a.comms
 
 -- LAWS
 

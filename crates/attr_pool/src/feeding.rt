@@ -1,96 +1,149 @@
 //! What a hash reads of attributes, in words of eight bytes: a hasher takes these whole, and shorter pieces byte by
-//! byte.
+//! byte. So two numbers of four bytes go into one.
 
 ghost use Rattle.std.specs.Prelude.{◌≡◌, ◌++◌, fold};
 ghost use Rattle.std.specs.List.{flat_map};
 ghost use Rattle.path_attr.specs.Attribute.{origin_rank};
-ghost use Rattle.attr_pool.specs.Hashing.{word, pair, maybe_input, segment_input, path_input, numbers_input, preferences_input, clusters_input, attr_input};
+ghost use Rattle.attr_pool.specs.Hashing.{pair, paired, marked, marks, list_mark, list_input, segment_input, local_input, attr_input};
 
 use net_prefix::Addr;
 use path_attr::{Asn, Attr, Segment};
 use std::hash::Hasher;
 
-/// Feeds all eight attributes.
+/// Feeds all eight attributes: first what there is of them, then that.
 pub(crate) fn feed_attr<H: Hasher>(attr: &Attr, state: &mut H)
     ensures { state.new ≡ fold H.write state.old (attr_input attr.now) }
 {
-    feed_path(attr.path.segments(), state);
-    feed_pair(attr.next.0, attr.origin.rank(), state);
-    feed_preferences(attr, state);
-    feed_clusters(attr.clusters.as_slice(), state);
-    feed_communities(attr.comms.numbers(), state);
+    let segments = attr.path.segments();
+    feed_marked(segments.len(), marks(attr), state);
+    feed_pair(attr.next.0, attr.med.unwrap_or(0), state);
+    feed_local(attr, state);
+    feed_segments(segments, state);
+    feed_list(attr.clusters.as_slice(), state);
+    feed_list(attr.comms.numbers(), state);
 }
 
-/// Feeds a word: the number in its lower half, and a small one above.
-fn feed_pair<H: Hasher>(low: u32, high: u8, state: &mut H)
+/// ORIGIN, and a bit for each of the others that may be missing or empty: whether it is there.
+fn marks(attr: &Attr) -> u64
+    ensures { result ≡ marks attr.now }
+{
+    u64::from(attr.med.is_some())
+        + u64::from(attr.pref.is_some()) * 2
+        + u64::from(attr.oid.is_some()) * 4
+        + u64::from(list_mark(attr.clusters.as_slice())) * 8
+        + u64::from(list_mark(attr.comms.numbers())) * 16
+        + u64::from(attr.origin.rank()) * 32
+}
+
+/// 0 for the empty list, 1 for another.
+fn list_mark<T>(items: &[T]) -> u8
+    ensures { result ≡ list_mark items.now }
+{
+    match items {
+        [] => 0,
+        _ => 1,
+    }
+}
+
+/// Feeds a word: marks in its lowest byte, and above them how many there are.
+fn feed_marked<H: Hasher>(count: usize, marks: u64, state: &mut H)
+    ensures { state.new ≡ fold H.write state.old (marked count marks) }
+{
+    state.write_u64((count as u64).wrapping_mul(256).wrapping_add(marks));
+}
+
+/// Feeds a word of two numbers.
+fn feed_pair<H: Hasher>(low: u32, high: u32, state: &mut H)
     ensures { state.new ≡ fold H.write state.old (pair low high) }
 {
     state.write_u64(u64::from(low) + u64::from(high) * 0x1_0000_0000);
 }
 
-/// Feeds the three attributes that may be missing.
-fn feed_preferences<H: Hasher>(attr: &Attr, state: &mut H)
-    ensures { state.new ≡ fold H.write state.old (preferences_input attr.now) }
+/// Feeds LOCAL_PREF and ORIGINATOR_ID, which only routes from within the AS have.
+fn feed_local<H: Hasher>(attr: &Attr, state: &mut H)
+    ensures { state.new ≡ fold H.write state.old (local_input attr.now.pref attr.now.oid) }
 {
-    feed_maybe(attr.med, state);
-    feed_maybe(attr.pref, state);
-    feed_maybe(attr.oid.map(|addr| addr.0), state);
-}
-
-/// Feeds a word: one more than the number, or 0 where there is none.
-fn feed_maybe<H: Hasher>(number: Option<u32>, state: &mut H)
-    ensures { state.new ≡ fold H.write state.old (maybe_input number) }
-{
-    match number {
-        Some(number) => state.write_u64(u64::from(number) + 1),
-        None => state.write_u64(0),
+    match (attr.pref, attr.oid) {
+        (None, None) => {}
+        (Some(pref), None) => feed_pair(pref, 0, state),
+        (None, Some(oid)) => feed_pair(0, oid.0, state),
+        (Some(pref), Some(oid)) => feed_pair(pref, oid.0, state),
     }
 }
 
-/// Feeds how many segments there are, and each of them.
-fn feed_path<H: Hasher>(segments: &[Segment], state: &mut H)
-    ensures { state.new ≡ fold H.write state.old (path_input segments.now) }
+/// Feeds each segment.
+fn feed_segments<H: Hasher>(segments: &[Segment], state: &mut H)
+    ensures { state.new ≡ fold H.write state.old (flat_map segment_input segments.now) }
 {
-    state.write_usize(segments.len());
     for segment in segments {
         feed_segment(segment, state);
     }
 }
 
-/// Feeds whether the segment is a sequence or a set, and its numbers.
+/// Feeds whether the segment is a sequence or a set, how many numbers it has, and these.
 fn feed_segment<H: Hasher>(segment: &Segment, state: &mut H)
     ensures { state.new ≡ fold H.write state.old (segment_input segment.now) }
 {
-    state.write_u64(u64::from(matches!(segment, Segment::Set(_))));
-    feed_numbers(segment.numbers(), state);
+    let numbers = segment.numbers();
+    let set = matches!(segment, Segment::Set(_));
+    feed_marked(numbers.len(), u64::from(set), state);
+    feed_numbers(numbers, state);
 }
 
-/// Feeds how many AS numbers there are, and each of them.
-fn feed_numbers<H: Hasher>(numbers: &[Asn], state: &mut H)
-    ensures { state.new ≡ fold H.write state.old (numbers_input numbers.now) }
+/// Feeds how many items there are, and these. Nothing of the empty list.
+fn feed_list<T: Numbered, H: Hasher>(items: &[T], state: &mut H)
+    ensures { state.new ≡ fold H.write state.old (list_input T.number items.now) }
 {
-    state.write_usize(numbers.len());
-    for number in numbers {
-        state.write_u64(u64::from(number.number()));
+    if !items.is_empty() {
+        state.write_usize(items.len());
+        feed_numbers(items, state);
     }
 }
 
-/// Feeds how many clusters there are, and each of them.
-fn feed_clusters<H: Hasher>(clusters: &[Addr], state: &mut H)
-    ensures { state.new ≡ fold H.write state.old (clusters_input clusters.now) }
+/// Feeds the numbers of the items, two a word. The last of an odd number has one alone.
+fn feed_numbers<T: Numbered, H: Hasher>(items: &[T], state: &mut H)
+    ensures { state.new ≡ fold H.write state.old (paired T.number items.now) }
 {
-    state.write_usize(clusters.len());
-    for cluster in clusters {
-        state.write_u64(u64::from(cluster.0));
+    let mut rest = items;
+    while let [first, second, after @ ..] = rest {
+        feed_pair(first.number(), second.number(), state);
+        rest = after;
+    }
+    if let [last] = rest {
+        feed_pair(last.number(), 0, state);
     }
 }
 
-/// Feeds how many communities there are, and each of them.
-fn feed_communities<H: Hasher>(communities: &[u32], state: &mut H)
-    ensures { state.new ≡ fold H.write state.old (numbers_input communities.now) }
-{
-    state.write_usize(communities.len());
-    for community in communities {
-        state.write_u64(u64::from(*community));
+/// What is a number of four bytes.
+trait Numbered {
+    ghost use Rattle.std.specs.Prelude.{ℕ};
+
+    ghost number: { Self → ℕ };
+
+    fn number(&self) -> u32
+        ensures { result ≡ number self.now };
+}
+
+impl Numbered for Asn {
+    ghost number = { λ asn. asn };
+
+    fn number(&self) -> u32 {
+        Asn::number(*self)
+    }
+}
+
+impl Numbered for Addr {
+    ghost number = { λ addr. addr.0 };
+
+    fn number(&self) -> u32 {
+        self.0
+    }
+}
+
+impl Numbered for u32 {
+    ghost number = { λ number. number };
+
+    fn number(&self) -> u32 {
+        *self
     }
 }

@@ -1,8 +1,0 @@
-use Rattle.std.proofs.Common.{◌≡◌, drop}
-use Rattle.std.specs.List.{flat_map, fold}
-use Rattle.attr_pool.specs.Hashing.{word}
-use Rattle.attr_pool.proofs.feeding.feed_communities.Given as goal
-
--- what is left takes the hasher to where the whole takes it
-abbrev pub invariant-loop-community : goal.invariant-loop-community
-invariant-loop-community g l = fold g.H.Hasher.write l.state (flat_map word (drop l.community-index l.communities)) ≡ fold g.H.Hasher.write l.initial.state (flat_map word l.communities)
