@@ -3,7 +3,7 @@
 use Rattle.std.specs.Prelude.{◌≡◌, ℕ, true, false, List, [], Option, Some, None}
 use Rattle.net_prefix.specs.declared.addr.Addr.{Addr}
 use Rattle.path_attr.specs.declared.attr.Attr.{Attr}
-use Rattle.attr_pool.specs.Pooled.{has_attr}
+use Rattle.attr_pool.specs.Pooled.{has_attr, with_attr}
 use Rattle.session_queue.specs.declared.message.Message.{Message}
 use Rattle.session_queue.specs.declared.message.Message.TheVariants.{Update, Withdraw}
 use Rattle.session_queue.specs.Lines.{Lines, messages_at, spare_in, same_direction, IsBefore, IsPast}
@@ -34,6 +34,11 @@ IsAdmittedBy attrs (Withdraw p) = Unit {0}
 -- the attributes of the message are admitted
 abbrev pub IsAdmitted : Queues → Message → Type 0
 IsAdmitted q m = IsAdmittedBy q.admitted m
+
+-- the attributes that are admitted once those of the message are
+abbrev pub admitted_with : Queues → Message → List Attr
+admitted_with q (Update p attr) = with_attr q.admitted attr
+admitted_with q (Withdraw p) = q.admitted
 
 -- what was admitted stays so
 abbrev pub KeepsAdmitted : Queues → Queues → Type 0

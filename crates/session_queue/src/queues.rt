@@ -1,6 +1,6 @@
 //! The queues of all directions.
 
-ghost use Rattle.std.specs.Prelude.{◌≡◌, ◌+◌, ◌<◌, ◌≤◌, ◌↔◌, [], ◌∷◌, ◌++◌, true, false, length, max, drop, slice_get, Some, option_map, IsTrue, IfOk, IfSome, IfNone, OnOk, OnErr};
+ghost use Rattle.std.specs.Prelude.{◌≡◌, ◌⊎◌, ◌+◌, ◌<◌, ◌≤◌, ◌↔◌, [], ◌∷◌, ◌++◌, true, false, length, max, drop, slice_get, Some, option_map, IsTrue, IfOk, IfSome, IfNone, OnOk, OnErr};
 ghost use Rattle.attr_pool.specs.Pooled.{has_attr, with_attr};
 
 use crate::direction::Direction;
@@ -40,7 +40,7 @@ impl Queues {
     ghost use Rattle.session_queue.specs.Numbers.{message_by, IsGiven};
     ghost use Rattle.session_queue.specs.Shards.{shard_of};
     ghost use Rattle.session_queue.specs.Telling.{message_of};
-    ghost use Rattle.session_queue.specs.Waiting.{queue_at, spare_at, IsAdmitted, KeepsAdmitted, KeepsOthers, IsQuiet, IsPast, SkipsNone};
+    ghost use Rattle.session_queue.specs.Waiting.{queue_at, spare_at, admitted_with, IsAdmitted, KeepsAdmitted, KeepsOthers, IsQuiet, IsPast, SkipsNone};
 
     /// No message and no spare memory in any direction, and no attributes. It takes no memory. Nobody who does not know
     /// the keys can make `admit` and `push` slow by a choice of attributes; with none, whoever knows the program can.
@@ -141,10 +141,16 @@ impl Queues {
     }
 
     /// Adds a message at the end of the direction's queue, with the memory that this takes: its attributes come to be
-    /// admitted, and it gets a place. An error, which is want of memory, changes no queue.
+    /// admitted, and it gets a place, a spare one where there is one. An error, which is want of memory, changes no
+    /// queue and no spare memory; the attributes may have come to be admitted.
     pub fn put(&mut self, from: Addr, to: Addr, message: Message) -> Result<(), AllocError>
         ensures queue { OnOk result (queue_at self.new from to ≡ queue_at self.old from to ++ message ∷ []) }
+        ensures spare { OnOk result (spare_at self.new from to + 1 ≡ max 1 (spare_at self.old from to)) }
+        ensures admitted { OnOk result (self.new.admitted ≡ admitted_with self.old message) }
         ensures same { OnErr result (queue_at self.new from to ≡ queue_at self.old from to) }
+        ensures same_spare { OnErr result (spare_at self.new from to ≡ spare_at self.old from to) }
+        ensures at_most { OnErr result ((self.new.admitted ≡ self.old.admitted)
+            ⊎ (self.new.admitted ≡ admitted_with self.old message)) }
         ensures others { KeepsOthers from to self.old self.new }
         ensures keeps { KeepsAdmitted self.old self.new }
     {
@@ -158,6 +164,8 @@ impl Queues {
     fn number(&mut self, message: Message) -> Result<Numbered, AllocError>
         ensures message { IfOk result (λ n. message_by self.new.admitted n ≡ message) }
         ensures given { IfOk result (IsGiven self.new.admitted) }
+        ensures admitted { OnOk result (self.new.admitted ≡ admitted_with self.old message) }
+        ensures err { OnErr result (self.new.admitted ≡ self.old.admitted) }
         ensures keeps { KeepsAdmitted self.old self.new }
         ensures queue { (from to : Addr) → queue_at self.new from to ≡ queue_at self.old from to }
         ensures spare { (from to : Addr) → spare_at self.new from to ≡ spare_at self.old from to }
@@ -168,12 +176,13 @@ impl Queues {
         }
     }
 
-    /// Adds a numbered message at the end of the direction's queue. It takes no memory.
+    /// Adds a numbered message at the end of the direction's queue. It takes no memory: one fewer is spare then.
     fn push_numbered(&mut self, from: Addr, to: Addr, numbered: Numbered)
         requires room { 0 < spare_at self.old from to }
         requires given { IsGiven self.old.admitted numbered }
         ensures queue { queue_at self.new from to ≡
             queue_at self.old from to ++ message_by self.old.admitted numbered ∷ [] }
+        ensures spare { spare_at self.new from to + 1 ≡ spare_at self.old from to }
         ensures others { KeepsOthers from to self.old self.new }
         ensures admitted { self.new.admitted ≡ self.old.admitted }
     {

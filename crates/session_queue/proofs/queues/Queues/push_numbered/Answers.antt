@@ -1,10 +1,10 @@
-use Rattle.std.proofs.Common.{◌≡◌, refl, sym, ap, subst, ◌∙◌, arith}
+use Rattle.std.proofs.Common.{◌≡◌, sym, ap, subst, ◌∙◌, arith}
 use Rattle.session_queue.specs.Lines.{messages_at}
 use Rattle.session_queue.specs.Numbers.{message_by, IsGiven}
 use Rattle.session_queue.specs.Waiting.{Queues}
 use Rattle.std.specs.List.{All}
 use Rattle.std.proofs.lemmas.List.Elements.{All-push}
-use Rattle.session_queue.proofs.Shown.{queue_longer, spare_was, others_stay, given_everywhere}
+use Rattle.session_queue.proofs.Shown.{queue_longer, spare_shown, spare_was, others_stay, given_everywhere}
 use Rattle.session_queue.proofs.queues.Queues.push_numbered.Goals as goal
 
 pub push-requires : goal.push-requires
@@ -23,6 +23,12 @@ invariant_of-self c =
 pub returns-clause-queue : goal.returns-clause-queue
 returns-clause-queue c =
     queue_longer c.self.inside.pool c.self.inside.queues c.push.new.self c.args.self.now c.self.view_is c.args.from c.args.to c.args.numbered (message_by c.args.self.now.admitted c.args.numbered) (ap (λ (q : Queues). message_by q.admitted c.args.numbered) c.self.view_is) c.push.ensures.queue
+
+pub returns-clause-spare : goal.returns-clause-spare
+returns-clause-spare c =
+    let here = spare_shown c.self.inside.pool c.push.new.self c.args.from c.args.to in
+    let was = spare_was c.self.inside.pool c.self.inside.queues c.self.inside.queues c.args.self.now c.self.view_is c.args.from c.args.to in
+    omega (arith, here, was, c.push.ensures.spare)
 
 pub returns-clause-others : goal.returns-clause-others
 returns-clause-others c = others_stay c.self.inside.pool c.self.inside.queues c.push.new.self c.args.self.now c.self.view_is c.args.from c.args.to c.push.ensures.others
