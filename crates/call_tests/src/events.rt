@@ -3,7 +3,7 @@
 use crate::common::{asn, ten};
 use net_conf::{Edit, Refusal};
 use net_prefix::Addr;
-use path_attr::{AsPath, Attr, Communities, Origin};
+use path_attr::{AsPath, Attr, Communities, ImportedAttr, Origin, SharedAttr};
 use route_select::Source;
 use seq::{Copied, Seq};
 use session_queue::MessageKind;
@@ -77,13 +77,13 @@ fn held(rt: &impl Abort, alloc: Global) -> Held {
 }
 
 /// Its attributes.
-fn held_attr(rt: &impl Abort, alloc: Global) -> Attr {
+fn held_attr(rt: &impl Abort, alloc: Global) -> ImportedAttr {
     let mut attr = Attr::plain(FIRST);
     attr.path = path(rt, alloc);
     attr.origin = Origin::Egp;
-    attr.pref = Some(100);
     attr.comms = attr.comms.with(alloc, 5).expect(rt, "memory");
-    attr
+    let shared = SharedAttr::new(alloc, attr).expect(rt, "memory");
+    ImportedAttr::new(shared, Some(100))
 }
 
 #[test]

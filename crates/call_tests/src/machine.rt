@@ -45,11 +45,11 @@ fn is_first_path(rt: &impl Abort, reply: &Reply) -> bool {
     };
     held.prefix == ten(rt)
         && held.source == Source::Peer(ONE)
-        && held.attr.path.length() == 1
-        && held.attr.path.neighbour() == Some(asn(rt, 1))
-        && held.attr.next == ONE
-        && held.attr.med.is_none()
-        && held.attr.pref == Some(100)
+        && held.attr.path().length() == 1
+        && held.attr.path().neighbour() == Some(asn(rt, 1))
+        && held.attr.next() == ONE
+        && held.attr.med().is_none()
+        && held.attr.pref() == Some(100)
 }
 
 #[test]

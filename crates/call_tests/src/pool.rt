@@ -2,17 +2,18 @@
 
 use attr_pool::Pool;
 use net_prefix::Addr;
-use path_attr::Attr;
+use path_attr::{Attr, SharedAttr};
+use std::alloc::Global;
 use std::process::Abort;
 
 /// How many different attributes are kept at once.
 const MANY: u32 = 100_000;
 
 /// Attributes that have this MULTI_EXIT_DISC.
-pub fn attr(med: u32) -> Attr {
+pub fn attr(rt: &impl Abort, alloc: Global, med: u32) -> SharedAttr {
     let mut attr = Attr::plain(Addr(0x0700_0001));
     attr.med = Some(med);
-    attr
+    SharedAttr::new(alloc, attr).expect(rt, "memory")
 }
 
 /// The nth of numbers that are all different and in no order: the factor is odd.
@@ -23,11 +24,14 @@ fn drawn(n: u32) -> u32 {
 #[test]
 fn equal_attributes_have_one_number(rt: HostRuntime) {
     let mut pool = Pool::new(rt.alloc(), None);
-    let five = pool.intern(attr(5)).expect(&rt, "memory");
-    let six = pool.intern(attr(6)).expect(&rt, "memory");
+    let five = pool.intern(attr(&rt, rt.alloc(), 5)).expect(&rt, "memory");
+    let six = pool.intern(attr(&rt, rt.alloc(), 6)).expect(&rt, "memory");
     assert_ne!(rt; five, six);
-    assert_eq!(rt; pool.intern(attr(5)).expect(&rt, "memory"), five);
-    assert_eq!(rt; pool.attr(six), Some(&attr(6)));
+    assert_eq!(rt;
+        pool.intern(attr(&rt, rt.alloc(), 5)).expect(&rt, "memory"),
+        five
+    );
+    assert_eq!(rt; pool.attr(six), Some(&attr(&rt, rt.alloc(), 6)));
 }
 
 #[test]
@@ -35,11 +39,15 @@ fn many_attributes_keep_their_numbers(rt: HostRuntime) {
     let mut pool = Pool::new(rt.alloc(), None);
     let mut numbers = Vec::new(rt.alloc());
     for n in 0..MANY {
-        let number = pool.intern(attr(drawn(n))).expect(&rt, "memory");
+        let number = pool
+            .intern(attr(&rt, rt.alloc(), drawn(n)))
+            .expect(&rt, "memory");
         numbers.push(number).expect(&rt, "memory");
     }
     for n in 0..MANY {
-        let again = pool.intern(attr(drawn(n))).expect(&rt, "memory");
+        let again = pool
+            .intern(attr(&rt, rt.alloc(), drawn(n)))
+            .expect(&rt, "memory");
         assert_eq!(rt; numbers.get(n as usize), Some(&again));
     }
 }

@@ -32,12 +32,18 @@ fn updates_keep_their_attributes_while_others_come(rt: HostRuntime) {
     let mut queues = Queues::new(rt.alloc(), None);
     let all = Prefix::new(Addr(0), 0).expect(&rt, "no host bit is set");
     for med in 0..100 {
-        let sent = attr(med);
+        let sent = attr(&rt, rt.alloc(), med);
         queues.reserve(A, B, 1).expect(&rt, "memory");
         queues.admit(&sent).expect(&rt, "memory");
         queues.push(A, B, Message::Update(all, sent));
     }
-    assert_eq!(rt; queues.head(A, B), Some(View::Update(all, &attr(0))));
-    assert_eq!(rt; queues.at(A, B, 99), Some(View::Update(all, &attr(99))));
+    assert_eq!(rt;
+        queues.head(A, B),
+        Some(View::Update(all, &attr(&rt, rt.alloc(), 0)))
+    );
+    assert_eq!(rt;
+        queues.at(A, B, 99),
+        Some(View::Update(all, &attr(&rt, rt.alloc(), 99)))
+    );
     assert_eq!(rt; queues.at(A, B, 100), None);
 }

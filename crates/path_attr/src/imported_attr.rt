@@ -1,6 +1,6 @@
 //! Attributes with a LOCAL_PREF of their own.
 
-ghost use Rattle.std.specs.Prelude.{◌≡◌, IfOk};
+ghost use Rattle.std.specs.Prelude.{◌≡◌, ◌↔◌, IsTrue, IfOk};
 ghost use Rattle.path_attr.specs.Attribute.{same_attr, same_options};
 
 use crate::attr::{Attr, are_same_lists, is_same_way};
@@ -122,8 +122,16 @@ impl ImportedAttr {
     }
 
     /// Whether all eight attributes are the same.
-    #[tactic(auto, unfolding(crate::specs::Attribute::same_attr))]
     pub fn is_same(&self, other: &ImportedAttr) -> bool
+        ensures value { result ≡ same_attr self.now other.now }
+        ensures meaning { IsTrue result ↔ (self.now ≡ other.now) }
+    {
+        self.has_same(other)
+    }
+
+    /// The same.
+    #[tactic(auto, unfolding(crate::specs::Attribute::same_attr))]
+    fn has_same(&self, other: &ImportedAttr) -> bool
         ensures { result ≡ same_attr self.now other.now }
     {
         is_same_way(self.shared.attr(), other.shared.attr())

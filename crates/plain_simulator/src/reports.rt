@@ -17,7 +17,7 @@ use crate::reasons::reasons_at;
 use crate::state::State;
 use net_conf::SiteConf;
 use net_prefix::{Addr, Prefix};
-use path_attr::{Attr, SharedAttr};
+use path_attr::SharedAttr;
 use reference_machine::{RouteKey, advert_of, cost_and_hop, held_of};
 use route_select::{Reason, Selector, Source};
 use seq::{Copied, Seq, copy_all, push_some};
@@ -127,7 +127,7 @@ impl State {
         alloc: Global,
         router: Addr,
         peer: Addr,
-    ) -> Result<Vec<(Prefix, Attr)>, AllocError>
+    ) -> Result<Vec<(Prefix, SharedAttr)>, AllocError>
         ensures { IfOk result (λ routes. routes.items ≡ adj_rib_in self.now router peer) }
     {
         if self.conf.is_up(router, peer) {
@@ -143,14 +143,14 @@ impl State {
         alloc: Global,
         router: Addr,
         peer: Addr,
-    ) -> Result<Vec<(Prefix, Attr)>, AllocError>
+    ) -> Result<Vec<(Prefix, SharedAttr)>, AllocError>
         ensures { IfOk result (λ routes.
             routes.items ≡ map (λ e. (e.0.prefix, e.1)) (routes_from router peer self.now.received)) }
     {
         let mut routes = Vec::new(alloc);
         for (key, attr) in self.received.iter() {
             if is_between(router, peer, *key) {
-                routes.push((key.prefix, attr.attr().share()?))?;
+                routes.push((key.prefix, attr.share()?))?;
             }
         }
         Ok(routes)
@@ -163,7 +163,7 @@ impl State {
         alloc: Global,
         router: Addr,
         peer: Addr,
-    ) -> Result<Vec<(Prefix, Attr)>, AllocError>
+    ) -> Result<Vec<(Prefix, SharedAttr)>, AllocError>
         ensures { IfOk result (λ routes. routes.items ≡ adj_rib_out self.now router peer) }
     {
         let site = self.conf.site_at(alloc, router)?;
@@ -179,7 +179,7 @@ impl State {
         router: Addr,
         peer: Addr,
         prefixes: &[Prefix],
-    ) -> Result<Vec<(Prefix, Attr)>, AllocError>
+    ) -> Result<Vec<(Prefix, SharedAttr)>, AllocError>
         requires { site.now ≡ site_of self.now.conf router }
         ensures { IfOk result (λ routes. routes.items ≡ filter_map (advert_at self.now router peer) prefixes.now) }
     {
@@ -199,13 +199,13 @@ impl State {
         router: Addr,
         peer: Addr,
         prefix: Prefix,
-    ) -> Result<Option<(Prefix, Attr)>, AllocError>
+    ) -> Result<Option<(Prefix, SharedAttr)>, AllocError>
         requires { site.now ≡ site_of self.now.conf router }
         ensures { IfOk result (λ route. route ≡ advert_at self.now router peer prefix) }
     {
         match self.advertised::<S>(alloc, site, router, peer, prefix)? {
             None => Ok(None),
-            Some(attr) => Ok(Some((prefix, attr.attr().share()?))),
+            Some(attr) => Ok(Some((prefix, attr))),
         }
     }
 

@@ -187,7 +187,9 @@ fn keep(conf: &Conf, received: &mut BTreeMap<RouteKey, SharedAttr>)
 }
 
 /// What was received, again.
-fn copied(received: &BTreeMap<RouteKey, SharedAttr>) -> Result<BTreeMap<RouteKey, SharedAttr>, AllocError>
+fn copied(
+    received: &BTreeMap<RouteKey, SharedAttr>,
+) -> Result<BTreeMap<RouteKey, SharedAttr>, AllocError>
     ensures { IfOk result (λ after. after.entries ≡ received.now.entries) }
 {
     received.clone()
@@ -283,7 +285,11 @@ fn without_route(
     Ok(after)
 }
 
-fn put(received: &mut BTreeMap<RouteKey, SharedAttr>, key: RouteKey, attr: SharedAttr) -> Result<(), AllocError>
+fn put(
+    received: &mut BTreeMap<RouteKey, SharedAttr>,
+    key: RouteKey,
+    attr: SharedAttr,
+) -> Result<(), AllocError>
     ensures { OnOk result (received.new.entries ≡ with_route key attr received.old.entries) }
 {
     received.insert(key, attr)?;

@@ -10,7 +10,7 @@ ghost use Rattle.watched.specs.Streams.{Writes};
 use crate::part::Part;
 use crate::text::{Text, write_each};
 use net_prefix::{Addr, Prefix};
-use path_attr::Attr;
+use path_attr::{Attr, SharedAttr};
 use route_select::{Reason, Source};
 use session_queue::Message;
 use sim_event::{Held, TraceEnd};
@@ -31,7 +31,7 @@ impl Text for Held {
             Part::Source(self.source),
             Part::Bytes(b" "),
         ];
-        write_with_attr(&head, &self.attr, output)
+        write_with_attr(&head, self.attr.shared().attr(), self.attr.pref(), output)
     }
 }
 
@@ -53,7 +53,7 @@ impl Text for (Source, Reason) {
     }
 }
 
-impl Text for (Prefix, Attr) {
+impl Text for (Prefix, SharedAttr) {
     ghost use Rattle.reply_text.specs.Replies.{route_line};
 
     ghost text = { route_line };
@@ -62,7 +62,7 @@ impl Text for (Prefix, Attr) {
     #[tactic(auto, unfolding(crate::specs::Replies::route_line))]
     fn write<W: Write>(&self, output: &mut Output<W>) -> Result<(), WriterFailed> {
         let head = [Part::Prefix(self.0), Part::Bytes(b" ")];
-        write_with_attr(&head, &self.1, output)
+        write_with_shared(&head, &self.1, output)
     }
 }
 
@@ -81,7 +81,7 @@ impl Text for Message {
                     Part::Prefix(*prefix),
                     Part::Bytes(b" "),
                 ];
-                write_with_attr(&head, attr.attr(), output)
+                write_with_shared(&head, attr, output)
             }
             Message::Withdraw(prefix) => {
                 let parts = [
@@ -130,12 +130,26 @@ impl Text for TraceEnd {
 }
 
 /// Writes a line that begins with these parts and ends with the attributes.
-fn write_with_attr<W: Write>(
+fn write_with_shared<W: Write>(
     head: &[Part<'_>],
-    attr: &Attr,
+    attr: &SharedAttr,
     output: &mut Output<W>,
 ) -> Result<(), WriterFailed>
     ensures { Writes output.old (flat_map part_text head.now ++ (attr_text attr.now ++ line_end)) result output.new }
+{
+    let attr = attr.attr();
+    write_with_attr(head, attr, attr.pref, output)
+}
+
+/// Writes a line that begins with these parts and ends with the attributes, with this LOCAL_PREF in place of theirs.
+fn write_with_attr<W: Write>(
+    head: &[Part<'_>],
+    attr: &Attr,
+    pref: Option<u32>,
+    output: &mut Output<W>,
+) -> Result<(), WriterFailed>
+    ensures { Writes output.old
+        (flat_map part_text head.now ++ (attr_text (record attr.now { pref = pref }) ++ line_end)) result output.new }
 {
     write_each(head, output)?;
     let parts = [
@@ -148,7 +162,7 @@ fn write_with_attr<W: Write>(
         Part::Bytes(b" med="),
         Part::MaybeNumber(attr.med),
         Part::Bytes(b" pref="),
-        Part::MaybeNumber(attr.pref),
+        Part::MaybeNumber(pref),
         Part::Bytes(b" oid="),
         Part::MaybeAddr(attr.oid),
         Part::Bytes(b" clusters="),

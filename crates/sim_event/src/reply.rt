@@ -4,7 +4,7 @@ ghost use Rattle.std.specs.Prelude.{◌≡◌, IfOk};
 
 use net_conf::Refusal;
 use net_prefix::{Addr, Prefix};
-use path_attr::Attr;
+use path_attr::{ImportedAttr, SharedAttr};
 use route_select::{Reason, Source};
 use seq::{Copied, Seq};
 use session_queue::{Message, MessageKind};
@@ -34,7 +34,7 @@ pub enum Report {
     /// chosen or dropped.
     Why(Seq<(Source, Reason)>),
     /// An Adj-RIB-In or Adj-RIB-Out: routes in order of prefix.
-    Rib(Seq<(Prefix, Attr)>),
+    Rib(Seq<(Prefix, SharedAttr)>),
     /// The messages on their way, the head first.
     Queue(Seq<Message>),
     /// Whether no message is on its way.
@@ -63,7 +63,7 @@ pub struct Held {
     /// Where it comes from.
     pub source: Source,
     /// Its attributes after the import policy; LOCAL_PREF is the degree of preference.
-    pub attr: Attr,
+    pub attr: ImportedAttr,
 }
 
 impl Copied for Held {
@@ -77,7 +77,10 @@ impl Copied for Held {
 }
 
 /// Routes in order of prefix, again.
-fn copy_rib(alloc: Global, routes: &[(Prefix, Attr)]) -> Result<Vec<(Prefix, Attr)>, AllocError>
+fn copy_rib(
+    alloc: Global,
+    routes: &[(Prefix, SharedAttr)],
+) -> Result<Vec<(Prefix, SharedAttr)>, AllocError>
     ensures { IfOk result (λ copies. copies.items ≡ routes.now) }
 {
     let mut copies = Vec::new(alloc);
@@ -87,7 +90,7 @@ fn copy_rib(alloc: Global, routes: &[(Prefix, Attr)]) -> Result<Vec<(Prefix, Att
     Ok(copies)
 }
 
-fn copy_route(route: &(Prefix, Attr)) -> Result<(Prefix, Attr), AllocError>
+fn copy_route(route: &(Prefix, SharedAttr)) -> Result<(Prefix, SharedAttr), AllocError>
     ensures { IfOk result (λ copy. copy ≡ route.now) }
 {
     Ok((route.0, route.1.share()?))

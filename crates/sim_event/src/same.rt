@@ -3,7 +3,7 @@
 ghost use Rattle.std.specs.Prelude.{◌≡◌, ◌↔◌, IsTrue};
 
 use net_prefix::{Addr, Prefix};
-use path_attr::Attr;
+use path_attr::{ImportedAttr, SharedAttr};
 use route_select::{Reason, Source};
 use seq::Seq;
 use session_queue::Message;
@@ -70,9 +70,15 @@ impl Same for Prefix {
     }
 }
 
-impl Same for Attr {
-    fn is_same(&self, other: &Attr) -> bool {
-        Attr::is_same(self, other)
+impl Same for SharedAttr {
+    fn is_same(&self, other: &SharedAttr) -> bool {
+        SharedAttr::is_same(self, other)
+    }
+}
+
+impl Same for ImportedAttr {
+    fn is_same(&self, other: &ImportedAttr) -> bool {
+        ImportedAttr::is_same(self, other)
     }
 }
 

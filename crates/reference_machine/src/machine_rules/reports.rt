@@ -11,8 +11,8 @@ use route_select::Candidate;
 use sim_event::Held;
 use std::alloc::{AllocError, Global};
 
-/// The route that was chosen for the prefix, if one was, as the Loc-RIB holds it (RFC 4271, 3.2). It shares the route's
-/// lists: the only fault is that 2^63 owners share one.
+/// The route that was chosen for the prefix, if one was, as the Loc-RIB holds it (RFC 4271, 3.2). It shares the
+/// route's attributes: the only fault is that 2^63 owners share them.
 pub fn held_of(prefix: Prefix, route: Option<&Candidate>) -> Result<Option<Held>, AllocError>
     ensures { IfOk result (λ held. held ≡ held_of prefix (option_copied route)) }
 {
@@ -21,7 +21,7 @@ pub fn held_of(prefix: Prefix, route: Option<&Candidate>) -> Result<Option<Held>
         Some(route) => Ok(Some(Held {
             prefix,
             source: route.source,
-            attr: route.attr.to_attr()?,
+            attr: route.attr.share()?,
         })),
     }
 }

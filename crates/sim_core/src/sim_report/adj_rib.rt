@@ -11,7 +11,7 @@ use crate::sim_report::cells::{Line, lines};
 use cell_engine::{Cell, State};
 use net_conf::SiteConf;
 use net_prefix::{Addr, Prefix};
-use path_attr::Attr;
+use path_attr::SharedAttr;
 use prefix_table::PrefixTable;
 use reference_machine::advert_of;
 use route_select::Selector;
@@ -23,7 +23,7 @@ struct RouteFrom {
     peer: Addr,
 }
 
-impl<S: Selector> Line<S, (Prefix, Attr)> for RouteFrom {
+impl<S: Selector> Line<S, (Prefix, SharedAttr)> for RouteFrom {
     ghost use Rattle.cell_engine.specs.Reporting.{route_in};
 
     ghost said = { λ line. route_in line.peer };
@@ -33,10 +33,10 @@ impl<S: Selector> Line<S, (Prefix, Attr)> for RouteFrom {
         _alloc: Global,
         prefix: Prefix,
         cell: &Cell<S>,
-    ) -> Result<Option<(Prefix, Attr)>, AllocError> {
+    ) -> Result<Option<(Prefix, SharedAttr)>, AllocError> {
         match cell.received_from(self.peer) {
             None => Ok(None),
-            Some(attr) => Ok(Some((prefix, attr.attr().share()?))),
+            Some(attr) => Ok(Some((prefix, attr.share()?))),
         }
     }
 }
@@ -49,7 +49,7 @@ struct AdvertTo<'a> {
     peer: Addr,
 }
 
-impl<'a, S: Selector> Line<S, (Prefix, Attr)> for AdvertTo<'a> {
+impl<'a, S: Selector> Line<S, (Prefix, SharedAttr)> for AdvertTo<'a> {
     ghost use Rattle.std.specs.Option.{option_map, option_copied};
     ghost use Rattle.route_select.specs.Selection.{best_of};
     ghost use Rattle.reference_machine.specs.Advertising.{advert_of};
@@ -63,10 +63,10 @@ impl<'a, S: Selector> Line<S, (Prefix, Attr)> for AdvertTo<'a> {
         alloc: Global,
         prefix: Prefix,
         cell: &Cell<S>,
-    ) -> Result<Option<(Prefix, Attr)>, AllocError> {
+    ) -> Result<Option<(Prefix, SharedAttr)>, AllocError> {
         match advert_of(alloc, self.up, self.site, self.peer, prefix, cell.best())? {
             None => Ok(None),
-            Some(attr) => Ok(Some((prefix, attr.attr().share()?))),
+            Some(attr) => Ok(Some((prefix, attr))),
         }
     }
 }
@@ -77,7 +77,7 @@ pub(crate) fn adj_rib_in<S: Selector, T: PrefixTable<Cell<S>>>(
     state: &State<S, T>,
     router: Addr,
     peer: Addr,
-) -> Result<Vec<(Prefix, Attr)>, AllocError>
+) -> Result<Vec<(Prefix, SharedAttr)>, AllocError>
     ensures { IfOk result (λ routes. routes.items ≡ adj_rib_in (network state.now) router peer) }
 {
     state.facts();
@@ -92,7 +92,7 @@ fn received_if_up<S: Selector, T: PrefixTable<Cell<S>>>(
     router: Addr,
     peer: Addr,
     up: bool,
-) -> Result<Vec<(Prefix, Attr)>, AllocError>
+) -> Result<Vec<(Prefix, SharedAttr)>, AllocError>
     ensures { IfOk result (λ routes.
         routes.items ≡ (if up then filter_map (route_in peer) (cells_of router state.now.tables) else [])) }
 {
@@ -109,7 +109,7 @@ pub(crate) fn adj_rib_out<S: Selector, T: PrefixTable<Cell<S>>>(
     state: &State<S, T>,
     router: Addr,
     peer: Addr,
-) -> Result<Vec<(Prefix, Attr)>, AllocError>
+) -> Result<Vec<(Prefix, SharedAttr)>, AllocError>
     requires { is_virtual state.now.conf router ≡ false }
     ensures { IfOk result (λ routes. routes.items ≡ adj_rib_out (network state.now) router peer) }
 {
