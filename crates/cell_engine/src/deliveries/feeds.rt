@@ -1,8 +1,8 @@
 //! What a virtual peer feeds.
 
-ghost use Rattle.std.specs.Prelude.{◌≡◌, ◌<◌, ◌⊎◌, max, true, OnOk, OnErr};
+ghost use Rattle.std.specs.Prelude.{◌≡◌, ◌+◌, ◌<◌, ◌⊎◌, max, true, OnOk, OnErr};
 ghost use Rattle.net_conf.specs.Configuration.{has_session};
-ghost use Rattle.session_queue.specs.Waiting.{spare_at, IsAdmitted, KeepsOthers};
+ghost use Rattle.session_queue.specs.Waiting.{spare_at, admitted_with, IsAdmitted, KeepsOthers};
 ghost use Rattle.reference_machine.specs.Network.{with_message};
 ghost use Rattle.cell_engine.specs.State.{network};
 ghost use Rattle.cell_engine.specs.Admitting.{Admits, has_attributes};
@@ -51,14 +51,26 @@ impl<S: Selector, T: PrefixTable<Cell<S>>> State<S, T> {
         self.queues.push(direction.from, direction.to, message);
     }
 
-    /// Adds a message at the end of the queue of a session's direction, with the memory that this takes. The network
-    /// stays as it is at an error, which is want of memory.
+    /// Adds a message at the end of the queue of a session's direction, with the memory that this takes: its attributes
+    /// come to be admitted, and it gets a place, a spare one where there is one. The network stays as it is at an error,
+    /// which is want of memory, and so do all places; the attributes may have come to be admitted.
     pub fn feed(&mut self, direction: Direction, message: Message) -> Result<(), AllocError>
         requires { has_session self.old.conf direction.from direction.to ≡ true }
         ensures next { OnOk result
             (network self.new ≡ record
             (network self.old) { queues = with_message direction message (network self.old).queues }) }
+        ensures place { OnOk result
+            (spare_at self.new.queues direction.from direction.to + 1
+            ≡ max 1 (spare_at self.old.queues direction.from direction.to)) }
+        ensures admitted { OnOk result (self.new.queues.admitted ≡ admitted_with self.old.queues message) }
         ensures same { OnErr result (network self.new ≡ network self.old) }
+        ensures none { OnErr result
+            (spare_at self.new.queues direction.from direction.to
+            ≡ spare_at self.old.queues direction.from direction.to) }
+        ensures at_most { OnErr result ((self.new.queues.admitted ≡ self.old.queues.admitted)
+            ⊎ (self.new.queues.admitted ≡ admitted_with self.old.queues message)) }
+        ensures others { KeepsOthers direction.from direction.to self.old.queues self.new.queues }
+        ensures tables { self.new.tables ≡ self.old.tables }
     {
         self.queues.put(direction.from, direction.to, message)
     }

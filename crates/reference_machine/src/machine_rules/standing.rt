@@ -4,6 +4,8 @@ ghost use Rattle.std.specs.Prelude.{◌≡◌, Some, IsTrue, OnOk, OnErr, IfOk};
 ghost use Rattle.std.specs.List.{list_any};
 ghost use Rattle.std.specs.Option.{option_to_list};
 ghost use Rattle.net_prefix.specs.Address.{same_addr};
+ghost use Rattle.igp_cost.specs.Trees.{cost_in};
+ghost use Rattle.route_select.specs.declared.candidate.Source.TheVariants.{Peer as FromPeer};
 ghost use Rattle.reference_machine.specs.Decision.{own_attr, own_candidate, is_originated, own_standings, has_cluster_loop, is_denial, exclusion, set_preference, set_med, set_communities, preference, imported, peer_candidate, judged_standing, peer_standing, standing_over, added};
 
 use net_conf::{SiteConf, SiteSession};
@@ -71,6 +73,14 @@ fn is_denial(action: &Action) -> bool
 pub fn exclusion(site: &SiteConf, action: &Action, attr: &Attr) -> Option<Reason>
     ensures { result ≡ exclusion site.now action.now attr.now }
 {
+    exclusion_at(site, action, attr, site.costs.cost(attr.next))
+}
+
+/// The same, where the cost to its NEXT_HOP was looked up.
+fn exclusion_at(site: &SiteConf, action: &Action, attr: &Attr, cost: Option<u32>) -> Option<Reason>
+    requires { cost ≡ cost_in site.now.costs attr.now.next }
+    ensures { result ≡ exclusion site.now action.now attr.now }
+{
     if attr.path.holds(site.asn) {
         // The router's AS in its AS_PATH (RFC 4271, 9.1.2).
         Some(Reason::Loop)
@@ -83,7 +93,7 @@ pub fn exclusion(site: &SiteConf, action: &Action, attr: &Attr) -> Option<Reason
     } else if is_denial(action) {
         // The import policy denies it (RFC 4271, 9.1.1).
         Some(Reason::Denied)
-    } else if site.costs.cost(attr.next).is_none() {
+    } else if cost.is_none() {
         // No interior walk to its NEXT_HOP (RFC 4271, 9.1.2).
         Some(Reason::Unresolved)
     } else {
@@ -189,12 +199,33 @@ pub fn peer_candidate(
 ) -> Result<Candidate, AllocError>
     ensures { IfOk result (λ c. c ≡ peer_candidate site.now from.now action.now attr.now) }
 {
+    let cost = site.costs.cost(attr.attr().next);
+    candidate_at(alloc, from, action, attr, cost.unwrap_or(0))
+}
+
+/// The same, at this cost to its NEXT_HOP.
+fn candidate_at(
+    alloc: Global,
+    from: &SiteSession,
+    action: &Action,
+    attr: &SharedAttr,
+    cost: u32,
+) -> Result<Candidate, AllocError>
+    ensures { IfOk result (λ c. c ≡ record {
+      source = FromPeer from.now.peer;
+      attr = imported from.now.external action.now attr.now;
+      pref = preference from.now.external action.now attr.now;
+      external = from.now.external;
+      cost = cost;
+      ident = from.now.peer;
+    }) }
+{
     Ok(Candidate {
         source: Source::Peer(from.peer),
         attr: imported(alloc, from.external, action, attr)?,
         pref: preference(from.external, action, attr.attr()),
         external: from.external,
-        cost: site.costs.cost(attr.attr().next).unwrap_or(0),
+        cost,
         ident: from.peer,
     })
 }
@@ -209,9 +240,13 @@ fn judged_standing(
 ) -> Result<Standing, AllocError>
     ensures { IfOk result (λ standing. standing ≡ judged_standing site.now from.now action.now attr.now) }
 {
-    match exclusion(site, action, attr.attr()) {
+    let cost = site.costs.cost(attr.attr().next);
+    match exclusion_at(site, action, attr.attr(), cost) {
         Some(reason) => Ok(Standing::Excluded(reason)),
-        None => Ok(Standing::Considered(peer_candidate(alloc, site, from, action, attr)?)),
+        None => {
+            let candidate = candidate_at(alloc, from, action, attr, cost.unwrap_or(0))?;
+            Ok(Standing::Considered(candidate))
+        }
     }
 }
 
