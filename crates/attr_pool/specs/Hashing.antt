@@ -18,7 +18,7 @@ word n = fed.u64 n
 abbrev pub pair : ℕ → ℕ → List (List ℕ)
 pair low high = word (low + high * 4294967296)
 
--- a length: the lists that memory has room for are shorter than the most
+-- a length. From 2147483647 on, where the numbers alone take 8 GB, all are counted alike
 abbrev pub counted : ℕ → ℕ
 counted count = min count 2147483647
 
