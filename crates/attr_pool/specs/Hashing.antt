@@ -1,5 +1,5 @@
 -- No public contract cites this file. What a hash reads of attributes: all eight, each whole, in words of eight bytes.
-use Rattle.std.specs.Prelude.{◌≡◌, ℕ, ◌+◌, ◌*◌, ◌%◌, ◌^◌, Bool, if◌then◌else◌, List, [], ◌∷◌, ◌++◌, length, IsTrue, Option, None, Some, is_some}
+use Rattle.std.specs.Prelude.{◌≡◌, ℕ, ◌+◌, ◌*◌, Bool, if◌then◌else◌, List, [], ◌∷◌, ◌++◌, length, min, IsTrue, Option, None, Some, is_some}
 use Rattle.std.specs.List.{flat_map}
 use Rattle.std.proofs.Common.{ap, refl}
 use Rattle.std.specs.Cmp.{IsEquivalence, equiv}
@@ -18,9 +18,9 @@ word n = fed.u64 n
 abbrev pub pair : ℕ → ℕ → List (List ℕ)
 pair low high = word (low + high * 4294967296)
 
--- how many there are, above marks of one byte. No memory has so many, 2 ^ 56, that any would be cut off
-abbrev pub marked : ℕ → ℕ → List (List ℕ)
-marked count marks = word ((count * 256 + marks) % 2 ^ 64)
+-- a length. From 2147483647 on, where the numbers alone take 8 GB, all are counted alike
+abbrev pub counted : ℕ → ℕ
+counted count = min count 2147483647
 
 -- the items' numbers, two a word, and the last of an odd number alone
 abbrev pub paired : {A : Type 0} → (A → ℕ) → List A → List (List ℕ)
@@ -28,15 +28,15 @@ paired number [] = []
 paired number (last ∷ []) = pair (number last) 0
 paired number (first ∷ second ∷ rest) = pair (number first) (number second) ++ paired number rest
 
--- how many, and their numbers. Nothing of the empty list, which a mark tells
-abbrev pub list_input : {A : Type 0} → (A → ℕ) → List A → List (List ℕ)
-list_input number [] = []
-list_input number (x ∷ xs) = fed.usize (length (x ∷ xs)) ++ paired number (x ∷ xs)
+-- how many, with a mark of 0 or 1, and their numbers. Nothing of the empty list: other marks tell of it, and no segment is empty
+abbrev pub list_input : {A : Type 0} → ℕ → (A → ℕ) → List A → List (List ℕ)
+list_input mark number [] = []
+list_input mark number (first ∷ rest) = pair (counted (length (first ∷ rest)) * 2 + mark) (number first) ++ paired number rest
 
--- how many numbers, marked as a sequence or a set, and the numbers
+-- marked as a sequence or a set
 abbrev pub segment_input : Segment → List (List ℕ)
-segment_input (Sequence ns) = marked (length ns) 0 ++ paired (λ n. n) ns
-segment_input (Set ns) = marked (length ns) 1 ++ paired (λ n. n) ns
+segment_input (Sequence ns) = list_input 0 (λ n. n) ns
+segment_input (Set ns) = list_input 1 (λ n. n) ns
 
 -- LOCAL_PREF and ORIGINATOR_ID, where one is there: marks tell which
 abbrev pub local_input : Option ℕ → Option Addr → List (List ℕ)
@@ -64,8 +64,8 @@ or_zero (Some n) = n
 
 abbrev pub attr_input : Attr → List (List ℕ)
 attr_input a =
-    marked (length a.path) (marks a) ++ pair a.next.0 (or_zero a.med) ++ local_input a.pref a.oid
-    ++ flat_map segment_input a.path ++ list_input (λ (c : Addr). c.0) a.clusters ++ list_input (λ n. n) a.comms
+    pair (counted (length a.path)) (marks a) ++ pair a.next.0 (or_zero a.med) ++ local_input a.pref a.oid
+    ++ flat_map segment_input a.path ++ list_input 0 (λ (c : Addr). c.0) a.clusters ++ list_input 0 (λ n. n) a.comms
 
 -- LAWS
 

@@ -1,38 +1,41 @@
 //! What a hash reads of attributes, in words of eight bytes: a hasher takes these whole, and shorter pieces byte by
 //! byte. So two numbers of four bytes go into one.
 
-ghost use Rattle.std.specs.Prelude.{◌≡◌, ◌++◌, fold};
+ghost use Rattle.std.specs.Prelude.{◌≡◌, ◌<◌, ◌^◌, ◌++◌, fold};
 ghost use Rattle.std.specs.List.{flat_map};
 ghost use Rattle.path_attr.specs.Attribute.{origin_rank};
-ghost use Rattle.attr_pool.specs.Hashing.{pair, paired, marked, marks, list_mark, list_input, segment_input, local_input, attr_input};
+ghost use Rattle.attr_pool.specs.Hashing.{pair, paired, counted, marks, list_mark, list_input, segment_input, local_input, attr_input};
 
 use net_prefix::Addr;
 use path_attr::{Asn, Attr, Segment};
 use std::hash::Hasher;
+
+/// A list of so many numbers takes 8 GB, and a longer one is counted as so long.
+const MOST_COUNTED: usize = 0x7FFF_FFFF;
 
 /// Feeds all eight attributes: first what there is of them, then that.
 pub(crate) fn feed_attr<H: Hasher>(attr: &Attr, state: &mut H)
     ensures { state.new ≡ fold H.write state.old (attr_input attr.now) }
 {
     let segments = attr.path.segments();
-    feed_marked(segments.len(), marks(attr), state);
+    feed_pair(counted(segments.len()), marks(attr), state);
     feed_pair(attr.next.0, attr.med.unwrap_or(0), state);
     feed_local(attr, state);
     feed_segments(segments, state);
-    feed_list(attr.clusters.as_slice(), state);
-    feed_list(attr.comms.numbers(), state);
+    feed_list(0, attr.clusters.as_slice(), state);
+    feed_list(0, attr.comms.numbers(), state);
 }
 
 /// ORIGIN, and a bit for each of the others that may be missing or empty: whether it is there.
-fn marks(attr: &Attr) -> u64
+fn marks(attr: &Attr) -> u32
     ensures { result ≡ marks attr.now }
 {
-    u64::from(attr.med.is_some())
-        + u64::from(attr.pref.is_some()) * 2
-        + u64::from(attr.oid.is_some()) * 4
-        + u64::from(list_mark(attr.clusters.as_slice())) * 8
-        + u64::from(list_mark(attr.comms.numbers())) * 16
-        + u64::from(attr.origin.rank()) * 32
+    u32::from(attr.med.is_some())
+        + u32::from(attr.pref.is_some()) * 2
+        + u32::from(attr.oid.is_some()) * 4
+        + u32::from(list_mark(attr.clusters.as_slice())) * 8
+        + u32::from(list_mark(attr.comms.numbers())) * 16
+        + u32::from(attr.origin.rank()) * 32
 }
 
 /// 0 for the empty list, 1 for another.
@@ -45,11 +48,12 @@ fn list_mark<T>(items: &[T]) -> u8
     }
 }
 
-/// Feeds a word: marks in its lowest byte, and above them how many there are.
-fn feed_marked<H: Hasher>(count: usize, marks: u64, state: &mut H)
-    ensures { state.new ≡ fold H.write state.old (marked count marks) }
+/// A list's length as a hash reads it.
+fn counted(length: usize) -> u32
+    ensures value { result ≡ counted length }
+    ensures small { result < 2 ^ 31 }
 {
-    state.write_u64((count as u64).wrapping_mul(256).wrapping_add(marks));
+    length.min(MOST_COUNTED) as u32
 }
 
 /// Feeds a word of two numbers.
@@ -80,23 +84,25 @@ fn feed_segments<H: Hasher>(segments: &[Segment], state: &mut H)
     }
 }
 
-/// Feeds whether the segment is a sequence or a set, how many numbers it has, and these.
+/// Feeds the numbers, marked as those of a sequence or of a set.
 fn feed_segment<H: Hasher>(segment: &Segment, state: &mut H)
     ensures { state.new ≡ fold H.write state.old (segment_input segment.now) }
 {
-    let numbers = segment.numbers();
-    let set = matches!(segment, Segment::Set(_));
-    feed_marked(numbers.len(), u64::from(set), state);
-    feed_numbers(numbers, state);
+    match segment {
+        Segment::Seq(numbers) => feed_list(0, numbers.as_slice(), state),
+        Segment::Set(numbers) => feed_list(1, numbers.as_slice(), state),
+    }
 }
 
-/// Feeds how many items there are, and these. Nothing of the empty list.
-fn feed_list<T: Numbered, H: Hasher>(items: &[T], state: &mut H)
-    ensures { state.new ≡ fold H.write state.old (list_input T.number items.now) }
+/// Feeds how many items there are, marked so, and their numbers. Nothing of the empty list.
+fn feed_list<T: Numbered, H: Hasher>(mark: u8, items: &[T], state: &mut H)
+    requires { mark < 2 }
+    ensures { state.new ≡ fold H.write state.old (list_input mark T.number items.now) }
 {
-    if !items.is_empty() {
-        state.write_usize(items.len());
-        feed_numbers(items, state);
+    if let [first, rest @ ..] = items {
+        let count = counted(items.len()) * 2 + u32::from(mark);
+        feed_pair(count, first.number(), state);
+        feed_numbers(rest, state);
     }
 }
 
