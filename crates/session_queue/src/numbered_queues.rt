@@ -55,8 +55,8 @@ impl NumberedQueues {
         }
     }
 
-    /// Sees to it that the direction can take n more messages. Only this call takes memory, and only where fewer
-    /// are spare: where n are, it changes nothing and cannot fail. An error changes nothing.
+    /// Sees to it that the direction can take n more messages. It takes memory only where fewer are spare: where n
+    /// are, it changes nothing and cannot fail. An error changes nothing.
     pub(crate) fn reserve(&mut self, from: Addr, to: Addr, n: usize) -> Result<(), AllocError>
         ensures spare { OnOk result (spare_in self.new from to ≡ max n (spare_in self.old from to)) }
         ensures queue { messages_at self.new from to ≡ messages_at self.old from to }
@@ -91,6 +91,30 @@ impl NumberedQueues {
         };
         self.full += usize::from(queue.is_empty());
         queue.push(message);
+    }
+
+    /// Adds a message at the end of the direction's queue, with the memory that this takes: it gets a place, a spare
+    /// one where there is one. An error changes nothing.
+    pub(crate) fn put(&mut self, from: Addr, to: Addr, message: Numbered) -> Result<(), AllocError>
+        ensures queue { OnOk result (messages_at self.new from to ≡ messages_at self.old from to ++ message ∷ []) }
+        ensures spare { OnOk result (spare_in self.new from to + 1 ≡ max 1 (spare_in self.old from to)) }
+        ensures others { KeepsOtherLines from to self.old self.new }
+        ensures err { OnErr result (self.new ≡ self.old) }
+    {
+        // No more directions have a message than there are, so one more can be counted.
+        prove!(self.full <= self.queues.len());
+        let direction = Direction { from, to };
+        if let Some(queue) = self.queues.get_mut(&direction) {
+            let was_empty = queue.is_empty();
+            queue.put(message)?;
+            self.full += usize::from(was_empty);
+            return Ok(());
+        }
+        let mut queue = Queue::with_spare(self.alloc, 1)?;
+        queue.push(message);
+        self.queues.insert(direction, queue)?;
+        self.full += 1;
+        Ok(())
     }
 
     /// How many messages are on their way in the direction.

@@ -61,6 +61,18 @@ impl Queue {
         self.spare -= 1;
     }
 
+    /// Adds a message at the end, with the memory that this takes: none where a place is spare. An error changes
+    /// nothing.
+    pub(crate) fn put(&mut self, message: Numbered) -> Result<(), AllocError>
+        ensures messages { OnOk result (self.new.messages ≡ self.old.messages ++ message ∷ []) }
+        ensures spare { OnOk result (self.new.spare + 1 ≡ max 1 self.old.spare) }
+        ensures err { OnErr result (self.new ≡ self.old) }
+    {
+        self.reserve(1)?;
+        self.push(message);
+        Ok(())
+    }
+
     /// Removes the head, if there is one, and says whether there was.
     pub(crate) fn pop(&mut self) -> bool
         ensures rest { self.new ≡ record self.old { messages = drop 1 self.old.messages } }

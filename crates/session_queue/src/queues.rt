@@ -155,8 +155,7 @@ impl Queues {
         ensures keeps { KeepsAdmitted self.old self.new }
     {
         let numbered = self.number(message)?;
-        self.reserve(from, to, 1)?;
-        self.push_numbered(from, to, numbered);
+        self.put_numbered(from, to, numbered)?;
         Ok(())
     }
 
@@ -176,17 +175,18 @@ impl Queues {
         }
     }
 
-    /// Adds a numbered message at the end of the direction's queue. It takes no memory: one fewer is spare then.
-    fn push_numbered(&mut self, from: Addr, to: Addr, numbered: Numbered)
-        requires room { 0 < spare_at self.old from to }
-        requires given { IsGiven self.old.admitted numbered }
-        ensures queue { queue_at self.new from to ≡
-            queue_at self.old from to ++ message_by self.old.admitted numbered ∷ [] }
-        ensures spare { spare_at self.new from to + 1 ≡ spare_at self.old from to }
+    /// Adds a numbered message at the end of the direction's queue, with the memory that this takes. An error changes
+    /// nothing.
+    fn put_numbered(&mut self, from: Addr, to: Addr, numbered: Numbered) -> Result<(), AllocError>
+        requires { IsGiven self.old.admitted numbered }
+        ensures queue { OnOk result (queue_at self.new from to ≡
+            queue_at self.old from to ++ message_by self.old.admitted numbered ∷ []) }
+        ensures spare { OnOk result (spare_at self.new from to + 1 ≡ max 1 (spare_at self.old from to)) }
         ensures others { KeepsOthers from to self.old self.new }
         ensures admitted { self.new.admitted ≡ self.old.admitted }
+        ensures err { OnErr result (self.new ≡ self.old) }
     {
-        self.queues.push(from, to, numbered);
+        self.queues.put(from, to, numbered)
     }
 
     /// How many messages are on their way in the direction.

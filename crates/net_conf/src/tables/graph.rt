@@ -193,7 +193,11 @@ pub(crate) fn are_few(members: &[Addr]) -> bool {
 fn is_among(members: &[Addr], addr: Addr) -> bool
     ensures { result ≡ is_among addr members.now }
 {
-    members.iter().any(|member| addr.cmp(member).is_eq())
+    match members {
+        // Two routers, each alone in its AS.
+        [one, other] => addr.cmp(one).is_eq() || addr.cmp(other).is_eq(),
+        _ => members.iter().any(|member| addr.cmp(member).is_eq()),
+    }
 }
 
 /// Whether one of these is an end of the edge.

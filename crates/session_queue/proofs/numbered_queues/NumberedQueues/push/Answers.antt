@@ -1,11 +1,11 @@
-use Rattle.std.proofs.Common.{◌≡◌, ◌==◌, ℕ, Bool, length-append, ◌+◌, ◌-◌, ◌<◌, ◌≤◌, sym, ◌∙◌, ap, length, ◌++◌, ◌∷◌, [], Some, None, arith}
+use Rattle.std.proofs.Common.{◌≡◌, ◌==◌, ℕ, Bool, ◌+◌, ◌-◌, ◌<◌, ◌≤◌, sym, ◌∙◌, ap, length, ◌++◌, ◌∷◌, [], Some, None, arith}
 use Rattle.std.specs.Map.{set_value}
 use Rattle.net_prefix.specs.declared.addr.Addr.{Addr}
 use Rattle.session_queue.specs.declared.numbered.Numbered.{Numbered}
 use Rattle.session_queue.specs.Lines.{Waiting, Lines, messages_at, spare_in, waiting_at, KeepsOtherLines}
 use Rattle.session_queue.proofs.Places.{at, Changes, put, queue_here, spare_here, others_keep, queue_held, spare_held}
-use Rattle.session_queue.proofs.Tidiness.{full_small, put_tidy, one_if_not, one_if_any-push}
-use Rattle.session_queue.specs.Tidy.{one_if_any, IsKept, IsTidy}
+use Rattle.session_queue.proofs.Tidiness.{full_small, longer_tidy}
+use Rattle.session_queue.specs.Tidy.{IsTidy}
 use Rattle.std.specs.Int.{from_bool}
 use Rattle.session_queue.proofs.numbered_queues.NumberedQueues.push.Goals as goal
 
@@ -28,13 +28,7 @@ module _ (from to : Addr) (p q r : Lines Numbered) (v w : Waiting Numbered) (m :
   others_pushed = others_keep from to q r (Some w) changed
 
   tidy_pushed : (full more : ℕ) (b : Bool) → IsTidy p full → b ≡ (length v.messages == 0) → more ≡ from_bool b → IsTidy r (full + more)
-  tidy_pushed full more b tidy empty counts =
-      let pushed_messages = ap (λ u. u.messages) pushed in
-      let one = one_if_not v.messages b empty in
-      let after = ap one_if_any pushed_messages ∙ one_if_any-push v.messages m in
-      let long = ap length pushed_messages ∙ length-append v.messages (m ∷ []) in
-      let kept : IsKept w = omega (arith, long) in
-      put_tidy from to p r full (full + more) tidy v w found is kept (omega (arith, one, after, counts))
+  tidy_pushed full more b tidy empty counts = longer_tidy from to p r v w m full more b tidy found is (ap (λ u. u.messages) pushed) empty counts
 
 pub push-requires : goal.push-requires
 push-requires c =

@@ -79,7 +79,8 @@ invariant_of-self-2 c =
     let before = ap (λ m. insert_entry direction_cmp m.entries (key c.args.from c.args.to) w) c.get_mut.follows.holds-at-none in
     let spare = ap (λ u. u.spare) c.in_ok-queue.ensures in
     let some : c.args.n ≡ 0 → ⊥ = c.if-n-eq0.false in
-    added_tidy c.args.from c.args.to c.self.inside.queues.entries _ _ 0 c.self.invariant w c.in_default.ensures.value (c.in_ok-insert.ensures.entries ∙ before) c.in_ok-insert.ensures.ordered (omega (arith, spare, some)) (ap (λ u. u.messages) c.in_ok-queue.ensures)
+    let none = ap (λ u. one_if_any u.messages) c.in_ok-queue.ensures in
+    added_tidy c.args.from c.args.to c.self.inside.queues.entries _ _ _ c.self.invariant w c.in_default.ensures.value (c.in_ok-insert.ensures.entries ∙ before) c.in_ok-insert.ensures.ordered (omega (arith, spare, some)) (omega (arith, none))
 
 pub returns : goal.returns
 returns c =
