@@ -42,7 +42,7 @@ both_equal Equal b h = (refl, is_equal b h)
 both_equal Greater b h = absurd (false≢true h)
 
 -- directions that the order does not tell apart are one
-same : (d e : Direction) → is_at (direction_cmp d) e ≡ true → d ≡ e
+pub same : (d e : Direction) → is_at (direction_cmp d) e ≡ true → d ≡ e
 same d e h =
     let parts = both_equal (nat_cmp d.from.0 e.from.0) (nat_cmp d.to.0 e.to.0) h in
     let first = exact_unsigned d.from.0 e.from.0 parts.0 in

@@ -18,7 +18,7 @@ pub record Waiting (M : Type 0) : Type 0 where
 abbrev pub direction_cmp : Direction → Direction → Ordering
 direction_cmp d e = ordering_then (addr_cmp d.from e.from) (addr_cmp d.to e.to)
 
--- what each direction holds, by sender and receiver: only those with a message or spare memory
+-- what each direction holds, by sender and receiver: a direction that is not here has neither a message nor spare memory
 abbrev pub Lines : Type 0 → Type 0
 Lines M = List (Direction × Waiting M)
 

@@ -1,6 +1,10 @@
 //! The queues of all directions, with attributes by number.
 
-ghost use Rattle.std.specs.Prelude.{◌≡◌, ℕ, ◌+◌, ◌<◌, ◌≤◌, ◌↔◌, [], ◌∷◌, ◌++◌, length, max, drop, slice_get, option_map, option_copied, find, filter, IsTrue, IfSome, IfNone, OnOk, OnErr};
+ghost use Rattle.std.specs.Prelude.{◌≡◌, ◌⊎◌, ℕ, ◌+◌, ◌<◌, ◌≤◌, ◌↔◌, [], ◌∷◌, ◌++◌, length, max, drop, slice_get, option_map, option_copied, find, filter, Some, IsTrue, IfSome, IfNone, OnOk, OnErr};
+ghost use Rattle.std.specs.List.Sorted.{IsStrictlySortedBy};
+ghost use Rattle.std.specs.Map.{keys_of};
+ghost use Rattle.session_queue.specs.Lines.{direction_cmp};
+ghost use Rattle.session_queue.specs.Tidy.{LosesBlank};
 
 use crate::direction::Direction;
 use crate::numbered::Numbered;
@@ -16,10 +20,12 @@ use std::ops::Bound;
 #[derive(Debug, Drop)]
 pub(crate) struct NumberedQueues {
     alloc: Global,
-    /// The directions with a message or spare memory.
+    /// The directions with a message or spare memory, and the resting one.
     queues: BTreeMap<Direction, Queue>,
     /// How many directions have a message.
     full: usize,
+    /// The direction whose small queue ran empty last: it stays, since a direction is often served again soon.
+    resting: Option<Direction>,
 }
 
 impl Model for NumberedQueues {
@@ -31,16 +37,14 @@ impl Model for NumberedQueues {
 
     ghost view = { λ q. q.queues.entries };
 
-    ghost invariant = { λ q. IsTidy q.queues.entries q.full };
+    ghost invariant = { λ q. IsTidy q.queues.entries q.full q.resting };
 }
 
 impl NumberedQueues {
     ghost use Rattle.std.specs.BTreeMap.Range.{entries_between};
-    ghost use Rattle.std.specs.List.Sorted.{IsStrictlySortedBy};
-    ghost use Rattle.std.specs.Map.{keys_of};
     ghost use Rattle.session_queue.specs.Tidy.{has_message, start_past};
     ghost use Rattle.session_queue.specs.Shards.{shard_of, is_in_shard};
-    ghost use Rattle.session_queue.specs.Lines.{direction_cmp, messages_at, spare_in, waiting_at, KeepsOtherLines, AreEmpty, IsPast, PassNone};
+    ghost use Rattle.session_queue.specs.Lines.{messages_at, spare_in, waiting_at, KeepsOtherLines, AreEmpty, IsPast, PassNone};
 
     /// No message, and no spare memory, in any direction. It takes no memory.
     #[tactic(auto, unfolding(crate::specs::Lines::messages_at, crate::specs::Lines::spare_in))]
@@ -52,6 +56,7 @@ impl NumberedQueues {
             alloc,
             queues: BTreeMap::new(alloc),
             full: 0,
+            resting: None,
         }
     }
 
@@ -147,7 +152,9 @@ impl NumberedQueues {
         self.full -= usize::from(queue.len() == 1);
         let popped = queue.pop();
         if queue.is_blank() {
-            drop(self.queues.remove(&served));
+            let is_small = queue.is_small();
+            let leaving = rest(&mut self.resting, served, is_small);
+            remove_blank(&mut self.queues, leaving);
         }
         popped
     }
@@ -240,10 +247,42 @@ impl NumberedQueues {
         None
     }
 
-    /// The queue of the direction, where it has a message or spare memory.
+    /// The queue of the direction, where one is kept.
     fn queue(&self, from: Addr, to: Addr) -> Option<&Queue>
         ensures { option_copied result ≡ waiting_at self.now from to }
     {
         self.queues.get(&Direction { from, to })
+    }
+}
+
+/// The direction has run empty: where its queue is small it rests from now on, in place of the one that rested before.
+/// It answers which one is to leave.
+fn rest(resting: &mut Option<Direction>, served: Direction, is_small: bool) -> Option<Direction>
+    ensures served { (resting.new ≡ Some served) ⊎ (result ≡ Some served) }
+    ensures before { IfSome resting.old (λ before. (resting.new ≡ Some before) ⊎ (result ≡ Some before)) }
+{
+    if !is_small {
+        return Some(served);
+    }
+    match resting.replace(served) {
+        Some(before) if before == served => None,
+        before => before,
+    }
+}
+
+/// Removes the queue of the direction, if one is given and its queue is blank.
+fn remove_blank(queues: &mut BTreeMap<Direction, Queue>, leaving: Option<Direction>)
+    requires { IsStrictlySortedBy direction_cmp (keys_of queues.old.entries) }
+    ensures ordered { IsStrictlySortedBy direction_cmp (keys_of queues.new.entries) }
+    ensures blank { LosesBlank leaving queues.old.entries queues.new.entries }
+{
+    let Some(direction) = leaving else {
+        return;
+    };
+    let Some(queue) = queues.get(&direction) else {
+        return;
+    };
+    if queue.is_blank() {
+        drop(queues.remove(&direction));
     }
 }

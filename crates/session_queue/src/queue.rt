@@ -7,6 +7,9 @@ use std::alloc::{AllocError, Global};
 use std::collections::VecDeque;
 use std::marker::Model;
 
+/// For how many messages a small queue has memory at most.
+const FEW: usize = 16;
+
 /// The messages of one direction, the head first, and how many more it can take without memory.
 #[derive(Debug, Drop)]
 pub(crate) struct Queue {
@@ -107,6 +110,11 @@ impl Queue {
         ensures { IsTrue result ↔ (length self.now.messages + self.now.spare ≡ 0) }
     {
         self.messages.is_empty() && self.spare == 0
+    }
+
+    /// Whether it has memory for few messages alone.
+    pub(crate) fn is_small(&self) -> bool {
+        self.messages.capacity() <= FEW
     }
 
     /// The message at the position, the head's being 0.

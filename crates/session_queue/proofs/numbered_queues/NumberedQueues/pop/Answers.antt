@@ -1,12 +1,13 @@
-use Rattle.std.proofs.Common.{◌≡◌, ℕ, ◌+◌, ◌<◌, ◌==◌, ◌↔◌, IsTrue, Bool, [], length, drop, Some, None, sym, ap, ◌∙◌, arith}
+use Rattle.std.proofs.Common.{◌≡◌, ℕ, ◌+◌, ◌<◌, ◌==◌, ◌↔◌, IsTrue, Bool, [], length, drop, Some, None, refl, sym, ap, ◌∙◌, arith}
 use Rattle.std.specs.Int.{from_bool}
 use Rattle.std.proofs.lemmas.Bool.{false≢true}
 use Rattle.net_prefix.specs.declared.addr.Addr.{Addr}
 use Rattle.session_queue.specs.declared.numbered.Numbered.{Numbered}
 use Rattle.session_queue.specs.Lines.{Waiting, Lines, messages_at, spare_in, waiting_at}
 use Rattle.session_queue.specs.Tidy.{one_if_any}
-use Rattle.session_queue.proofs.Places.{Becomes, placed, removed, queue_held, queue_from, spare_from}
-use Rattle.session_queue.proofs.Tidiness.{less_fits, kept_tidy, removed_tidy, one_if_last}
+use Rattle.session_queue.proofs.Places.{Becomes, placed, put, queue_held, queue_from, spare_from}
+use Rattle.session_queue.proofs.Tidiness.{less_fits, less_counted, kept_tidy, order_stays, one_if_last}
+use Rattle.session_queue.proofs.Resting.{still_becomes, rested, count_same}
 use Rattle.session_queue.proofs.numbered_queues.NumberedQueues.pop.Goals as goal
 
 -- what stands at the direction is w, which is v without its head
@@ -40,7 +41,10 @@ overflow_sub-self c =
 
 pub returns-then-is_blank : goal.returns-then-is_blank
 returns-then-is_blank c =
-    let b = removed _ _ _ _ c.remove.new.self.entries c.in-Some.queue.now c.pop-popped.new.self c.self.view_is c.in-Some.ensures.value (c.get_mut.follows.lender c.pop-popped.new.self).entries c.self.invariant.ordered (c.get_mut.follows.holds c.pop-popped.new.self).0 c.remove.ensures.entries (c.is_blank.ensures.0 c.if-is_blank.true) in
+    let s = (c.get_mut.follows.lender c.pop-popped.new.self).entries in
+    let h = placed _ _ _ _ _ c.in-Some.queue.now c.pop-popped.new.self c.self.view_is c.in-Some.ensures.value (c.get_mut.follows.holds c.pop-popped.new.self).0 in
+    let ordered = order_stays c.args.from c.args.to c.self.inside.queues.entries s c.pop-popped.new.self (c.get_mut.follows.holds c.pop-popped.new.self).0 c.self.invariant.ordered in
+    let b = still_becomes s c.remove_blank.new.queues.entries ordered _ _ _ c.pop-popped.new.self c.rest-leaving.result c.remove_blank.ensures.blank h in
     record {
       had = had_popped _ _ _ _ _ _ _ c.self.view_is c.in-Some.ensures.value b c.pop-popped.ensures.rest _ c.pop-popped.ensures.had;
       queue = queue_popped _ _ _ _ _ _ _ c.self.view_is c.in-Some.ensures.value b c.pop-popped.ensures.rest;
@@ -61,7 +65,18 @@ returns-else-is_blank c =
 pub invariant_of-self-then-is_blank : goal.invariant_of-self-then-is_blank
 invariant_of-self-then-is_blank c =
     let counts = popped_counts _ _ _ _ c.pop-popped.ensures.rest c.len.ensures c.from.ensures in
-    removed_tidy _ _ _ _ _ _ _ _ _ c.self.invariant c.in-Some.ensures.value counts (c.get_mut.follows.holds c.pop-popped.new.self).0 c.remove.ensures.entries c.remove.ensures.ordered (c.is_blank.ensures.0 c.if-is_blank.true)
+    let p = c.self.inside.queues.entries in
+    let w = c.pop-popped.new.self in
+    let s = (c.get_mut.follows.lender w).entries in
+    let r = c.remove_blank.new.queues.entries in
+    let ordered = order_stays c.args.from c.args.to p s w (c.get_mut.follows.holds w).0 c.self.invariant.ordered in
+    let count = less_counted _ _ p s [] _ w _ _ c.self.invariant c.in-Some.ensures.value counts (c.get_mut.follows.holds w).0 in
+    let h = put _ _ p p s refl _ w c.in-Some.ensures.value (c.get_mut.follows.holds w).0 in
+    record {
+      ordered = c.remove_blank.ensures.ordered;
+      kept = rested s r ordered _ _ p w c.rest-leaving.result c.self.inside.resting c.rest-leaving.new.resting c.self.invariant.kept h c.remove_blank.ensures.blank c.rest-leaving.ensures.served c.rest-leaving.ensures.before;
+      counted = count ∙ sym (count_same s r ordered c.rest-leaving.result c.remove_blank.ensures.blank);
+    }
 
 pub invariant_of-self-else-is_blank : goal.invariant_of-self-else-is_blank
 invariant_of-self-else-is_blank c =

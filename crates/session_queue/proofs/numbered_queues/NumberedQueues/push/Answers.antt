@@ -1,6 +1,7 @@
-use Rattle.std.proofs.Common.{◌≡◌, ◌==◌, ℕ, Bool, ◌+◌, ◌-◌, ◌<◌, ◌≤◌, sym, ◌∙◌, ap, length, ◌++◌, ◌∷◌, [], Some, None, arith}
+use Rattle.std.proofs.Common.{◌≡◌, ◌==◌, ℕ, Bool, ◌+◌, ◌-◌, ◌<◌, ◌≤◌, sym, ◌∙◌, ap, length, ◌++◌, ◌∷◌, [], Option, Some, None, arith}
 use Rattle.std.specs.Map.{set_value}
 use Rattle.net_prefix.specs.declared.addr.Addr.{Addr}
+use Rattle.session_queue.specs.declared.direction.Direction.{Direction}
 use Rattle.session_queue.specs.declared.numbered.Numbered.{Numbered}
 use Rattle.session_queue.specs.Lines.{Waiting, Lines, messages_at, spare_in, waiting_at, KeepsOtherLines}
 use Rattle.session_queue.proofs.Places.{at, Changes, put, queue_here, spare_here, others_keep, queue_held, spare_held}
@@ -27,7 +28,7 @@ module _ (from to : Addr) (p q r : Lines Numbered) (v w : Waiting Numbered) (m :
   others_pushed : KeepsOtherLines from to q r
   others_pushed = others_keep from to q r (Some w) changed
 
-  tidy_pushed : (full more : ℕ) (b : Bool) → IsTidy p full → b ≡ (length v.messages == 0) → more ≡ from_bool b → IsTidy r (full + more)
+  tidy_pushed : {resting : Option Direction} (full more : ℕ) (b : Bool) → IsTidy p full resting → b ≡ (length v.messages == 0) → more ≡ from_bool b → IsTidy r (full + more) resting
   tidy_pushed full more b tidy empty counts = longer_tidy from to p r v w m full more b tidy found is (ap (λ u. u.messages) pushed) empty counts
 
 pub push-requires : goal.push-requires

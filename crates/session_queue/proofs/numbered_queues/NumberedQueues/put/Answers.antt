@@ -21,7 +21,7 @@ prove-unreachable-requires c =
 pub invariant_of-self : goal.invariant_of-self
 invariant_of-self c =
     let same = unwritten _ _ c.self.inside.queues.entries _ _ (λ i. c.self.inside.queues.entries) c.in-Some.queue.now c.put.new.self c.in-Some.ensures.value (c.get_mut.follows.holds c.put.new.self).0 c.in_err-put.ensures.err in
-    subst (λ q. IsTidy q c.self.inside.full) (sym same) c.self.invariant
+    subst (λ q. IsTidy q c.self.inside.full c.self.inside.resting) (sym same) c.self.invariant
 
 pub returns-in_err-put-clause-others : goal.returns-in_err-put-clause-others
 returns-in_err-put-clause-others c =
@@ -64,7 +64,7 @@ invariant_of-self-2 c =
     let messages : w.messages ≡ c.args.message ∷ [] = ap (λ u. u.messages) c.push.ensures ∙ ap (λ u. u.messages ++ c.args.message ∷ []) c.in_ok-queue.ensures in
     let long : length w.messages ≡ 1 = ap length messages in
     let one : one_if_any w.messages ≡ 1 = ap one_if_any messages in
-    added_tidy c.args.from c.args.to c.self.inside.queues.entries _ _ _ c.self.invariant w c.in_default.ensures.value (c.in_ok-insert.ensures.entries ∙ before) c.in_ok-insert.ensures.ordered (omega (arith, long)) (omega (arith, one))
+    added_tidy c.args.from c.args.to c.self.inside.queues.entries _ _ _ c.self.invariant w c.in_default.ensures.value (c.in_ok-insert.ensures.entries ∙ before) c.in_ok-insert.ensures.ordered (added _ _ _ _ _ (ap (λ m. m.entries) c.get_mut.follows.holds-at-none) w c.in_ok-insert.ensures.updates.0) (omega (arith, long)) (omega (arith, one))
 
 pub returns-clause-queue : goal.returns-clause-queue
 returns-clause-queue c =

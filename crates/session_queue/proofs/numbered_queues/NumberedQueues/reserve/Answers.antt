@@ -53,9 +53,8 @@ pub invariant_of-self : goal.invariant_of-self
 invariant_of-self c =
     let v = c.in-Some.queue.now in
     let w = c.reserve.new.self in
-    let kept = still_kept v w c.args.n _ (kept_found _ _ _ _ v c.self.invariant c.in-Some.ensures.value) c.reserve.ensures.ok c.reserve.ensures.err in
     let same = messages_stay v w c.args.n _ c.reserve.ensures.ok c.reserve.ensures.err in
-    put_tidy _ _ _ _ _ _ c.self.invariant v w c.in-Some.ensures.value (c.get_mut.follows.holds w).0 kept (ap (λ ms. c.self.inside.full + one_if_any ms) (sym same))
+    put_tidy _ _ _ _ _ _ c.self.invariant v w c.in-Some.ensures.value (c.get_mut.follows.holds w).0 (λ awake. still_kept v w c.args.n _ (kept_found _ _ _ _ v c.self.invariant c.in-Some.ensures.value awake) c.reserve.ensures.ok c.reserve.ensures.err) (ap (λ ms. c.self.inside.full + one_if_any ms) (sym same))
 
 pub returns-in-Some : goal.returns-in-Some
 returns-in-Some c =
@@ -80,7 +79,7 @@ invariant_of-self-2 c =
     let spare = ap (λ u. u.spare) c.in_ok-queue.ensures in
     let some : c.args.n ≡ 0 → ⊥ = c.if-n-eq0.false in
     let none = ap (λ u. one_if_any u.messages) c.in_ok-queue.ensures in
-    added_tidy c.args.from c.args.to c.self.inside.queues.entries _ _ _ c.self.invariant w c.in_default.ensures.value (c.in_ok-insert.ensures.entries ∙ before) c.in_ok-insert.ensures.ordered (omega (arith, spare, some)) (omega (arith, none))
+    added_tidy c.args.from c.args.to c.self.inside.queues.entries _ _ _ c.self.invariant w c.in_default.ensures.value (c.in_ok-insert.ensures.entries ∙ before) c.in_ok-insert.ensures.ordered (added _ _ _ _ _ (ap (λ m. m.entries) c.get_mut.follows.holds-at-none) w c.in_ok-insert.ensures.updates.0) (omega (arith, spare, some)) (omega (arith, none))
 
 pub returns : goal.returns
 returns c =
