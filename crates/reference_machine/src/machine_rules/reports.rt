@@ -14,7 +14,7 @@ use std::alloc::{AllocError, Global};
 /// The route that was chosen for the prefix, if one was, as the Loc-RIB holds it (RFC 4271, 3.2). It shares the
 /// route's attributes: the only fault is that 2^63 owners share them.
 pub fn held_of(prefix: Prefix, route: Option<&Candidate>) -> Result<Option<Held>, AllocError>
-    ensures { IfOk result (λ held. held ≡ held_of prefix (option_copied route)) }
+    ensures { IfOk result (λ held. held ≡ held_of prefix (option_copied route.entry)) }
 {
     match route {
         None => Ok(None),
