@@ -1,5 +1,6 @@
 use Rattle.std.proofs.Common.{◌+◌, ap, sym, subst, ◌∙◌, drop}
 use Rattle.std.proofs.lemmas.List.{at_drop_more, at_drop_all}
+use Rattle.path_attr.specs.declared.attr.Attr.{Attr}
 use Rattle.cell_engine.specs.Hops.{Have, with_hop, with_hops}
 use Rattle.cell_engine.proofs.Widening.{covered, kept, several_stay}
 use Rattle.cell_engine.proofs.hop_table.hops.Hops.with.Goals as goal
@@ -10,6 +11,7 @@ loop-route-preserved c =
     let i = c.loop-route.route-index in
     let rest = drop (i + 1) routes in
     ap (λ k. with_hops k rest) c.with_hop-hops.ensures
+    ∙ ap (λ (x : Attr). with_hops (with_hop c.loop-route.hops x.next) rest) c.attr.ensures
     ∙ ap (λ e. with_hops (with_hop c.loop-route.hops e.1.next) rest) c.route-item.is
     ∙ sym (at_drop_more (with_hops c.loop-route.hops) routes i c.route-item.result c.loop-route-test.true)
     ∙ c.loop-route.invariant
