@@ -16,7 +16,7 @@ sends_ready-ready-requires-clause-one g c =
     let m = c.args.message.now in
     let old = g.S.Chosen.standings c.args.chosen.now in
     let had = c.as_ref.ensures.value ∙ c.in_ok-best.ensures ∙ ap best_of c.requires.stands in
-    let has = c.best-2-1.ensures ∙ ap best_of c.in_ok-set_aside.ensures.ok ∙ best_then site u m c.args.received.now c.requires.peers c.requires.order old c.requires.stands in
+    let has = c.best.ensures ∙ ap best_of c.in_ok-set_aside.ensures.ok ∙ best_then site u m c.args.received.now c.requires.peers c.requires.order old c.requires.stands in
     subst (λ (l : List (Addr × Message)). (t : Addr) → length (told t l) ≤ 1) (sym (λ i. sends_of site site (c.prefix-prefix.ensures i) (had i) (has i))) c.requires.one
 
 pub put_back-requires-clause-known : goal.put_back-requires-clause-known
@@ -44,8 +44,8 @@ returns-in-Ok-clause-sends g c =
     let m = c.args.message.now in
     let old = g.S.Chosen.standings c.args.chosen.now in
     let had = c.as_ref.ensures.value ∙ c.in_ok-best.ensures ∙ ap best_of c.requires.stands in
-    let has = c.best-2-1.ensures ∙ ap best_of c.in_ok-set_aside.ensures.ok ∙ best_then site u m c.args.received.now c.requires.peers c.requires.order old c.requires.stands in
-    subst (λ r. IfOk r (λ sends. sends.items ≡ sends_of site site c.prefix-prefix.result (option_copied c.as_ref.result) (option_copied c.best-2-1.result))) c.in-Ok.ensures.ready c.sends_ready-ready.ensures.sends
+    let has = c.best.ensures ∙ ap best_of c.in_ok-set_aside.ensures.ok ∙ best_then site u m c.args.received.now c.requires.peers c.requires.order old c.requires.stands in
+    subst (λ r. IfOk r (λ sends. sends.items ≡ sends_of site site c.prefix-prefix.result (option_copied c.as_ref.result) (option_copied c.best.result))) c.in-Ok.ensures.ready c.sends_ready-ready.ensures.sends
     ∙ (λ i. sends_of site site (c.prefix-prefix.ensures i) (had i) (has i))
 
 pub returns-in-Err-clause-stood : goal.returns-in-Err-clause-stood
