@@ -7,7 +7,10 @@ use net_prefix::Addr;
 use path_attr::SharedAttr;
 
 /// The first sender whose route differs in two lists, each by sender. None where they are the same.
-pub(super) fn first_difference(had: &[(Addr, SharedAttr)], now: &[(Addr, SharedAttr)]) -> Option<Addr>
+pub(super) fn first_difference(
+    had: &[(Addr, SharedAttr)],
+    now: &[(Addr, SharedAttr)],
+) -> Option<Addr>
     ensures { result ≡ first_difference had.now now.now }
 {
     for (index, route) in had.iter().enumerate() {
