@@ -52,8 +52,8 @@ impl<S: Selector, T: PrefixTable<Cell<S>>> State<S, T> {
     }
 
     /// Adds a message at the end of the queue of a session's direction, with the memory that this takes: its attributes
-    /// come to be admitted, and it gets a place, a spare one where there is one. The network stays as it is at an error,
-    /// which is want of memory, and so do all places; the attributes may have come to be admitted.
+    /// come to be admitted, and it gets a place, a spare one where there is one. The network stays as it is at an
+    /// error, which is want of memory, and so do all places; the attributes may have come to be admitted.
     pub fn feed(&mut self, direction: Direction, message: Message) -> Result<(), AllocError>
         requires { has_session self.old.conf direction.from direction.to ≡ true }
         ensures next { OnOk result
