@@ -1,4 +1,4 @@
--- A node with no edge changes no tree of the others.
+-- A tree hangs on what is said of the ends of edges alone, so a node with no edge changes no tree of the others.
 use Rattle.std.proofs.Common.{◌≡◌, ℕ, ◌≢◌, IsTrue, cond, All, List, [], ◌∷◌, ◌++◌, Some, None, Option, refl, sym, ap, ◌∙◌, subst, inl, inr}
 use Rattle.std.specs.Prelude.{option_map, option_and_then, is_some}
 use Rattle.std.specs.List.{filter_map, cons_option}
@@ -11,9 +11,9 @@ use Rattle.igp_cost.specs.Metric.{IsMetric}
 use Rattle.igp_cost.specs.Walks.{Nodes, Edges, Steps, HasEdge, asn_of, share_as, is_one_number, Leads, IsWalk, IsLeastWalk, IsCost, IsFirstHop, HasNoWalk}
 use Rattle.igp_cost.specs.Costs.{cost, first_hop}
 use Rattle.igp_cost.specs.Topology.{is_node, IsTopology}
-use Rattle.igp_cost.specs.Trees.{Reached, reached, tree_of}
+use Rattle.igp_cost.specs.Trees.{Reached, cost_in, first_hop_in, IsTreeOf, reached, tree_of}
 use Rattle.igp_cost.specs.Labels.{nowhere}
-use Rattle.igp_cost.specs.Laws.{LoneNodeMovesNoTree}
+use Rattle.igp_cost.specs.Laws.{AreAlikeOver, LoneNodeMovesNoTree, OwnNodesMakeATree}
 use Rattle.igp_cost.proofs.Exact.{cost_exact}
 use Rattle.igp_cost.proofs.Hops.{one_cost, one_first_hop, first_hop_exact}
 use Rattle.igp_cost.proofs.Places.{lookup_later}
@@ -24,19 +24,15 @@ asn_beside : (front back : Nodes) (x : Addr) (n : ℕ) (a : Addr) → x ≢ a �
 asn_beside [] back x n a differs = lookup_later nowhere (x, n) back a differs
 asn_beside (e ∷ front) back x n a differs = ap (λ found. cond (is_at (addr_cmp a) e.0) (Some e.1) found) (asn_beside front back x n a differs)
 
--- nodes by which the addresses at the edges are in r's AS alike
-abbrev IsAlike : Nodes → Nodes → Edges → Addr → Type 0
-IsAlike some others edges r = (a b : Addr) (m : ℕ) → HasEdge edges a b m → share_as some r a ≡ share_as others r a
-
-turned : (some others : Nodes) (edges : Edges) (r : Addr) → IsAlike some others edges r → IsAlike others some edges r
+turned : (some others : Nodes) (edges : Edges) (r : Addr) → AreAlikeOver some others edges r → AreAlikeOver others some edges r
 turned some others edges r alike a b m edge = sym (alike a b m edge)
 
-leads_alike : (some others : Nodes) (edges : Edges) (r : Addr) → IsAlike some others edges r → (a x : Addr) (steps : Steps) → Leads some edges r a steps x → Leads others edges r a steps x
+leads_alike : (some others : Nodes) (edges : Edges) (r : Addr) → AreAlikeOver some others edges r → (a x : Addr) (steps : Steps) → Leads some edges r a steps x → Leads others edges r a steps x
 leads_alike some others edges r alike a x [] walk = walk
 leads_alike some others edges r alike a x ((b, m) ∷ steps) walk = (subst IsTrue (alike a b m walk.1) walk.0, walk.1, leads_alike some others edges r alike b x steps walk.2)
 
 -- so the costs and first hops are the same
-module _ (some others : Nodes) (edges : Edges) (metrics : All (λ e. IsMetric e.2) edges) (r : Addr) (alike : IsAlike some others edges r) where
+module _ (some others : Nodes) (edges : Edges) (metrics : All (λ e. IsMetric e.2) edges) (r : Addr) (alike : AreAlikeOver some others edges r) where
   over : (x : Addr) (steps : Steps) → IsWalk some edges r x steps → IsWalk others edges r x steps
   over x steps walk = leads_alike some others edges r alike r x steps walk
 
@@ -66,6 +62,17 @@ module _ (some others : Nodes) (edges : Edges) (metrics : All (λ e. IsMetric e.
   pub hop_alike : (x : Addr) → first_hop some edges r x ≡ first_hop others edges r x
   hop_alike x = one_first_hop others edges r x (first_hop some edges r x) (first_hop others edges r x) (hop_over x (first_hop some edges r x) (first_hop_exact some edges metrics r x)) (first_hop_exact others edges metrics r x)
 
+  tree_over : (t : Reached) → IsTreeOf some edges r t → IsTreeOf others edges r t
+  tree_over t is = record {
+    source = is.source;
+    ascending = is.ascending;
+    costs = λ x. cost_over x (cost_in t x) (is.costs x);
+    first_hops = λ x. hop_over x (first_hop_in t x) (is.first_hops x);
+  }
+
+pub own_nodes : OwnNodesMakeATree
+own_nodes some others edges metrics r alike t is = tree_over some others edges metrics r alike t is
+
 -- the row of a cost and a hop, where there are both
 abbrev pub row_by : Addr → Option ℕ → Option Addr → Option (Addr × Label)
 row_by x o p = option_and_then (λ c. option_map (λ h. (x, record { cost = c; hop = h })) p) o
@@ -92,7 +99,7 @@ module _ (front back : Nodes) (x : Addr) (n : ℕ) (edges : Edges) (top : IsTopo
   start a b m (inl e) = edge_end old edges top metrics r r_in b a m (inr e)
   start a b m (inr e) = edge_end old edges top metrics r r_in b a m (inl e)
 
-  alike : IsAlike new old edges r
+  alike : AreAlikeOver new old edges r
   alike a b m edge = ap (λ o. is_one_number o (asn_of new a)) (beside r r_in) ∙ ap (is_one_number (asn_of old r)) (beside a (start a b m edge))
 
   none : cost new edges r x ≡ None

@@ -62,3 +62,11 @@ AreAlikeFrom nodes some others r = (a b : Addr) (m : ℕ) → IsTrue (share_as n
 -- so r has one tree by both
 abbrev pub OwnEdgesMakeATree : Type 0
 OwnEdgesMakeATree = (nodes : Nodes) (some others : Edges) → All (λ e. IsMetric e.2) some → All (λ e. IsMetric e.2) others → (r : Addr) → AreAlikeFrom nodes some others r → tree_of nodes some r ≡ tree_of nodes others r
+
+-- both say alike which ends of the edges are in r's AS
+abbrev pub AreAlikeOver : Nodes → Nodes → Edges → Addr → Type 0
+AreAlikeOver some others edges r = (a b : Addr) (m : ℕ) → HasEdge edges a b m → share_as some r a ≡ share_as others r a
+
+-- so r has one tree by both: other nodes count nowhere
+abbrev pub OwnNodesMakeATree : Type 0
+OwnNodesMakeATree = (some others : Nodes) (edges : Edges) → All (λ e. IsMetric e.2) edges → (r : Addr) → AreAlikeOver some others edges r → (t : Reached) → IsTreeOf some edges r t → IsTreeOf others edges r t

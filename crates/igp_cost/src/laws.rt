@@ -1,7 +1,7 @@
 //! What holds of costs, first hops and trees in any graph. These functions do nothing: a call gives the caller's proof
 //! what they ensure.
 
-ghost use Rattle.igp_cost.specs.Laws.{CostsAreLeast, FirstHopsAreLeast, CostsAreOne, FirstHopsAreOne, TreesAreOne, OneEdgeIsAChange, TreeOfIsATree, LoneNodeMovesNoTree, MoreEdgesReachMore, OwnEdgesMakeATree};
+ghost use Rattle.igp_cost.specs.Laws.{CostsAreLeast, FirstHopsAreLeast, CostsAreOne, FirstHopsAreOne, TreesAreOne, OneEdgeIsAChange, TreeOfIsATree, LoneNodeMovesNoTree, MoreEdgesReachMore, OwnEdgesMakeATree, OwnNodesMakeATree};
 
 /// The specification's function `cost` is the cost of a least walk.
 pub fn costs_are_least()
@@ -51,4 +51,9 @@ pub fn more_edges_reach_more()
 /// A router's tree hangs on the edges from the nodes of its AS alone.
 pub fn own_edges_make_a_tree()
     ensures { OwnEdgesMakeATree }
+{}
+
+/// A router's tree hangs on what is said of the ends of edges alone: of nodes without one it does not.
+pub fn own_nodes_make_a_tree()
+    ensures { OwnNodesMakeATree }
 {}

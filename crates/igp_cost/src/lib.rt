@@ -18,7 +18,7 @@ pub use label::Label;
 pub use laws::{
     costs_are_least, costs_are_one, first_hops_are_least, first_hops_are_one,
     lone_node_moves_no_tree, more_edges_reach_more, one_edge_is_a_change, own_edges_make_a_tree,
-    tree_of_is_a_tree, trees_are_one,
+    own_nodes_make_a_tree, tree_of_is_a_tree, trees_are_one,
 };
 pub use least_trees::{Tree, is_topology};
 pub use limits::MAX_NODES;
