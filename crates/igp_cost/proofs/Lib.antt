@@ -16,6 +16,7 @@ mod Local
 mod TreeOf
 mod LoneNode
 mod OneMore
+mod Apart
 mod Leaf
 mod MoreEdges
 mod Before

@@ -116,7 +116,8 @@ impl Graph {
         let Some(graph) = self.rooted(source) else {
             unreachable!();
         };
-        let mended = graph.mended_labels(alloc, old.rows(), change)?;
+        let rows = old.all_rows(alloc)?;
+        let mended = graph.mended_labels(alloc, &rows, change)?;
         match mended {
             Some(labels) => Tree::from_labels(alloc, source, graph.nodes, &labels),
             None => self.tree(alloc, source),

@@ -1,15 +1,15 @@
 //! The costs and first hops from one router.
 
-ghost use Rattle.std.specs.Prelude.{◌≡◌, ◌≢◌, ◌≤◌, ◌↔◌, length, All, IsTrue, IfOk, IfSome, None};
+ghost use Rattle.std.specs.Prelude.{◌≡◌, ◌≢◌, ◌≤◌, ◌↔◌, ◌++◌, length, All, IsTrue, IfOk, IfSome};
 ghost use Rattle.std.specs.Bool.{OnTrue};
+ghost use Rattle.std.specs.List.{slice_get};
 ghost use Rattle.std.specs.Map.{lookup};
 ghost use Rattle.std.specs.BTreeMap.{is_at};
 ghost use Rattle.net_prefix.specs.Address.{addr_cmp};
-ghost use Rattle.std.specs.List.{insert};
 ghost use Rattle.igp_cost.specs.Offers.{HasOneMore};
 ghost use Rattle.igp_cost.specs.Placed.{labels_of, ArePlaced};
 ghost use Rattle.igp_cost.specs.Trees.{source_of, label_in, cost_in, first_hop_in};
-ghost use Rattle.igp_cost.specs.Wired.{IsRising, AreAscending, row, rows_of};
+ghost use Rattle.igp_cost.specs.Wired.{IsRising, AreAscending, AreBelow, row, rows_of};
 
 use crate::label::{Label, NO_WALK, known};
 use net_prefix::Addr;
@@ -21,23 +21,29 @@ use std::marker::Model;
 /// By how many rows the room of a tree grows that gets one row more.
 const CHUNK: usize = 64;
 
+/// How many rows at most stand apart.
+const MOST_LAST: usize = 64;
+
 /// The least cost and the first hop from a router, its source, to each address that a walk from it reaches. A copy
 /// takes no memory.
 #[derive(Debug, Drop)]
 pub struct Tree {
     source: Addr,
     rows: SharedSeq<(Addr, Label)>,
+    // The rows that came last, above all others: a tree that gets one more copies these alone.
+    last: SharedSeq<(Addr, Label)>,
 }
 
 impl Model for Tree {
+    ghost use Rattle.std.specs.Prelude.{◌++◌};
     ghost use Rattle.igp_cost.specs.Trees.{Reached};
     ghost use Rattle.igp_cost.specs.Wired.{AreAscending};
 
     ghost Value = { Reached };
 
-    ghost view = { λ t. record { source = t.source; labels = t.rows } };
+    ghost view = { λ t. record { source = t.source; labels = t.rows ++ t.last } };
 
-    ghost invariant = { λ t. AreAscending t.rows };
+    ghost invariant = { λ t. AreAscending (t.rows ++ t.last) };
 }
 
 impl Tree {
@@ -56,6 +62,7 @@ impl Tree {
         Ok(Tree {
             source,
             rows: SharedSeq::of(alloc, rows)?,
+            last: SharedSeq::empty(),
         })
     }
 
@@ -74,10 +81,12 @@ impl Tree {
         Ok(Tree {
             source,
             rows: SharedSeq::of(alloc, rows)?,
+            last: SharedSeq::empty(),
         })
     }
 
-    /// The tree with a label of one address more. None where the address has a label.
+    /// The tree with a label of one address more. None where the address has a label. Where that is above all that have
+    /// one, few rows are copied.
     pub(crate) fn with_label(
         &self,
         alloc: Global,
@@ -86,13 +95,68 @@ impl Tree {
     ) -> Result<Option<Self>, AllocError>
         ensures { IfOk result (λ o. IfSome o (HasOneMore self.now to)) }
     {
-        let rows = self.rows.as_slice();
+        if self.last.len() < MOST_LAST && self.is_below(to) {
+            Ok(Some(self.with_last(alloc, to, label)?))
+        } else {
+            self.with_inserted(alloc, to, label)
+        }
+    }
+
+    /// The tree with a label of one address more, which is above all that have one.
+    fn with_last(&self, alloc: Global, to: Addr, label: Label) -> Result<Self, AllocError>
+        requires { AreBelow self.now.labels to }
+        ensures { IfOk result (HasOneMore self.now to) }
+    {
+        let mut last = with_room(alloc, self.last.as_slice())?;
+        last.push((to, label))?;
+        Ok(Tree {
+            source: self.source,
+            rows: self.rows.share()?,
+            last: SharedSeq::of(alloc, last)?,
+        })
+    }
+
+    /// The tree with a label of one address more, all rows in one list. None where the address has a label.
+    fn with_inserted(
+        &self,
+        alloc: Global,
+        to: Addr,
+        label: Label,
+    ) -> Result<Option<Self>, AllocError>
+        ensures { IfOk result (λ o. IfSome o (HasOneMore self.now to)) }
+    {
+        let mut rows = self.all_rows(alloc)?;
         match rows.binary_search_by_key(&to.0, |row| row.0.0) {
             Ok(_) => Ok(None),
-            Err(at) => Ok(Some(Tree {
-                source: self.source,
-                rows: SharedSeq::of(alloc, inserted(alloc, rows, at, (to, label))?)?,
-            })),
+            Err(at) => {
+                rows.insert(at, (to, label))?;
+                Ok(Some(Tree {
+                    source: self.source,
+                    rows: SharedSeq::of(alloc, rows)?,
+                    last: SharedSeq::empty(),
+                }))
+            }
+        }
+    }
+
+    /// All rows, in one list, with room for one more.
+    pub(crate) fn all_rows(&self, alloc: Global) -> Result<Vec<(Addr, Label)>, AllocError>
+        ensures { IfOk result (λ v. v.items ≡ self.now.labels) }
+    {
+        let mut rows = with_room(alloc, self.rows.as_slice())?;
+        rows.extend_from_slice(self.last.as_slice())?;
+        Ok(rows)
+    }
+
+    /// Whether an address is above those of all rows.
+    fn is_below(&self, to: Addr) -> bool
+        ensures { OnTrue result (AreBelow self.now.labels to) }
+    {
+        let last = self.last.as_slice();
+        if last.is_empty() {
+            is_above(self.rows.as_slice(), to)
+        } else {
+            is_above(last, to)
         }
     }
 
@@ -122,10 +186,9 @@ impl Tree {
     pub(crate) fn label(&self, to: Addr) -> Option<Label>
         ensures { result ≡ label_in self.now to }
     {
-        let rows = self.rows.as_slice();
-        match rows.binary_search_by_key(&to.0, |row| row.0.0) {
-            Ok(at) => Some(rows[at].1),
-            Err(_) => None,
+        match label_among(self.rows.as_slice(), to) {
+            Some(label) => Some(label),
+            None => label_among(self.last.as_slice(), to),
         }
     }
 
@@ -134,29 +197,65 @@ impl Tree {
     pub(crate) fn label_near(&self, row: usize, to: Addr) -> Option<Label>
         ensures { result ≡ label_in self.now to }
     {
-        let rows = self.rows.as_slice();
-        if row < rows.len() && rows[row].0.0 == to.0 {
-            return Some(rows[row].1);
+        if let Some((addr, label)) = self.row(row)
+            && addr.0 == to.0
+        {
+            return Some(label);
         }
-        if is_above(rows, to) {
+        if self.is_below(to) {
             return None;
         }
         self.label(to)
+    }
+
+    /// The row at a place. None past the last.
+    fn row(&self, at: usize) -> Option<(Addr, Label)>
+        ensures row { result ≡ slice_get self.now.labels at }
+        ensures ascending { AreAscending self.now.labels }
+    {
+        let rows = self.rows.as_slice();
+        if at < rows.len() {
+            return Some(rows[at]);
+        }
+        let at = at - rows.len();
+        let last = self.last.as_slice();
+        if at < last.len() {
+            Some(last[at])
+        } else {
+            None
+        }
     }
 
     /// Whether both say the same of every address.
     pub fn is_same(&self, other: &Tree) -> bool
         ensures { IsTrue result ↔ (self.now ≡ other.now) }
     {
-        self.source == other.source && are_same_rows(self.rows(), other.rows())
+        self.source == other.source && self.has_same_rows(other)
     }
 
-    /// The addresses that are reached, in ascending order, each with its label.
-    pub(crate) fn rows(&self) -> &[(Addr, Label)]
-        ensures rows { result.now ≡ self.now.labels }
+    /// Whether both have the same rows, wherever these stand.
+    fn has_same_rows(&self, other: &Tree) -> bool
+        ensures { IsTrue result ↔ (self.now.labels ≡ other.now.labels) }
+    {
+        let (rows, last) = (self.rows.as_slice(), self.last.as_slice());
+        let (others, later) = (other.rows.as_slice(), other.last.as_slice());
+        if others.len() <= rows.len() {
+            are_same_in_parts(rows, last, others, later)
+        } else {
+            are_same_in_parts(others, later, rows, last)
+        }
+    }
+
+    /// The addresses that are reached, in ascending order, each with its label, where no row stands apart.
+    pub(crate) fn rows(&self) -> Option<&[(Addr, Label)]>
+        ensures rows { IfSome result (λ rows. rows.now ≡ self.now.labels) }
         ensures ascending { AreAscending self.now.labels }
     {
-        self.rows.as_slice()
+        if self.last.is_empty() {
+            Some(self.rows.as_slice())
+        } else {
+            None
+        }
     }
 }
 
@@ -173,14 +272,26 @@ impl Clone for Tree {
         Ok(Tree {
             source: self.source,
             rows: self.rows.share()?,
+            last: self.last.share()?,
         })
     }
 }
 
-// Whether an address is above those of all rows: it has none.
+// The label in the row of an address.
+fn label_among(rows: &[(Addr, Label)], to: Addr) -> Option<Label>
+    requires { AreAscending rows.now }
+    ensures { result ≡ lookup (is_at (addr_cmp to)) rows.now }
+{
+    match rows.binary_search_by_key(&to.0, |row| row.0.0) {
+        Ok(at) => Some(rows[at].1),
+        Err(_) => None,
+    }
+}
+
+// Whether an address is above those of all rows.
 fn is_above(rows: &[(Addr, Label)], to: Addr) -> bool
     requires { AreAscending rows.now }
-    ensures { OnTrue result (lookup (is_at (addr_cmp to)) rows.now ≡ None) }
+    ensures { OnTrue result (AreBelow rows.now to) }
 {
     let count = rows.len();
     count == 0 || rows[count - 1].0.0 < to.0
@@ -199,20 +310,12 @@ fn room_for(rows: usize) -> usize {
     rows.saturating_add(CHUNK) / CHUNK * CHUNK
 }
 
-// The rows with one more at a place.
-fn inserted(
-    alloc: Global,
-    rows: &[(Addr, Label)],
-    at: usize,
-    row: (Addr, Label),
-) -> Result<Vec<(Addr, Label)>, AllocError>
-    requires { at ≤ length rows.now }
-    ensures { IfOk result (λ v. v.items ≡ insert rows.now at row) }
+// The rows, with room for one more.
+fn with_room(alloc: Global, rows: &[(Addr, Label)]) -> Result<Vec<(Addr, Label)>, AllocError>
+    ensures { IfOk result (λ v. v.items ≡ rows.now) }
 {
     let mut made = Vec::with_capacity(alloc, room_for(rows.len()))?;
-    made.extend_from_slice(&rows[..at])?;
-    made.push(row)?;
-    made.extend_from_slice(&rows[at..])?;
+    made.extend_from_slice(rows)?;
     Ok(made)
 }
 
@@ -287,6 +390,31 @@ fn are_same_rows(some: &[(Addr, Label)], others: &[(Addr, Label)]) -> bool
         }
     }
     true
+}
+
+// Whether two lists of rows with two more are the same as two with two more, of which the first is no longer than theirs.
+fn are_same_in_parts(
+    rows: &[(Addr, Label)],
+    last: &[(Addr, Label)],
+    others: &[(Addr, Label)],
+    later: &[(Addr, Label)],
+) -> bool
+    requires { length others.now ≤ length rows.now }
+    ensures { IsTrue result ↔ (rows.now ++ last.now ≡ others.now ++ later.now) }
+{
+    let (front, middle) = rows.split_at(others.len());
+    are_same_rows(front, others) && are_joined(middle, last, later)
+}
+
+// Whether two lists of rows, one after the other, are the same as a third.
+fn are_joined(first: &[(Addr, Label)], second: &[(Addr, Label)], whole: &[(Addr, Label)]) -> bool
+    ensures { IsTrue result ↔ (first.now ++ second.now ≡ whole.now) }
+{
+    if whole.len() < first.len() {
+        return false;
+    }
+    let (front, back) = whole.split_at(first.len());
+    are_same_rows(first, front) && are_same_rows(second, back)
 }
 
 // Whether both rows say the same of the same address.

@@ -73,8 +73,8 @@ impl<'a> RootedGraph<'a> {
         ensures { IfOk result (λ o.
             IfSome o (IsMended self.now.nodes.now self.now.links.now old.now ends.one ends.other)) }
     {
-        if self.has_rows_in_order(old) {
-            return self.mended_rows(alloc, old, old.rows(), ends);
+        if let Some(rows) = self.rows_in_order(old) {
+            return self.mended_rows(alloc, old, rows, ends);
         }
         match self.rows_of_tree(alloc, old)? {
             Some(before) => self.mended_rows(alloc, old, &before, ends),

@@ -65,13 +65,18 @@ impl<'a> RootedGraph<'a> {
         true
     }
 
-    /// Whether the rows of a tree are those of the nodes, one for each.
-    pub fn has_rows_in_order(&self, old: &Tree) -> bool
-        ensures placed { OnTrue result (ArePlaced self.now.nodes.now old.now.labels) }
-        ensures limited { OnTrue result (AreLimited (labels_of old.now.labels)) }
-        ensures known { OnTrue result (AreLabelsOf self.now.nodes.now old.now (labels_of old.now.labels)) }
+    /// The rows of a tree, where they are those of the nodes, one for each, and none stands apart.
+    pub fn rows_in_order<'t>(&self, old: &'t Tree) -> Option<&'t [(Addr, Label)]>
+        ensures placed { IfSome result (λ rows. ArePlaced self.now.nodes.now rows.now) }
+        ensures limited { IfSome result (λ rows. AreLimited (labels_of rows.now)) }
+        ensures known { IfSome result (λ rows. AreLabelsOf self.now.nodes.now old.now (labels_of rows.now)) }
     {
-        self.are_in_order(old.rows())
+        let rows = old.rows()?;
+        if self.are_in_order(rows) {
+            Some(rows)
+        } else {
+            None
+        }
     }
 
     /// A row for each node, of what a tree says. None where a cost is past the limit, which none is.

@@ -1,7 +1,10 @@
-use Rattle.std.proofs.Common.{sym, ◌∙◌, subst}
+use Rattle.std.proofs.Common.{sym, ap, ◌∙◌, ◌++◌, subst, append-nil}
 use Rattle.igp_cost.specs.Wired.{AreAscending}
 use Rattle.igp_cost.proofs.Rows.{rows_rise}
 use Rattle.igp_cost.proofs.least_trees.tree.Tree.from_labels.Goals as goal
 
 pub invariant_of-result : goal.invariant_of-result
-invariant_of-result c = subst AreAscending (sym (c.in_ok-of.ensures ∙ c.in_ok-rows.ensures)) (rows_rise c.args.nodes.now c.args.labels.now c.requires.rising)
+invariant_of-result c =
+    let rows = c.in_ok-of.field-0 in
+    let is = ap (λ last. rows ++ last) c.empty.ensures ∙ append-nil rows ∙ c.in_ok-of.ensures ∙ c.in_ok-rows.ensures in
+    subst AreAscending (sym is) (rows_rise c.args.nodes.now c.args.labels.now c.requires.rising)

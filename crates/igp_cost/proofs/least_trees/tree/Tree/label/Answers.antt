@@ -1,30 +1,31 @@
-use Rattle.std.proofs.Common.{List, Ok, Err, rules, sym, ap, ◌∙◌, subst}
+use Rattle.std.proofs.Common.{List, Some, None, sym, ap, ◌∙◌, ◌++◌, subst}
 use Rattle.std.specs.Map.{lookup}
 use Rattle.std.specs.BTreeMap.{is_at}
-use Rattle.std.proofs.lemmas.List.Sorted.{answers_always}
 use Rattle.net_prefix.specs.declared.addr.Addr.{Addr}
 use Rattle.net_prefix.specs.Address.{addr_cmp}
 use Rattle.igp_cost.specs.declared.label.Label.{Label}
 use Rattle.igp_cost.specs.Trees.{Reached, label_in}
-use Rattle.igp_cost.specs.Wired.{no_row, AreAscending}
-use Rattle.igp_cost.proofs.Exact.{same_addr}
-use Rattle.igp_cost.proofs.Places.{searched, lookup_at, lookup_none}
+use Rattle.igp_cost.specs.Wired.{AreAscending}
+use Rattle.igp_cost.proofs.Apart.{front_rises, back_rises, found_front, found_back}
 use Rattle.igp_cost.proofs.least_trees.tree.Tree.label.Goals as goal
 
-pub returns-in-Ok : goal.returns-in-Ok
-returns-in-Ok c =
-    let rows = c.as_slice-rows.result.now in
-    let by_key = c.in-Ok.ensures.position (λ row. row.0.0) (answers_always _ _ _ (λ f a r g called. search rules)) in
-    let rising = subst AreAscending (sym c.as_slice-rows.ensures) c.self.invariant in
-    let place = (searched (λ (row : Addr × Label). row.0.0) no_row rows rising c.args.to.0 (Ok c.in-Ok.at) c.in-Ok.ensures.bound by_key).found in
-    let found = lookup_at no_row rows rising c.in-Ok.at c.args.to place.0 (same_addr _ _ place.1) in
-    sym found ∙ ap (λ (rows : List (Addr × Label)). lookup (is_at (addr_cmp c.args.to)) rows) c.as_slice-rows.ensures ∙ ap (λ (t : Reached). label_in t c.args.to) c.self.view_is
+pub label_among-requires : goal.label_among-requires
+label_among-requires c = subst AreAscending (sym c.as_slice.ensures) (front_rises c.self.inside.rows c.self.inside.last c.self.invariant)
 
-pub returns-in-Err : goal.returns-in-Err
-returns-in-Err c =
-    let rows = c.as_slice-rows.result.now in
-    let by_key = c.in-Err.ensures.position (λ row. row.0.0) (answers_always _ _ _ (λ f a r g called. search rules)) in
-    let rising = subst AreAscending (sym c.as_slice-rows.ensures) c.self.invariant in
-    let none = (searched (λ (row : Addr × Label). row.0.0) no_row rows rising c.args.to.0 (Err c.in-Err.field-0) c.in-Err.ensures.bound by_key).absent in
-    let absent = lookup_none no_row rows c.args.to (λ i lt same. none i lt (ap (λ (y : Addr). y.0) same)) in
-    sym absent ∙ ap (λ (rows : List (Addr × Label)). lookup (is_at (addr_cmp c.args.to)) rows) c.as_slice-rows.ensures ∙ ap (λ (t : Reached). label_in t c.args.to) c.self.view_is
+pub label_among-requires-in-None : goal.label_among-requires-in-None
+label_among-requires-in-None c = subst AreAscending (sym c.as_slice-in-None.ensures) (back_rises c.self.inside.rows c.self.inside.last c.self.invariant)
+
+pub returns-in-Some : goal.returns-in-Some
+returns-in-Some c =
+    let to = c.args.to in
+    let here = sym (ap (λ (l : List (Addr × Label)). lookup (is_at (addr_cmp to)) l) c.as_slice.ensures) ∙ sym c.label_among.ensures ∙ c.in-Some.is in
+    sym (found_front c.self.inside.rows c.self.inside.last to c.in-Some.label here) ∙ ap (λ (t : Reached). label_in t to) c.self.view_is
+
+pub returns-in-None : goal.returns-in-None
+returns-in-None c =
+    let to = c.args.to in
+    let none = sym (ap (λ (l : List (Addr × Label)). lookup (is_at (addr_cmp to)) l) c.as_slice.ensures) ∙ sym c.label_among.ensures ∙ c.in-None.is in
+    c.label_among-in-None.ensures
+    ∙ ap (λ (l : List (Addr × Label)). lookup (is_at (addr_cmp to)) l) c.as_slice-in-None.ensures
+    ∙ sym (found_back c.self.inside.rows c.self.inside.last to none)
+    ∙ ap (λ (t : Reached). label_in t to) c.self.view_is
