@@ -1,8 +1,8 @@
 //! The costs and first hops from one router.
 
-ghost use Rattle.std.specs.Prelude.{◌≡◌, ◌≢◌, ◌≤◌, ◌↔◌, ◌++◌, length, All, IsTrue, IfOk, IfSome};
+ghost use Rattle.std.specs.Prelude.{◌≡◌, ◌≢◌, ◌≤◌, ◌↔◌, [], ◌∷◌, ◌++◌, length, All, IsTrue, IfOk, IfSome};
 ghost use Rattle.std.specs.Bool.{OnTrue};
-ghost use Rattle.std.specs.List.{slice_get};
+ghost use Rattle.std.specs.List.{insert, slice_get};
 ghost use Rattle.std.specs.Map.{lookup};
 ghost use Rattle.std.specs.BTreeMap.{is_at};
 ghost use Rattle.net_prefix.specs.Address.{addr_cmp};
@@ -107,8 +107,7 @@ impl Tree {
         requires { AreBelow self.now.labels to }
         ensures { IfOk result (HasOneMore self.now to) }
     {
-        let mut last = with_room(alloc, self.last.as_slice())?;
-        last.push((to, label))?;
+        let last = with_one_more(alloc, self.last.as_slice(), (to, label))?;
         Ok(Tree {
             source: self.source,
             rows: self.rows.share()?,
@@ -125,17 +124,14 @@ impl Tree {
     ) -> Result<Option<Self>, AllocError>
         ensures { IfOk result (λ o. IfSome o (HasOneMore self.now to)) }
     {
-        let mut rows = self.all_rows(alloc)?;
+        let rows = self.all_rows(alloc)?;
         match rows.binary_search_by_key(&to.0, |row| row.0.0) {
             Ok(_) => Ok(None),
-            Err(at) => {
-                rows.insert(at, (to, label))?;
-                Ok(Some(Tree {
-                    source: self.source,
-                    rows: SharedSeq::of(alloc, rows)?,
-                    last: SharedSeq::empty(),
-                }))
-            }
+            Err(at) => Ok(Some(Tree {
+                source: self.source,
+                rows: SharedSeq::of(alloc, inserted(rows, at, (to, label))?)?,
+                last: SharedSeq::empty(),
+            })),
         }
     }
 
@@ -316,6 +312,33 @@ fn with_room(alloc: Global, rows: &[(Addr, Label)]) -> Result<Vec<(Addr, Label)>
 {
     let mut made = Vec::with_capacity(alloc, room_for(rows.len()))?;
     made.extend_from_slice(rows)?;
+    Ok(made)
+}
+
+// The rows, with one more at the end.
+fn with_one_more(
+    alloc: Global,
+    rows: &[(Addr, Label)],
+    row: (Addr, Label),
+) -> Result<Vec<(Addr, Label)>, AllocError>
+    ensures { IfOk result (λ v. v.items ≡ rows.now ++ row ∷ []) }
+{
+    let mut made = with_room(alloc, rows)?;
+    made.push(row)?;
+    Ok(made)
+}
+
+// The rows, with one more at a place.
+fn inserted(
+    rows: Vec<(Addr, Label)>,
+    at: usize,
+    row: (Addr, Label),
+) -> Result<Vec<(Addr, Label)>, AllocError>
+    requires { at ≤ length rows.items }
+    ensures { IfOk result (λ v. v.items ≡ insert rows.items at row) }
+{
+    let mut made = rows;
+    made.insert(at, row)?;
     Ok(made)
 }
 
