@@ -21,7 +21,7 @@ use std::marker::Model;
 /// By how many rows the room of a tree grows that gets one row more.
 const CHUNK: usize = 64;
 
-/// How many rows at most stand apart.
+/// How many rows at most stand apart, of a tree with as many others at least.
 const MOST_LAST: usize = 64;
 
 /// The least cost and the first hop from a router, its source, to each address that a walk from it reaches. A copy
@@ -95,11 +95,16 @@ impl Tree {
     ) -> Result<Option<Self>, AllocError>
         ensures { IfOk result (λ o. IfSome o (HasOneMore self.now to)) }
     {
-        if self.last.len() < MOST_LAST && self.is_below(to) {
+        if self.is_long() && self.last.len() < MOST_LAST && self.is_below(to) {
             Ok(Some(self.with_last(alloc, to, label)?))
         } else {
             self.with_inserted(alloc, to, label)
         }
+    }
+
+    /// Whether so many rows stand in one list that a copy of them costs more than one more list.
+    fn is_long(&self) -> bool {
+        self.rows.len() >= MOST_LAST
     }
 
     /// The tree with a label of one address more, which is above all that have one.
