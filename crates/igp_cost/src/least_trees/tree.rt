@@ -420,7 +420,7 @@ fn are_same_rows(some: &[(Addr, Label)], others: &[(Addr, Label)]) -> bool
     true
 }
 
-// Whether two lists of rows with two more are the same as two with two more, of which the first is no longer than theirs.
+// Whether two lists of rows, one after the other, are the same as two others, the first of which is no longer.
 fn are_same_in_parts(
     rows: &[(Addr, Label)],
     last: &[(Addr, Label)],
