@@ -6,6 +6,7 @@ pub mod Inserted
 pub mod EdgeChange
 pub mod TreesAfter
 pub mod Carry
+pub mod Near
 pub mod Members
 pub mod Spread
 pub mod Picked

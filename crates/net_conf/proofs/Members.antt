@@ -18,7 +18,7 @@ use Rattle.net_prefix.specs.Address.{addr_cmp}
 use Rattle.igp_cost.specs.declared.change.Change.{Change}
 use Rattle.igp_cost.specs.declared.change.Change.TheVariants.{Changed}
 use Rattle.igp_cost.specs.Changes.{IsChange, AreEndsOf, ends_of as edge_ends}
-use Rattle.igp_cost.specs.Laws.{AreAlikeFrom, OwnEdgesMakeATree, TreeOfIsATree}
+use Rattle.igp_cost.specs.Laws.{AreAlikeFrom, AreAlikeOver, OwnEdgesMakeATree, OwnNodesMakeATree, TreeOfIsATree, TreesAreOne}
 use Rattle.igp_cost.specs.Metric.{IsMetric}
 use Rattle.igp_cost.specs.Topology.{Topology, is_node, IsTopology}
 use Rattle.igp_cost.specs.Trees.{Reached, IsTreeOf, tree_of}
@@ -28,12 +28,13 @@ use Rattle.net_conf.specs.declared.tables.Node.{Node}
 use Rattle.net_conf.specs.Configuration.{Configuration, node_at, as_of, ends_of, ends_session}
 use Rattle.net_conf.specs.Concerned.{is_among}
 use Rattle.net_conf.specs.Costs.{nodes_of, edges_of, costs_of}
-use Rattle.net_conf.specs.Kept.{IsSound, IsLinked, AreKept, WasTreeOf, tree_kept, metric_up, edge_change}
-use Rattle.net_conf.specs.Members.{is_member, members_of, leads_to, edges_to, trees_of, WereTreesOf}
+use Rattle.net_conf.specs.Kept.{IsSound, IsLinked, AreKept, tree_kept, metric_up, edge_change}
+use Rattle.net_conf.specs.Members.{is_member, members_of, leads_to, edges_to, near, trees_of, AreNear, WereTreesOf}
 use Rattle.net_conf.specs.MovedTrees.{MovedTree, AreMoved, owners, tree_after, with_tree, with_source}
 use Rattle.net_conf.proofs.Carry.{one_address, found_moved, one_carried, not_owner}
 use Rattle.net_conf.proofs.EdgeChange.{equal_numbers}
 use Rattle.net_conf.proofs.KeptTrees.{or_right, found_itself, kept_is, end_node}
+use Rattle.net_conf.proofs.Near.{found_having, end_near, member_near, node_near, alike_over, tree_near}
 use Rattle.net_conf.proofs.Nodes.{same_node, topology, edge_metrics}
 use Rattle.net_conf.proofs.TreesAfter.{kept_with_link}
 
@@ -159,6 +160,10 @@ module _ (c : Configuration) where
         by None is some = absurd (true≢false (sym some))
         by (Some n) is some = within (one_number (asn_of (nodes_of c) x) (asn_of (nodes_of c) x) n is is)
 
+    -- each of them is a node
+    pub inside_node : (r : Addr) → inside r ≡ true → is_node (nodes_of c) r ≡ true
+    inside_node r among = let one = among_found (is_member c a b) r c.nodes sorted among in ap is_some (asn_is r ∙ ap (option_map (λ n. n.asn)) one.found)
+
     pub first_in : is_node (nodes_of c) a ≡ true → inside a ≡ true
     first_in node = itself_in a (shares_first a) node
 
@@ -205,6 +210,10 @@ or_turned true true is = refl
 or_turned true false is = refl
 or_turned false true is = refl
 or_turned false false is = is
+
+edge_node : (nodes : Nodes) (es : Edges) → IsTopology nodes es → (a b : Addr) (m : ℕ) → HasEdge es a b m → is_node nodes a ≡ true
+edge_node nodes es top a b m (inl h) = (All-contains (λ e. IsTrue (is_node nodes e.0) × IsTrue (is_node nodes e.1)) es (a, b, m) top.ends h).0
+edge_node nodes es top a b m (inr h) = (All-contains (λ e. IsTrue (is_node nodes e.0) × IsTrue (is_node nodes e.1)) es (b, a, m) top.ends h).1
 
 module _ (rs : List Addr) where
   edge_was : (es : Edges) (a b : Addr) (m : ℕ) → HasEdge (edges_to rs es) a b m → HasEdge es a b m
@@ -286,24 +295,7 @@ module _ (c : Configuration) (a b : Addr) (sorted : IsStrictlySortedBy addr_cmp 
 -- THE TREES OF THESE
 
 picked_found : (rs : List Addr) (trees : List (Addr × Reached)) (r : Addr) → lookup (is_at (addr_cmp r)) (trees_of rs trees) ≡ cond (is_among r rs) (lookup (is_at (addr_cmp r)) trees) None
-picked_found [] trees r = refl
-picked_found (q ∷ rs) trees r = by (lookup (is_at (addr_cmp q)) trees) refl (is_at (addr_cmp r) q) refl (picked_found rs trees r)
-  where
-    mine : Option Reached
-    mine = lookup (is_at (addr_cmp r)) trees
-
-    same : is_at (addr_cmp r) q ≡ true → mine ≡ lookup (is_at (addr_cmp q)) trees
-    same at = ap (λ x. lookup (is_at (addr_cmp x)) trees) (one_address r q at)
-
-    none : (among : Bool) → mine ≡ None → cond among mine None ≡ mine
-    none true is = refl
-    none false is = sym is
-
-    by : (o : Option Reached) → lookup (is_at (addr_cmp q)) trees ≡ o → (t : Bool) → is_at (addr_cmp r) q ≡ t → lookup (is_at (addr_cmp r)) (trees_of rs trees) ≡ cond (is_among r rs) mine None → lookup (is_at (addr_cmp r)) (cons_option (option_map (λ t. (q, t)) o) (trees_of rs trees)) ≡ cond (is_at (addr_cmp r) q || is_among r rs) mine None
-    by (Some x) is true at rest = ap (λ t. cond t (Some x) (lookup (is_at (addr_cmp r)) (trees_of rs trees))) at ∙ sym (same at ∙ is) ∙ ap (λ t. cond (t || is_among r rs) mine None) (sym at)
-    by (Some x) is false at rest = ap (λ t. cond t (Some x) (lookup (is_at (addr_cmp r)) (trees_of rs trees))) at ∙ rest ∙ ap (λ t. cond (t || is_among r rs) mine None) (sym at)
-    by None is true at rest = rest ∙ none (is_among r rs) (same at ∙ is) ∙ ap (λ t. cond (t || is_among r rs) mine None) (sym at)
-    by None is false at rest = rest ∙ ap (λ t. cond (t || is_among r rs) mine None) (sym at)
+picked_found rs trees r = found_having (λ x. lookup (is_at (addr_cmp x)) trees) rs r
 
 -- with the tree of one more, where it has one
 one_picked : (rs : List Addr) (trees : List (Addr × Reached)) (r : Addr) → trees_of (rs ++ r ∷ []) trees ≡ trees_of rs trees ++ cons_option (option_map (λ t. (r, t)) (lookup (is_at (addr_cmp r)) trees)) []
@@ -352,55 +344,96 @@ one_more rs trees i d lt o is =
     ∙ one_picked (take i rs) trees (get_or rs i d)
     ∙ ap (λ x. trees_of (take i rs) trees ++ cons_option (option_map (λ t. (get_or rs i d, t)) x) []) is
 
--- who is in the AS of one of two has the tree of the edges to these
-pub tree_for : (c : Configuration) (a b : Addr) (rs : List Addr) → rs ≡ members_of c a b → IsSound c → IsStrictlySortedBy addr_cmp (keys_of c.nodes) → OwnEdgesMakeATree → (r : Addr) → is_among r rs ≡ true → tree_of (nodes_of c) (edges_to rs (edges_of c)) r ≡ costs_of c r
-tree_for c a b rs is sound sorted own r among =
-    tree_by_own rs own (nodes_of c) (edges_of c) (edge_metrics c sound) r
-    (λ x share. ap (is_among x) is ∙ shares_in c a b sorted r x (sym (ap (is_among r) is) ∙ among) share)
+-- who is in the AS of one of two has its tree in a graph of the edges to these and of the nodes near them
+module _ (c : Configuration) (a b : Addr) (rs : List Addr) (is : rs ≡ members_of c a b) (sound : IsSound c) (sorted : IsStrictlySortedBy addr_cmp (keys_of c.nodes)) (g : Topology) (are : AreNear c (near rs g.edges) g.nodes) (edges : g.edges ≡ edges_to rs (edges_of c)) (r : Addr) (among : is_among r rs ≡ true) where
+  node_there : is_node (nodes_of c) r ≡ true
+  node_there = inside_node c a b sorted r (sym (ap (is_among r) is) ∙ among)
+
+  pub node_for : is_node g.nodes r ≡ true
+  node_for = node_near c rs g.edges g.nodes are r among ∙ node_there
+
+  pub tree_for : TreeOfIsATree → TreesAreOne → OwnEdgesMakeATree → OwnNodesMakeATree → tree_of g.nodes g.edges r ≡ costs_of c r
+  tree_for law one by_edges by_nodes =
+      let top = subst (IsTopology (nodes_of c)) (sym edges) (edges_fit rs (nodes_of c) (edges_of c) (topology c sound sorted)) in
+      let metrics = subst (All (λ e. IsMetric e.2)) (sym edges) (metrics_fit rs (edges_of c) (edge_metrics c sound)) in
+      tree_near c rs g.edges g.nodes are by_nodes law one sound top metrics r among node_there
+      ∙ ap (λ es. tree_of (nodes_of c) es r) edges
+      ∙ tree_by_own rs by_edges (nodes_of c) (edges_of c) (edge_metrics c sound) r
+      (λ x share. ap (is_among x) is ∙ shares_in c a b sorted r x (sym (ap (is_among r) is) ∙ among) share)
 
 -- AN EDIT OF A LINK
 
-module _ (c d : Configuration) (a b : Addr) (rs : List Addr) (is : rs ≡ members_of c a b) (sound : IsSound c) (after : IsSound d) (sorted : IsStrictlySortedBy addr_cmp (keys_of c.nodes)) (linked : IsLinked c d a b) (own : OwnEdgesMakeATree) where
+module _ (c d : Configuration) (a b : Addr) (rs : List Addr) (is : rs ≡ members_of d a b) (sound : IsSound c) (after : IsSound d) (sorted : IsStrictlySortedBy addr_cmp (keys_of c.nodes)) (linked : IsLinked c d a b) (own : OwnEdgesMakeATree) where
   same_nodes : nodes_of d ≡ nodes_of c
   same_nodes = ap nodes_of linked.is
 
+  were : rs ≡ members_of c a b
+  were = is ∙ ap (λ x. members_of x a b) linked.is
+
+  sorted_then : IsStrictlySortedBy addr_cmp (keys_of d.nodes)
+  sorted_then = subst (λ (x : Configuration). IsStrictlySortedBy addr_cmp (keys_of x.nodes)) (sym linked.is) sorted
+
   whole : (r : Addr) → is_among r rs ≡ true → (x : Addr) → IsTrue (share_as (nodes_of c) r x) → is_among x rs ≡ true
-  whole r among x share = ap (is_among x) is ∙ shares_in c a b sorted r x (sym (ap (is_among r) is) ∙ among) share
-
-  pub tree_then : (r : Addr) → is_among r rs ≡ true → tree_of (nodes_of d) (edges_to rs (edges_of d)) r ≡ tree_of (nodes_of d) (edges_of d) r
-  tree_then r among = tree_by_own rs own (nodes_of d) (edges_of d) (edge_metrics d after) r (λ x share. whole r among x (subst (λ ns. IsTrue (share_as ns r x)) same_nodes share))
-
-  pub were_members : TreeOfIsATree → (trees : List (Addr × Reached)) (change : Change) → AreKept c trees → IsChange change (edges_of c) (edges_of d) → WereTreesOf rs change (nodes_of d) (edges_to rs (edges_of d)) trees
-  were_members law trees change kept changes r t among found =
-      let there = kept_is c r t (sym (kept r) ∙ found) in
-      let node : IsTrue (is_node (nodes_of c) r) = same_node c r ∙ end_node c r sound there.0 in
-      let tree = law (nodes_of c) (edges_to rs (edges_of c)) (edges_fit rs (nodes_of c) (edges_of c) (topology c sound sorted)) (metrics_fit rs (edges_of c) (edge_metrics c sound)) r node in
-      let same : tree_of (nodes_of c) (edges_to rs (edges_of c)) r ≡ t = tree_by_own rs own (nodes_of c) (edges_of c) (edge_metrics c sound) r (whole r among) ∙ sym there.1 in
-      let was : IsTreeOf (nodes_of c) (edges_to rs (edges_of c)) r t = subst (λ (x : Reached). IsTreeOf (nodes_of c) (edges_to rs (edges_of c)) r x) same tree in
-      subst (λ n. WasTreeOf change n (edges_to rs (edges_of d)) r t) (sym same_nodes)
-      (record {
-        source = was.source;
-        node = node;
-        was = record { before = edges_to rs (edges_of c); changes = same_change rs change (edges_of c) (edges_of d) changes; was = subst (λ s. IsTreeOf (nodes_of c) (edges_to rs (edges_of c)) s t) (sym was.source) was };
-      })
+  whole r among x share = ap (is_among x) were ∙ shares_in c a b sorted r x (sym (ap (is_among r) were) ∙ among) share
 
   module _ (change : Change) (changed : edge_change (ends_of a b) (metric_up c a b) (metric_up d a b) ≡ Some change) (changes : IsChange change (edges_of c) (edges_of d)) where
     tree_still : (r : Addr) → is_among r rs ≡ false → costs_of c r ≡ costs_of d r
     tree_still r out =
-        tree_stays c a b sorted change (changed_ends (ends_of a b) (metric_up c a b) (metric_up d a b) change changed) (edges_of c) (edges_of d) changes r (sym (ap (is_among r) is) ∙ out) own (edge_metrics c sound) (edge_metrics d after)
+        tree_stays c a b sorted change (changed_ends (ends_of a b) (metric_up c a b) (metric_up d a b) change changed) (edges_of c) (edges_of d) changes r (sym (ap (is_among r) were) ∙ out) own (edge_metrics c sound) (edge_metrics d after)
         ∙ ap (λ ns. tree_of ns (edges_of d) r) (sym same_nodes)
 
-    pub kept_then : (trees made : List (Addr × Reached)) → AreKept c trees → ((r : Addr) → is_among r rs ≡ true → lookup (is_at (addr_cmp r)) made ≡ option_map (λ t. tree_of (nodes_of d) (edges_to rs (edges_of d)) r) (lookup (is_at (addr_cmp r)) trees)) → ((r : Addr) → is_among r rs ≡ false → lookup (is_at (addr_cmp r)) made ≡ lookup (is_at (addr_cmp r)) trees) → AreKept d made
-    kept_then trees made kept these others r = by (is_among r rs) refl
+    -- an end of an edge that is gone is one of these
+    lost_end : (x y : Addr) (m : ℕ) → HasEdge (edges_of c) x y m → AreEndsOf change x y → is_among x rs ≡ true
+    lost_end x y m edge ends = ap (is_among x) were ∙ itself_in c a b sorted x (end_in c a b sorted x x (which ends)) (edge_node (nodes_of c) (edges_of c) (topology c sound sorted) x y m edge)
       where
-        by : (t : Bool) → is_among r rs ≡ t → lookup (is_at (addr_cmp r)) made ≡ tree_kept d r
-        by true among =
-            these r among
-            ∙ ap (λ x. option_map (λ t. x) (lookup (is_at (addr_cmp r)) trees)) (tree_then r among)
-            ∙ ap (option_map (λ t. tree_of (nodes_of d) (edges_of d) r)) (kept r)
-            ∙ kept_with_link c d a b linked r
-        by false out =
-            others r out
-            ∙ kept r
-            ∙ ap (λ x. if ends_session c r then Some x else None) (tree_still r out)
-            ∙ ap (λ x. if ends_session x r then Some (costs_of d r) else None) (sym linked.is)
+        link : ((ends_of a b).low, (ends_of a b).high) ≡ edge_ends change
+        link = changed_ends (ends_of a b) (metric_up c a b) (metric_up d a b) change changed
+
+        which : AreEndsOf change x y → (x ≡ (ends_of a b).low) ⊎ (x ≡ (ends_of a b).high)
+        which (inl both) = inl (both.0 ∙ sym (ap (λ p. p.0) link))
+        which (inr both) = inr (both.0 ∙ sym (ap (λ p. p.1) link))
+
+    module _ (g : Topology) (are : AreNear d (near rs g.edges) g.nodes) (edges : g.edges ≡ edges_to rs (edges_of d)) where
+      abbrev before : Edges
+      before = edges_to rs (edges_of c)
+
+      changes_to : IsChange change before g.edges
+      changes_to = subst (IsChange change before) (sym edges) (same_change rs change (edges_of c) (edges_of d) changes)
+
+      -- so the nodes near the edges of after are near those of before
+      was_near : (x y : Addr) (m : ℕ) → HasEdge before x y m → is_among x (near rs g.edges) ≡ true
+      was_near x y m h = elim (changes_to.lost x y m h) [
+        | inl still ↦ end_near rs g.edges x y m still
+        | inr gone ↦ member_near rs g.edges x (lost_end x y m (edge_was rs (edges_of c) x y m h) gone.ends)
+      ]
+
+      pub were_members : TreeOfIsATree → OwnNodesMakeATree → (trees : List (Addr × Reached)) → AreKept c trees → WereTreesOf rs change g.nodes g.edges trees
+      were_members law by_nodes trees kept r t among found =
+          let there = kept_is c r t (sym (kept r) ∙ found) in
+          let node : is_node (nodes_of c) r ≡ true = same_node c r ∙ end_node c r sound there.0 in
+          let metrics = metrics_fit rs (edges_of c) (edge_metrics c sound) in
+          let tree = law (nodes_of c) before (edges_fit rs (nodes_of c) (edges_of c) (topology c sound sorted)) metrics r node in
+          let same : tree_of (nodes_of c) before r ≡ t = tree_by_own rs own (nodes_of c) (edges_of c) (edge_metrics c sound) r (whole r among) ∙ sym there.1 in
+          let was : IsTreeOf (nodes_of c) before r t = subst (λ (x : Reached). IsTreeOf (nodes_of c) before r x) same tree in
+          let alike = subst (λ ns. AreAlikeOver ns g.nodes before r) same_nodes (alike_over d rs g.edges g.nodes are before was_near r among) in
+          let near = by_nodes (nodes_of c) g.nodes before metrics r alike t was in
+          record {
+            source = was.source;
+            node = node_near d rs g.edges g.nodes are r among ∙ ap (λ ns. is_node ns r) same_nodes ∙ node;
+            was = record { before = before; changes = changes_to; was = subst (λ s. IsTreeOf g.nodes before s t) (sym was.source) near };
+          }
+
+      pub kept_then : TreeOfIsATree → TreesAreOne → OwnNodesMakeATree → (trees made : List (Addr × Reached)) → AreKept c trees → ((r : Addr) → is_among r rs ≡ true → lookup (is_at (addr_cmp r)) made ≡ option_map (λ t. tree_of g.nodes g.edges r) (lookup (is_at (addr_cmp r)) trees)) → ((r : Addr) → is_among r rs ≡ false → lookup (is_at (addr_cmp r)) made ≡ lookup (is_at (addr_cmp r)) trees) → AreKept d made
+      kept_then law one by_nodes trees made kept these others r = by (is_among r rs) refl
+        where
+          by : (t : Bool) → is_among r rs ≡ t → lookup (is_at (addr_cmp r)) made ≡ tree_kept d r
+          by true among =
+              these r among
+              ∙ ap (λ x. option_map (λ t. x) (lookup (is_at (addr_cmp r)) trees)) (tree_for d a b rs is after sorted_then g are edges r among law one own by_nodes)
+              ∙ ap (option_map (λ t. tree_of (nodes_of d) (edges_of d) r)) (kept r)
+              ∙ kept_with_link c d a b linked r
+          by false out =
+              others r out
+              ∙ kept r
+              ∙ ap (λ x. if ends_session c r then Some x else None) (tree_still r out)
+              ∙ ap (λ x. if ends_session x r then Some (costs_of d r) else None) (sym linked.is)

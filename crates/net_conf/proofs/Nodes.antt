@@ -27,7 +27,7 @@ pub same_node : (c : Configuration) (a : Addr) → is_node (nodes_of c) a ≡ ha
 same_node c a = ap is_some (lookup-map_values (λ n. n.asn) (is_at (addr_cmp a)) c.nodes) ∙ some_mapped (λ n. n.asn) (node_at c a)
 
 module _ (c : Configuration) where
-  abbrev HasNodes : Addr × Addr × ℕ → Type 0
+  abbrev pub HasNodes : Addr × Addr × ℕ → Type 0
   HasNodes e = IsTrue (is_node (nodes_of c) e.0) × IsTrue (is_node (nodes_of c) e.1)
 
   kept_edge : (e : Ends × Link) (up : Bool) (edges : List (Addr × Addr × ℕ)) → HasEnds c e.0 → All HasNodes edges → All HasNodes (cons_option (if up then Some (e.0.low, e.0.high, e.1.metric) else None) edges)
@@ -38,11 +38,14 @@ module _ (c : Configuration) where
   ends_hold [] all = All-nil HasNodes
   ends_hold (e ∷ links) all = kept_edge e e.1.up (filter_map edge_of links) (All-head (HasEnds c) e.0 (keys_of links) all) (ends_hold links (All-tail (HasEnds c) e.0 (keys_of links) all))
 
+  pub ends_are_nodes : IsSound c → All HasNodes (edges_of c)
+  ends_are_nodes sound = ends_hold c.links sound.links
+
   pub topology : IsSound c → IsStrictlySortedBy addr_cmp (keys_of c.nodes) → IsTopology (nodes_of c) (edges_of c)
   topology sound ascending = record {
     size = subst (λ n. n ≤ most_nodes) (sym (length-map c.nodes (λ e. (e.0, e.1.asn)))) sound.size;
     ascending = subst (IsStrictlySortedBy addr_cmp) (sym (keys_of-map_values (λ n. n.asn) c.nodes)) ascending;
-    ends = ends_hold c.links sound.links;
+    ends = ends_are_nodes sound;
   }
 
   pub sorted_nodes : IsStrictlySortedBy addr_cmp (keys_of c.nodes) → IsStrictlySortedBy addr_cmp (keys_of (nodes_of c))

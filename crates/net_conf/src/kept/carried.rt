@@ -11,7 +11,7 @@ ghost use Rattle.net_conf.specs.Kept.{WereTrees};
 ghost use Rattle.net_conf.specs.Members.{WereTreesOf};
 ghost use Rattle.net_conf.specs.MovedTrees.{with_tree, with_source};
 
-use crate::kept::moved_trees::{moved_members, moved_trees, trees_after};
+use crate::kept::moved_trees::{make_in_turn, moved_members, moved_trees, trees_after};
 use igp_cost::{Change, Graph, Tree};
 use net_prefix::Addr;
 use shared_map::ChunkedMap;
@@ -50,13 +50,11 @@ pub(crate) fn carry_trees<R: Threads + Sync>(
     Ok(carried)
 }
 
-/// The trees, with those of these as they are in the graph, of so many nodes: the map is shared, and what moves is put
-/// in.
-pub(crate) fn carry_members<R: Threads + Sync>(
-    rt: &R,
+/// The trees, with those of these as they are in the graph: the map is shared, and what moves is put in. These are few,
+/// so this thread makes them.
+pub(crate) fn carry_members(
     alloc: Global,
     graph: &Graph,
-    nodes: usize,
     change: &Change,
     members: &[Addr],
     old: &ChunkedMap<Addr, Tree>,
@@ -71,7 +69,7 @@ pub(crate) fn carry_members<R: Threads + Sync>(
         lookup (is_at (addr_cmp r)) made.trees ≡ lookup (is_at (addr_cmp r)) old.now) }
 {
     let moved = moved_members(alloc, graph, change, members, old)?;
-    let made = trees_after(rt, alloc, &moved, nodes)?;
+    let made = make_in_turn(alloc, &moved)?;
     let carried = with_trees(alloc, old, made)?;
     Ok(carried)
 }

@@ -1,6 +1,6 @@
 //! The configuration after an edit, made beside the one before.
 
-ghost use Rattle.std.specs.Prelude.{◌≡◌, None, true, IfOk, OnOk, cond, Some, is_some};
+ghost use Rattle.std.specs.Prelude.{◌≡◌, None, true, IfOk, OnOk, cond, Some};
 ghost use Rattle.std.specs.Map.{lookup};
 ghost use Rattle.std.specs.BTreeMap.{is_at};
 ghost use Rattle.net_prefix.specs.declared.addr.Addr.{Addr};
@@ -17,7 +17,7 @@ use crate::kept::conf_trees::ConfTrees;
 use crate::tables::{ConfTables, are_few};
 use igp_cost::{
     Graph, Tree, lone_node_moves_no_tree, one_edge_is_a_change, own_edges_make_a_tree,
-    tree_of_is_a_tree,
+    own_nodes_make_a_tree, tree_of_is_a_tree, trees_are_one,
 };
 use net_prefix::Addr;
 use seq::Copied;
@@ -124,7 +124,7 @@ impl ConfTrees {
         }
         let members = tables.members(alloc, one, other)?;
         if are_few(&members) {
-            self.trees_of_members(rt, alloc, tables, one, other, &members)
+            self.trees_of_members(alloc, tables, one, other, &members)
         } else {
             self.trees_of_all(rt, alloc, tables, one, other)
         }
@@ -164,9 +164,8 @@ impl ConfTrees {
 
     /// The same: those of these are asked who are all in the AS of one of the two, since no other tree hangs on the
     /// link.
-    fn trees_of_members<R: Threads + Sync>(
+    fn trees_of_members(
         &self,
-        rt: &R,
         alloc: Global,
         tables: &ConfTables,
         one: Addr,
@@ -181,21 +180,14 @@ impl ConfTrees {
     {
         one_edge_is_a_change();
         tree_of_is_a_tree();
+        trees_are_one();
         own_edges_make_a_tree();
+        own_nodes_make_a_tree();
         self.tables.orders();
         match self.tables.change_to(tables, one, other) {
             Some(change) => {
                 let graph = tables.graph_to(alloc, members)?;
-                let nodes = tables.node_count();
-                let carried = carry_members(
-                    rt,
-                    alloc,
-                    &graph,
-                    nodes,
-                    &change,
-                    members,
-                    &self.trees,
-                )?;
+                let carried = carry_members(alloc, &graph, &change, members, &self.trees)?;
                 Ok(carried)
             }
             None => {

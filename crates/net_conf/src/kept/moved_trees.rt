@@ -186,7 +186,7 @@ pub(crate) fn trees_after<R: Threads + Sync>(
 }
 
 /// The trees after the change, made by this thread, one after another.
-fn make_in_turn(alloc: Global, moved: &[MovedTree<'_>]) -> Result<Vec<Tree>, AllocError>
+pub(crate) fn make_in_turn(alloc: Global, moved: &[MovedTree<'_>]) -> Result<Vec<Tree>, AllocError>
     ensures { IfOk result (λ trees. trees.items ≡ map tree_after moved.now) }
 {
     let mut trees = Vec::with_capacity(alloc, moved.len())?;

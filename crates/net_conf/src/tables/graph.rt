@@ -1,20 +1,25 @@
 //! Interior costs of a configuration.
 
 ghost use Rattle.std.specs.Prelude.{◌≡◌, true, IfOk, IsTrue, Some};
+ghost use Rattle.std.specs.List.{filter_map};
 ghost use Rattle.std.specs.List.Sorted.{IsStrictlySortedBy};
 ghost use Rattle.std.specs.Map.{keys_of};
 ghost use Rattle.net_prefix.specs.Address.{addr_cmp};
 ghost use Rattle.net_conf.specs.Configuration.{ends_of, has_node};
 ghost use Rattle.net_conf.specs.Costs.{nodes_of, edge_of, edges_of, costs_of};
+ghost use Rattle.igp_cost.specs.Topology.{is_node};
 ghost use Rattle.igp_cost.specs.Trees.{tree_of};
 ghost use Rattle.igp_cost.specs.Walks.{is_one_number};
 ghost use Rattle.net_conf.specs.Concerned.{is_among};
 ghost use Rattle.net_conf.specs.Kept.{IsSound, metric_up, edge_change};
-ghost use Rattle.net_conf.specs.Members.{members_of, leads_to, edges_to};
+ghost use Rattle.net_conf.specs.Members.{members_of, edge_near, edges_to, near, node_at, nodes_at, AreNear};
 
 use crate::tables::conf_tables::ConfTables;
 use crate::tables::{Ends, Link};
-use igp_cost::{Change, Graph, Metric, Tree, own_edges_make_a_tree};
+use igp_cost::{
+    Change, Graph, Metric, Tree, own_edges_make_a_tree, own_nodes_make_a_tree, tree_of_is_a_tree,
+    trees_are_one,
+};
 use net_prefix::Addr;
 use path_attr::Asn;
 use std::alloc::{AllocError, Global};
@@ -82,24 +87,62 @@ impl ConfTables {
         alloc: Global,
         members: &[Addr],
     ) -> Result<Vec<(Addr, Addr, Metric)>, AllocError>
-        ensures { IfOk result (λ v. v.items ≡ edges_to members.now (edges_of self.now)) }
+        ensures { IfOk result (λ v. v.items ≡ filter_map (edge_near members.now) self.now.links) }
     {
         self.links
             .as_slice()
             .iter()
-            .filter_map(|entry| edge_of(entry.0, entry.1))
-            .filter(|edge| leads_to(members, edge))
+            .filter_map(|(ends, link)| edge_near(members, *ends, *link))
             .collect(alloc)
     }
 
-    /// The graph of the links that are up and lead to one of these.
+    /// The node of the address, if it has one, with its AS.
+    fn node_at(&self, addr: Addr) -> Option<(Addr, Asn)>
+        ensures { result ≡ node_at self.now addr }
+    {
+        let asn = self.as_of(addr)?;
+        Some((addr, asn))
+    }
+
+    /// The nodes of these addresses, each with its AS.
+    fn nodes_at(&self, alloc: Global, addrs: &[Addr]) -> Result<Vec<(Addr, Asn)>, AllocError>
+        ensures { IfOk result (λ v. v.items ≡ nodes_at self.now addrs.now) }
+    {
+        addrs
+            .iter()
+            .filter_map(|addr| self.node_at(*addr))
+            .collect(alloc)
+    }
+
+    /// The nodes of these addresses and those at the ends of the edges, in order of address. Where as many are named as
+    /// there are nodes, it is all nodes.
+    fn near_nodes(
+        &self,
+        alloc: Global,
+        members: &[Addr],
+        edges: &[(Addr, Addr, Metric)],
+    ) -> Result<Vec<(Addr, Asn)>, AllocError>
+        ensures { IfOk result (λ v. AreNear self.now (near members.now edges.now) v.items) }
+    {
+        let mut addrs = near_addrs(alloc, members, edges)?;
+        if addrs.len() < self.node_count() {
+            addrs.sort_unstable();
+            addrs.dedup();
+            self.nodes_at(alloc, &addrs)
+        } else {
+            self.node_list(alloc)
+        }
+    }
+
+    /// The graph of the links that are up and lead to one of these. Its nodes are these and those at the ends of its
+    /// edges, or all.
     pub(crate) fn graph_to(&self, alloc: Global, members: &[Addr]) -> Result<Graph, AllocError>
         requires { IsSound self.now }
-        ensures { IfOk result (λ g.
-            g ≡ record { nodes = nodes_of self.now; edges = edges_to members.now (edges_of self.now) }) }
+        ensures nodes { IfOk result (λ g. AreNear self.now (near members.now g.edges) g.nodes) }
+        ensures edges { IfOk result (λ g. g.edges ≡ edges_to members.now (edges_of self.now)) }
     {
-        let nodes = self.node_list(alloc)?;
         let edges = self.edge_list_to(alloc, members)?;
+        let nodes = self.near_nodes(alloc, members, &edges)?;
         Graph::build(alloc, &nodes, &edges)
     }
 
@@ -114,14 +157,19 @@ impl ConfTables {
         requires sound { IsSound self.now }
         requires first { has_node self.now one ≡ true }
         requires second { has_node self.now other ≡ true }
-        ensures nodes { IfOk result (λ g. g.nodes ≡ nodes_of self.now) }
+        ensures first { IfOk result (λ g. is_node g.nodes one ≡ true) }
+        ensures second { IfOk result (λ g. is_node g.nodes other ≡ true) }
         ensures one { IfOk result (λ g. tree_of g.nodes g.edges one ≡ costs_of self.now one) }
         ensures other { IfOk result (λ g. tree_of g.nodes g.edges other ≡ costs_of self.now other) }
     {
+        tree_of_is_a_tree();
+        trees_are_one();
         own_edges_make_a_tree();
+        own_nodes_make_a_tree();
         let members = self.members(alloc, one, other)?;
         if are_few(&members) {
-            self.graph_to(alloc, &members)
+            let graph = self.graph_to(alloc, &members)?;
+            Ok(graph)
         } else {
             self.graph(alloc)
         }
@@ -200,11 +248,31 @@ fn is_among(members: &[Addr], addr: Addr) -> bool
     }
 }
 
-/// Whether one of these is an end of the edge.
-fn leads_to(members: &[Addr], edge: &(Addr, Addr, Metric)) -> bool
-    ensures { result ≡ leads_to members.now edge.now }
+/// The link, if it is up and leads to one of these, with its metric.
+fn edge_near(members: &[Addr], ends: Ends, link: Link) -> Option<(Addr, Addr, Metric)>
+    ensures { result ≡ edge_near members.now (ends, link) }
 {
-    is_among(members, edge.0) || is_among(members, edge.1)
+    if is_among(members, ends.low) || is_among(members, ends.high) {
+        edge_of(ends, link)
+    } else {
+        None
+    }
+}
+
+/// These and the ends of the edges, each as often as it is named.
+fn near_addrs(
+    alloc: Global,
+    members: &[Addr],
+    edges: &[(Addr, Addr, Metric)],
+) -> Result<Vec<Addr>, AllocError>
+    ensures { IfOk result (λ v. v.items ≡ near members.now edges.now) }
+{
+    members
+        .iter()
+        .map(|member| *member)
+        .chain(edges.iter().map(|edge| edge.0))
+        .chain(edges.iter().map(|edge| edge.1))
+        .collect(alloc)
 }
 
 fn edge_of(ends: Ends, link: Link) -> Option<(Addr, Addr, Metric)>

@@ -2,13 +2,11 @@ use Rattle.std.proofs.Common.{◌≡◌, ◌∙◌, true, cond, Some, sym, ap, s
 use Rattle.std.specs.Map.{lookup}
 use Rattle.std.specs.BTreeMap.{is_at}
 use Rattle.net_prefix.specs.Address.{addr_cmp}
-use Rattle.igp_cost.specs.Topology.{is_node}
 use Rattle.igp_cost.specs.Trees.{tree_of}
 use Rattle.net_conf.specs.Configuration.{ends_session}
 use Rattle.net_conf.specs.Costs.{costs_of}
 use Rattle.net_conf.specs.Kept.{IsJoined}
 use Rattle.net_conf.proofs.KeptTrees.{end_node}
-use Rattle.net_conf.proofs.Nodes.{same_node}
 use Rattle.net_conf.proofs.TreesAfter.{kept_still, stay_joined, first_joined, second_joined, kept_joined, right_still, right_then, at_one}
 use Rattle.net_conf.proofs.kept.conf_trees.ConfTrees.trees_with_session.Goals as goal
 
@@ -35,16 +33,10 @@ graph_for-requires-clause-second c =
     end_node d b c.requires.sound (second_joined c.args.self.now d c.args.one b c.requires.joined)
 
 pub add_missing-requires-clause-node : goal.add_missing-requires-clause-node
-add_missing-requires-clause-node c =
-    let d = c.args.tables.now in
-    let a = c.args.one in
-    ap (λ ns. is_node ns a) c.in_ok-graph.ensures.nodes ∙ same_node d a ∙ end_node d a c.requires.sound (first_joined c.args.self.now d a c.args.other c.requires.joined)
+add_missing-requires-clause-node c = c.in_ok-graph.ensures.first
 
 pub add_missing-requires-2-clause-node : goal.add_missing-requires-2-clause-node
-add_missing-requires-2-clause-node c =
-    let d = c.args.tables.now in
-    let b = c.args.other in
-    ap (λ ns. is_node ns b) c.in_ok-graph.ensures.nodes ∙ same_node d b ∙ end_node d b c.requires.sound (second_joined c.args.self.now d c.args.one b c.requires.joined)
+add_missing-requires-2-clause-node c = c.in_ok-graph.ensures.second
 
 pub add_missing-requires-clause-right : goal.add_missing-requires-clause-right
 add_missing-requires-clause-right c t found =
