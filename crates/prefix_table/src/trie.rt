@@ -30,7 +30,8 @@ use std::marker::Model;
 pub struct TrieTable<V> {
     nodes: Vec<Node>,
     values: Vec<V>,
-    /// Where the prefix stands whose value was replaced last: mostly it is replaced once more.
+    /// Where the prefix stands whose value was replaced or changed last: mostly it is replaced once more, or the one
+    /// that came after it is next.
     last: Option<Way>,
 }
 
@@ -139,20 +140,23 @@ fn replace_in<V>(
     }
 }
 
-/// Changes the prefix's value where it stands, and says whether it has one.
+/// Changes the prefix's value where it stands, and says whether it has one. The node that comes closest to it is known,
+/// if there is a node.
 fn adjust_in<V, A: Adjust<V>>(
     nodes: &[Node],
     values: &mut Vec<V>,
+    near: &Option<Way>,
     prefix: Prefix,
     change: &A,
 ) -> bool
-    requires { IsIndex nodes.now values.old.items }
+    requires index { IsIndex nodes.now values.old.items }
+    requires near { IsNear nodes.now prefix near.now }
     ensures index { IsIndex nodes.now values.new.items }
     ensures there { result ≡ is_some (map.get (table_in nodes.now values.old.items) prefix) }
     ensures adjusted { table_in nodes.now values.new.items ≡ adjusted (A.after change.now) prefix
         (table_in nodes.now values.old.items) }
 {
-    match find_place(nodes, prefix) {
+    match place_by(nodes, near, prefix) {
         Some(place) => {
             change.adjust(&mut values[place]);
             true
@@ -215,7 +219,8 @@ impl<V: Drop> PrefixTable<V> for TrieTable<V> {
     }
 
     fn adjust<A: Adjust<V>>(&mut self, prefix: Prefix, change: &A) -> bool {
-        adjust_in(&self.nodes, &mut self.values, prefix, change)
+        self.last = way_to(&self.nodes, &self.last, prefix);
+        adjust_in(&self.nodes, &mut self.values, &self.last, prefix, change)
     }
 
     fn longest(&self, addr: Addr, most: u8) -> Option<(Prefix, &V)> {

@@ -1,6 +1,7 @@
 //! A prefix that was looked for, and where: who looks for it again begins there.
 
-ghost use Rattle.std.specs.Prelude.{◌≡◌, ◌<◌, length};
+ghost use Rattle.std.specs.Prelude.{◌≡◌, ◌+◌, ◌<◌, length};
+ghost use Rattle.std.specs.Bool.{OnTrue};
 ghost use Rattle.std.specs.FinMap as map;
 ghost use Rattle.net_prefix.specs.Prefix.{Covers};
 ghost use Rattle.prefix_table.specs.Trie.{IsTrie, places_in, prefix_at};
@@ -8,7 +9,7 @@ ghost use Rattle.prefix_table.specs.Ways.{IsNear, IsOnWay};
 
 use crate::descent::closest;
 use crate::index::place_near;
-use crate::node::{Node, NodeId};
+use crate::node::{Node, NodeId, prefix_of};
 use net_prefix::Prefix;
 
 /// A prefix, and a node on the way to it.
@@ -18,7 +19,18 @@ pub(crate) struct Way {
     pub(crate) at: NodeId,
 }
 
-/// The node to begin at on the way to the prefix: the one that is known, or the root.
+/// Whether the node made after this one is on the way to the prefix. So it is where prefixes are looked for in the order
+/// in which they came.
+fn is_next_on_way(nodes: &[Node], at: NodeId, prefix: Prefix) -> bool
+    requires { at.0 < length nodes.now }
+    ensures here { OnTrue result (at.0 + 1 < length nodes.now) }
+    ensures covers { OnTrue result (Covers (prefix_at nodes.now (at.0 + 1)) prefix) }
+{
+    let next = at.0 + 1;
+    next < nodes.len() && prefix_of(nodes, NodeId(next)).covers(&prefix)
+}
+
+/// The node to begin at on the way to the prefix: the one that is known, the one made after it, or the root.
 fn begin(nodes: &[Node], known: &Option<Way>, prefix: Prefix) -> NodeId
     requires trie { IsTrie nodes.now }
     requires some { 0 < length nodes.now }
@@ -28,11 +40,12 @@ fn begin(nodes: &[Node], known: &Option<Way>, prefix: Prefix) -> NodeId
 {
     match *known {
         Some(way) if way.to == prefix => way.at,
+        Some(way) if is_next_on_way(nodes, way.at, prefix) => NodeId(way.at.0 + 1),
         _ => NodeId(0),
     }
 }
 
-/// The prefix and the node that comes closest to it, if there is a node. What is known of another prefix is not used.
+/// The prefix and the node that comes closest to it, if there is a node.
 pub(crate) fn way_to(nodes: &[Node], known: &Option<Way>, prefix: Prefix) -> Option<Way>
     requires trie { IsTrie nodes.now }
     requires known { IsOnWay nodes.now known.now }
