@@ -85,14 +85,44 @@ fn add_in<V>(nodes: &mut Vec<Node>, values: &mut Vec<V>, near: NodeId, prefix: P
     values.push_reserved(value);
 }
 
-/// Gives the prefix this value. All room is made before a node is linked.
-fn put_in<V: Drop>(
+/// Gives the prefix this value. The node that comes closest to it is known. All room is made before a node is linked.
+fn put_near<V: Drop>(
+    nodes: &mut Vec<Node>,
+    values: &mut Vec<V>,
+    near: NodeId,
+    prefix: Prefix,
+    value: V,
+) -> Result<Option<V>, V>
+    requires index { IsIndex nodes.old.items values.old.items }
+    requires near { IsClosest nodes.old.items prefix near.0 }
+    ensures index { IsIndex nodes.new.items values.new.items }
+    ensures before { IfOk result (λ before. before ≡ map.get (table_in nodes.old.items values.old.items) prefix) }
+    ensures inserted { OnOk result (table_in nodes.new.items values.new.items ≡ map.insert
+        (table_in nodes.old.items values.old.items) prefix value) }
+    ensures absent { OnErr result (map.get (table_in nodes.old.items values.old.items) prefix ≡ None) }
+    ensures back { IfErr result (λ back. back ≡ value) }
+    ensures same { OnErr result
+        (table_in nodes.new.items values.new.items ≡ table_in nodes.old.items values.old.items) }
+{
+    if let Some(place) = place_near(nodes, near, prefix) {
+        return Ok(Some(write(values, place, value)));
+    }
+    let (Ok(()), Ok(())) = (make_room(nodes, NEW_NODES), make_room(values, 1)) else {
+        return Err(value);
+    };
+    add_in(nodes, values, near, prefix, value);
+    Ok(None)
+}
+
+/// Gives the prefix this value, in a table without a node.
+fn put_first<V: Drop>(
     nodes: &mut Vec<Node>,
     values: &mut Vec<V>,
     prefix: Prefix,
     value: V,
 ) -> Result<Option<V>, V>
-    requires { IsIndex nodes.old.items values.old.items }
+    requires index { IsIndex nodes.old.items values.old.items }
+    requires none { length nodes.old.items ≡ 0 }
     ensures index { IsIndex nodes.new.items values.new.items }
     ensures before { IfOk result (λ before. before ≡ map.get (table_in nodes.old.items values.old.items) prefix) }
     ensures inserted { OnOk result (table_in nodes.new.items values.new.items ≡ map.insert
@@ -106,14 +136,32 @@ fn put_in<V: Drop>(
         return Err(value);
     };
     let near = closest(nodes, NodeId(0), prefix);
-    if let Some(place) = place_near(nodes, near, prefix) {
-        return Ok(Some(write(values, place, value)));
+    put_near(nodes, values, near, prefix, value)
+}
+
+/// Gives the prefix this value. The node that comes closest to it is known, if there is a node.
+fn put_in<V: Drop>(
+    nodes: &mut Vec<Node>,
+    values: &mut Vec<V>,
+    near: &Option<Way>,
+    prefix: Prefix,
+    value: V,
+) -> Result<Option<V>, V>
+    requires index { IsIndex nodes.old.items values.old.items }
+    requires near { IsNear nodes.old.items prefix near.now }
+    ensures index { IsIndex nodes.new.items values.new.items }
+    ensures before { IfOk result (λ before. before ≡ map.get (table_in nodes.old.items values.old.items) prefix) }
+    ensures inserted { OnOk result (table_in nodes.new.items values.new.items ≡ map.insert
+        (table_in nodes.old.items values.old.items) prefix value) }
+    ensures absent { OnErr result (map.get (table_in nodes.old.items values.old.items) prefix ≡ None) }
+    ensures back { IfErr result (λ back. back ≡ value) }
+    ensures same { OnErr result
+        (table_in nodes.new.items values.new.items ≡ table_in nodes.old.items values.old.items) }
+{
+    match *near {
+        Some(way) => put_near(nodes, values, way.at, prefix, value),
+        None => put_first(nodes, values, prefix, value),
     }
-    let (Ok(()), Ok(())) = (make_room(nodes, NEW_NODES), make_room(values, 1)) else {
-        return Err(value);
-    };
-    add_in(nodes, values, near, prefix, value);
-    Ok(None)
 }
 
 /// Gives a prefix that has a value this one. The node that comes closest to it is known, if there is a node.
@@ -209,8 +257,9 @@ impl<V: Drop> PrefixTable<V> for TrieTable<V> {
     }
 
     fn insert(&mut self, prefix: Prefix, value: V) -> Result<Option<V>, V> {
+        let near = way_to(&self.nodes, &self.last, prefix);
         self.last = None;
-        put_in(&mut self.nodes, &mut self.values, prefix, value)
+        put_in(&mut self.nodes, &mut self.values, &near, prefix, value)
     }
 
     fn replace(&mut self, prefix: Prefix, value: V) -> Result<V, V> {
