@@ -43,13 +43,13 @@ edge_near rs e = if is_among e.0.low rs || is_among e.0.high rs then edge_of e e
 abbrev pub near : List Addr → Edges → List Addr
 near rs edges = (rs ++ map (λ e. e.0) edges) ++ map (λ e. e.1) edges
 
--- the node of the address, if it has one, with its AS
-abbrev pub node_at : Configuration → Addr → Option (Addr × ℕ)
-node_at c x = option_map (λ n. (x, n)) (as_of c x)
+-- the address with its AS, if it is a node
+abbrev pub with_as : Configuration → Addr → Option (Addr × ℕ)
+with_as c x = option_map (λ n. (x, n)) (as_of c x)
 
 -- the nodes of these addresses, each with its AS
 abbrev pub nodes_at : Configuration → List Addr → Nodes
-nodes_at c xs = filter_map (node_at c) xs
+nodes_at c xs = filter_map (with_as c) xs
 
 -- nodes of the configuration, in order and each in its AS, and among them those of these addresses
 pub record AreNear (c : Configuration) (xs : List Addr) (nodes : Nodes) : Type 0 where

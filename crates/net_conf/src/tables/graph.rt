@@ -12,7 +12,7 @@ ghost use Rattle.igp_cost.specs.Trees.{tree_of};
 ghost use Rattle.igp_cost.specs.Walks.{is_one_number};
 ghost use Rattle.net_conf.specs.Concerned.{is_among};
 ghost use Rattle.net_conf.specs.Kept.{IsSound, metric_up, edge_change};
-ghost use Rattle.net_conf.specs.Members.{members_of, edge_near, edges_to, near, node_at, nodes_at, AreNear};
+ghost use Rattle.net_conf.specs.Members.{members_of, edge_near, edges_to, near, with_as, nodes_at, AreNear};
 
 use crate::tables::conf_tables::ConfTables;
 use crate::tables::{Ends, Link};
@@ -96,9 +96,9 @@ impl ConfTables {
             .collect(alloc)
     }
 
-    /// The node of the address, if it has one, with its AS.
-    fn node_at(&self, addr: Addr) -> Option<(Addr, Asn)>
-        ensures { result ≡ node_at self.now addr }
+    /// The address with its AS, if it is a node.
+    fn with_as(&self, addr: Addr) -> Option<(Addr, Asn)>
+        ensures { result ≡ with_as self.now addr }
     {
         let asn = self.as_of(addr)?;
         Some((addr, asn))
@@ -110,7 +110,7 @@ impl ConfTables {
     {
         addrs
             .iter()
-            .filter_map(|addr| self.node_at(*addr))
+            .filter_map(|addr| self.with_as(*addr))
             .collect(alloc)
     }
 
