@@ -19,8 +19,8 @@ pub(crate) struct Way {
     pub(crate) at: NodeId,
 }
 
-/// Whether the node made after this one is on the way to the prefix. So it is where prefixes are looked for in the order
-/// in which they came.
+/// Whether the node made after this one is on the way to the prefix. So it is where prefixes are looked for in the
+/// order in which they came.
 fn is_next_on_way(nodes: &[Node], at: NodeId, prefix: Prefix) -> bool
     requires { at.0 < length nodes.now }
     ensures here { OnTrue result (at.0 + 1 < length nodes.now) }
