@@ -153,6 +153,15 @@ module _ {A : Type 0} where
   pub read_none : (es : List (Addr × A)) (i : ℕ) → false ≡ ltb i (length es) → slice_get es i ≡ None
   read_none es i past = slice_get_past es i (ltb-false i (length es) (sym past))
 
+  -- a key is seen at its place
+  pub seen_at : (es : List (Addr × A)) (q : Addr) (i : ℕ) (e : Addr × A) → T (is_sorted addr_cmp es) → slice_get es i ≡ Some e → is_eq (addr_cmp q e.0) ≡ true → IsAt es q i
+  seen_at [] q i e sorted is same = cc
+  seen_at (x ∷ es) q zero e sorted is same = at_first x es q (ap (λ o. addr_cmp q (unwrap_or o e).0) is ∙ equal_from _ same)
+  seen_at (x ∷ es) q (suc i) e sorted is same =
+      let here : q ≡ (slice_index_or es i e).0 = addr_exact q e.0 (equal_from _ same) ∙ ap (λ (y : Addr × A). y.0) (sym (get_or_from_slice_get es i e e is)) in
+      let less : addr_cmp x.0 q ≡ Less = ap (addr_cmp x.0) here ∙ below_at x.0 es i e (first (below_all addr_cmp x.0 es) (is_sorted addr_cmp es) sorted) (slice_get_within es i e is) in
+      at_later x es q i (addr_total.antisymm q x.0 ∙ ap ordering_reverse less) (seen_at es q i e (second (below_all addr_cmp x.0 es) (is_sorted addr_cmp es) sorted) is same)
+
   -- where the search for a key ends
   pub placed : (es : List (Addr × A)) (q : Addr) (i : ℕ) (e : Addr × A) → IsPartitionPoint (λ x. is_gt (addr_cmp q x.0) ≡ true) (λ x. is_gt (addr_cmp q x.0) ≡ false) es i
       → slice_get es i ≡ Some e → is_eq (addr_cmp q e.0) ≡ true → IsAt es q i

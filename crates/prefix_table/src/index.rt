@@ -7,7 +7,7 @@ ghost use Rattle.prefix_table.specs.Tables.{IsLongestMatch, HasNoMatch, first_af
 ghost use Rattle.prefix_table.specs.Trie.{IsTrie, IsClosest, prefix_at, place_at, places_in};
 
 use crate::cut::cut;
-use crate::descent::{closest, deepest, first_later};
+use crate::descent::{deepest, first_later};
 use crate::node::{Node, NodeId, place_of, prefix_of};
 use net_prefix::{Addr, MAX_LEN, Prefix};
 
@@ -33,17 +33,6 @@ pub(crate) fn place_near(nodes: &[Node], near: NodeId, prefix: Prefix) -> Option
     } else {
         None
     }
-}
-
-/// The prefix's place, if it has one.
-pub(crate) fn find_place(nodes: &[Node], prefix: Prefix) -> Option<usize>
-    requires { IsTrie nodes.now }
-    ensures { result ≡ map.get (places_in nodes.now) prefix }
-{
-    if nodes.is_empty() {
-        return None;
-    }
-    place_near(nodes, closest(nodes, NodeId(0), prefix), prefix)
 }
 
 /// The longest key of at most this length that contains the address, and its place.

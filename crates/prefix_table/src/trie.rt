@@ -8,13 +8,13 @@ ghost use Rattle.prefix_table.specs.Numbers.{HasRoom};
 ghost use Rattle.prefix_table.specs.Tables.{seen, IsLongestMatch, HasNoMatch, first_after, adjusted};
 ghost use Rattle.prefix_table.specs.Trie.{IsClosest};
 ghost use Rattle.prefix_table.specs.Values.{IsIndex, table_in};
-ghost use Rattle.prefix_table.specs.Ways.{IsNear};
+ghost use Rattle.prefix_table.specs.Ways.{IsNear, IsOnWay};
 
 use crate::adjust::Adjust;
 use crate::descent::closest;
 use crate::gather::make_room;
 use crate::growth::{NEW_NODES, plant, put_place};
-use crate::index::{find_place, longest_place, next_place, place_near};
+use crate::index::{longest_place, next_place, place_near};
 use crate::node::{Node, NodeId};
 use crate::table::PrefixTable;
 use crate::walk::refer_to;
@@ -50,12 +50,19 @@ impl<V> Model for TrieTable<V> {
     ghost invariant = { λ s. IsIndex s.nodes.items s.values.items × IsOnWay s.nodes.items s.last };
 }
 
-/// The prefix's value.
-fn find_in<'a, V>(nodes: &[Node], values: &'a [V], prefix: Prefix) -> Option<&'a V>
-    requires { IsIndex nodes.now values.now }
+/// The prefix's value. A prefix that was looked for is known, if there is one.
+fn find_in<'a, V>(
+    nodes: &[Node],
+    values: &'a [V],
+    known: &Option<Way>,
+    prefix: Prefix,
+) -> Option<&'a V>
+    requires index { IsIndex nodes.now values.now }
+    requires known { IsOnWay nodes.now known.now }
     ensures { option_copied result ≡ map.get (table_in nodes.now values.now) prefix }
 {
-    match find_place(nodes, prefix) {
+    let near = way_to(nodes, known, prefix);
+    match place_by(nodes, &near, prefix) {
         Some(place) => Some(&values[place]),
         None => None,
     }
@@ -253,7 +260,7 @@ impl<V: Drop> PrefixTable<V> for TrieTable<V> {
     }
 
     fn get(&self, prefix: Prefix) -> Option<&V> {
-        find_in(&self.nodes, &self.values, prefix)
+        find_in(&self.nodes, &self.values, &self.last, prefix)
     }
 
     fn insert(&mut self, prefix: Prefix, value: V) -> Result<Option<V>, V> {

@@ -13,7 +13,7 @@ use crate::route_cell::cell::Cell;
 use net_conf::{Conf, SharedSite, SiteConf, SiteSession};
 use net_prefix::{Addr, Prefix};
 use path_attr::{Attr, SharedAttr};
-use reference_machine::{exclusion, is_originated};
+use reference_machine::{exclusion_at, is_originated};
 use route_policy::judge;
 use route_select::{Reason, Selector};
 use std::marker::Model;
@@ -154,15 +154,6 @@ impl<'a> SiteChange<'a> {
         look
     }
 
-    /// Whether the cost to the address becomes another, or comes, or goes.
-    fn moves_cost_to(&mut self, to: Addr) -> bool
-        ensures moves { result ≡ moves_cost_to self.entry.now to }
-        ensures stays { self.exit.now ≡ self.entry.now }
-    {
-        let look = self.look_at(to);
-        look.old != look.new
-    }
-
     /// The cost to the NEXT_HOP of a lone route after the edit. None where there is no cost before, or none after, or
     /// not one route.
     fn lone_cost(&mut self, routes: &[(Addr, SharedAttr)]) -> Option<u32>
@@ -183,11 +174,14 @@ impl<'a> SiteChange<'a> {
         ensures moves { result ≡ is_route_moved self.entry.now prefix (from, attr.now) }
         ensures stays { self.exit.now ≡ self.entry.now }
     {
-        self.moves_cost_to(attr.next)
-            && self
-                .old
-                .session(from)
-                .is_some_and(|session| counts_cost(self.old, prefix, attr, session))
+        let look = self.look_at(attr.next);
+        if look.old == look.new {
+            return false;
+        }
+        match self.old.session(from) {
+            Some(session) => counts_cost(self.old, prefix, attr, session, look.old),
+            None => false,
+        }
     }
 
     /// Whether one of these routes moves.
@@ -211,12 +205,19 @@ fn is_about_cost(exclusion: Option<Reason>) -> bool
     matches!(exclusion, None | Some(Reason::Unresolved))
 }
 
-/// Whether the cost to its NEXT_HOP counts for a route that came over the session.
-fn counts_cost(site: &SiteConf, prefix: Prefix, attr: &Attr, from: &SiteSession) -> bool
+/// Whether the cost to its NEXT_HOP, which was looked up, counts for a route that came over the session.
+fn counts_cost(
+    site: &SiteConf,
+    prefix: Prefix,
+    attr: &Attr,
+    from: &SiteSession,
+    cost: Option<u32>,
+) -> bool
+    requires { cost ≡ cost_in site.now.costs attr.now.next }
     ensures { result ≡ counts_cost site.now prefix attr.now from.now }
 {
     let action = judge(&from.policy_in, prefix, attr);
-    from.up && is_about_cost(exclusion(site, &action, attr))
+    from.up && is_about_cost(exclusion_at(site, &action, attr, cost))
 }
 
 impl<S: Selector> Cell<S> {

@@ -3,15 +3,16 @@
 ghost use Rattle.std.specs.Prelude.{◌≡◌, None, Some, is_some, IfOk, IfErr, OnOk, OnErr};
 ghost use Rattle.cell_engine.specs.RouterTables.{AreByRouter, tables_of, value_at, with_value, adjusted_at};
 
-use crate::router_tables::places::place;
+use crate::router_tables::places::place_from;
 use net_prefix::{Addr, Prefix};
 use prefix_table::{Adjust, PrefixTable};
 use std::alloc::Global;
 
-/// Gives the router and prefix this value.
+/// Gives the router and prefix this value. The router's table is looked for first at the place of the last one.
 pub(crate) fn insert_in<V: Drop, T: PrefixTable<V> + Drop>(
     alloc: Global,
     entries: &mut Vec<(Addr, T)>,
+    last: &mut usize,
     router: Addr,
     prefix: Prefix,
     value: V,
@@ -23,11 +24,14 @@ pub(crate) fn insert_in<V: Drop, T: PrefixTable<V> + Drop>(
     ensures back { IfErr result (λ back. back ≡ value) }
     ensures err { OnErr result (tables_of T.table entries.new.items ≡ tables_of T.table entries.old.items) }
 {
-    match place(entries, router) {
-        Ok(at) => match entries[at].1.insert(prefix, value) {
-            Ok(_) => Ok(()),
-            Err(back) => Err(back),
-        },
+    match place_from(entries, *last, router) {
+        Ok(at) => {
+            *last = at;
+            match entries[at].1.insert(prefix, value) {
+                Ok(_) => Ok(()),
+                Err(back) => Err(back),
+            }
+        }
         Err(at) => {
             if entries.reserve(1).is_err() {
                 return Err(value);
@@ -44,9 +48,11 @@ pub(crate) fn insert_in<V: Drop, T: PrefixTable<V> + Drop>(
     }
 }
 
-/// Gives a router and prefix that have a value this one.
+/// Gives a router and prefix that have a value this one. The router's table is looked for first at the place of the last
+/// one.
 pub(crate) fn replace_in<V, T: PrefixTable<V>>(
     entries: &mut Vec<(Addr, T)>,
+    last: &mut usize,
     router: Addr,
     prefix: Prefix,
     value: V,
@@ -60,15 +66,20 @@ pub(crate) fn replace_in<V, T: PrefixTable<V>>(
     ensures back { IfErr result (λ back. back ≡ value) }
     ensures same { OnErr result (tables_of T.table entries.new.items ≡ tables_of T.table entries.old.items) }
 {
-    match place(entries, router) {
-        Ok(at) => entries[at].1.replace(prefix, value),
+    match place_from(entries, *last, router) {
+        Ok(at) => {
+            *last = at;
+            entries[at].1.replace(prefix, value)
+        }
         Err(_) => Err(value),
     }
 }
 
-/// Changes the value of the router and prefix where it stands, and says whether there is one.
+/// Changes the value of the router and prefix where it stands, and says whether there is one. The router's table is
+/// looked for first at the place of the last one.
 pub(crate) fn adjust_in<V, T: PrefixTable<V>, A: Adjust<V>>(
     entries: &mut Vec<(Addr, T)>,
+    last: &mut usize,
     router: Addr,
     prefix: Prefix,
     change: &A,
@@ -78,8 +89,11 @@ pub(crate) fn adjust_in<V, T: PrefixTable<V>, A: Adjust<V>>(
     ensures adjusted { tables_of T.table entries.new.items ≡ adjusted_at (A.after change.now) router prefix
         (tables_of T.table entries.old.items) }
 {
-    match place(entries, router) {
-        Ok(at) => entries[at].1.adjust(prefix, change),
+    match place_from(entries, *last, router) {
+        Ok(at) => {
+            *last = at;
+            entries[at].1.adjust(prefix, change)
+        }
         Err(_) => false,
     }
 }

@@ -33,6 +33,22 @@ pub(crate) fn place<T>(entries: &[(Addr, T)], router: Addr) -> Result<usize, usi
     }
 }
 
+/// The same, looked for first at this place.
+pub(crate) fn place_from<T>(
+    entries: &[(Addr, T)],
+    first: usize,
+    router: Addr,
+) -> Result<usize, usize>
+    requires { AreByRouter entries.now }
+    ensures found { IfOk result (IsAt entries.now router) }
+    ensures absent { IfErr result (IsFor entries.now router) }
+{
+    match entries.get(first) {
+        Some(entry) if router.cmp(&entry.0).is_eq() => Ok(first),
+        _ => place(entries, router),
+    }
+}
+
 /// The router's table.
 pub(crate) fn table_in<T>(entries: &[(Addr, T)], router: Addr) -> Option<&T>
     requires { AreByRouter entries.now }

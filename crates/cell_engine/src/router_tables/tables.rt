@@ -18,6 +18,8 @@ use std::marker::{Model, PhantomData};
 #[derive(Drop)]
 pub struct RouterTables<V, T: PrefixTable<V>> {
     entries: Vec<(Addr, T)>,
+    /// Where the table stood that changed last: mostly it changes once more.
+    last: usize,
     values: PhantomData<V>,
 }
 
@@ -46,6 +48,7 @@ impl<V, T: PrefixTable<V>> RouterTables<V, T> {
     {
         RouterTables {
             entries: Vec::new(alloc),
+            last: 0,
             values: PhantomData,
         }
     }
@@ -82,7 +85,7 @@ impl<V, T: PrefixTable<V>> RouterTables<V, T> {
         ensures same { OnErr result (self.new ≡ self.old) }
         ensures by_address { AreByRouter self.old }
     {
-        replace_in(&mut self.entries, router, prefix, value)
+        replace_in(&mut self.entries, &mut self.last, router, prefix, value)
     }
 
     /// Changes the value of the router and prefix where it stands, and says whether there is one. It takes no memory.
@@ -90,7 +93,7 @@ impl<V, T: PrefixTable<V>> RouterTables<V, T> {
         ensures there { result ≡ is_some (value_at router prefix self.old) }
         ensures adjusted { self.new ≡ adjusted_at (A.after change.now) router prefix self.old }
     {
-        adjust_in(&mut self.entries, router, prefix, change)
+        adjust_in(&mut self.entries, &mut self.last, router, prefix, change)
     }
 }
 
@@ -103,6 +106,13 @@ impl<V: Drop, T: PrefixTable<V> + Drop> RouterTables<V, T> {
         ensures back { IfErr result (λ back. back ≡ value) }
         ensures err { OnErr result (self.new ≡ self.old) }
     {
-        insert_in(alloc, &mut self.entries, router, prefix, value)
+        insert_in(
+            alloc,
+            &mut self.entries,
+            &mut self.last,
+            router,
+            prefix,
+            value,
+        )
     }
 }

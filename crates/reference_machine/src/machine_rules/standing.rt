@@ -77,7 +77,12 @@ pub fn exclusion(site: &SiteConf, action: &Action, attr: &Attr) -> Option<Reason
 }
 
 /// The same, where the cost to its NEXT_HOP was looked up.
-fn exclusion_at(site: &SiteConf, action: &Action, attr: &Attr, cost: Option<u32>) -> Option<Reason>
+pub fn exclusion_at(
+    site: &SiteConf,
+    action: &Action,
+    attr: &Attr,
+    cost: Option<u32>,
+) -> Option<Reason>
     requires { cost ≡ cost_in site.now.costs attr.now.next }
     ensures { result ≡ exclusion site.now action.now attr.now }
 {
