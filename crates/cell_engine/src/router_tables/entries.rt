@@ -48,8 +48,8 @@ pub(crate) fn insert_in<V: Drop, T: PrefixTable<V> + Drop>(
     }
 }
 
-/// Gives a router and prefix that have a value this one. The router's table is looked for first at the place of the last
-/// one.
+/// Gives a router and prefix that have a value this one. The router's table is looked for first at the place of the
+/// last one.
 pub(crate) fn replace_in<V, T: PrefixTable<V>>(
     entries: &mut Vec<(Addr, T)>,
     last: &mut usize,
