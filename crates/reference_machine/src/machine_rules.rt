@@ -14,6 +14,6 @@ pub use feeds::{fed_message, feed_refusal};
 pub use questions::ask_refusal;
 pub use reports::{cost_and_hop, held_of};
 pub use standing::{
-    exclusion, exclusion_at, is_originated, own_candidate, peer_candidate, peer_standing, put_own,
+    exclusion_at, is_originated, own_candidate, peer_candidate, peer_standing, put_own,
     put_received,
 };

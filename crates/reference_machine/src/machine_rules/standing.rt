@@ -69,14 +69,8 @@ fn is_denial(action: &Action) -> bool
     }
 }
 
-/// Why the router may not choose a peer's route: the first test that holds.
-pub fn exclusion(site: &SiteConf, action: &Action, attr: &Attr) -> Option<Reason>
-    ensures { result ≡ exclusion site.now action.now attr.now }
-{
-    exclusion_at(site, action, attr, site.costs.cost(attr.next))
-}
-
-/// The same, where the cost to its NEXT_HOP was looked up.
+/// Why the router may not choose a peer's route, where the cost to its NEXT_HOP was looked up: the first test that
+/// holds.
 pub fn exclusion_at(
     site: &SiteConf,
     action: &Action,
