@@ -16,9 +16,9 @@ pub use laws::{
 pub use limits::{MOST_FED_COMMUNITIES, MOST_FED_NUMBERS};
 pub use machine::Machine;
 pub use machine_rules::{
-    advert_of, ask_refusal, change_of, cost_and_hop, delivery_refusal, exclusion_at,
-    fed_message, feed_refusal, held_of, is_originated, own_candidate, peer_candidate,
-    peer_standing, put_own, put_received, sends,
+    advert_of, ask_refusal, change_of, cost_and_hop, delivery_refusal, exclusion_at, fed_message,
+    feed_refusal, held_of, is_originated, own_candidate, peer_candidate, peer_standing, put_own,
+    put_received, sends,
 };
 pub use rows::{Queue, RouteKey};
 pub use session_queue::Direction;
