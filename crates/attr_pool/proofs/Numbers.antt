@@ -32,7 +32,8 @@ module _ (pool : List Attr) (distinct : IsDistinct same_attr pool) where
   apart m n attr here there less =
       let one = get_or_from_slice_get pool m attr attr here in
       let other = get_or_from_slice_get pool n attr attr there in
-      absurd (AllPairs-from_IsDistinct attrs_exact pool distinct m n attr less (slice_get_within pool n attr there) (one ∙ sym other))
+      absurd (AllPairs-from_IsDistinct attrs_exact pool distinct m n attr less (slice_get_within pool n attr there) (one
+      ∙ sym other))
 
   -- attributes that stand once have one number
   pub one_number : HaveOneNumber pool
@@ -45,7 +46,8 @@ module _ (pool : List Attr) (distinct : IsDistinct same_attr pool) where
 -- who has a number is in the pool
 pub has_of_number : (pool : List Attr) (n : ℕ) (attr : Attr) → slice_get pool n ≡ Some attr → has_attr pool attr ≡ true
 has_of_number pool n attr at =
-    list_any_at (same_attr attr) pool n attr (slice_get_within pool n attr at) ((attrs_exact attr (get_or pool n attr)).1 (sym (get_or_from_slice_get pool n attr attr at)))
+    list_any_at (same_attr attr) pool n attr (slice_get_within pool n attr at)
+    ((attrs_exact attr (get_or pool n attr)).1 (sym (get_or_from_slice_get pool n attr attr at)))
 
 -- and is not put in once more
 pub with_present : (pool : List Attr) (n : ℕ) (attr : Attr) → slice_get pool n ≡ Some attr → pool ≡ with_attr pool attr

@@ -28,10 +28,12 @@ paired number [] = []
 paired number (last ∷ []) = pair (number last) 0
 paired number (first ∷ second ∷ rest) = pair (number first) (number second) ++ paired number rest
 
--- how many, with a mark of 0 or 1, and their numbers. Nothing of the empty list: other marks tell of it, and no segment is empty
+-- how many, with a mark of 0 or 1, and their numbers. Nothing of the empty list: other marks tell of it, and no segment
+-- is empty
 abbrev pub list_input : {A : Type 0} → ℕ → (A → ℕ) → List A → List (List ℕ)
 list_input mark number [] = []
-list_input mark number (first ∷ rest) = pair (counted (length (first ∷ rest)) * 2 + mark) (number first) ++ paired number rest
+list_input mark number (first ∷ rest) = pair (counted (length (first ∷ rest)) * 2 + mark) (number first)
+    ++ paired number rest
 
 -- marked as a sequence or a set
 abbrev pub segment_input : Segment → List (List ℕ)

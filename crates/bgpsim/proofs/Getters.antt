@@ -7,8 +7,10 @@ use Rattle.clap.specs.Words.{Text}
 use Rattle.bgpsim.specs.CommandLine.{IsNumber, number_of}
 
 -- a number that is there is read
-module _ {E : Type 0} (G : List ℕ → Result ℕ E → Type 0) (only : (u : List ℕ) (x : Result ℕ E) → G u x → ParsesUnsigned 64 10 u x) where
-  pub number_read : (text : Option Text) (r : Option ℕ) → IsNumber text → ((t : Text) → text ≡ Some t → ReadsOne G t r) → IsSome r × (r ≡ option_map number_of text)
+module _ {E : Type 0} (G : List ℕ → Result ℕ E → Type 0) (only : (u : List ℕ) (x : Result ℕ E) → G u x →
+    ParsesUnsigned 64 10 u x) where
+  pub number_read : (text : Option Text) (r : Option ℕ) → IsNumber text →
+      ((t : Text) → text ≡ Some t → ReadsOne G t r) → IsSome r × (r ≡ option_map number_of text)
   number_read None r is reads = absurd is
   number_read (Some t) r is reads = go r (reads t refl)
     where

@@ -25,19 +25,23 @@ first a b c d =
     let subs = (built commands).subs in
     cond a (slice_get subs 0) (cond b (slice_get subs 1) (cond c (slice_get subs 2) (cond d (slice_get subs 3) None)))
 
-entered_one : (stop : Option (Text × List Text)) → IsNoHelp stop → is_some (entered (built commands) stop) ≡ true → entered_fault (built commands) stop ≡ []
+entered_one : (stop : Option (Text × List Text)) → IsNoHelp stop → is_some (entered (built commands) stop) ≡ true →
+    entered_fault (built commands) stop ≡ []
     → IsSomeAnd (entered (built commands) stop) IsMet
 entered_one None other e free = absurd (true≢false (sym e))
 entered_one (Some p) other e free =
-    go (answers_to p.0 (codes "script", [])) (answers_to p.0 (codes "replay", [])) (answers_to p.0 (codes "team", [])) (answers_to p.0 (codes "help", [])) refl e free
+    go (answers_to p.0 (codes "script", [])) (answers_to p.0 (codes "replay", [])) (answers_to p.0 (codes "team", []))
+    (answers_to p.0 (codes "help", [])) refl e free
   where
-    go : (a b c d : Bool) → d ≡ answers_to p.0 (codes "help", []) → is_some (option_map (λ s. rows_at s p.1) (first a b c d)) ≡ true
+    go : (a b c d : Bool) → d ≡ answers_to p.0 (codes "help", []) →
+        is_some (option_map (λ s. rows_at s p.1) (first a b c d)) ≡ true
         → option_map_or (λ s. level_fault s [] nothing_held p.1 false []) (first a b c d) [] ≡ []
         → IsSomeAnd (option_map (λ s. rows_at s p.1) (first a b c d)) IsMet
     go true b c d is e free = inl refl
     go false true c d is e free = inr (inl refl)
     go false false true d is e free = inr (inr (refl, has_team p.1 free))
-    go false false false true is e free = absurd (true≢false (ap (λ t. bytes_eq t (codes "help")) (sym (is_word (codes "help") p.0 (sym is))) ∙ other))
+    go false false false true is e free =
+        absurd (true≢false (ap (λ t. bytes_eq t (codes "help")) (sym (is_word (codes "help") p.0 (sym is))) ∙ other))
     go false false false false is e free = absurd (true≢false (sym e))
 
 pub names_one : (words : List Text) → fault_of commands words ≡ [] → IsSomeAnd (subcommand_of commands words) IsMet
@@ -46,7 +50,8 @@ names_one words e =
     let names = names_of (built commands) in
     let given = argument_words commands words in
     let stop = stop_after top.rules names given in
-    let free = level_free top names given (is_some (entered (built commands) stop)) (entered_fault (built commands) stop) e in
+    let free = level_free top names given (is_some (entered (built commands) stop))
+    (entered_fault (built commands) stop) e in
     entered_one stop (no_help_met top names refl (walk_from nothing_held) given free.walk)
     (has_one (is_some (entered (built commands) stop)) (rows_after top.rules names given) free.check) free.below
 

@@ -24,5 +24,10 @@ closed_named (name ∷ names) = ap (λ more. name ∷ more) (closed_named names)
 
 -- there was no memory for them
 pub unopened : (names : List Text) (o errors : Writing) (status : ℕ) (errors' : Writing)
-    → IsTold errors (fault_text NoMemory) errors' → status ≡ fault_status NoMemory → IsTeamPlayed names o errors status o errors'
-unopened names o errors status errors' told is = record { files = closed names; named = closed_named names; run = inr (inr (is, refl, told)) }
+    → IsTold errors (fault_text NoMemory) errors' → status ≡ fault_status NoMemory →
+    IsTeamPlayed names o errors status o errors'
+unopened names o errors status errors' told is = record {
+  files = closed names;
+  named = closed_named names;
+  run = inr (inr (is, refl, told));
+}

@@ -38,18 +38,22 @@ module _ (s : Shape) (names : Names) (w : Walk) (word : Text) where
   flag_goes waiting h plain = plain_goes waiting h
   flag_goes waiting h refused = plain_goes waiting h
 
-  short_goes : (waiting : Waiting) (flags : Option Text) (h : Held) → is_met (short_or_plain s.rules waiting word flags h).1 ≡ false
+  short_goes : (waiting : Waiting) (flags : Option Text) (h : Held) →
+      is_met (short_or_plain s.rules waiting word flags h).1 ≡ false
   short_goes waiting (Some flags) h = flag_goes waiting _ _
   short_goes waiting None h = plain_goes waiting h
 
-  long_goes : (waiting : Waiting) (name : Option (Text × Option Text)) (h : Held) → is_met (long_or_other s.rules waiting word name h).1 ≡ false
+  long_goes : (waiting : Waiting) (name : Option (Text × Option Text)) (h : Held) →
+      is_met (long_or_other s.rules waiting word name h).1 ≡ false
   long_goes waiting (Some p) h = flag_goes waiting _ _
   long_goes waiting None h = short_goes waiting (short_of word) h
 
-  other_goes : (waiting : Waiting) (position : ℕ) (h : Held) → is_met (subcommand_or_other s.rules None waiting position word h).1 ≡ false
+  other_goes : (waiting : Waiting) (position : ℕ) (h : Held) →
+      is_met (subcommand_or_other s.rules None waiting position word h).1 ≡ false
   other_goes waiting position h = go (bytes_eq word (45 ∷ 45 ∷ []))
     where
-      go : (b : Bool) → is_met (if b then (h, trailing position) else long_or_other s.rules waiting word (long_of word) h).1 ≡ false
+      go : (b : Bool) → is_met (if b then (h, trailing position)
+          else long_or_other s.rules waiting word (long_of word) h).1 ≡ false
       go true = refl
       go false = long_goes waiting (long_of word) h
 
@@ -65,29 +69,35 @@ module _ (s : Shape) (names : Names) (w : Walk) (word : Text) where
 
   -- after the word: no subcommand was met, or this one, which is not `help`
   abbrev IsOn : Walk → Type 0
-  IsOn v = (v.stopped ≡ None) ⊎ ((name : Text) × (bytes_eq name (codes "help") ≡ false) × (v ≡ record v { stopped = Some (name, []) }))
+  IsOn v = (v.stopped ≡ None) ⊎ ((name : Text) × (bytes_eq name (codes "help") ≡ false)
+      × (v ≡ record v { stopped = Some (name, []) }))
 
   abbrev met_at : Bool → Option Text → Held × Step
-  met_at is_trailing found = if is_trailing then (w.held, value) else subcommand_or_other s.rules found w.waiting w.position word w.held
+  met_at is_trailing found = if is_trailing then (w.held, value)
+      else subcommand_or_other s.rules found w.waiting w.position word w.held
 
   abbrev fault_at : Bool → Option Text → Kinds
   fault_at is_trailing found = if is_trailing then [] else other_fault s found word w.held
 
-  no_help : s.disable_help_subcommand ≡ false → (name : Text) → other_fault s (Some name) word w.held ≡ [] → bytes_eq name (codes "help") ≡ false
+  no_help : s.disable_help_subcommand ≡ false → (name : Text) → other_fault s (Some name) word w.held ≡ [] →
+      bytes_eq name (codes "help") ≡ false
   no_help on name = go (bytes_eq name (codes "help")) s.disable_help_subcommand on
     where
-      go : (is_help disabled : Bool) → disabled ≡ false → (if is_help && not disabled then DisplayHelp ∷ InvalidSubcommand ∷ [] else []) ≡ [] → is_help ≡ false
+      go : (is_help disabled : Bool) → disabled ≡ false →
+          (if is_help && not disabled then DisplayHelp ∷ InvalidSubcommand ∷ [] else []) ≡ [] → is_help ≡ false
       go false disabled off e = refl
       go true true off e = absurd (true≢false off)
       go true false off e = absurd (some_fault _ _ e)
 
-  goes_on : s.disable_help_subcommand ≡ false → (is_trailing : Bool) (found : Option Text) → fault_at is_trailing found ≡ []
+  goes_on : s.disable_help_subcommand ≡ false → (is_trailing : Bool) (found : Option Text) →
+      fault_at is_trailing found ≡ []
       → IsOn (after_step s.rules word (begun w) (met_at is_trailing found).0 (met_at is_trailing found).1)
   goes_on on true found e = inl (stays w.held value refl)
   goes_on on false None e = inl (stays _ _ (other_goes w.waiting w.position w.held))
   goes_on on false (Some name) e = inr (name, no_help on name e, refl)
 
-  one_word : s.disable_help_subcommand ≡ false → turn_fault s names (begun w) word ≡ [] → IsOn (walked s.rules names (begun w) word)
+  one_word : s.disable_help_subcommand ≡ false → turn_fault s names (begun w) word ≡ [] →
+      IsOn (walked s.rules names (begun w) word)
   unfolding walked
   one_word on e = goes_on on w.is_trailing (subcommand_met names w.waiting word) (or_else_none _ _ e).0
 
@@ -95,7 +105,8 @@ abbrev pub IsNoHelp : Option (Text × List Text) → Type 0
 IsNoHelp stop = IfSome stop (λ p. bytes_eq p.0 (codes "help") ≡ false)
 
 module _ (s : Shape) (names : Names) (on : s.disable_help_subcommand ≡ false) where
-  pub no_help_met : (w : Walk) (words : List Text) → walk_fault s names (begun w) words ≡ [] → IsNoHelp (fold (walked s.rules names) (begun w) words).stopped
+  pub no_help_met : (w : Walk) (words : List Text) → walk_fault s names (begun w) words ≡ [] →
+      IsNoHelp (fold (walked s.rules names) (begun w) words).stopped
   unfolding walk_fault
   no_help_met w [] e = tt
   no_help_met w (word ∷ rest) e =
@@ -126,13 +137,15 @@ pub record IsFree (s : Shape) (names : Names) (words : List Text) (has : Bool) (
   pub settle : settle_fault s.rules s.args_override_self (walk_of s.rules names nothing_held words).held ≡ []
   pub check : check_fault s (rows_after s.rules names words) has ≡ []
 
-pub level_free : (s : Shape) (names : Names) (words : List Text) (has : Bool) (below : Kinds) → level_fault s names nothing_held words has below ≡ [] → IsFree s names words has below
+pub level_free : (s : Shape) (names : Names) (words : List Text) (has : Bool) (below : Kinds) →
+    level_fault s names nothing_held words has below ≡ [] → IsFree s names words has below
 level_free s names words has below e =
     let end = (walk_of s.rules names nothing_held words).held in
     let check = check_fault s (finished s.rules end) has in
     let defaults = defaults_fault (settled s.rules end).rows s.rules in
     let settle = settle_fault s.rules s.args_override_self end in
-    let walk_free = or_else_none (walk_fault s names (walk_from nothing_held) words) (or_else below (or_else settle (or_else defaults check))) e in
+    let walk_free = or_else_none (walk_fault s names (walk_from nothing_held) words)
+    (or_else below (or_else settle (or_else defaults check))) e in
     let below_free = or_else_none below (or_else settle (or_else defaults check)) walk_free.1 in
     let settle_free = or_else_none settle (or_else defaults check) below_free.1 in
     record {

@@ -1,4 +1,5 @@
--- What the program does: what the words of its command line ask for, on three streams, and with which exit status (own).
+-- What the program does: what the words of its command line ask for, on three streams, and with which exit status
+-- (own).
 use Rattle.std.specs.Prelude.{◌≡◌, ◌⊎◌, ℕ, List, [], map, Option, Result, Ok, Err, IfOk, MatchResult}
 use Rattle.clap.specs.Words.{Text, FailsBy, fault_of, kind_of}
 use Rattle.clap.specs.declared.error.Error.{Error}
@@ -41,13 +42,15 @@ shown_text (Err fault) = fault_text fault
 
 -- it was printed, and a fault was told
 abbrev pub IsShown : ErrorKind → Writing → ℕ → Writing → Type 0
-IsShown kind errors status errors' = (shown : Result ℕ RunFault) × IsPrinted kind shown × (status ≡ shown_status shown) × IsTold errors (shown_text shown) errors'
+IsShown kind errors status errors' = (shown : Result ℕ RunFault) × IsPrinted kind shown × (status ≡ shown_status shown)
+    × IsTold errors (shown_text shown) errors'
 
 -- ---- where something is
 
 -- a script was run, which left the reader at some place and the machine in some network
 abbrev pub IsServed : Option (List ℕ) → Writing → Writing → ℕ → Writing → Writing → Type 0
-IsServed bytes o errors status o' errors' = (end : Network) × (i' : Reading) × IsScriptRun bytes o errors status end i' o' errors'
+IsServed bytes o errors status o' errors' = (end : Network) × (i' : Reading)
+    × IsScriptRun bytes o errors status end i' o' errors'
 
 -- a log was replayed, which left the reader at some place
 abbrev pub IsReplayed : Option (List ℕ) → Writing → Writing → ℕ → Writing → Writing → Type 0
@@ -67,12 +70,15 @@ pub record IsTeamPlayed (names : List Text) (o errors : Writing) (status : ℕ) 
 abbrev pub IsRunOf : Choice → Option (List ℕ) → Writing → Writing → ℕ → Writing → Writing → Type 0
 IsRunOf Script bytes o errors status o' errors' = IsServed bytes o errors status o' errors'
 IsRunOf Replay bytes o errors status o' errors' = IsReplayed bytes o errors status o' errors'
-IsRunOf (ForTeam team) bytes o errors status o' errors' = IsTeamPlayed (map (λ file. file.now) team.files.items) o errors status o' errors'
+IsRunOf (ForTeam team) bytes o errors status o' errors' =
+    IsTeamPlayed (map (λ file. file.now) team.files.items) o errors status o' errors'
 
 -- ---- the program
 
--- the words were read as the commands are: what they ask for was run; or they have a fault, or there was no memory, and that was shown
+-- the words were read as the commands are: what they ask for was run; or they have a fault, or there was no memory, and
+-- that was shown
 abbrev pub IsProgramRun : List Text → Option (List ℕ) → Writing → Writing → ℕ → Writing → Writing → Type 0
 IsProgramRun words bytes o errors status o' errors' = (chosen : Result Choice Error)
     × FailsBy (fault_of commands words) chosen × IfOk chosen (Chooses words)
-    × MatchResult chosen (λ choice. IsRunOf choice bytes o errors status o' errors') (λ error. IsShown (kind_of error) errors status errors')
+    × MatchResult chosen (λ choice. IsRunOf choice bytes o errors status o' errors')
+    (λ error. IsShown (kind_of error) errors status errors')

@@ -37,7 +37,8 @@ module _ (e : State) (sound : IsConsistent e) where
   abbrev pub originating : Edit → State
   originating edit = record e { tables = with_origin edit e.tables }
 
-  origin_by : (r : Addr) (p : Prefix) (there : Bool) → is_some (value_at r p e.tables) ≡ there → IsConsistent (record e { tables = if there then e.tables else with_value r p new_cell e.tables })
+  origin_by : (r : Addr) (p : Prefix) (there : Bool) → is_some (value_at r p e.tables) ≡ there →
+      IsConsistent (record e { tables = if there then e.tables else with_value r p new_cell e.tables })
   origin_by r p true is = sound
   origin_by r p false is = sound_with_empty_cell e sound r p (none_there (value_at r p e.tables) is)
 
@@ -45,7 +46,8 @@ module _ (e : State) (sound : IsConsistent e) where
   sound_originating (Origin r p) = origin_by r p (is_some (value_at r p e.tables)) refl
   sound_originating edit = sound
 
-  same_by : (r : Addr) (p : Prefix) (there : Bool) → is_some (value_at r p e.tables) ≡ there → network (record e { tables = if there then e.tables else with_value r p new_cell e.tables }) ≡ network e
+  same_by : (r : Addr) (p : Prefix) (there : Bool) → is_some (value_at r p e.tables) ≡ there →
+      network (record e { tables = if there then e.tables else with_value r p new_cell e.tables }) ≡ network e
   same_by r p true is = refl
   same_by r p false is = network_with_empty_cell e sound r p (none_there (value_at r p e.tables) is)
 
@@ -55,16 +57,22 @@ module _ (e : State) (sound : IsConsistent e) where
   network_originating edit = refl
 
 -- the cell is there
-there_by : (r : Addr) (p : Prefix) (ts : List (Addr × Table Cell)) (there : Bool) → is_some (value_at r p ts) ≡ there → is_some (value_at r p (if there then ts else with_value r p new_cell ts)) ≡ true
+there_by : (r : Addr) (p : Prefix) (ts : List (Addr × Table Cell)) (there : Bool) → is_some (value_at r p ts) ≡ there →
+    is_some (value_at r p (if there then ts else with_value r p new_cell ts)) ≡ true
 there_by r p ts true is = is
 there_by r p ts false is =
     ap is_some (value_with_cell r p new_cell ts r p)
-    ∙ (λ i. is_some (cond (is_eq (tied_itself addr_total r i)) (cond (is_eq (tied_itself prefix_total p i)) (Some new_cell) (value_at r p ts)) (value_at r p ts)))
+    ∙ (λ i. is_some (cond (is_eq (tied_itself addr_total r i))
+    (cond (is_eq (tied_itself prefix_total p i)) (Some new_cell) (value_at r p ts)) (value_at r p ts)))
 
-added_there : (edit : Edit) (r : Addr) (p : Prefix) (ts : List (Addr × Table Cell)) → adds edit r p ≡ true → is_some (value_at r p (with_origin edit ts)) ≡ true
+added_there : (edit : Edit) (r : Addr) (p : Prefix) (ts : List (Addr × Table Cell)) → adds edit r p ≡ true →
+    is_some (value_at r p (with_origin edit ts)) ≡ true
 added_there (Origin a q) r p ts h =
-    let at : ◌≡◌ {A = Origination} (record { router = r; prefix = p }) (record { router = a; prefix = q }) = origin_exact _ _ (equal_when (origination_cmp (record { router = r; prefix = p }) (record { router = a; prefix = q })) h) in
-    ap (λ (o : Origination). is_some (value_at o.router o.prefix (with_origin (Origin a q) ts))) at ∙ there_by a q ts (is_some (value_at a q ts)) refl
+    let at : ◌≡◌ {A = Origination} (record { router = r; prefix = p }) (record { router = a; prefix = q }) =
+    origin_exact _ _ (equal_when
+    (origination_cmp (record { router = r; prefix = p }) (record { router = a; prefix = q })) h) in
+    ap (λ (o : Origination). is_some (value_at o.router o.prefix (with_origin (Origin a q) ts))) at
+    ∙ there_by a q ts (is_some (value_at a q ts)) refl
 added_there edit r p ts h = absurd (true≢false (sym h))
 
 -- THE ENGINE
@@ -73,14 +81,17 @@ module _ (e : State) (sound : IsConsistent e) (edit : Edit) (none : refusal_of e
   abbrev new : Configuration
   new = edited e.conf edit
 
-  origins_there : (r : Addr) (p : Prefix) → originates new r p ≡ true → is_some (value_at r p (with_origin edit e.tables)) ≡ true
+  origins_there : (r : Addr) (p : Prefix) → originates new r p ≡ true →
+      is_some (value_at r p (with_origin edit e.tables)) ≡ true
   origins_there r p own = by (origin_old_or_new e.conf edit r p own) where
-    by : (adds edit r p ≡ true) ⊎ (originates e.conf r p ≡ true) → is_some (value_at r p (with_origin edit e.tables)) ≡ true
+    by : (adds edit r p ≡ true) ⊎ (originates e.conf r p ≡ true) →
+        is_some (value_at r p (with_origin edit e.tables)) ≡ true
     by (inl added) = added_there edit r p e.tables added
     by (inr was) = (sound_originating e sound edit).origins r p was
 
   -- the engine after an edit is sound, where no message is on its way but over sessions
-  pub sound_edited : (q : Queues) → ((f t : Addr) → has_session new f t ≡ false → queue_at q f t ≡ []) → IsConsistent (edited_engine e edit q)
+  pub sound_edited : (q : Queues) → ((f t : Addr) → has_session new f t ≡ false → queue_at q f t ≡ []) →
+      IsConsistent (edited_engine e edit q)
   sound_edited q silent =
       let first = sound_originating e sound edit in
       record {
@@ -95,27 +106,38 @@ module _ (e : State) (sound : IsConsistent e) (edit : Edit) (none : refusal_of e
   -- its routes are those that the machine keeps
   pub received_edited : all_entries (edited_tables new edit e.tables) ≡ filter (is_kept new) (network e).received
   unfolding network
-  received_edited = entries_kept new (with_origin edit e.tables) ∙ ap (λ s. filter (is_kept new) s.received) (network_originating e sound edit)
+  received_edited = entries_kept new (with_origin edit e.tables)
+      ∙ ap (λ s. filter (is_kept new) s.received) (network_originating e sound edit)
 
-  abbrev joined : with_queues edit (map (queue_of e.queues) e.directions) ≡ map (queue_of e.queues) (with_directions edit e.directions)
-  joined = queues_joined e.conf e.queues e.directions sound.in_order sound.sessions sound.silent edit (passes e.conf edit none)
+  abbrev joined : with_queues edit (map (queue_of e.queues) e.directions)
+      ≡ map (queue_of e.queues) (with_directions edit e.directions)
+  joined = queues_joined e.conf e.queues e.directions sound.in_order sound.sessions sound.silent edit
+      (passes e.conf edit none)
 
   -- where what was on its way over sessions that are up is left, the network is the machine's own after the edit
-  pub network_left : (q : Queues) → ((f t : Addr) → queue_at q f t ≡ left_at new e.queues f t) → network (edited_engine e edit q) ≡ after_edit (network e) edit
+  pub network_left : (q : Queues) → ((f t : Addr) → queue_at q f t ≡ left_at new e.queues f t) →
+      network (edited_engine e edit q) ≡ after_edit (network e) edit
   unfolding network reconfigured
   network_left q is =
       λ i. record {
         conf = new;
         received = received_edited i;
-        queues = (queues_left new e.queues q is (with_directions edit e.directions) ∙ ap (map (emptied new)) (sym joined)) i;
+        queues = (queues_left new e.queues q is (with_directions edit e.directions)
+            ∙ ap (map (emptied new)) (sym joined)) i;
       }
 
   -- and where more comes to the ends, it does so in the network
-  pub network_left_and_more : (more : Addr → Addr → List Message) (q : Queues) → ((f t : Addr) → queue_at q f t ≡ left_at new e.queues f t ++ more f t) → network (edited_engine e edit q) ≡ record (after_edit (network e) edit) { queues = map (λ y. with_more y (more y.of.from y.of.to)) (after_edit (network e) edit).queues }
+  pub network_left_and_more : (more : Addr → Addr → List Message) (q : Queues) →
+      ((f t : Addr) → queue_at q f t ≡ left_at new e.queues f t ++ more f t) →
+      network (edited_engine e edit q) ≡ record (after_edit (network e) edit) {
+        queues =
+            map (λ y. with_more y (more y.of.from y.of.to)) (after_edit (network e) edit).queues;
+      }
   unfolding network reconfigured
   network_left_and_more more q is =
       λ i. record {
         conf = new;
         received = received_edited i;
-        queues = (queues_left_and_more new e.queues more q is (with_directions edit e.directions) ∙ ap (λ qs. map (λ y. with_more y (more y.of.from y.of.to)) (map (emptied new) qs)) (sym joined)) i;
+        queues = (queues_left_and_more new e.queues more q is (with_directions edit e.directions)
+            ∙ ap (λ qs. map (λ y. with_more y (more y.of.from y.of.to)) (map (emptied new) qs)) (sym joined)) i;
       }

@@ -38,7 +38,8 @@ abbrev pub Each : {E : Type 0} → (E → Ordering) → Ordering → List E → 
 Each c o [] = Unit {0}
 Each c o (e ∷ es) = (c e ≡ o) × Each c o es
 
-pub each_append : {E : Type 0} (c : E → Ordering) (o : Ordering) (xs ys : List E) → Each c o xs → Each c o ys → Each c o (xs ++ ys)
+pub each_append : {E : Type 0} (c : E → Ordering) (o : Ordering) (xs ys : List E) → Each c o xs → Each c o ys →
+    Each c o (xs ++ ys)
 each_append c o [] ys a b = b
 each_append c o (x ∷ xs) ys a b = (a.0, each_append c o xs ys a.1 b)
 
@@ -61,20 +62,26 @@ module _ {K V : Type 0} (cmp : K → K → Ordering) (k : K) where
   abbrev pub seen : K × V → Ordering
   seen e = cmp k e.0
 
-  insert_before : (v : V) (xs ys : List (K × V)) → Each seen Greater xs → insert_entry cmp (xs ++ ys) k v ≡ xs ++ insert_entry cmp ys k v
+  insert_before : (v : V) (xs ys : List (K × V)) → Each seen Greater xs →
+      insert_entry cmp (xs ++ ys) k v ≡ xs ++ insert_entry cmp ys k v
   insert_before v [] ys a = refl
   insert_before v (x ∷ xs) ys a =
-      ap (λ r. match_ordering r ((k, v) ∷ x ∷ (xs ++ ys)) ((x.0, v) ∷ (xs ++ ys)) (x ∷ insert_entry cmp (xs ++ ys) k v)) a.0
+      ap (λ r. match_ordering r ((k, v) ∷ x ∷ (xs ++ ys)) ((x.0, v) ∷ (xs ++ ys)) (x ∷ insert_entry cmp (xs ++ ys) k v))
+      a.0
       ∙ ap (λ es. x ∷ es) (insert_before v xs ys a.1)
 
   insert_first : (v : V) (ys : List (K × V)) → Each seen Less ys → insert_entry cmp ys k v ≡ (k, v) ∷ ys
   insert_first v [] a = refl
-  insert_first v (y ∷ ys) a = ap (λ r. match_ordering r ((k, v) ∷ y ∷ ys) ((y.0, v) ∷ ys) (y ∷ insert_entry cmp ys k v)) a.0
+  insert_first v (y ∷ ys) a =
+      ap (λ r. match_ordering r ((k, v) ∷ y ∷ ys) ((y.0, v) ∷ ys) (y ∷ insert_entry cmp ys k v)) a.0
 
-  insert_past : (v : V) (xs ys : List (K × V)) → Each seen Less ys → insert_entry cmp (xs ++ ys) k v ≡ insert_entry cmp xs k v ++ ys
+  insert_past : (v : V) (xs ys : List (K × V)) → Each seen Less ys →
+      insert_entry cmp (xs ++ ys) k v ≡ insert_entry cmp xs k v ++ ys
   insert_past v [] ys a = insert_first v ys a
   insert_past v (x ∷ xs) ys a =
-      elim (cmp k x.0) as (λ r. match_ordering r ((k, v) ∷ x ∷ (xs ++ ys)) ((x.0, v) ∷ (xs ++ ys)) (x ∷ insert_entry cmp (xs ++ ys) k v) ≡ match_ordering r ((k, v) ∷ x ∷ xs) ((x.0, v) ∷ xs) (x ∷ insert_entry cmp xs k v) ++ ys) [
+      elim (cmp k x.0) as (λ r. match_ordering r ((k, v) ∷ x ∷ (xs ++ ys)) ((x.0, v) ∷ (xs ++ ys))
+      (x ∷ insert_entry cmp (xs ++ ys) k v) ≡ match_ordering r ((k, v) ∷ x ∷ xs) ((x.0, v) ∷ xs)
+      (x ∷ insert_entry cmp xs k v) ++ ys) [
         | Less ↦ refl
         | Equal ↦ refl
         | Greater ↦ ap (λ es. x ∷ es) (insert_past v xs ys a)
@@ -84,7 +91,8 @@ module _ {K V : Type 0} (cmp : K → K → Ordering) (k : K) where
   pub insert_edit : (v : V) → IsEdit seen (λ es. insert_entry cmp es k v)
   insert_edit v = record { before = insert_before v; past = insert_past v }
 
-  remove_before : (xs ys : List (K × V)) → Each seen Greater xs → remove_entry (is_at (cmp k)) (xs ++ ys) ≡ xs ++ remove_entry (is_at (cmp k)) ys
+  remove_before : (xs ys : List (K × V)) → Each seen Greater xs → remove_entry (is_at (cmp k)) (xs ++ ys) ≡ xs
+      ++ remove_entry (is_at (cmp k)) ys
   remove_before [] ys a = refl
   remove_before (x ∷ xs) ys a =
       ap (λ r. cond (is_eq r) (xs ++ ys) (x ∷ remove_entry (is_at (cmp k)) (xs ++ ys))) a.0
@@ -92,12 +100,15 @@ module _ {K V : Type 0} (cmp : K → K → Ordering) (k : K) where
 
   remove_none : (ys : List (K × V)) → Each seen Less ys → remove_entry (is_at (cmp k)) ys ≡ ys
   remove_none [] a = refl
-  remove_none (y ∷ ys) a = ap (λ r. cond (is_eq r) ys (y ∷ remove_entry (is_at (cmp k)) ys)) a.0 ∙ ap (λ es. y ∷ es) (remove_none ys a.1)
+  remove_none (y ∷ ys) a = ap (λ r. cond (is_eq r) ys (y ∷ remove_entry (is_at (cmp k)) ys)) a.0
+      ∙ ap (λ es. y ∷ es) (remove_none ys a.1)
 
-  remove_past : (xs ys : List (K × V)) → Each seen Less ys → remove_entry (is_at (cmp k)) (xs ++ ys) ≡ remove_entry (is_at (cmp k)) xs ++ ys
+  remove_past : (xs ys : List (K × V)) → Each seen Less ys →
+      remove_entry (is_at (cmp k)) (xs ++ ys) ≡ remove_entry (is_at (cmp k)) xs ++ ys
   remove_past [] ys a = remove_none ys a
   remove_past (x ∷ xs) ys a =
-      elim (is_eq (cmp k x.0)) as (λ b. cond b (xs ++ ys) (x ∷ remove_entry (is_at (cmp k)) (xs ++ ys)) ≡ cond b xs (x ∷ remove_entry (is_at (cmp k)) xs) ++ ys) [
+      elim (is_eq (cmp k x.0)) as (λ b. cond b (xs ++ ys) (x ∷ remove_entry (is_at (cmp k)) (xs ++ ys))
+      ≡ cond b xs (x ∷ remove_entry (is_at (cmp k)) xs) ++ ys) [
         | true ↦ refl
         | false ↦ ap (λ es. x ∷ es) (remove_past xs ys a)
       ]
@@ -106,15 +117,18 @@ module _ {K V : Type 0} (cmp : K → K → Ordering) (k : K) where
   pub remove_edit : IsEdit seen (remove_entry (is_at (cmp k)))
   remove_edit = record { before = remove_before; past = remove_past }
 
-  lookup_before : (xs ys : List (K × V)) → Each seen Greater xs → lookup (is_at (cmp k)) (xs ++ ys) ≡ lookup (is_at (cmp k)) ys
+  lookup_before : (xs ys : List (K × V)) → Each seen Greater xs →
+      lookup (is_at (cmp k)) (xs ++ ys) ≡ lookup (is_at (cmp k)) ys
   lookup_before [] ys a = refl
-  lookup_before (x ∷ xs) ys a = ap (λ r. cond (is_eq r) (Some x.1) (lookup (is_at (cmp k)) (xs ++ ys))) a.0 ∙ lookup_before xs ys a.1
+  lookup_before (x ∷ xs) ys a = ap (λ r. cond (is_eq r) (Some x.1) (lookup (is_at (cmp k)) (xs ++ ys))) a.0
+      ∙ lookup_before xs ys a.1
 
   lookup_none : (ys : List (K × V)) → Each seen Less ys → lookup (is_at (cmp k)) ys ≡ None
   lookup_none [] a = refl
   lookup_none (y ∷ ys) a = ap (λ r. cond (is_eq r) (Some y.1) (lookup (is_at (cmp k)) ys)) a.0 ∙ lookup_none ys a.1
 
-  lookup_past : (xs ys : List (K × V)) → Each seen Less ys → lookup (is_at (cmp k)) (xs ++ ys) ≡ lookup (is_at (cmp k)) xs
+  lookup_past : (xs ys : List (K × V)) → Each seen Less ys →
+      lookup (is_at (cmp k)) (xs ++ ys) ≡ lookup (is_at (cmp k)) xs
   lookup_past [] ys a = lookup_none ys a
   lookup_past (x ∷ xs) ys a = ap (cond (is_eq (cmp k x.0)) (Some x.1)) (lookup_past xs ys a)
 
@@ -133,16 +147,19 @@ chunk f q None = []
 chunk f q (Some x) = f q x
 
 -- a chunk of another key lies wholly on the side of its key
-pub record IsChunked {E K X : Type 0} (c : E → Ordering) (R : K → K → Ordering) (f : K → X → List E) (q : K) : Type 0 where
+pub record IsChunked {E K X : Type 0} (c : E → Ordering) (R : K → K → Ordering) (f : K → X →
+    List E) (q : K) : Type 0 where
   pub total : IsTotalOrder R
   pub exact : CmpEqualImpliesEq R
   pub less : (k : K) (x : X) → R q k ≡ Less → Each c Less (f k x)
   pub greater : (k : K) (x : X) → R q k ≡ Greater → Each c Greater (f k x)
 
-module _ {E K X : Type 0} {c : E → Ordering} {R : K → K → Ordering} {f : K → X → List E} {q : K} (chunked : IsChunked c R f q) where
+module _ {E K X : Type 0} {c : E → Ordering} {R : K → K → Ordering} {f : K → X →
+    List E} {q : K} (chunked : IsChunked c R f q) where
   find_below : (y : K) (es : List (K × X)) → T (below_all R y es) → find R y es ≡ None
   find_below y [] h = refl
-  find_below y (e ∷ es) h = ap (λ r. cond (is_eq r) (Some e.1) (find R y es)) (less_of _ (first _ _ h)) ∙ find_below y es (second _ _ h)
+  find_below y (e ∷ es) h = ap (λ r. cond (is_eq r) (Some e.1) (find R y es)) (less_of _ (first _ _ h))
+      ∙ find_below y es (second _ _ h)
 
   below_less : (x y : K) (es : List (K × X)) → R x y ≡ Less → T (below_all R y es) → T (below_all R x es)
   below_less x y [] p h = tt
@@ -155,22 +172,28 @@ module _ {E K X : Type 0} {c : E → Ordering} {R : K → K → Ordering} {f : K
 
   all_less : (es : List (K × X)) → T (below_all R q es) → Each c Less (flat f es)
   all_less [] h = tt
-  all_less (e ∷ es) h = each_append c Less (f e.0 e.1) (flat f es) (chunked.less e.0 e.1 (less_of _ (first _ _ h))) (all_less es (second _ _ h))
+  all_less (e ∷ es) h = each_append c Less (f e.0 e.1) (flat f es) (chunked.less e.0 e.1 (less_of _ (first _ _ h)))
+      (all_less es (second _ _ h))
 
-  less_from : (e : K × X) (es : List (K × X)) → R q e.0 ≡ Less → T (is_sorted R (e ∷ es)) → Each c Less (flat f (e ∷ es))
-  less_from e es p h = each_append c Less (f e.0 e.1) (flat f es) (chunked.less e.0 e.1 p) (all_less es (below_less q e.0 es p (first _ _ h)))
+  less_from : (e : K × X) (es : List (K × X)) → R q e.0 ≡ Less → T (is_sorted R (e ∷ es)) →
+      Each c Less (flat f (e ∷ es))
+  less_from e es p h = each_append c Less (f e.0 e.1) (flat f es) (chunked.less e.0 e.1 p)
+      (all_less es (below_less q e.0 es p (first _ _ h)))
 
-  found_at : (r : Ordering) (e : K × X) (es : List (K × X)) → R q e.0 ≡ r → find R q (e ∷ es) ≡ cond (is_eq r) (Some e.1) (find R q es)
+  found_at : (r : Ordering) (e : K × X) (es : List (K × X)) → R q e.0 ≡ r →
+      find R q (e ∷ es) ≡ cond (is_eq r) (Some e.1) (find R q es)
   found_at r e es p = ap (λ r. cond (is_eq r) (Some e.1) (find R q es)) p
 
   none_at : (e : K × X) (es : List (K × X)) → R q e.0 ≡ Less → T (is_sorted R (e ∷ es)) → find R q (e ∷ es) ≡ None
   none_at e es p h = found_at Less e es p ∙ find_below q es (below_less q e.0 es p (first _ _ h))
 
   -- a value put in at the key changes the whole as it changes the chunk of the key
-  pub flat_put : {g : List E → List E} → IsEdit c g → (v : X) (es : List (K × X)) → T (is_sorted R es) → f q v ≡ g (chunk f q (find R q es)) → flat f (put R q v es) ≡ g (flat f es)
+  pub flat_put : {g : List E → List E} → IsEdit c g → (v : X) (es : List (K × X)) → T (is_sorted R es) →
+      f q v ≡ g (chunk f q (find R q es)) → flat f (put R q v es) ≡ g (flat f es)
   flat_put {g} edit v [] h is = append-nil (f q v) ∙ is
   flat_put {g} edit v (e ∷ es) h is =
-      elim (R q e.0) as (λ r. R q e.0 ≡ r → flat f (by_order r ((q, v) ∷ e ∷ es) ((e.0, v) ∷ es) (e ∷ put R q v es)) ≡ g (flat f (e ∷ es))) [
+      elim (R q e.0) as (λ r. R q e.0 ≡ r → flat f (by_order r ((q, v) ∷ e ∷ es) ((e.0, v) ∷ es) (e ∷ put R q v es))
+      ≡ g (flat f (e ∷ es))) [
         | Less ↦ λ p.
             let alone : f q v ≡ g [] = is ∙ ap (λ x. g (chunk f q x)) (none_at e es p h) in
             ap (λ l. l ++ flat f (e ∷ es)) alone ∙ sym (edit.past [] (flat f (e ∷ es)) (less_from e es p h))
@@ -181,16 +204,19 @@ module _ {E K X : Type 0} {c : E → Ordering} {R : K → K → Ordering} {f : K
             ∙ ap (λ k. g (f k e.1) ++ flat f es) (chunked.exact q e.0 p)
             ∙ sym (edit.past (f e.0 e.1) (flat f es) (all_less es (below_same q e.0 es p (first _ _ h))))
         | Greater ↦ λ p.
-            let later : f q v ≡ g (chunk f q (find R q es)) = is ∙ ap (λ x. g (chunk f q x)) (found_at Greater e es p) in
+            let later : f q v ≡ g (chunk f q (find R q es)) = is
+            ∙ ap (λ x. g (chunk f q x)) (found_at Greater e es p) in
             ap (λ l. f e.0 e.1 ++ l) (flat_put edit v es (second (below_all R e.0 es) (is_sorted R es) h) later)
             ∙ sym (edit.before (f e.0 e.1) (flat f es) (chunked.greater e.0 e.1 p))
       ] refl
 
   -- a look at the whole sees the chunk of the key
-  pub flat_at : {Y : Type 0} {g : List E → Y} → IsLook c g → (es : List (K × X)) → T (is_sorted R es) → g (flat f es) ≡ g (chunk f q (find R q es))
+  pub flat_at : {Y : Type 0} {g : List E → Y} → IsLook c g → (es : List (K × X)) → T (is_sorted R es) →
+      g (flat f es) ≡ g (chunk f q (find R q es))
   flat_at {g = g} look [] h = refl
   flat_at {g = g} look (e ∷ es) h =
-      elim (R q e.0) as (λ r. R q e.0 ≡ r → g (flat f (e ∷ es)) ≡ g (chunk f q (cond (is_eq r) (Some e.1) (find R q es)))) [
+      elim (R q e.0) as (λ r. R q e.0 ≡ r →
+      g (flat f (e ∷ es)) ≡ g (chunk f q (cond (is_eq r) (Some e.1) (find R q es)))) [
         | Less ↦ λ p.
             look.past [] (flat f (e ∷ es)) (less_from e es p h)
             ∙ ap (λ x. g (chunk f q x)) (sym (find_below q es (below_less q e.0 es p (first _ _ h))))

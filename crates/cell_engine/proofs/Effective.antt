@@ -21,7 +21,8 @@ use Rattle.cell_engine.specs.Updates.{ComparesAt, compared}
 -- WHERE NO ROUTE STANDS
 
 pub no_entries : finite.entries (finite.empty {K = Source} {X = Standing} {R = source_cmp}) ≡ []
-no_entries = nil_from_length _ (sym (finite.len-entries (finite.empty {K = Source} {X = Standing} {R = source_cmp})) ∙ finite.len-empty source_cmp Standing)
+no_entries = nil_from_length _ (sym (finite.len-entries (finite.empty {K = Source} {X = Standing} {R = source_cmp}))
+    ∙ finite.len-empty source_cmp Standing)
 
 pub effective_none : (always : Bool) → effective (no_standings always) ≡ no_standings false
 effective_none always = λ i. record { known = finite.empty; med_always = is_any (no_entries i) && always }
@@ -35,21 +36,30 @@ none_known m none = finite.empty_of_len m.known (finite.len-entries m.known ∙ 
 
 -- WHERE ONE DOES
 
-any_put : (source : Source) (standing : Standing) (es : List (Source × Standing)) → is_any (entries.put source_cmp source standing es) ≡ true
+any_put : (source : Source) (standing : Standing) (es : List (Source × Standing)) →
+    is_any (entries.put source_cmp source standing es) ≡ true
 any_put source standing [] = refl
 any_put source standing (e ∷ es) =
-    elim (source_cmp source e.0) as (λ o. is_any (entries.by_order o ((source, standing) ∷ e ∷ es) ((e.0, standing) ∷ es) (e ∷ entries.put source_cmp source standing es)) ≡ true) [
+    elim (source_cmp source e.0) as (λ o.
+    is_any (entries.by_order o ((source, standing) ∷ e ∷ es) ((e.0, standing) ∷ es)
+    (e ∷ entries.put source_cmp source standing es)) ≡ true) [
       | Less ↦ refl
       | Equal ↦ refl
       | Greater ↦ refl
     ]
 
-any_inserted : (source : Source) (standing : Standing) (known : FinMap source_cmp Standing) → is_any (finite.entries (finite.insert known source standing)) ≡ true
-any_inserted source standing known = ap is_any (finite.entries-insert source_total known source standing) ∙ any_put source standing (finite.entries known)
+any_inserted : (source : Source) (standing : Standing) (known : FinMap source_cmp Standing) →
+    is_any (finite.entries (finite.insert known source standing)) ≡ true
+any_inserted source standing known = ap is_any (finite.entries-insert source_total known source standing)
+    ∙ any_put source standing (finite.entries known)
 
 -- all counts
-pub effective_with : (source : Source) (standing : Standing) (m : Standings) → effective (with_standing source standing m) ≡ with_standing source standing m
-effective_with source standing m = λ i. record { known = finite.insert m.known source standing; med_always = any_inserted source standing m.known i && m.med_always }
+pub effective_with : (source : Source) (standing : Standing) (m : Standings) →
+    effective (with_standing source standing m) ≡ with_standing source standing m
+effective_with source standing m = λ i. record {
+  known = finite.insert m.known source standing;
+  med_always = any_inserted source standing m.known i && m.med_always;
+}
 
 -- WHAT IS SEEN
 
@@ -62,12 +72,15 @@ module _ {A : Type 0} (f : Bool → List (Source × Standing) → A) (none : (b 
 -- the best route
 pub effective_best : (m : Standings) → best_of (effective m) ≡ best_of m
 unfolding best_among
-effective_best m = by_entries (λ always es. best_among always (considered_in es)) (λ b c. refl) m.med_always (finite.entries m.known)
+effective_best m = by_entries (λ always es. best_among always (considered_in es)) (λ b c. refl) m.med_always
+    (finite.entries m.known)
 
 -- why a source's route is not the best
 pub effective_reason : (m : Standings) (source : Source) → reason_in (effective m) source ≡ reason_in m source
 effective_reason m source =
-    let reason : Bool → List (Source × Standing) → Option Reason = λ always es. option_map (reason_for always (considered_in es)) (entries.find source_cmp source es) in
+    let reason : Bool → List (Source × Standing) →
+    Option Reason = λ always es. option_map (reason_for always (considered_in es))
+    (entries.find source_cmp source es) in
     ap (option_map (reason_for (effective m).med_always (considered m))) (finite.get-entries m.known source)
     ∙ by_entries reason (λ b c. refl) m.med_always (finite.entries m.known)
     ∙ sym (ap (option_map (reason_for m.med_always (considered m))) (finite.get-entries m.known source))
@@ -75,12 +88,14 @@ effective_reason m source =
 -- and why no route is
 pub effective_reasons : (m : Standings) → reasons_of (effective m) ≡ reasons_of m
 effective_reasons m =
-    let reasons : Bool → List (Source × Standing) → List (Source × Reason) = λ always es. map (λ e. (e.0, reason_for always (considered_in es) e.1)) es in
+    let reasons : Bool → List (Source × Standing) →
+    List (Source × Reason) = λ always es. map (λ e. (e.0, reason_for always (considered_in es) e.1)) es in
     by_entries reasons (λ b c. refl) m.med_always (finite.entries m.known)
 
 -- AT A COST
 
-any_at_cost : (k : ℕ) (known : FinMap source_cmp Standing) (es : List (Source × Standing)) → finite.entries known ≡ es → is_any (finite.entries (lone_at_cost k known es)) ≡ is_any es
+any_at_cost : (k : ℕ) (known : FinMap source_cmp Standing) (es : List (Source × Standing)) → finite.entries known ≡ es →
+    is_any (finite.entries (lone_at_cost k known es)) ≡ is_any es
 any_at_cost k known [] are = ap is_any are
 any_at_cost k known (e ∷ []) are = any_inserted e.0 (with_cost k e.1) known
 any_at_cost k known (e ∷ f ∷ es) are = ap is_any are
@@ -94,7 +109,8 @@ effective_at_cost k m = λ i. record {
 -- HOW THEY ARE COMPARED
 
 -- standings of the same sources that are compared alike are one
-pub same_standings : (m n : Standings) → ((source : Source) → standing_from m source ≡ standing_from n source) → m.med_always ≡ n.med_always → m ≡ n
+pub same_standings : (m n : Standings) → ((source : Source) → standing_from m source ≡ standing_from n source) →
+    m.med_always ≡ n.med_always → m ≡ n
 same_standings m n stand alike =
     let known : m.known ≡ n.known = finite.same_map source_total same_source m.known n.known stand in
     λ i. record { known = known i; med_always = alike i }
@@ -120,7 +136,8 @@ nothing_by true false true same apart = absurd (true≢false (sym same))
 nothing_by false b c same apart = refl
 
 -- where how they are compared does not count, no route stands
-pub begun_anew : (always : Bool) (m : Standings) → ComparesAt always m → beq m.med_always always ≡ false → no_standings always ≡ compared always m
+pub begun_anew : (always : Bool) (m : Standings) → ComparesAt always m → beq m.med_always always ≡ false →
+    no_standings always ≡ compared always m
 begun_anew always m same apart =
     let none = nothing_by (has_any m) m.med_always always (ap (λ (s : Standings). s.med_always) same) apart in
     λ i. record { known = sym (none_known m none) i; med_always = always }

@@ -1,5 +1,5 @@
--- A message taken into a choice where it stands: the best is there before what is withdrawn is forgotten, and what was put aside can be put
--- back.
+-- A message taken into a choice where it stands: the best is there before what is withdrawn is forgotten, and what was
+-- put aside can be put back.
 use Rattle.std.proofs.Common.{◌≡◌, Bool, true, false, not, cond, T, ◌&&◌, List, [], ◌∷◌, Option, Some, None, is_some, refl, sym, ap, subst, ◌∙◌}
 use Rattle.std.proofs.lemmas.Bool.{and_parts}
 use Rattle.std.specs.List.{cons_option}
@@ -52,19 +52,29 @@ others_behind s (e ∷ es) h =
     ap (λ o. cond (not (is_eq o)) (e ∷ others s es) (others s es)) (less_of (source_cmp s e.0) parts.0)
     ∙ ap (λ l. e ∷ l) (others_behind s es parts.1)
 
-below_less : (s t : Source) (es : Entries) → source_cmp s t ≡ Less → below_all source_cmp t es ≡ true → below_all source_cmp s es ≡ true
+below_less : (s t : Source) (es : Entries) → source_cmp s t ≡ Less → below_all source_cmp t es ≡ true →
+    below_all source_cmp s es ≡ true
 below_less s t [] less h = refl
 below_less s t (e ∷ es) less h =
     let parts = and_parts (is_lt (source_cmp t e.0)) (below_all source_cmp t es) h in
-    λ i. is_lt (source_total.trans s t e.0 less (less_of (source_cmp t e.0) parts.0) i) && below_less s t es less parts.1 i
+    λ i. is_lt (source_total.trans s t e.0 less (less_of (source_cmp t e.0) parts.0) i)
+    && below_less s t es less parts.1 i
 
-excluded_by : (o : Ordering) (s : Source) (r : Reason) (e : Source × Standing) (es : Entries) → source_cmp s e.0 ≡ o → below_all source_cmp e.0 es ≡ true → considered_in (put source_cmp s (Excluded r) es) ≡ considered_in (others s es) → considered_in (by_order o ((s, Excluded r) ∷ e ∷ es) ((e.0, Excluded r) ∷ es) (e ∷ put source_cmp s (Excluded r) es)) ≡ considered_in (cond (not (is_eq o)) (e ∷ others s es) (others s es))
-excluded_by Less s r e es is below rest = ap (λ l. considered_in (e ∷ l)) (sym (others_behind s es (below_less s e.0 es is below)))
-excluded_by Equal s r e es is below rest = ap considered_in (sym (others_behind s es (subst (λ k. below_all source_cmp k es ≡ true) (sym (same_source s e.0 is)) below)))
+excluded_by : (o : Ordering) (s : Source) (r : Reason) (e : Source × Standing) (es : Entries) → source_cmp s e.0 ≡ o →
+    below_all source_cmp e.0 es ≡ true → considered_in (put source_cmp s (Excluded r) es)
+    ≡ considered_in (others s es) →
+    considered_in (by_order o ((s, Excluded r) ∷ e ∷ es) ((e.0, Excluded r) ∷ es)
+    (e ∷ put source_cmp s (Excluded r) es)) ≡ considered_in (cond (not (is_eq o)) (e ∷ others s es) (others s es))
+excluded_by Less s r e es is below rest =
+    ap (λ l. considered_in (e ∷ l)) (sym (others_behind s es (below_less s e.0 es is below)))
+excluded_by Equal s r e es is below rest =
+    ap considered_in (sym (others_behind s es
+    (subst (λ k. below_all source_cmp k es ≡ true) (sym (same_source s e.0 is)) below)))
 excluded_by Greater s r e es is below rest = ap (cons_option (candidate_of e.1)) rest
 
 -- what is excluded is not considered, as what is forgotten is not
-considered_excluded : (s : Source) (r : Reason) (es : Entries) → is_sorted source_cmp es ≡ true → considered_in (put source_cmp s (Excluded r) es) ≡ considered_in (others s es)
+considered_excluded : (s : Source) (r : Reason) (es : Entries) → is_sorted source_cmp es ≡ true →
+    considered_in (put source_cmp s (Excluded r) es) ≡ considered_in (others s es)
 considered_excluded s r [] h = refl
 considered_excluded s r (e ∷ es) h =
     let parts = and_parts (below_all source_cmp e.0 es) (is_sorted source_cmp es) h in
@@ -74,13 +84,16 @@ of_T : (b : Bool) → T b → b ≡ true
 of_T true t = refl
 of_T false t = absurd t
 
-entries_without : (m : FinMap source_cmp Standing) (s : Source) → finite.entries (finite.remove m s) ≡ others s (finite.entries m)
+entries_without : (m : FinMap source_cmp Standing) (s : Source) →
+    finite.entries (finite.remove m s) ≡ others s (finite.entries m)
 entries_without m s =
     let es = finite.entries m in
     let rising = is_sorted-where_key source_cmp (λ k. not (eq_by_cmp source_cmp s k)) es (finite.entries_sorted m) in
-    let same : finite.from_sorted (others s es) ≡ finite.remove m s = finite.same_map source_total same_source (finite.from_sorted (others s es)) (finite.remove m s) (λ q.
+    let same : finite.from_sorted (others s es) ≡ finite.remove m s =
+    finite.same_map source_total same_source (finite.from_sorted (others s es)) (finite.remove m s) (λ q.
     finite.get-from_sorted source_cmp (others s es) q rising
-    ∙ find-where_key source_cmp (λ k. not (eq_by_cmp source_cmp s k)) q (λ x e. ap (λ k. not (eq_by_cmp source_cmp s k)) (sym (same_source q x e))) es
+    ∙ find-where_key source_cmp (λ k. not (eq_by_cmp source_cmp s k)) q
+    (λ x e. ap (λ k. not (eq_by_cmp source_cmp s k)) (sym (same_source q x e))) es
     ∙ flipped (eq_by_cmp source_cmp s q) _ _
     ∙ ap (λ b. cond b None (find source_cmp q es)) ((eq_by_cmp_equiv source_total).symm s q)
     ∙ ap (λ o. cond (eq_by_cmp source_cmp q s) None o) (sym (finite.get-entries m q))
@@ -88,14 +101,16 @@ entries_without m s =
     ap finite.entries (sym same) ∙ finite.entries-from_sorted source_cmp (others s es) rising
 
 -- the best is the one that is there once the route is forgotten
-best_without : (s : Source) (r : Reason) (m : Standings) → best_of (with_standing s (Excluded r) m) ≡ best_of (without_source s m)
+best_without : (s : Source) (r : Reason) (m : Standings) →
+    best_of (with_standing s (Excluded r) m) ≡ best_of (without_source s m)
 best_without s r m = ap (best_among m.med_always) (
     ap considered_in (finite.entries-insert source_total m.known s (Excluded r))
     ∙ considered_excluded s r (finite.entries m.known) (of_T _ (finite.entries_sorted m.known))
     ∙ ap considered_in (sym (entries_without m.known s))
     )
 
-pub best_aside : (site : SiteConf) (u : Addr) (m : Message) (s : Standings) → best_of (set_aside site u m s) ≡ best_of (standings_after site u m s)
+pub best_aside : (site : SiteConf) (u : Addr) (m : Message) (s : Standings) →
+    best_of (set_aside site u m s) ≡ best_of (standings_after site u m s)
 best_aside site u (Update p attr) s = refl
 best_aside site u (Withdraw p) s = best_without (FromPeer u) Loop s
 
@@ -105,7 +120,8 @@ twice : {A : Type 0} (b : Bool) (x y z : A) → cond b x (cond b y z) ≡ cond b
 twice true x y z = refl
 twice false x y z = refl
 
-pub forgotten_then : (site : SiteConf) (u : Addr) (m : Message) (s : Standings) → forgotten u m (set_aside site u m s) ≡ standings_after site u m s
+pub forgotten_then : (site : SiteConf) (u : Addr) (m : Message) (s : Standings) →
+    forgotten u m (set_aside site u m s) ≡ standings_after site u m s
 forgotten_then site u (Update p attr) s = refl
 forgotten_then site u (Withdraw p) s =
     let q = FromPeer u in
@@ -123,42 +139,55 @@ record DifferAt (q : Source) (n s : Standings) : Type 0 where
   elsewhere : (x : Source) → eq_by_cmp source_cmp x q ≡ false → standing_from n x ≡ standing_from s x
   alike : n.med_always ≡ s.med_always
 
-restored_by : (q : Source) (n s : Standings) (had : Option Standing) → DifferAt q n s → standing_from s q ≡ had → put_back q had n ≡ s
+restored_by : (q : Source) (n s : Standings) (had : Option Standing) → DifferAt q n s → standing_from s q ≡ had →
+    put_back q had n ≡ s
 restored_by q n s had differ is = by had is
   where
     at_source : (x : Source) → eq_by_cmp source_cmp x q ≡ true → standing_from s x ≡ standing_from s q
     at_source x same = ap (standing_from s) (same_source x q (equal_from (source_cmp x q) same))
 
-    stands_by : (b : Bool) (had : Option Standing) (x : Source) → eq_by_cmp source_cmp x q ≡ b → standing_from s q ≡ had → cond b had (standing_from n x) ≡ standing_from s x
+    stands_by : (b : Bool) (had : Option Standing) (x : Source) → eq_by_cmp source_cmp x q ≡ b →
+        standing_from s q ≡ had → cond b had (standing_from n x) ≡ standing_from s x
     stands_by true had x same is = sym is ∙ sym (at_source x same)
     stands_by false had x other is = differ.elsewhere x other
 
     by : (had : Option Standing) → standing_from s q ≡ had → put_back q had n ≡ s
-    by None is = same_standings (without_source q n) s (λ x. finite.get-remove source_total n.known q x ∙ stands_by (eq_by_cmp source_cmp x q) None x refl is) differ.alike
-    by (Some v) is = same_standings (with_standing q v n) s (λ x. finite.get-insert source_total n.known q v x ∙ stands_by (eq_by_cmp source_cmp x q) (Some v) x refl is) differ.alike
+    by None is = same_standings (without_source q n) s (λ x. finite.get-remove source_total n.known q x
+        ∙ stands_by (eq_by_cmp source_cmp x q) None x refl is) differ.alike
+    by (Some v) is = same_standings (with_standing q v n) s (λ x. finite.get-insert source_total n.known q v x
+        ∙ stands_by (eq_by_cmp source_cmp x q) (Some v) x refl is) differ.alike
 
 module _ (site : SiteConf) (u : Addr) where
   abbrev put_over : Prefix → Attr → Standings → Option SiteSession → Standings
   put_over p attr s o = option_map_or (λ x. added s (option_to_list (standing_over site p x (Some attr)))) o s
 
-  off : (w v : Addr) (x : Source) → w ≡ v → eq_by_cmp source_cmp x (FromPeer v) ≡ false → eq_by_cmp source_cmp x (FromPeer w) ≡ false
+  off : (w v : Addr) (x : Source) → w ≡ v → eq_by_cmp source_cmp x (FromPeer v) ≡ false →
+      eq_by_cmp source_cmp x (FromPeer w) ≡ false
   off w v x same other = ap (λ a. eq_by_cmp source_cmp x (FromPeer a)) same ∙ other
 
-  over_elsewhere : (p : Prefix) (attr : Attr) (s : Standings) (o : Option SiteSession) → session_with site u ≡ o → (x : Source) → eq_by_cmp source_cmp x (FromPeer u) ≡ false → standing_from (put_over p attr s o) x ≡ standing_from s x
+  over_elsewhere : (p : Prefix) (attr : Attr) (s : Standings) (o : Option SiteSession) → session_with site u ≡ o →
+      (x : Source) → eq_by_cmp source_cmp x (FromPeer u) ≡ false →
+      standing_from (put_over p attr s o) x ≡ standing_from s x
   over_elsewhere p attr s None at x other = refl
   over_elsewhere p attr s (Some y) at x other =
       put_one site p y (Some attr) s x
-      ∙ ap (λ b. cond b (option_or (stood site p y (Some attr)) (standing_from s x)) (standing_from s x)) (off y.peer u x (peer_found site.sessions u y at) other)
+      ∙ ap (λ b. cond b (option_or (stood site p y (Some attr)) (standing_from s x)) (standing_from s x))
+      (off y.peer u x (peer_found site.sessions u y at) other)
 
   differ : (m : Message) (s : Standings) → DifferAt (FromPeer u) (set_aside site u m s) s
-  differ (Update p attr) s = record { elsewhere = over_elsewhere p attr s (session_with site u) refl; alike = compares_after site u (Update p attr) s }
+  differ (Update p attr) s = record {
+    elsewhere = over_elsewhere p attr s (session_with site u) refl;
+    alike = compares_after site u (Update p attr) s;
+  }
   differ (Withdraw p) s = record {
-    elsewhere = λ x other. finite.get-insert source_total s.known (FromPeer u) (Excluded Loop) x ∙ ap (λ b. cond b (Some (Excluded Loop)) (standing_from s x)) other;
+    elsewhere = λ x other. finite.get-insert source_total s.known (FromPeer u) (Excluded Loop) x
+        ∙ ap (λ b. cond b (Some (Excluded Loop)) (standing_from s x)) other;
     alike = refl;
   }
 
   -- as if the message had not been taken
-  pub restored : (m : Message) (s : Standings) → put_back (FromPeer u) (standing_from s (FromPeer u)) (set_aside site u m s) ≡ s
+  pub restored : (m : Message) (s : Standings) →
+      put_back (FromPeer u) (standing_from s (FromPeer u)) (set_aside site u m s) ≡ s
   restored m s = restored_by (FromPeer u) (set_aside site u m s) s (standing_from s (FromPeer u)) (differ m s) refl
 
   some_or : (o w : Option Standing) → is_some w ≡ true → is_some (option_or o w) ≡ true
@@ -169,7 +198,8 @@ module _ (site : SiteConf) (u : Addr) where
   some_either true o w is = some_or o w is
   some_either false o w is = is
 
-  known_over : (p : Prefix) (attr : Attr) (s : Standings) (o : Option SiteSession) (q : Source) → is_some (standing_from s q) ≡ true → is_some (standing_from (put_over p attr s o) q) ≡ true
+  known_over : (p : Prefix) (attr : Attr) (s : Standings) (o : Option SiteSession) (q : Source) →
+      is_some (standing_from s q) ≡ true → is_some (standing_from (put_over p attr s o) q) ≡ true
   known_over p attr s None q is = is
   known_over p attr s (Some y) q is =
       ap is_some (put_one site p y (Some attr) s q)
@@ -180,7 +210,8 @@ module _ (site : SiteConf) (u : Addr) where
   some_put false v w is = is
 
   -- who was known still is
-  pub known_aside : (m : Message) (s : Standings) → IsKnownIn (FromPeer u) (standing_from s (FromPeer u)) (set_aside site u m s)
+  pub known_aside : (m : Message) (s : Standings) →
+      IsKnownIn (FromPeer u) (standing_from s (FromPeer u)) (set_aside site u m s)
   known_aside (Update p attr) s standing had = known_over p attr s (session_with site u) (FromPeer u) (ap is_some had)
   known_aside (Withdraw p) s standing had =
       let q = FromPeer u in
@@ -190,7 +221,8 @@ module _ (site : SiteConf) (u : Addr) where
 -- WHAT IS SENT
 
 -- what a router sends for a message, by the routes that it has received
-pub sends_delivered : (site : SiteConf) (h : Cell) (u : Addr) (m : Message) → IsDecided (Some site) (prefix_of m) h → (delivered site h u m).sends ≡ sends_with site u m h.received
+pub sends_delivered : (site : SiteConf) (h : Cell) (u : Addr) (m : Message) → IsDecided (Some site) (prefix_of m) h →
+    (delivered site h u m).sends ≡ sends_with site u m h.received
 unfolding delivered
 sends_delivered site h u m is =
     let p = prefix_of m in
@@ -199,7 +231,9 @@ sends_delivered site h u m is =
 
 -- TAKEN
 
-module _ (site : SiteConf) (u : Addr) (m : Message) (routes : List (Addr × Attr)) (peers : ArePeersInOrder site.sessions) (order : AreInOrder routes) (s : Standings) (stands : s ≡ standings_by site (prefix_of m) routes) where
+module _ (site : SiteConf) (u : Addr) (m : Message) (routes : List (Addr × Attr))
+    (peers : ArePeersInOrder site.sessions) (order : AreInOrder routes) (s : Standings)
+    (stands : s ≡ standings_by site (prefix_of m) routes) where
   then_stand : standings_after site u m s ≡ standings_by site (prefix_of m) (with_news u m routes)
   then_stand = ap (standings_after site u m) stands ∙ taken site u m routes peers order
 

@@ -30,11 +30,13 @@ itself always External c = not_apart true c.external
 itself always Cost c = not_below c.cost
 itself always Ident c = not_below (identifier c).0
 itself always Clusters c = not_below (length c.attr.clusters)
-itself always Peer c = ap (λ b. b || (same_peer c c && is_own c.source && not (is_own c.source))) (not_below (peer_address c.source c.ident).0) ∙ not_apart (same_peer c c) (is_own c.source)
+itself always Peer c = ap (λ b. b || (same_peer c c && is_own c.source && not (is_own c.source)))
+    (not_below (peer_address c.source c.ident).0) ∙ not_apart (same_peer c c) (is_own c.source)
 
 left_alone : (always : Bool) (ks : List Filter) (c : Candidate) → left_by_all always ks (c ∷ []) ≡ c ∷ []
 left_alone always [] c = refl
-left_alone always (k ∷ ks) c = ap (λ b. left_by_all always ks (cond (not (b || false)) (c ∷ []) [])) (itself always k c) ∙ left_alone always ks c
+left_alone always (k ∷ ks) c = ap (λ b. left_by_all always ks (cond (not (b || false)) (c ∷ []) [])) (itself always k c)
+    ∙ left_alone always ks c
 
 pub best_alone : (always : Bool) (c : Candidate) → best_among always (c ∷ []) ≡ Some c
 unfolding best_among

@@ -27,9 +27,11 @@ same_list (p ∷ ps) (q ∷ qs) h =
 
 pub same_own : (s : SitePair) (p : Prefix) → same_origins s.old s.new ≡ true → is_own_moved s p ≡ false
 same_own s p h =
-    ap (λ os. not (beq (list_any (same_prefix p) s.old.origins) (list_any (same_prefix p) os))) (sym (same_list s.old.origins s.new.origins h))
+    ap (λ os. not (beq (list_any (same_prefix p) s.old.origins) (list_any (same_prefix p) os)))
+    (sym (same_list s.old.origins s.new.origins h))
     ∙ ap not ((booleans_Decides (is_originated s.old p) (is_originated s.old p)).1 refl)
 
 -- nor does one that was not originated come, so that one look tells of both
-pub own_before : (s : SitePair) (p : Prefix) → same_origins s.old s.new ≡ true → is_originated s.new p ≡ is_originated s.old p
+pub own_before : (s : SitePair) (p : Prefix) → same_origins s.old s.new ≡ true →
+    is_originated s.new p ≡ is_originated s.old p
 own_before s p h = ap (λ os. list_any (same_prefix p) os) (sym (same_list s.old.origins s.new.origins h))

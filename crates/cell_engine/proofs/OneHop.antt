@@ -11,16 +11,21 @@ use Rattle.cell_engine.specs.SiteMoves.{SitePair, moves_cost_to, is_route_moved,
 use Rattle.reference_machine.specs.Decision.{is_originated}
 
 module _ (s : SitePair) (p : Prefix) (a : Addr) (stays : moves_cost_to s a ≡ false) where
-  none_moves : (routes : List (Addr × Attr)) → All (λ e. e.1.next ≡ a) routes → list_any (is_route_moved s p) routes ≡ false
+  none_moves : (routes : List (Addr × Attr)) → All (λ e. e.1.next ≡ a) routes →
+      list_any (is_route_moved s p) routes ≡ false
   none_moves [] all = refl
   none_moves (e ∷ es) all =
       let counts : Bool = option_map_or (counts_cost s.old p e.1) (session_with s.old e.0) false in
-      (λ i. ((ap (moves_cost_to s) (All-head (λ (x : Addr × Attr). x.1.next ≡ a) e es all) ∙ stays) i && counts) || none_moves es (All-tail (λ (x : Addr × Attr). x.1.next ≡ a) e es all) i)
+      (λ i. ((ap (moves_cost_to s) (All-head (λ (x : Addr × Attr). x.1.next ≡ a) e es all) ∙ stays) i && counts)
+      || none_moves es (All-tail (λ (x : Addr × Attr). x.1.next ≡ a) e es all) i)
 
   -- no cell of such routes
-  pub none_by_hop : MovesCostsAlone s → (routes : List (Addr × Attr)) → All (λ e. e.1.next ≡ a) routes → is_moved s p routes ≡ false
-  none_by_hop alone routes all = λ i. cond (alone.facts i) (alone.origins p i || none_moves routes all i) (has_route s.old p routes || is_originated s.new p)
+  pub none_by_hop : MovesCostsAlone s → (routes : List (Addr × Attr)) → All (λ e. e.1.next ≡ a) routes →
+      is_moved s p routes ≡ false
+  none_by_hop alone routes all = λ i. cond (alone.facts i) (alone.origins p i || none_moves routes all i)
+      (has_route s.old p routes || is_originated s.new p)
 
 -- nor one of no routes
 pub none_moved : (s : SitePair) (p : Prefix) → MovesCostsAlone s → is_moved s p [] ≡ false
-none_moved s p alone = λ i. cond (alone.facts i) (alone.origins p i || false) (has_route s.old p [] || is_originated s.new p)
+none_moved s p alone = λ i. cond (alone.facts i) (alone.origins p i || false)
+    (has_route s.old p [] || is_originated s.new p)

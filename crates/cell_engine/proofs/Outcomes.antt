@@ -13,7 +13,8 @@ use Rattle.cell_engine.proofs.SendersInOrder.{order_with_news, order_kept}
 
 -- IN ORDER
 
-pub order_delivered : (site : SiteConf) (h : Cell) (u : Addr) (m : Message) → AreInOrder h.received → AreInOrder (delivered site h u m).cell.received
+pub order_delivered : (site : SiteConf) (h : Cell) (u : Addr) (m : Message) → AreInOrder h.received →
+    AreInOrder (delivered site h u m).cell.received
 unfolding delivered
 order_delivered site h u m order = order_with_news u m h.received order
 
@@ -21,13 +22,15 @@ pub order_stored : (h : Cell) (u : Addr) (m : Message) → AreInOrder h.received
 unfolding stored
 order_stored h u m order = order_with_news u m h.received order
 
-pub order_refreshed : (old new : SiteConf) (p : Prefix) (h : Cell) → AreInOrder h.received → AreInOrder (refreshed old new p h).cell.received
+pub order_refreshed : (old new : SiteConf) (p : Prefix) (h : Cell) → AreInOrder h.received →
+    AreInOrder (refreshed old new p h).cell.received
 unfolding refreshed
 order_refreshed old new p h order = order_kept new h.received order
 
 -- DECIDED
 
-pub decided_delivered : (site : SiteConf) (h : Cell) (u : Addr) (m : Message) → IsDecided (Some site) (prefix_of m) (delivered site h u m).cell
+pub decided_delivered : (site : SiteConf) (h : Cell) (u : Addr) (m : Message) →
+    IsDecided (Some site) (prefix_of m) (delivered site h u m).cell
 unfolding delivered
 decided_delivered site h u m = refl
 
@@ -35,7 +38,8 @@ pub decided_stored : (h : Cell) (u : Addr) (m : Message) → IsDecided None (pre
 unfolding stored
 decided_stored h u m = refl
 
-pub decided_refreshed : (old new : SiteConf) (p : Prefix) (h : Cell) → IsDecided (Some new) p (refreshed old new p h).cell
+pub decided_refreshed : (old new : SiteConf) (p : Prefix) (h : Cell) →
+    IsDecided (Some new) p (refreshed old new p h).cell
 unfolding refreshed
 decided_refreshed old new p h = refl
 

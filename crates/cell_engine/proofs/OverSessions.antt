@@ -52,10 +52,12 @@ module _ (test : Addr → Bool) where
   pub all_pass : (es : List (Addr × Attr)) → passing es ≡ es → AllPass es
   all_pass es left = subst AllPass left (passing_pass es)
 
-  all_pass_with : (u : Addr) (attr : Attr) → test u ≡ true → (es : List (Addr × Attr)) → AllPass es → AllPass (insert_entry addr_cmp es u attr)
+  all_pass_with : (u : Addr) (attr : Attr) → test u ≡ true → (es : List (Addr × Attr)) → AllPass es →
+      AllPass (insert_entry addr_cmp es u attr)
   all_pass_with u attr is [] all = (is, tt)
   all_pass_with u attr is (e ∷ es) all =
-      elim (addr_cmp u e.0) as (λ o. AllPass (match_ordering o ((u, attr) ∷ e ∷ es) ((e.0, attr) ∷ es) (e ∷ insert_entry addr_cmp es u attr))) [
+      elim (addr_cmp u e.0) as (λ o.
+      AllPass (match_ordering o ((u, attr) ∷ e ∷ es) ((e.0, attr) ∷ es) (e ∷ insert_entry addr_cmp es u attr))) [
         | Less ↦ (is, all)
         | Equal ↦ all
         | Greater ↦ (all.0, all_pass_with u attr is es all.1)
@@ -70,7 +72,8 @@ module _ (test : Addr → Bool) where
       ]
 
   -- a message of a sender that passes
-  all_pass_news : (u : Addr) (m : Message) (es : List (Addr × Attr)) → test u ≡ true → AllPass es → AllPass (with_news u m es)
+  all_pass_news : (u : Addr) (m : Message) (es : List (Addr × Attr)) → test u ≡ true → AllPass es →
+      AllPass (with_news u m es)
   all_pass_news u (Update p attr) es is all = all_pass_with u attr is es all
   all_pass_news u (Withdraw p) es is all = all_pass_without u es all
 
@@ -83,23 +86,29 @@ module _ (c : Configuration) where
 
   kept_is_over : (r : Addr) (p : Prefix) (h : Cell) → IsOverSessionsUp r (kept_cell c r p h)
   kept_is_over r p h =
-      subst (λ routes. kept_from c r routes ≡ routes) (sym (decided_received (router_site c r) p (kept_from c r h.received)))
+      subst (λ routes. kept_from c r routes ≡ routes)
+      (sym (decided_received (router_site c r) p (kept_from c r h.received)))
       (all_left (λ u. is_up c u r) (kept_from c r h.received) (passing_pass (λ u. is_up c u r) h.received))
 
-  kept_or_none : (r : Addr) (p : Prefix) (x : Option Cell) → IsOverSessionsUp r (unwrap_or (option_map (kept_cell c r p) x) new_cell)
+  kept_or_none : (r : Addr) (p : Prefix) (x : Option Cell) →
+      IsOverSessionsUp r (unwrap_or (option_map (kept_cell c r p) x) new_cell)
   kept_or_none r p None = refl
   kept_or_none r p (Some h) = kept_is_over r p h
 
 -- so it is once each cell was decided anew
 pub up_after : (d : Configuration) (ts : List (Addr × Table Cell)) → AreOverSessionsUp d (kept_tables d ts)
-up_after d ts r p = subst (λ x. IsOverSessionsUp d r (unwrap_or x new_cell)) (sym (value_kept d r p ts)) (kept_or_none d r p (value_at r p ts))
+up_after d ts r p = subst (λ x. IsOverSessionsUp d r (unwrap_or x new_cell)) (sym (value_kept d r p ts))
+    (kept_or_none d r p (value_at r p ts))
 
 -- and still, where a cell with such routes is put in
-pub up_with_cell : (c : Configuration) (ts : List (Addr × Table Cell)) (r : Addr) (p : Prefix) (h : Cell) → AreOverSessionsUp c ts → kept_from c r h.received ≡ h.received → AreOverSessionsUp c (with_value r p h ts)
+pub up_with_cell : (c : Configuration) (ts : List (Addr × Table Cell)) (r : Addr) (p : Prefix) (h : Cell) →
+    AreOverSessionsUp c ts → kept_from c r h.received ≡ h.received → AreOverSessionsUp c (with_value r p h ts)
 up_with_cell c ts r p h up is s q =
-    subst (λ x. IsOverSessionsUp c s (unwrap_or x new_cell)) (sym (value_with_cell r p h ts s q)) (by (eq_by_cmp addr_cmp s r) (eq_by_cmp prefix_cmp q p) refl)
+    subst (λ x. IsOverSessionsUp c s (unwrap_or x new_cell)) (sym (value_with_cell r p h ts s q))
+    (by (eq_by_cmp addr_cmp s r) (eq_by_cmp prefix_cmp q p) refl)
   where
-    by : (here same : Bool) → eq_by_cmp addr_cmp s r ≡ here → IsOverSessionsUp c s (unwrap_or (cond here (cond same (Some h) (value_at s q ts)) (value_at s q ts)) new_cell)
+    by : (here same : Bool) → eq_by_cmp addr_cmp s r ≡ here →
+        IsOverSessionsUp c s (unwrap_or (cond here (cond same (Some h) (value_at s q ts)) (value_at s q ts)) new_cell)
     by true true at = subst (λ x. IsOverSessionsUp c x h) (sym (addr_exact s r (equal_when (addr_cmp s r) at))) is
     by true false at = up s q
     by false same at = up s q
@@ -107,15 +116,19 @@ up_with_cell c ts r p h up is s q =
 -- MESSAGES
 
 -- a message that came over a session that is up leaves such routes
-pub news_kept : (c : Configuration) (r u : Addr) (routes : List (Addr × Attr)) (m : Message) → is_up c u r ≡ true → kept_from c r routes ≡ routes → kept_from c r (with_news u m routes) ≡ with_news u m routes
+pub news_kept : (c : Configuration) (r u : Addr) (routes : List (Addr × Attr)) (m : Message) → is_up c u r ≡ true →
+    kept_from c r routes ≡ routes → kept_from c r (with_news u m routes) ≡ with_news u m routes
 news_kept c r u routes m is kept =
     let test : Addr → Bool = λ v. is_up c v r in
     all_left test (with_news u m routes) (all_pass_news test u m routes is (all_pass test routes kept))
 
-pub delivered_kept : (c : Configuration) (r u : Addr) (site : SiteConf) (h : Cell) (m : Message) → is_up c u r ≡ true → kept_from c r h.received ≡ h.received → kept_from c r (delivered site h u m).cell.received ≡ (delivered site h u m).cell.received
+pub delivered_kept : (c : Configuration) (r u : Addr) (site : SiteConf) (h : Cell) (m : Message) → is_up c u r ≡ true →
+    kept_from c r h.received ≡ h.received → kept_from c r (delivered site h u m).cell.received
+    ≡ (delivered site h u m).cell.received
 unfolding delivered
 delivered_kept c r u site h m is kept = news_kept c r u h.received m is kept
 
-pub stored_kept : (c : Configuration) (r u : Addr) (h : Cell) (m : Message) → is_up c u r ≡ true → kept_from c r h.received ≡ h.received → kept_from c r (stored h u m).cell.received ≡ (stored h u m).cell.received
+pub stored_kept : (c : Configuration) (r u : Addr) (h : Cell) (m : Message) → is_up c u r ≡ true →
+    kept_from c r h.received ≡ h.received → kept_from c r (stored h u m).cell.received ≡ (stored h u m).cell.received
 unfolding stored
 stored_kept c r u h m is kept = news_kept c r u h.received m is kept

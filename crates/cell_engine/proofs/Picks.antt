@@ -53,7 +53,8 @@ module _ {K V : Type 0} {R : K → K → Ordering} (o : IsTotalOrder R) (same : 
   none_either true = refl
   none_either false = refl
 
-  found_by : (q k : K) (ks : List K) (t : Bool) (f : Option V) → eq_by_cmp R q k ≡ t → F k ≡ f → Finds q ks → Finds q (k ∷ ks)
+  found_by : (q k : K) (ks : List K) (t : Bool) (f : Option V) → eq_by_cmp R q k ≡ t → F k ≡ f →
+      Finds q ks → Finds q (k ∷ ks)
   found_by q k ks true None t is rest =
       let none : F q ≡ None = ap F (same q k (is_equal (R q k) t)) ∙ is in
       ap (λ f. find R q (cons_option (option_map (λ v. (k, v)) f) (picked ks))) is
@@ -84,7 +85,8 @@ module _ {K V : Type 0} {R : K → K → Ordering} (o : IsTotalOrder R) (same : 
   values_picked : (ks : List K) → map (λ e. e.1) (picked ks) ≡ filter_map F ks
   values_picked [] = refl
   values_picked (k ∷ ks) =
-      elim (F k) as (λ f. map (λ e. e.1) (cons_option (option_map (λ v. (k, v)) f) (picked ks)) ≡ cons_option f (filter_map F ks)) [
+      elim (F k) as (λ f. map (λ e. e.1) (cons_option (option_map (λ v. (k, v)) f) (picked ks))
+      ≡ cons_option f (filter_map F ks)) [
         | None ↦ values_picked ks
         | Some v ↦ ap (λ l. v ∷ l) (values_picked ks)
       ]
@@ -96,10 +98,12 @@ module _ {K V : Type 0} {R : K → K → Ordering} (o : IsTotalOrder R) (same : 
     by false h = ap (λ b. cond b (F q) None) h ∙ sym (covers q h)
 
   -- two lists in order that leave nothing out give the same
-  pub same_picks : (ks ls : List K) → IsStrictlySortedBy R ks → IsStrictlySortedBy R ls → LeavesNoneOut ks → LeavesNoneOut ls → filter_map F ks ≡ filter_map F ls
+  pub same_picks : (ks ls : List K) → IsStrictlySortedBy R ks → IsStrictlySortedBy R ls → LeavesNoneOut ks →
+      LeavesNoneOut ls → filter_map F ks ≡ filter_map F ls
   same_picks ks ls g h a b =
       sym (values_picked ks)
-      ∙ ap (map (λ e. e.1)) (same_entries R o same (picked ks) (picked ls) (sorted_picked ks g) (sorted_picked ls h) (λ q. all_found ks a q ∙ sym (all_found ls b q)))
+      ∙ ap (map (λ e. e.1)) (same_entries R o same (picked ks) (picked ls) (sorted_picked ks g) (sorted_picked ls h)
+      (λ q. all_found ks a q ∙ sym (all_found ls b q)))
       ∙ values_picked ls
 
 -- KEYS PUT IN ORDER
@@ -109,7 +113,8 @@ or_true true c h = refl
 or_true false c h = h
 
 module _ {K : Type 0} {R : K → K → Ordering} (o : IsTotalOrder R) (same : IsAntisymmetric R) where
-  all_inserted : (P : K → Type 0) (k : K) (ks : List K) → P k → AllByRecursion P ks → AllByRecursion P (insert_key R ks k)
+  all_inserted : (P : K → Type 0) (k : K) (ks : List K) → P k → AllByRecursion P ks →
+      AllByRecursion P (insert_key R ks k)
   all_inserted P k [] p h = (p, tt)
   all_inserted P k (x ∷ ks) p h =
       elim (R k x) as (λ r. AllByRecursion P (match_ordering r (k ∷ x ∷ ks) (x ∷ ks) (x ∷ insert_key R ks k))) [
@@ -118,7 +123,8 @@ module _ {K : Type 0} {R : K → K → Ordering} (o : IsTotalOrder R) (same : Is
         | Greater ↦ (h.0, all_inserted P k ks p h.1)
       ]
 
-  all_past : (k x : K) (ks : List K) → R k x ≡ Less → AllByRecursion (λ y. R x y ≡ Less) ks → AllByRecursion (λ y. R k y ≡ Less) ks
+  all_past : (k x : K) (ks : List K) → R k x ≡ Less → AllByRecursion (λ y. R x y ≡ Less) ks →
+      AllByRecursion (λ y. R k y ≡ Less) ks
   all_past k x [] p h = tt
   all_past k x (y ∷ ks) p h = (o.trans k x y p h.0, all_past k x ks p h.1)
 
@@ -127,10 +133,14 @@ module _ {K : Type 0} {R : K → K → Ordering} (o : IsTotalOrder R) (same : Is
   unfolding IsStrictlySortedBy
   sorted_inserted k [] h = (tt, tt)
   sorted_inserted k (x ∷ ks) h =
-      elim (R k x) as (λ r. R k x ≡ r → IsStrictlySortedBy R (match_ordering r (k ∷ x ∷ ks) (x ∷ ks) (x ∷ insert_key R ks k))) [
+      elim (R k x) as (λ r. R k x ≡ r →
+      IsStrictlySortedBy R (match_ordering r (k ∷ x ∷ ks) (x ∷ ks) (x ∷ insert_key R ks k))) [
         | Less ↦ λ p. ((p, all_past k x ks p h.0), h)
         | Equal ↦ λ p. h
-        | Greater ↦ λ p. (all_inserted (λ y. R x y ≡ Less) k ks (o.antisymm x k ∙ ap ordering_reverse p) h.0, sorted_inserted k ks h.1)
+        | Greater ↦ λ p. (
+          all_inserted (λ y. R x y ≡ Less) k ks (o.antisymm x k ∙ ap ordering_reverse p) h.0,
+          sorted_inserted k ks h.1,
+        )
       ] refl
 
   abbrev gathered : List K → List K → List K
@@ -155,7 +165,8 @@ module _ {K : Type 0} {R : K → K → Ordering} (o : IsTotalOrder R) (same : Is
         elim (R k x) as (λ r. has (match_ordering r (k ∷ x ∷ xs) (x ∷ xs) (x ∷ insert_key R xs k)) ≡ true) [
           | Less ↦ or_true (eq_by_cmp R q k) _ h
           | Equal ↦ h
-          | Greater ↦ elim (eq_by_cmp R q x) as (λ b. (b || has xs) ≡ true → (b || has (insert_key R xs k)) ≡ true) [ true ↦ λ _. refl | false ↦ λ h. kept k xs h ] h
+          | Greater ↦ elim (eq_by_cmp R q x) as (λ b. (b || has xs) ≡ true →
+              (b || has (insert_key R xs k)) ≡ true) [ true ↦ λ _. refl | false ↦ λ h. kept k xs h ] h
         ]
 
     new : (k : K) (xs : List K) → eq_by_cmp R q k ≡ true → has (insert_key R xs k) ≡ true
@@ -174,14 +185,16 @@ module _ {K : Type 0} {R : K → K → Ordering} (o : IsTotalOrder R) (same : Is
     in_gathered : (ks xs : List K) → has ks ≡ true → has (gathered xs ks) ≡ true
     in_gathered [] xs h = absurd (true≢false (sym h))
     in_gathered (k ∷ ks) xs h =
-        elim (eq_by_cmp R q k) as (λ b. eq_by_cmp R q k ≡ b → (b || has ks) ≡ true → has (gathered (insert_key R xs k) ks) ≡ true) [
+        elim (eq_by_cmp R q k) as (λ b. eq_by_cmp R q k ≡ b → (b || has ks) ≡ true →
+        has (gathered (insert_key R xs k) ks) ≡ true) [
           | true ↦ λ t _. kept_in ks (insert_key R xs k) (new k xs t)
           | false ↦ λ t h. in_gathered ks (insert_key R xs k) h
         ] refl h
 
     apart : (xs ys : List K) → has (xs ++ ys) ≡ false → (has xs ≡ false) × (has ys ≡ false)
     apart [] ys h = (refl, h)
-    apart (x ∷ xs) ys h = elim (eq_by_cmp R q x) as (λ b. (b || has (xs ++ ys)) ≡ false → ((b || has xs) ≡ false) × (has ys ≡ false)) [ true ↦ λ h. absurd (true≢false h) | false ↦ λ h. apart xs ys h ] h
+    apart (x ∷ xs) ys h = elim (eq_by_cmp R q x) as (λ b. (b || has (xs ++ ys)) ≡ false → ((b || has xs) ≡ false)
+        × (has ys ≡ false)) [ true ↦ λ h. absurd (true≢false h) | false ↦ λ h. apart xs ys h ] h
 
     -- a key that is not among those put in order is in neither list
     pub not_gathered : (xs ys : List K) → has (gathered [] (xs ++ ys)) ≡ false → (has xs ≡ false) × (has ys ≡ false)

@@ -22,17 +22,22 @@ module _ {K : Type 0} {R : K → K → Ordering} (total : IsTotalOrder R) (exact
 
   all_after : (ks : List K) → AllByRecursion (λ y. R k y ≡ Less) ks → after ks ≡ ks
   all_after [] all = refl
-  all_after (x ∷ ks) all = ap (λ o. cond (is_lt o) (x ∷ after ks) (after ks)) all.0 ∙ ap (λ l. x ∷ l) (all_after ks all.1)
+  all_after (x ∷ ks) all = ap (λ o. cond (is_lt o) (x ∷ after ks) (after ks)) all.0
+      ∙ ap (λ l. x ∷ l) (all_after ks all.1)
 
-  past : (x : K) (ks : List K) → R k x ≡ Less → AllByRecursion (λ y. R x y ≡ Less) ks → AllByRecursion (λ y. R k y ≡ Less) ks
+  past : (x : K) (ks : List K) → R k x ≡ Less → AllByRecursion (λ y. R x y ≡ Less) ks →
+      AllByRecursion (λ y. R k y ≡ Less) ks
   past x [] is all = tt
   past x (y ∷ ks) is all = (total.trans k x y is all.0, past x ks is all.1)
 
-  alike : (x : K) (ks : List K) → R k x ≡ Equal → AllByRecursion (λ y. R x y ≡ Less) ks → AllByRecursion (λ y. R k y ≡ Less) ks
+  alike : (x : K) (ks : List K) → R k x ≡ Equal → AllByRecursion (λ y. R x y ≡ Less) ks →
+      AllByRecursion (λ y. R k y ≡ Less) ks
   alike x [] is all = tt
   alike x (y ∷ ks) is all = (total.congr k x y is ∙ all.0, alike x ks is all.1)
 
-  placed_by : (o : Ordering) (x : K) (ks : List K) → R k x ≡ o → AllByRecursion (λ y. R x y ≡ Less) ks → insert_key R ks k ≡ before ks ++ k ∷ after ks → match_ordering o (k ∷ x ∷ ks) (x ∷ ks) (x ∷ insert_key R ks k) ≡ cond (is_gt o) (x ∷ before ks) (before ks) ++ k ∷ cond (is_lt o) (x ∷ after ks) (after ks)
+  placed_by : (o : Ordering) (x : K) (ks : List K) → R k x ≡ o → AllByRecursion (λ y. R x y ≡ Less) ks →
+      insert_key R ks k ≡ before ks ++ k ∷ after ks → match_ordering o (k ∷ x ∷ ks) (x ∷ ks) (x ∷ insert_key R ks k)
+      ≡ cond (is_gt o) (x ∷ before ks) (before ks) ++ k ∷ cond (is_lt o) (x ∷ after ks) (after ks)
   placed_by Less x ks is all rest =
       let later = past x ks is all in
       λ i. sym (none_before ks later) i ++ k ∷ x ∷ sym (all_after ks later) i

@@ -32,26 +32,36 @@ use Rattle.cell_engine.proofs.Flat.{route_at, from_key, by_sender, entries_chang
 
 module _ (r : Addr) (p : Prefix) (u : Addr) where
   -- a route put into a cell is put into the cell's entries
-  cell_with_route : (attr : Attr) (es : List (Addr × Attr)) → map (entry_of r p) (insert_entry addr_cmp es u attr) ≡ with_route (route_at r p u) attr (map (entry_of r p) es)
+  cell_with_route : (attr : Attr) (es : List (Addr × Attr)) → map (entry_of r p) (insert_entry addr_cmp es u attr)
+      ≡ with_route (route_at r p u) attr (map (entry_of r p) es)
   cell_with_route attr [] = refl
   cell_with_route attr (e ∷ es) =
-      elim (addr_cmp u e.0) as (λ o. map (entry_of r p) (match_ordering o ((u, attr) ∷ e ∷ es) ((e.0, attr) ∷ es) (e ∷ insert_entry addr_cmp es u attr))
-      ≡ match_ordering o ((route_at r p u, attr) ∷ map (entry_of r p) (e ∷ es)) ((route_at r p e.0, attr) ∷ map (entry_of r p) es) (entry_of r p e ∷ with_route (route_at r p u) attr (map (entry_of r p) es))) [
+      elim (addr_cmp u e.0) as (λ o.
+      map (entry_of r p) (match_ordering o ((u, attr) ∷ e ∷ es) ((e.0, attr) ∷ es)
+      (e ∷ insert_entry addr_cmp es u attr))
+      ≡ match_ordering o ((route_at r p u, attr) ∷ map (entry_of r p) (e ∷ es))
+      ((route_at r p e.0, attr) ∷ map (entry_of r p) es)
+      (entry_of r p e ∷ with_route (route_at r p u) attr (map (entry_of r p) es))) [
         | Less ↦ refl
         | Equal ↦ refl
         | Greater ↦ ap (λ l. entry_of r p e ∷ l) (cell_with_route attr es)
       ]
-      ∙ ap (λ o. match_ordering o ((route_at r p u, attr) ∷ map (entry_of r p) (e ∷ es)) ((route_at r p e.0, attr) ∷ map (entry_of r p) es) (entry_of r p e ∷ with_route (route_at r p u) attr (map (entry_of r p) es))) (sym (by_sender r p u e.0))
+      ∙ ap (λ o. match_ordering o ((route_at r p u, attr) ∷ map (entry_of r p) (e ∷ es))
+      ((route_at r p e.0, attr) ∷ map (entry_of r p) es)
+      (entry_of r p e ∷ with_route (route_at r p u) attr (map (entry_of r p) es))) (sym (by_sender r p u e.0))
 
   -- and taken out likewise
-  cell_without_route : (es : List (Addr × Attr)) → map (entry_of r p) (remove_entry (is_at (addr_cmp u)) es) ≡ without_route (route_at r p u) (map (entry_of r p) es)
+  cell_without_route : (es : List (Addr × Attr)) → map (entry_of r p) (remove_entry (is_at (addr_cmp u)) es)
+      ≡ without_route (route_at r p u) (map (entry_of r p) es)
   cell_without_route [] = refl
   cell_without_route (e ∷ es) =
-      elim (is_eq (addr_cmp u e.0)) as (λ b. map (entry_of r p) (cond b es (e ∷ remove_entry (is_at (addr_cmp u)) es)) ≡ cond b (map (entry_of r p) es) (entry_of r p e ∷ without_route (route_at r p u) (map (entry_of r p) es))) [
+      elim (is_eq (addr_cmp u e.0)) as (λ b. map (entry_of r p) (cond b es (e ∷ remove_entry (is_at (addr_cmp u)) es))
+      ≡ cond b (map (entry_of r p) es) (entry_of r p e ∷ without_route (route_at r p u) (map (entry_of r p) es))) [
         | true ↦ refl
         | false ↦ ap (λ l. entry_of r p e ∷ l) (cell_without_route es)
       ]
-      ∙ ap (λ o. cond (is_eq o) (map (entry_of r p) es) (entry_of r p e ∷ without_route (route_at r p u) (map (entry_of r p) es))) (sym (by_sender r p u e.0))
+      ∙ ap (λ o. cond (is_eq o) (map (entry_of r p) es)
+      (entry_of r p e ∷ without_route (route_at r p u) (map (entry_of r p) es))) (sym (by_sender r p u e.0))
 
   -- the route of a sender is that of its key
   cell_route : (es : List (Addr × Attr)) → route_from (map (entry_of r p) es) r p u ≡ route_of es u
@@ -62,49 +72,73 @@ module _ (r : Addr) (p : Prefix) (u : Addr) where
 
 module _ (ts : List (Addr × Table Cell)) (sorted : IsTrue (is_sorted addr_cmp ts)) where
   -- a cell with a route more, or another from the sender
-  pub entries_with_route : (r : Addr) (p : Prefix) (u : Addr) (attr : Attr) (h : Cell) → h.received ≡ insert_entry addr_cmp (cell_at r p ts).received u attr → all_entries (with_value r p h ts) ≡ with_route (route_at r p u) attr (all_entries ts)
+  pub entries_with_route : (r : Addr) (p : Prefix) (u : Addr) (attr : Attr) (h : Cell) →
+      h.received ≡ insert_entry addr_cmp (cell_at r p ts).received u attr →
+      all_entries (with_value r p h ts) ≡ with_route (route_at r p u) attr (all_entries ts)
   entries_with_route r p u attr h is =
-      entries_changed r p u (insert_edit route_cmp (route_at r p u) attr) h ts sorted (ap (map (entry_of r p)) is ∙ cell_with_route r p u attr (cell_at r p ts).received)
+      entries_changed r p u (insert_edit route_cmp (route_at r p u) attr) h ts sorted (ap (map (entry_of r p)) is
+      ∙ cell_with_route r p u attr (cell_at r p ts).received)
 
   -- a cell without the sender's route
-  pub entries_without_route : (r : Addr) (p : Prefix) (u : Addr) (h : Cell) → h.received ≡ remove_entry (is_at (addr_cmp u)) (cell_at r p ts).received → all_entries (with_value r p h ts) ≡ without_route (route_at r p u) (all_entries ts)
+  pub entries_without_route : (r : Addr) (p : Prefix) (u : Addr) (h : Cell) →
+      h.received ≡ remove_entry (is_at (addr_cmp u)) (cell_at r p ts).received →
+      all_entries (with_value r p h ts) ≡ without_route (route_at r p u) (all_entries ts)
   entries_without_route r p u h is =
-      entries_changed r p u (remove_edit route_cmp (route_at r p u)) h ts sorted (ap (map (entry_of r p)) is ∙ cell_without_route r p u (cell_at r p ts).received)
+      entries_changed r p u (remove_edit route_cmp (route_at r p u)) h ts sorted (ap (map (entry_of r p)) is
+      ∙ cell_without_route r p u (cell_at r p ts).received)
 
   -- a message taken into the receiver's cell is taken into the network
-  pub entries_with_news : (d : Direction) (m : Message) (h : Cell) → h.received ≡ with_news d.from m (cell_at d.to (prefix_of m) ts).received → all_entries (with_value d.to (prefix_of m) h ts) ≡ received_after d m (all_entries ts)
+  pub entries_with_news : (d : Direction) (m : Message) (h : Cell) →
+      h.received ≡ with_news d.from m (cell_at d.to (prefix_of m) ts).received →
+      all_entries (with_value d.to (prefix_of m) h ts) ≡ received_after d m (all_entries ts)
   entries_with_news d (Update p attr) h is = entries_with_route d.to p d.from attr h is
   entries_with_news d (Withdraw p) h is = entries_without_route d.to p d.from h is
 
   -- a cell with the same routes changes nothing
-  pub entries_same : (r : Addr) (p : Prefix) (h : Cell) → h.received ≡ (cell_at r p ts).received → all_entries (with_value r p h ts) ≡ all_entries ts
-  entries_same r p h is = entries_changed r p r (no_edit (from_key (route_at r p r))) h ts sorted (ap (map (entry_of r p)) is)
+  pub entries_same : (r : Addr) (p : Prefix) (h : Cell) → h.received ≡ (cell_at r p ts).received →
+      all_entries (with_value r p h ts) ≡ all_entries ts
+  entries_same r p h is = entries_changed r p r (no_edit (from_key (route_at r p r))) h ts sorted
+      (ap (map (entry_of r p)) is)
 
   -- nor does an empty cell where there is none
-  pub entries_with_empty_cell : (r : Addr) (p : Prefix) → value_at r p ts ≡ None → all_entries (with_value r p new_cell ts) ≡ all_entries ts
-  entries_with_empty_cell r p none = entries_same r p new_cell (ap (λ (x : Option Cell). (unwrap_or x new_cell).received) (sym none))
+  pub entries_with_empty_cell : (r : Addr) (p : Prefix) → value_at r p ts ≡ None →
+      all_entries (with_value r p new_cell ts) ≡ all_entries ts
+  entries_with_empty_cell r p none =
+      entries_same r p new_cell (ap (λ (x : Option Cell). (unwrap_or x new_cell).received) (sym none))
 
   -- the route that the network has is that of the cell
-  pub route_in_cell : (r : Addr) (p : Prefix) (u : Addr) → route_from (all_entries ts) r p u ≡ route_of (cell_at r p ts).received u
-  route_in_cell r p u = entries_seen r p u (lookup_look route_cmp (route_at r p u)) ts sorted ∙ cell_route r p u (cell_at r p ts).received
+  pub route_in_cell : (r : Addr) (p : Prefix) (u : Addr) →
+      route_from (all_entries ts) r p u ≡ route_of (cell_at r p ts).received u
+  route_in_cell r p u = entries_seen r p u (lookup_look route_cmp (route_at r p u)) ts sorted
+      ∙ cell_route r p u (cell_at r p ts).received
 
 -- THE ORDER OF SENDERS
 
 module _ {K X : Type 0} (P : K → Type 0) where
-  all_inserted : (cmp : K → K → Ordering) (k : K) (v : X) (es : List (K × X)) → P k → AllByRecursion P (keys_of es) → AllByRecursion P (keys_of (insert_entry cmp es k v))
+  all_inserted : (cmp : K → K → Ordering) (k : K) (v : X) (es : List (K × X)) → P k → AllByRecursion P (keys_of es) →
+      AllByRecursion P (keys_of (insert_entry cmp es k v))
   all_inserted cmp k v [] pk h = (pk, tt)
   all_inserted cmp k v (e ∷ es) pk h =
-      elim (cmp k e.0) as (λ o. AllByRecursion P (keys_of (match_ordering o ((k, v) ∷ e ∷ es) ((e.0, v) ∷ es) (e ∷ insert_entry cmp es k v)))) [
+      elim (cmp k e.0) as (λ o.
+      AllByRecursion P (keys_of
+      (match_ordering o ((k, v) ∷ e ∷ es) ((e.0, v) ∷ es) (e ∷ insert_entry cmp es k v)))) [
         | Less ↦ (pk, h)
         | Equal ↦ h
         | Greater ↦ (h.0, all_inserted cmp k v es pk h.1)
       ]
 
-  all_removed : (test : K → Bool) (es : List (K × X)) → AllByRecursion P (keys_of es) → AllByRecursion P (keys_of (remove_entry test es))
+  all_removed : (test : K → Bool) (es : List (K × X)) → AllByRecursion P (keys_of es) →
+      AllByRecursion P (keys_of (remove_entry test es))
   all_removed test [] h = h
-  all_removed test (e ∷ es) h = elim (test e.0) as (λ b. AllByRecursion P (keys_of (cond b es (e ∷ remove_entry test es)))) [ true ↦ h.1 | false ↦ (h.0, all_removed test es h.1) ]
+  all_removed test (e ∷ es) h =
+      elim (test e.0) as (λ b. AllByRecursion P (keys_of (cond b es (e ∷ remove_entry test es)))) [
+        | true ↦ h.1
+        | false ↦
+            (h.0, all_removed test es h.1)
+      ]
 
-all_past : {K : Type 0} {cmp : K → K → Ordering} → IsTotalOrder cmp → (k j : K) (ks : List K) → cmp k j ≡ Less → AllByRecursion (λ y. cmp j y ≡ Less) ks → AllByRecursion (λ y. cmp k y ≡ Less) ks
+all_past : {K : Type 0} {cmp : K → K → Ordering} → IsTotalOrder cmp → (k j : K) (ks : List K) → cmp k j ≡ Less →
+    AllByRecursion (λ y. cmp j y ≡ Less) ks → AllByRecursion (λ y. cmp k y ≡ Less) ks
 all_past o k j [] is h = tt
 all_past o k j (x ∷ ks) is h = (o.trans k j x is h.0, all_past o k j ks is h.1)
 
@@ -117,19 +151,29 @@ module _ {K X : Type 0} {cmp : K → K → Ordering} (o : IsTotalOrder cmp) wher
   unfolding IsStrictlySortedBy
   in_order_inserted k v [] h = (tt, tt)
   in_order_inserted k v (e ∷ es) h =
-      elim (cmp k e.0) as (λ r. cmp k e.0 ≡ r → InOrder (match_ordering r ((k, v) ∷ e ∷ es) ((e.0, v) ∷ es) (e ∷ insert_entry cmp es k v))) [
+      elim (cmp k e.0) as (λ r. cmp k e.0 ≡ r →
+      InOrder (match_ordering r ((k, v) ∷ e ∷ es) ((e.0, v) ∷ es) (e ∷ insert_entry cmp es k v))) [
         | Less ↦ λ is. ((is, all_past o k e.0 (keys_of es) is h.0), h)
         | Equal ↦ λ is. h
-        | Greater ↦ λ is. (all_inserted (λ y. cmp e.0 y ≡ Less) cmp k v es (o.antisymm e.0 k ∙ ap ordering_reverse is) h.0, in_order_inserted k v es h.1)
+        | Greater ↦ λ is. (
+          all_inserted (λ y. cmp e.0 y ≡ Less) cmp k v es (o.antisymm e.0 k
+              ∙ ap ordering_reverse is) h.0,
+          in_order_inserted k v es h.1,
+        )
       ] refl
 
   -- an entry taken out keeps the order
   pub in_order_removed : (test : K → Bool) (es : List (K × X)) → InOrder es → InOrder (remove_entry test es)
   unfolding IsStrictlySortedBy
   in_order_removed test [] h = h
-  in_order_removed test (e ∷ es) h = elim (test e.0) as (λ b. InOrder (cond b es (e ∷ remove_entry test es))) [ true ↦ h.1 | false ↦ (all_removed (λ y. cmp e.0 y ≡ Less) test es h.0, in_order_removed test es h.1) ]
+  in_order_removed test (e ∷ es) h = elim (test e.0) as (λ b. InOrder (cond b es (e ∷ remove_entry test es))) [
+    | true ↦
+        h.1
+    | false ↦ (all_removed (λ y. cmp e.0 y ≡ Less) test es h.0, in_order_removed test es h.1)
+  ]
 
 -- a message keeps the routes of a cell by sender
-pub with_news_in_order : (u : Addr) (m : Message) (routes : List (Addr × Attr)) → IsStrictlySortedBy addr_cmp (keys_of routes) → IsStrictlySortedBy addr_cmp (keys_of (with_news u m routes))
+pub with_news_in_order : (u : Addr) (m : Message) (routes : List (Addr × Attr)) →
+    IsStrictlySortedBy addr_cmp (keys_of routes) → IsStrictlySortedBy addr_cmp (keys_of (with_news u m routes))
 with_news_in_order u (Update p attr) routes h = in_order_inserted addr_total u attr routes h
 with_news_in_order u (Withdraw p) routes h = in_order_removed addr_total (is_at (addr_cmp u)) routes h

@@ -1,5 +1,5 @@
--- An edit's plan carried out: queues over sessions that are not up cleared, the plan's parts put in and its messages sent are the
--- machine's own next state, and the engine stays sound.
+-- An edit's plan carried out: queues over sessions that are not up cleared, the plan's parts put in and its messages
+-- sent are the machine's own next state, and the engine stays sound.
 use Rattle.std.proofs.Common.{◌≡◌, Bool, true, false, [], ◌++◌, None, unwrap_or, if◌then◌else◌, refl, sym, ap, subst, ◌∙◌}
 use Rattle.net_prefix.specs.declared.addr.Addr.{Addr}
 use Rattle.session_queue.specs.Waiting.{Queues, queue_at}
@@ -40,7 +40,8 @@ pub record IsCleared (e : State) (c : Configuration) (q : Queues) : Type 0 where
   pub down : (f t : Addr) → has_session c f t ≡ true → is_up c f t ≡ false → queue_at q f t ≡ []
   pub empty : (f t : Addr) → queue_at e.queues f t ≡ [] → queue_at q f t ≡ []
 
-module _ (e : State) (sound : IsConsistent e) (c : Configuration) (still : (f t : Addr) → has_session e.conf f t ≡ true → has_session c f t ≡ true) (q : Queues) (cleared : IsCleared e c q) where
+module _ (e : State) (sound : IsConsistent e) (c : Configuration) (still : (f t : Addr) →
+    has_session e.conf f t ≡ true → has_session c f t ≡ true) (q : Queues) (cleared : IsCleared e c q) where
   -- what is left is what was on its way over sessions that are up
   left_over : (f t : Addr) → queue_at q f t ≡ left_at c e.queues f t
   left_over f t = by (is_up c f t) refl where
@@ -54,13 +55,19 @@ module _ (e : State) (sound : IsConsistent e) (c : Configuration) (still : (f t 
 
 -- the engine with what the plan makes and these queues
 abbrev pub with_plan : State → Made → Queues → State
-with_plan e x r = record { conf = x.conf; tables = with_changes x.changes e.tables; directions = x.directions; queues = r }
+with_plan e x r = record {
+  conf = x.conf;
+  tables = with_changes x.changes e.tables;
+  directions = x.directions;
+  queues = r;
+}
 
 -- the queues are those that were cleared, with the plan's messages at their ends
 abbrev pub IsPushed : Made → Queues → Queues → Type 0
 IsPushed x q r = (f t : Addr) → queue_at r f t ≡ queue_at q f t ++ told_by_all (sends_for x.changes) f t
 
-module _ (e : State) (sound : IsConsistent e) (configured : IsConfigured e.conf) (up : AreOverSessionsUp e.conf e.tables) (edit : Edit) where
+module _ (e : State) (sound : IsConsistent e) (configured : IsConfigured e.conf)
+    (up : AreOverSessionsUp e.conf e.tables) (edit : Edit) where
   abbrev new : Configuration
   new = edited e.conf edit
 
@@ -80,18 +87,23 @@ module _ (e : State) (sound : IsConsistent e) (configured : IsConfigured e.conf)
 
   -- each has a cell already
   pub plan_there : (x : Made) → IsMade e edit x → AreThere x.changes e.tables
-  plan_there x is = subst (λ (y : Made). AreThere y.changes e.tables) (sym is.plan) (changes_there (moves e.conf new) (scope edit) e.conf new e.tables sound.by_address)
+  plan_there x is = subst (λ (y : Made). AreThere y.changes e.tables) (sym is.plan)
+      (changes_there (moves e.conf new) (scope edit) e.conf new e.tables sound.by_address)
 
   -- all routes in the tables come over sessions that are up then
   pub plan_over_sessions_up : (x : Made) → IsMade e edit x → AreOverSessionsUp x.conf (with_changes x.changes e.tables)
-  plan_over_sessions_up x is = subst (λ (y : Made). AreOverSessionsUp y.conf (with_changes y.changes e.tables)) (sym is.plan) (subst (AreOverSessionsUp new) (sym tables_are) (up_after new e.tables))
+  plan_over_sessions_up x is = subst (λ (y : Made). AreOverSessionsUp y.conf (with_changes y.changes e.tables))
+      (sym is.plan) (subst (AreOverSessionsUp new) (sym tables_are) (up_after new e.tables))
 
   -- whatever has a cell is a prefix still
-  pub plan_of_prefixes : (x : Made) → IsMade e edit x → AreOfPrefixes e.tables → AreOfPrefixes (with_changes x.changes e.tables)
-  plan_of_prefixes x is are = subst (λ (y : Made). AreOfPrefixes (with_changes y.changes e.tables)) (sym is.plan) (subst AreOfPrefixes (sym tables_are) (prefixes_kept new e.tables are))
+  pub plan_of_prefixes : (x : Made) → IsMade e edit x → AreOfPrefixes e.tables →
+      AreOfPrefixes (with_changes x.changes e.tables)
+  plan_of_prefixes x is are = subst (λ (y : Made). AreOfPrefixes (with_changes y.changes e.tables)) (sym is.plan)
+      (subst AreOfPrefixes (sym tables_are) (prefixes_kept new e.tables are))
 
   abbrev Follows : Made → Type 0
-  Follows x = IsConfigured x.conf → (q r : Queues) → IsCleared e x.conf q → IsPushed x q r → IsConsistent (with_plan e x r) × (network (with_plan e x r) ≡ with_sent (network e) (after_edit (network e) edit))
+  Follows x = IsConfigured x.conf → (q r : Queues) → IsCleared e x.conf q → IsPushed x q r →
+      IsConsistent (with_plan e x r) × (network (with_plan e x r) ≡ with_sent (network e) (after_edit (network e) edit))
 
   module _ (allowed : refusal_of e.conf edit ≡ None) (origin : with_origin edit e.tables ≡ e.tables) where
     sent_without : (f t : Addr) → has_session new f t ≡ false → sent (network e) (after_edit (network e) edit) f t ≡ []
@@ -101,7 +113,8 @@ module _ (e : State) (sound : IsConsistent e) (configured : IsConfigured e.conf)
     all_tables : with_changes (planned e edit).changes e.tables ≡ edited_tables new edit e.tables
     all_tables = tables_are ∙ ap (kept_tables new) (sym origin)
 
-    all_told : (f t : Addr) → told_by_all (sends_for (planned e edit).changes) f t ≡ told_by_all (all_sends e.conf new (with_origin edit e.tables)) f t
+    all_told : (f t : Addr) → told_by_all (sends_for (planned e edit).changes) f t
+        ≡ told_by_all (all_sends e.conf new (with_origin edit e.tables)) f t
     all_told f t =
         told_by_changes (moves e.conf new) (scope edit) e.conf new e.tables sound.by_address settled unmoved f t
         ∙ ap (λ ts. told_by_all (all_sends e.conf new ts) f t) (sym origin)
@@ -114,12 +127,17 @@ module _ (e : State) (sound : IsConsistent e) (configured : IsConfigured e.conf)
     follows then_ q r cleared pushed =
         let left = left_over e sound new still_there q cleared in
         let sends = all_sends e.conf new (with_origin edit e.tables) in
-        let queued : (f t : Addr) → queue_at r f t ≡ queue_at q f t ++ told_by_all sends f t = λ f t. pushed f t ∙ ap (λ l. queue_at q f t ++ l) (all_told f t) in
+        let queued : (f t : Addr) → queue_at r f t ≡ queue_at q f t ++ told_by_all sends f t = λ f t. pushed f t
+        ∙ ap (λ l. queue_at q f t ++ l) (all_told f t) in
         let silent : (f t : Addr) → has_session new f t ≡ false → queue_at r f t ≡ [] =
-        λ f t none. queued f t ∙ (λ i. (left f t ∙ ap (λ b. if b then queue_at e.queues f t else []) (down_without_session new f t none)) i ++ (told_edited e sound edit configured then_ allowed f t ∙ sent_without f t none) i) in
-        let engine : with_plan e (planned e edit) r ≡ edited_engine e edit r = ap (λ ts. record (edited_engine e edit r) { tables = ts }) all_tables in (
+        λ f t none. queued f t ∙ (λ i.
+        (left f t ∙ ap (λ b. if b then queue_at e.queues f t else []) (down_without_session new f t none)) i
+        ++ (told_edited e sound edit configured then_ allowed f t ∙ sent_without f t none) i) in
+        let engine : with_plan e (planned e edit) r ≡ edited_engine e edit r =
+        ap (λ ts. record (edited_engine e edit r) { tables = ts }) all_tables in (
           subst IsConsistent (sym engine) (sound_edited e sound edit allowed r silent),
-          ap network engine ∙ network_edited e sound edit configured then_ allowed r (λ f t. queued f t ∙ ap (λ l. l ++ told_by_all sends f t) (left f t)),
+          ap network engine ∙ network_edited e sound edit configured then_ allowed r (λ f t. queued f t
+              ∙ ap (λ l. l ++ told_by_all sends f t) (left f t)),
         )
 
   -- the plan of an edit that is not refused

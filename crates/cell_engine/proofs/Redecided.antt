@@ -48,10 +48,15 @@ use Rattle.cell_engine.proofs.Whole.{refreshed_of, refreshed_whole}
 
 kind_by : (o : Option Node) → has_router_kind (option_map (λ n. (n.asn, n.kind)) o) ≡ is_router_node o
 kind_by None = refl
-kind_by (Some n) = elim n.kind as (λ k. has_router_kind (Some (n.asn, k)) ≡ not (is_kind_virtual k)) [ Router ↦ refl | Virtual ↦ refl ]
+kind_by (Some n) = elim n.kind as (λ k. has_router_kind (Some (n.asn, k)) ≡ not (is_kind_virtual k)) [
+  | Router ↦
+      refl
+  | Virtual ↦ refl
+]
 
 -- a router stands where the configuration has one
-pub router_by_kind : (c : Configuration) (r : Addr) → has_router_kind (option_map (λ n. (n.asn, n.kind)) (node_at c r)) ≡ is_some (router_site c r)
+pub router_by_kind : (c : Configuration) (r : Addr) → has_router_kind (option_map (λ n. (n.asn, n.kind)) (node_at c r))
+    ≡ is_some (router_site c r)
 router_by_kind c r = kind_by (node_at c r) ∙ sym (site_of_node c r)
 
 -- ONE CELL
@@ -70,35 +75,49 @@ module _ (d : Configuration) (r : Addr) (p : Prefix) (router : is_some (router_s
   either_false false b h = (refl, h)
 
   -- a router's cell that is not among those of routers is not among all
-  not_among : (xs : List Change) → list_any (is_cell_of r p) (map (λ (y : Change). (y.router, y.prefix)) (at_routers xs)) ≡ false → has_one r p xs ≡ false
+  not_among : (xs : List Change) →
+      list_any (is_cell_of r p) (map (λ (y : Change). (y.router, y.prefix)) (at_routers xs)) ≡ false →
+      has_one r p xs ≡ false
   not_among [] none = refl
   not_among (x ∷ xs) none = by (is_some (router_site d x.router)) refl none (not_among xs)
     where
       other : (o : Ordering) → addr_cmp r x.router ≡ o → is_some (router_site d x.router) ≡ false → is_eq o ≡ false
       other Less at off = refl
       other Greater at off = refl
-      other Equal at off = absurd (true≢false (sym router ∙ ap (λ a. is_some (router_site d a)) (addr_exact r x.router at) ∙ off))
+      other Equal at off = absurd
+          (true≢false (sym router ∙ ap (λ a. is_some (router_site d a)) (addr_exact r x.router at) ∙ off))
 
-      by : (here : Bool) → is_some (router_site d x.router) ≡ here → list_any (is_cell_of r p) (map (λ (y : Change). (y.router, y.prefix)) (cond here (x ∷ at_routers xs) (at_routers xs))) ≡ false → (list_any (is_cell_of r p) (map (λ (y : Change). (y.router, y.prefix)) (at_routers xs)) ≡ false → has_one r p xs ≡ false) → has_one r p (x ∷ xs) ≡ false
+      by : (here : Bool) → is_some (router_site d x.router) ≡ here →
+          list_any (is_cell_of r p)
+          (map (λ (y : Change). (y.router, y.prefix)) (cond here (x ∷ at_routers xs) (at_routers xs))) ≡ false →
+          (list_any (is_cell_of r p) (map (λ (y : Change). (y.router, y.prefix)) (at_routers xs)) ≡ false →
+          has_one r p xs ≡ false) → has_one r p (x ∷ xs) ≡ false
       by true is off later =
-          let parts = either_false (is_cell_of r p (x.router, x.prefix)) (list_any (is_cell_of r p) (map (λ (y : Change). (y.router, y.prefix)) (at_routers xs))) off in
+          let parts = either_false (is_cell_of r p (x.router, x.prefix))
+          (list_any (is_cell_of r p) (map (λ (y : Change). (y.router, y.prefix)) (at_routers xs))) off in
           (λ i. (sym (then_equal (addr_cmp r x.router) (prefix_cmp p x.prefix)) ∙ parts.0) i || later parts.1 i)
-      by false is off later = (λ i. (other (addr_cmp r x.router) refl is i && is_eq (prefix_cmp p x.prefix)) || later off i)
+      by false is off later = (λ i. (other (addr_cmp r x.router) refl is i && is_eq (prefix_cmp p x.prefix))
+          || later off i)
 
 -- what holds of each holds of those that are chosen, with the choice
-chosen_all : (P Q : Change → Type 0) (f : Change → Bool) → ((x : Change) → P x → f x ≡ true → Q x) → (xs : List Change) → AllByRecursion P xs → AllByRecursion Q (filter f xs)
+chosen_all : (P Q : Change → Type 0) (f : Change → Bool) → ((x : Change) → P x → f x ≡ true → Q x) →
+    (xs : List Change) → AllByRecursion P xs → AllByRecursion Q (filter f xs)
 chosen_all P Q f h [] all = tt
 chosen_all P Q f h (x ∷ xs) all = by (f x) refl (chosen_all P Q f h xs all.1)
   where
-    by : (here : Bool) → f x ≡ here → AllByRecursion Q (filter f xs) → AllByRecursion Q (cond here (x ∷ filter f xs) (filter f xs))
+    by : (here : Bool) → f x ≡ here → AllByRecursion Q (filter f xs) →
+        AllByRecursion Q (cond here (x ∷ filter f xs) (filter f xs))
     by true is rest = (h x all.0 is, rest)
     by false is rest = rest
 
-mapped_all : (Q : Addr × Prefix → Type 0) (xs : List Change) → AllByRecursion (λ x. Q (x.router, x.prefix)) xs → AllByRecursion Q (map (λ (x : Change). (x.router, x.prefix)) xs)
+mapped_all : (Q : Addr × Prefix → Type 0) (xs : List Change) → AllByRecursion (λ x. Q (x.router, x.prefix)) xs →
+    AllByRecursion Q (map (λ (x : Change). (x.router, x.prefix)) xs)
 mapped_all Q [] all = tt
 mapped_all Q (x ∷ xs) all = (all.0, mapped_all Q xs all.1)
 
-module _ (e : State) (sound : IsConsistent e) (configured : IsConfigured e.conf) (up : AreOverSessionsUp e.conf e.tables) (edit : Edit) (allowed : refusal_of e.conf edit ≡ None) (origin : with_origin edit e.tables ≡ e.tables) where
+module _ (e : State) (sound : IsConsistent e) (configured : IsConfigured e.conf)
+    (up : AreOverSessionsUp e.conf e.tables) (edit : Edit) (allowed : refusal_of e.conf edit ≡ None)
+    (origin : with_origin edit e.tables ≡ e.tables) where
   abbrev new : Configuration
   new = edited e.conf edit
 
@@ -120,7 +139,8 @@ module _ (e : State) (sound : IsConsistent e) (configured : IsConfigured e.conf)
 
   same_network : (r : Addr) (p : Prefix) → standings_at next r p ≡ standings_at (network later) r p
   unfolding with_sent reconfigured network
-  same_network r p = ap (λ es. option_map_or (λ site. effective (standings site p es)) (router_site new r) (no_standings false)) (sym (received_edited e sound edit allowed))
+  same_network r p = ap (λ es. option_map_or (λ site. effective (standings site p es)) (router_site new r)
+      (no_standings false)) (sym (received_edited e sound edit allowed))
 
   stood_before : (r : Addr) (p : Prefix) → standings_at (network e) r p ≡ (cell_at r p e.tables).standings
   stood_before r p = standings_in_cell e sound r p
@@ -131,31 +151,42 @@ module _ (e : State) (sound : IsConsistent e) (configured : IsConfigured e.conf)
       ∙ standings_in_cell later later_sound r p
       ∙ ap (λ ts. (cell_at r p (kept_tables new ts)).standings) origin
 
-  empty_before : (r : Addr) (p : Prefix) → router_site e.conf r ≡ None → standings_at (network e) r p ≡ no_standings false
+  empty_before : (r : Addr) (p : Prefix) → router_site e.conf r ≡ None →
+      standings_at (network e) r p ≡ no_standings false
   unfolding network
-  empty_before r p at = ap (λ o. option_map_or (λ site. effective (standings site p (network e).received)) o (no_standings false)) at
+  empty_before r p at = ap (λ o. option_map_or (λ site. effective (standings site p (network e).received)) o
+      (no_standings false)) at
 
-  empty_later : (r : Addr) (p : Prefix) → router_site new r ≡ None → standings_at (network later) r p ≡ no_standings false
+  empty_later : (r : Addr) (p : Prefix) → router_site new r ≡ None →
+      standings_at (network later) r p ≡ no_standings false
   unfolding network
-  empty_later r p at = ap (λ o. option_map_or (λ site. effective (standings site p (network later).received)) o (no_standings false)) at
+  empty_later r p at = ap (λ o. option_map_or (λ site. effective (standings site p (network later).received)) o
+      (no_standings false)) at
 
-  none_stands : (r : Addr) (p : Prefix) → router_site new r ≡ None → standings_at (network e) r p ≡ standings_at next r p
-  none_stands r p at = empty_before r p (no_router_before e.conf edit allowed r at) ∙ sym (same_network r p ∙ empty_later r p at)
+  none_stands : (r : Addr) (p : Prefix) → router_site new r ≡ None →
+      standings_at (network e) r p ≡ standings_at next r p
+  none_stands r p at = empty_before r p (no_router_before e.conf edit allowed r at)
+      ∙ sym (same_network r p ∙ empty_later r p at)
 
   -- where a cell is not decided anew, each route stands as before
-  complete : (r : Addr) (p : Prefix) → list_any (is_cell_of r p) (refreshed_of (planned e edit)) ≡ false → standings_at (network e) r p ≡ standings_at next r p
+  complete : (r : Addr) (p : Prefix) → list_any (is_cell_of r p) (refreshed_of (planned e edit)) ≡ false →
+      standings_at (network e) r p ≡ standings_at next r p
   complete r p none = by (router_site new r) refl
     where
       by : (o : Option SiteConf) → router_site new r ≡ o → standings_at (network e) r p ≡ standings_at next r p
       by None at = none_stands r p at
       by (Some site) at =
           stood_before r p
-          ∙ ap (λ (o : Option Cell). (unwrap_or o new_cell).standings) (sym (value_unchanged (moves e.conf new) (scope edit) e.conf new e.tables sound.by_address (settled e sound configured up edit) (unmoved e sound configured up edit) r p (not_among new r p (ap is_some at) changes none)))
+          ∙ ap (λ (o : Option Cell). (unwrap_or o new_cell).standings)
+          (sym (value_unchanged (moves e.conf new) (scope edit) e.conf new e.tables sound.by_address
+          (settled e sound configured up edit) (unmoved e sound configured up edit) r p
+          (not_among new r p (ap is_some at) changes none)))
           ∙ ap (λ ts. (cell_at r p ts).standings) (tables_are e sound configured up edit)
           ∙ sym (stood_after r p)
 
   -- each is touched
-  module _ (x : Change) (chosen : IsChosen e.conf new e.tables (moves e.conf new) x) (router : is_some (router_site new x.router) ≡ true) where
+  module _ (x : Change) (chosen : IsChosen e.conf new e.tables (moves e.conf new) x)
+      (router : is_some (router_site new x.router) ≡ true) where
     abbrev r : Addr
     r = x.router
 
@@ -171,18 +202,23 @@ module _ (e : State) (sound : IsConsistent e) (configured : IsConfigured e.conf)
     after_is : standings_at next r p ≡ (kept_cell new r p h).standings
     after_is =
         stood_after r p
-        ∙ ap (λ (o : Option Cell). (unwrap_or o new_cell).standings) (value_kept new r p e.tables ∙ ap (option_map (kept_cell new r p)) chosen.at)
+        ∙ ap (λ (o : Option Cell). (unwrap_or o new_cell).standings) (value_kept new r p e.tables
+        ∙ ap (option_map (kept_cell new r p)) chosen.at)
 
     kept : kept_from e.conf r h.received ≡ h.received
-    kept = subst (λ o. kept_from e.conf r (unwrap_or o new_cell).received ≡ (unwrap_or o new_cell).received) chosen.at (up r p)
+    kept = subst (λ o. kept_from e.conf r (unwrap_or o new_cell).received ≡ (unwrap_or o new_cell).received) chosen.at
+        (up r p)
 
-    touches : Touches e.conf new configured r p h (is_cell e sound r p h chosen.at).by_sender kept (is_cell e sound r p h chosen.at).decided
+    touches : Touches e.conf new configured r p h (is_cell e sound r p h chosen.at).by_sender kept
+        (is_cell e sound r p h chosen.at).decided
     touches =
-        touched e.conf new configured r p h (is_cell e sound r p h chosen.at).by_sender kept (is_cell e sound r p h chosen.at).decided chosen.chosen
+        touched e.conf new configured r p h (is_cell e sound r p h chosen.at).by_sender kept
+        (is_cell e sound r p h chosen.at).decided chosen.chosen
         (λ at. new_router_has_no_cell e.conf edit allowed configured r at router h.received kept)
         (λ gone. true≢false (sym router ∙ ap is_some gone))
 
-    standing_by : (h.standings ≡ no_standings false → ⊥) ⊎ ((kept_cell new r p h).standings ≡ no_standings false → ⊥) → HasStanding (network e) r p ⊎ HasStanding next r p
+    standing_by : (h.standings ≡ no_standings false → ⊥) ⊎ ((kept_cell new r p h).standings ≡ no_standings false → ⊥) →
+        HasStanding (network e) r p ⊎ HasStanding next r p
     standing_by (inl before) = inl (λ none. before (sym before_is ∙ none))
     standing_by (inr after) = inr (λ none. after (sym after_is ∙ none))
 
@@ -190,20 +226,28 @@ module _ (e : State) (sound : IsConsistent e) (configured : IsConfigured e.conf)
     unfolding with_sent reconfigured network
     is_touched = by touches
       where
-        by : (h.standings ≡ (kept_cell new r p h).standings → ⊥) ⊎ (AreFactsMoved (router_site e.conf r) (router_site new r) × ((h.standings ≡ no_standings false → ⊥) ⊎ ((kept_cell new r p h).standings ≡ no_standings false → ⊥))) → IsTouched (network e) next r p
+        by : (h.standings ≡ (kept_cell new r p h).standings → ⊥)
+            ⊎ (AreFactsMoved (router_site e.conf r) (router_site new r)
+            × ((h.standings ≡ no_standings false → ⊥) ⊎ ((kept_cell new r p h).standings ≡ no_standings false → ⊥))) →
+            IsTouched (network e) next r p
         by (inl apart) = inl (λ same. apart (sym before_is ∙ same ∙ after_is))
         by (inr facts) = inr (facts.0, standing_by facts.1)
 
   -- what the edit decides anew
   made_refreshes : IsRefreshed (network e) next (refreshed_of (planned e edit))
   made_refreshes = record {
-    ascending = chosen_in_order (λ y. is_some (router_site new y.router)) changes (changes_in_order (moves e.conf new) e.conf new (scope edit) e.tables sound.by_address);
+    ascending = chosen_in_order (λ y. is_some (router_site new y.router)) changes
+        (changes_in_order (moves e.conf new) e.conf new (scope edit) e.tables sound.by_address);
     complete = complete;
-    touched = mapped_all (λ x. IsTouched (network e) next x.0 x.1) (filter (λ y. is_some (router_site new y.router)) changes)
-        (chosen_all (IsChosen e.conf new e.tables (moves e.conf new)) (λ y. IsTouched (network e) next y.router y.prefix) (λ y. is_some (router_site new y.router)) is_touched changes
+    touched = mapped_all (λ x. IsTouched (network e) next x.0 x.1)
+        (filter (λ y. is_some (router_site new y.router)) changes)
+        (chosen_all (IsChosen e.conf new e.tables (moves e.conf new))
+        (λ y. IsTouched (network e) next y.router y.prefix)
+        (λ y. is_some (router_site new y.router)) is_touched changes
         (changes_chosen e.conf new e.tables (moves e.conf new) (scope edit) sound.by_address));
   }
 
   -- what its plan does
   pub refreshes : (x : Edited) → IsPlanned e edit x → IsRefreshed (network e) next (refreshed_by x)
-  refreshes x is = subst (IsRefreshed (network e) next) (sym (refreshed_whole e.tables x ∙ ap refreshed_of is.plan)) made_refreshes
+  refreshes x is = subst (IsRefreshed (network e) next)
+      (sym (refreshed_whole e.tables x ∙ ap refreshed_of is.plan)) made_refreshes

@@ -22,11 +22,16 @@ abbrev pub remade : Configuration → Option SiteConf → Option SiteConf → Ad
 remade c old new r p h = record { cell = kept_cell c r p h; sends = sends_between old new p h }
 
 -- at a router
-pub remade_by_router : (c : Configuration) (old : Option SiteConf) (site : SiteConf) (r : Addr) (p : Prefix) (h : Cell) → router_site c r ≡ Some site → refreshed (unwrap_or old site) site p h ≡ remade c old (Some site) r p h
-remade_by_router c old site r p h is = λ i. record { cell = refreshed_is_kept c r (unwrap_or old site) site p h is i; sends = (refreshed (unwrap_or old site) site p h).sends }
+pub remade_by_router : (c : Configuration) (old : Option SiteConf) (site : SiteConf) (r : Addr) (p : Prefix)
+    (h : Cell) → router_site c r ≡ Some site → refreshed (unwrap_or old site) site p h ≡ remade c old (Some site) r p h
+remade_by_router c old site r p h is = λ i. record {
+  cell = refreshed_is_kept c r (unwrap_or old site) site p h is i;
+  sends = (refreshed (unwrap_or old site) site p h).sends;
+}
 
 -- where both parts are compared, these are they
-pub pair_some : (old new : Option SiteConf) (s : SitePair) → Some s ≡ pair_of old new → (old ≡ Some s.old) × (new ≡ Some s.new)
+pub pair_some : (old new : Option SiteConf) (s : SitePair) → Some s ≡ pair_of old new → (old ≡ Some s.old)
+    × (new ≡ Some s.new)
 pair_some (Some a) (Some b) s is =
     let same = sym (same_Some s (record { old = a; new = b }) is) in
     (ap (λ x. Some x.old) same, ap (λ x. Some x.new) same)
@@ -40,14 +45,17 @@ pair_none None new is = refl
 pair_none (Some a) new is = absurd (none-some (record { old = a; new = new }) is)
 
 -- at a virtual peer, or where nobody is
-pub remade_by_peer : (c : Configuration) (r : Addr) (p : Prefix) (h : Cell) → router_site c r ≡ None → ◌≡◌ {A = Cell} (record { received = kept_from c r h.received; standings = no_standings false }) (kept_cell c r p h)
+pub remade_by_peer : (c : Configuration) (r : Addr) (p : Prefix) (h : Cell) → router_site c r ≡ None →
+    ◌≡◌ {A = Cell} (record { received = kept_from c r h.received; standings = no_standings false }) (kept_cell c r p h)
 remade_by_peer c r p h is = ap (λ site. decided site p (kept_from c r h.received)) (sym is)
 
 -- IN A WALK
 
 -- what is gathered, with what comes next, and what is left
-pub gathered_more : {A : Type 0} (made more rest left all next : List A) → more ++ rest ≡ left → made ++ left ≡ all → next ≡ made ++ more → next ++ rest ≡ all
-gathered_more made more rest left all next is before now = ap (λ l. l ++ rest) now ∙ append_assoc made more rest ∙ ap (λ l. made ++ l) is ∙ before
+pub gathered_more : {A : Type 0} (made more rest left all next : List A) → more ++ rest ≡ left → made ++ left ≡ all →
+    next ≡ made ++ more → next ++ rest ≡ all
+gathered_more made more rest left all next is before now = ap (λ l. l ++ rest) now ∙ append_assoc made more rest
+    ∙ ap (λ l. made ++ l) is ∙ before
 
 -- what is gathered is all where nothing is left
 pub gathered_all : {A : Type 0} (made left all : List A) → left ≡ [] → made ++ left ≡ all → made ≡ all

@@ -36,18 +36,23 @@ not_true true h = absurd (h refl)
 not_true false h = refl
 
 -- nothing is chosen for a prefix that the router does not know
-unknown : (s : Network) (r : Addr) (q : Prefix) → list_any (eq_by_cmp prefix_cmp q) (in_order (prefixes_at s r)) ≡ false → best s r q ≡ None
+unknown : (s : Network) (r : Addr) (q : Prefix) → list_any (eq_by_cmp prefix_cmp q) (in_order (prefixes_at s r))
+    ≡ false → best s r q ≡ None
 unknown s r q off =
-    none_from (best s r q) (not_true _ (λ some. true≢false (sym (chosen_known s r q some) ∙ (λ i. list_any (λ p. prefix_tied q p i) (in_order (prefixes_at s r))) ∙ off)))
+    none_from (best s r q) (not_true _ (λ some. true≢false (sym (chosen_known s r q some)
+    ∙ (λ i. list_any (λ p. prefix_tied q p i) (in_order (prefixes_at s r))) ∙ off)))
 
 module _ (e : State) (sound : IsConsistent e) (r : Addr) (router : is_virtual e.conf r ≡ false) where
   module _ {V : Type 0} (G : Prefix → Option Candidate → Option V) (nothing : (p : Prefix) → G p None ≡ None) where
     -- what is said of each prefix that the router knows, by its choice, is said of its cells
-    by_cells : filter_map (λ p. G p (best (network e) r p)) (in_order (prefixes_at (network e) r)) ≡ filter_map (λ c. G c.0 (best_of c.1.standings)) (cells_of r e.tables)
+    by_cells : filter_map (λ p. G p (best (network e) r p)) (in_order (prefixes_at (network e) r))
+        ≡ filter_map (λ c. G c.0 (best_of c.1.standings)) (cells_of r e.tables)
     by_cells =
-        listed prefix_total prefix_exact (table_at r e.tables) (λ p. G p (best (network e) r p)) (λ c. G c.0 (best_of c.1.standings))
+        listed prefix_total prefix_exact (table_at r e.tables) (λ p. G p (best (network e) r p))
+        (λ c. G c.0 (best_of c.1.standings))
         (λ p h is. ap (G p) (best_in_cell e sound r p router ∙ ap (λ x. best_of (unwrap_or x new_cell).standings) is))
-        (λ p none. ap (G p) (best_in_cell e sound r p router ∙ ap (λ x. best_of (unwrap_or x new_cell).standings) none ∙ none_best) ∙ nothing p)
+        (λ p none. ap (G p) (best_in_cell e sound r p router ∙ ap (λ x. best_of (unwrap_or x new_cell).standings) none
+        ∙ none_best) ∙ nothing p)
         (in_order (prefixes_at (network e) r))
         (sorted_gathered prefix_total prefix_exact (prefixes_at (network e) r))
         (λ q off. ap (G q) (unknown (network e) r q off) ∙ nothing q)
@@ -66,19 +71,23 @@ module _ (e : State) (sound : IsConsistent e) (r : Addr) (router : is_virtual e.
   pub adj_rib_out_by_cells : (t : Addr) → adj_rib_out (network e) r t ≡ adverts_to e.conf r t e.tables
   unfolding adj_rib_out advertised network
   adj_rib_out_by_cells t =
-      by_cells (λ p b. option_map (λ attr. (p, attr)) (advert_of (is_up e.conf r t) (site_of e.conf r) t p b)) (λ p. ap (option_map (λ attr. (p, attr))) (none_if (is_up e.conf r t)))
+      by_cells (λ p b. option_map (λ attr. (p, attr)) (advert_of (is_up e.conf r t) (site_of e.conf r) t p b))
+      (λ p. ap (option_map (λ attr. (p, attr))) (none_if (is_up e.conf r t)))
 
 -- QUEUES
 
-none_there : (there : Bool) (ms : List Message) → (there ≡ false → ms ≡ []) → unwrap_or (if there then Some ms else None) [] ≡ ms
+none_there : (there : Bool) (ms : List Message) → (there ≡ false → ms ≡ []) →
+    unwrap_or (if there then Some ms else None) [] ≡ ms
 none_there true ms silent = refl
 none_there false ms silent = sym (silent refl)
 
 -- the messages on their way are those of the engine's queue
-pub queue_by_direction : (e : State) → IsConsistent e → (d : Direction) → queue (network e) d ≡ queue_in e.conf e.queues d
+pub queue_by_direction : (e : State) → IsConsistent e → (d : Direction) →
+    queue (network e) d ≡ queue_in e.conf e.queues d
 unfolding queue network
 queue_by_direction e sound d =
-    ap (λ ms. if is_up e.conf d.from d.to then ms else []) (ap (λ o. unwrap_or o []) (messages_of_network e sound d) ∙ none_there (has_session e.conf d.from d.to) (queue_at e.queues d.from d.to) (sound.silent d.from d.to))
+    ap (λ ms. if is_up e.conf d.from d.to then ms else []) (ap (λ o. unwrap_or o []) (messages_of_network e sound d)
+    ∙ none_there (has_session e.conf d.from d.to) (queue_at e.queues d.from d.to) (sound.silent d.from d.to))
 
 -- and none is on its way where none is in those queues
 pub quiet_by_queues : (e : State) → IsConsistent e → (is_quiet (network e) ≡ true) ↔ IsQuiet e.queues

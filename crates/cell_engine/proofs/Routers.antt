@@ -26,7 +26,9 @@ some_by : {A : Type 0} (virtual : Bool) (a : A) → is_some (cond {A = Option A}
 some_by true a = refl
 some_by false a = refl
 
-router_by : (c : Configuration) (r : Addr) (o : Option Node) → is_some (cond (unwrap_or (option_map (λ n. is_kind_virtual n.kind) o) false) None (option_map (site_at c r) o)) ≡ is_router_node o
+router_by : (c : Configuration) (r : Addr) (o : Option Node) →
+    is_some (cond (unwrap_or (option_map (λ n. is_kind_virtual n.kind) o) false) None (option_map (site_at c r) o))
+    ≡ is_router_node o
 router_by c r None = refl
 router_by c r (Some n) = some_by (is_kind_virtual n.kind) (site_at c r n)
 
@@ -46,7 +48,8 @@ none_some (Some a) is = absurd (true≢false is)
 module _ (c : Configuration) (e : Edit) (none : refusal_of c e ≡ None) where
   -- whatever is there is a router after the edit if it was before
   same_router : (r : Addr) → has_node c r ≡ true → is_some (router_site (edited c e) r) ≡ is_some (router_site c r)
-  same_router r there = site_of_node (edited c e) r ∙ ap is_router_node (node_kept c e (passes c e none) r there) ∙ sym (site_of_node c r)
+  same_router r there = site_of_node (edited c e) r ∙ ap is_router_node (node_kept c e (passes c e none) r there)
+      ∙ sym (site_of_node c r)
 
   -- who is no router then was none
   pub no_router_before : (r : Addr) → router_site (edited c e) r ≡ None → router_site c r ≡ None
@@ -54,7 +57,8 @@ module _ (c : Configuration) (e : Edit) (none : refusal_of c e ≡ None) where
     where
       by : (router : Bool) → is_some (router_site c r) ≡ router → router_site c r ≡ None
       by false is = none_some (router_site c r) is
-      by true is = absurd (true≢false (sym is ∙ sym (same_router r (there_by (node_at c r) (sym (site_of_node c r) ∙ is))) ∙ ap is_some gone))
+      by true is = absurd (true≢false (sym is
+          ∙ sym (same_router r (there_by (node_at c r) (sym (site_of_node c r) ∙ is))) ∙ ap is_some gone))
 
   -- who is none, and becomes one, was not there
   new_router : (r : Addr) → router_site c r ≡ None → is_some (router_site (edited c e) r) ≡ true → has_node c r ≡ false
@@ -66,8 +70,10 @@ module _ (c : Configuration) (e : Edit) (none : refusal_of c e ≡ None) where
 
   module _ (configured : IsConfigured c) where
     -- and so nothing came to it
-    pub new_router_has_no_cell : (r : Addr) → router_site c r ≡ None → is_some (router_site (edited c e) r) ≡ true → (routes : List (Addr × Attr)) → kept_from c r routes ≡ routes → routes ≡ []
+    pub new_router_has_no_cell : (r : Addr) → router_site c r ≡ None → is_some (router_site (edited c e) r) ≡ true →
+        (routes : List (Addr × Attr)) → kept_from c r routes ≡ routes → routes ≡ []
     new_router_has_no_cell r at router [] kept = refl
     new_router_has_no_cell r at router (x ∷ xs) kept =
         let up : is_up c x.0 r ≡ true = (all_pass (λ u. is_up c u r) (x ∷ xs) kept).0 in
-        absurd (true≢false (sym (session_placed c configured r x.0 (session_turned c x.0 r (session_if_up c x.0 r up))) ∙ new_router r at router))
+        absurd (true≢false (sym (session_placed c configured r x.0 (session_turned c x.0 r (session_if_up c x.0 r up)))
+        ∙ new_router r at router))

@@ -15,7 +15,8 @@ use Rattle.path_attr.specs.declared.attr.Attr.{Attr}
 use Rattle.cell_engine.specs.RouterTables.{AreByRouter}
 use Rattle.cell_engine.specs.Senders.{AreInOrder}
 
-below : (k : Addr) (es : List (Addr × Attr)) → AllByRecursion (λ y. addr_cmp k y ≡ Less) (keys_of es) → below_all addr_cmp k es ≡ true
+below : (k : Addr) (es : List (Addr × Attr)) → AllByRecursion (λ y. addr_cmp k y ≡ Less) (keys_of es) →
+    below_all addr_cmp k es ≡ true
 below k [] h = refl
 below k (e ∷ es) h = λ i. is_lt (h.0 i) && below k es h.1 i
 
@@ -32,18 +33,23 @@ sorted_senders es h = sorted es h
 pub put_is : (k : Addr) (v : Attr) (es : List (Addr × Attr)) → put addr_cmp k v es ≡ insert_entry addr_cmp es k v
 put_is k v [] = refl
 put_is k v (e ∷ es) =
-    elim (addr_cmp k e.0) as (λ o. by_order o ((k, v) ∷ e ∷ es) ((e.0, v) ∷ es) (e ∷ put addr_cmp k v es) ≡ match_ordering o ((k, v) ∷ e ∷ es) ((e.0, v) ∷ es) (e ∷ insert_entry addr_cmp es k v)) [
+    elim (addr_cmp k e.0) as (λ o. by_order o ((k, v) ∷ e ∷ es) ((e.0, v) ∷ es) (e ∷ put addr_cmp k v es)
+    ≡ match_ordering o ((k, v) ∷ e ∷ es) ((e.0, v) ∷ es) (e ∷ insert_entry addr_cmp es k v)) [
       | Less ↦ refl
       | Equal ↦ refl
       | Greater ↦ ap (λ l. e ∷ l) (put_is k v es)
     ]
 
-kept_by : (o : Ordering) (k : Addr) (e : Addr × Attr) (es : List (Addr × Attr)) → cond (is_eq o) (Some e.1) (find addr_cmp k es) ≡ None → (find addr_cmp k es ≡ None → es ≡ remove_entry (is_at (addr_cmp k)) es) → e ∷ es ≡ cond (is_eq o) es (e ∷ remove_entry (is_at (addr_cmp k)) es)
+kept_by : (o : Ordering) (k : Addr) (e : Addr × Attr) (es : List (Addr × Attr)) →
+    cond (is_eq o) (Some e.1) (find addr_cmp k es) ≡ None →
+    (find addr_cmp k es ≡ None → es ≡ remove_entry (is_at (addr_cmp k)) es) →
+    e ∷ es ≡ cond (is_eq o) es (e ∷ remove_entry (is_at (addr_cmp k)) es)
 kept_by Less k e es none rest = ap (λ l. e ∷ l) (rest none)
 kept_by Equal k e es none rest = absurd (none-some e.1 (sym none))
 kept_by Greater k e es none rest = ap (λ l. e ∷ l) (rest none)
 
 -- where the sender has no route, nothing is taken out
-pub none_taken_out : (k : Addr) (es : List (Addr × Attr)) → find addr_cmp k es ≡ None → es ≡ remove_entry (is_at (addr_cmp k)) es
+pub none_taken_out : (k : Addr) (es : List (Addr × Attr)) → find addr_cmp k es ≡ None →
+    es ≡ remove_entry (is_at (addr_cmp k)) es
 none_taken_out k [] none = refl
 none_taken_out k (e ∷ es) none = kept_by (addr_cmp k e.0) k e es none (none_taken_out k es)

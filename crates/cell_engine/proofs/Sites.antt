@@ -70,7 +70,8 @@ connected_either c a b = λ i.
 -- a session is up at both ends or at none
 pub up_either : (c : Configuration) (a b : Addr) → is_up c a b ≡ is_up c b a
 unfolding session_up
-up_either c a b = λ i. unwrap_or (option_map (λ enabled. enabled && connected_either c a b i) (lookup (is_at (ends_cmp (ends_either a b i))) c.sessions)) false
+up_either c a b = λ i. unwrap_or (option_map (λ enabled. enabled && connected_either c a b i)
+    (lookup (is_at (ends_cmp (ends_either a b i))) c.sessions)) false
 
 -- THE PEERS OF A SITE
 
@@ -87,7 +88,8 @@ end_of_both false r u = or_true (u.0 == r.0) (r.0 == r.0) (itself r)
 
 peer_of_both : (b : Bool) (r u : Addr) → peer_in r (ends_in b r u) ≡ u
 peer_of_both true r u = ap (λ x. cond x u r) (itself r)
-peer_of_both false r u = elim (u.0 == r.0) as (λ b. (u.0 == r.0) ≡ b → cond b r u ≡ u) [ true ↦ λ h. sym (same_from u r h) | false ↦ λ h. refl ] refl
+peer_of_both false r u = elim (u.0 == r.0) as (λ b. (u.0 == r.0) ≡ b →
+    cond b r u ≡ u) [ true ↦ λ h. sym (same_from u r h) | false ↦ λ h. refl ] refl
 
 ends_exact : (x y : Ends) → ends_cmp x y ≡ Equal → x ≡ y
 ends_exact x y h =
@@ -95,30 +97,45 @@ ends_exact x y h =
     ap ends (exact_pairs addr_cmp addr_cmp addr_exact addr_exact (x.low, x.high) (y.low, y.high) h)
 
 -- who has a session with the router is a peer of its site
-peer_there : (r u : Addr) (es : List (Ends × Bool)) → is_some (lookup (is_at (ends_cmp (ends_of r u))) es) ≡ true → list_any (λ v. v.0 == u.0) (map (λ e. peer_in r e.0) (filter (λ e. is_end r e.0) es)) ≡ true
+peer_there : (r u : Addr) (es : List (Ends × Bool)) → is_some (lookup (is_at (ends_cmp (ends_of r u))) es) ≡ true →
+    list_any (λ v. v.0 == u.0) (map (λ e. peer_in r e.0) (filter (λ e. is_end r e.0) es)) ≡ true
 peer_there r u [] h = absurd (true≢false (sym h))
 peer_there r u (e ∷ es) h =
     let peers = map (λ (x : Ends × Bool). peer_in r x.0) (filter (λ x. is_end r x.0) es) in
-    let later : list_any (λ v. v.0 == u.0) peers ≡ true → list_any (λ v. v.0 == u.0) (map (λ x. peer_in r x.0) (filter (λ x. is_end r x.0) (e ∷ es))) ≡ true =
-    λ rest. elim (is_end r e.0) as (λ b. list_any (λ v. v.0 == u.0) (map (λ x. peer_in r x.0) (cond b (e ∷ filter (λ x. is_end r x.0) es) (filter (λ x. is_end r x.0) es))) ≡ true) [
+    let later : list_any (λ v. v.0 == u.0) peers ≡ true →
+    list_any (λ v. v.0 == u.0) (map (λ x. peer_in r x.0) (filter (λ x. is_end r x.0) (e ∷ es))) ≡ true =
+    λ rest. elim (is_end r e.0) as (λ b.
+    list_any (λ v. v.0 == u.0)
+    (map (λ x. peer_in r x.0) (cond b (e ∷ filter (λ x. is_end r x.0) es) (filter (λ x. is_end r x.0) es)))
+    ≡ true) [
       | true ↦ or_true ((peer_in r e.0).0 == u.0) (list_any (λ v. v.0 == u.0) peers) rest
       | false ↦ rest
     ] in
-    elim (ends_cmp (ends_of r u) e.0) as (λ o. ends_cmp (ends_of r u) e.0 ≡ o → is_some (cond (is_eq o) (Some e.1) (lookup (is_at (ends_cmp (ends_of r u))) es)) ≡ true → list_any (λ v. v.0 == u.0) (map (λ x. peer_in r x.0) (filter (λ x. is_end r x.0) (e ∷ es))) ≡ true) [
+    elim (ends_cmp (ends_of r u) e.0) as (λ o. ends_cmp (ends_of r u) e.0 ≡ o →
+    is_some (cond (is_eq o) (Some e.1) (lookup (is_at (ends_cmp (ends_of r u))) es)) ≡ true →
+    list_any (λ v. v.0 == u.0) (map (λ x. peer_in r x.0) (filter (λ x. is_end r x.0) (e ∷ es))) ≡ true) [
       | Less ↦ λ q there. later (peer_there r u es there)
       | Equal ↦ λ q there.
           let ends : e.0 ≡ ends_of r u = sym (ends_exact (ends_of r u) e.0 q) in
-          ap (λ b. list_any (λ v. v.0 == u.0) (map (λ x. peer_in r x.0) (cond b (e ∷ filter (λ x. is_end r x.0) es) (filter (λ x. is_end r x.0) es)))) (ap (is_end r) ends ∙ end_of_both (nat_le r.0 u.0) r u)
-          ∙ ap (λ b. b || list_any (λ v. v.0 == u.0) peers) (ap (λ (v : Addr). v.0 == u.0) (ap (peer_in r) ends ∙ peer_of_both (nat_le r.0 u.0) r u) ∙ itself u)
+          ap (λ b. list_any (λ v. v.0 == u.0)
+          (map (λ x. peer_in r x.0) (cond b (e ∷ filter (λ x. is_end r x.0) es) (filter (λ x. is_end r x.0) es))))
+          (ap (is_end r) ends ∙ end_of_both (nat_le r.0 u.0) r u)
+          ∙ ap (λ b. b || list_any (λ v. v.0 == u.0) peers) (ap (λ (v : Addr). v.0 == u.0) (ap (peer_in r) ends
+          ∙ peer_of_both (nat_le r.0 u.0) r u) ∙ itself u)
       | Greater ↦ λ q there. later (peer_there r u es there)
     ] refl h
 
 -- UP
 
-found_up : (c : Configuration) (r u : Addr) (us : List Addr) → option_map_or (λ x. x.up) (find (λ x. x.peer.0 == u.0) (map (session_of c r) us)) false ≡ (list_any (λ v. v.0 == u.0) us && is_up c r u)
+found_up : (c : Configuration) (r u : Addr) (us : List Addr) →
+    option_map_or (λ x. x.up) (find (λ x. x.peer.0 == u.0) (map (session_of c r) us)) false
+    ≡ (list_any (λ v. v.0 == u.0) us && is_up c r u)
 found_up c r u [] = refl
 found_up c r u (v ∷ us) =
-    elim (v.0 == u.0) as (λ b. (v.0 == u.0) ≡ b → option_map_or (λ x. x.up) (cond b (Some (session_of c r v)) (find (λ x. x.peer.0 == u.0) (map (session_of c r) us))) false ≡ ((b || list_any (λ v. v.0 == u.0) us) && is_up c r u)) [
+    elim (v.0 == u.0) as (λ b. (v.0 == u.0) ≡ b →
+    option_map_or (λ x. x.up)
+    (cond b (Some (session_of c r v)) (find (λ x. x.peer.0 == u.0) (map (session_of c r) us))) false
+    ≡ ((b || list_any (λ v. v.0 == u.0) us) && is_up c r u)) [
       | true ↦ λ q. ap (is_up c r) (same_from v u q)
       | false ↦ λ q. found_up c r u us
     ] refl
@@ -131,16 +148,20 @@ joined_if_up : (c : Configuration) (r u : Addr) → is_up c r u ≡ true → is_
 unfolding session_up
 joined_if_up c r u h = some_if (λ enabled. enabled && is_connected c r u) (session_between c r u) h
 
-up_of_peer : (up : Bool) (c : Configuration) (r u : Addr) → is_up c r u ≡ up → (list_any (λ v. v.0 == u.0) (peers_of c r) && is_up c r u) ≡ is_up c r u
+up_of_peer : (up : Bool) (c : Configuration) (r u : Addr) → is_up c r u ≡ up →
+    (list_any (λ v. v.0 == u.0) (peers_of c r) && is_up c r u) ≡ is_up c r u
 up_of_peer true c r u is = ap (λ b. b && is_up c r u) (peer_there r u c.sessions (joined_if_up c r u is))
-up_of_peer false c r u is = ap (λ b. list_any (λ v. v.0 == u.0) (peers_of c r) && b) is ∙ and_either (list_any (λ v. v.0 == u.0) (peers_of c r)) false ∙ sym is
+up_of_peer false c r u is = ap (λ b. list_any (λ v. v.0 == u.0) (peers_of c r) && b) is
+    ∙ and_either (list_any (λ v. v.0 == u.0) (peers_of c r)) false ∙ sym is
 
-sessions_in : (c : Configuration) (r : Addr) (site : SiteConf) (n : Option Node) → option_map (site_at c r) n ≡ Some site → site.sessions ≡ sessions_of c r
+sessions_in : (c : Configuration) (r : Addr) (site : SiteConf) (n : Option Node) →
+    option_map (site_at c r) n ≡ Some site → site.sessions ≡ sessions_of c r
 sessions_in c r site None h = cc
 sessions_in c r site (Some n) h = sym (ap (λ (o : Option SiteConf). (unwrap_or o site).sessions) h)
 
 -- the sessions that are up in the site are those that are up in the configuration
-pub up_in_site : (c : Configuration) (r : Addr) (site : SiteConf) → site_of c r ≡ Some site → (u : Addr) → is_up_in site u ≡ is_up c r u
+pub up_in_site : (c : Configuration) (r : Addr) (site : SiteConf) → site_of c r ≡ Some site → (u : Addr) →
+    is_up_in site u ≡ is_up c r u
 unfolding site_of
 up_in_site c r site at u =
     ap (λ xs. option_map_or (λ x. x.up) (find (λ x. x.peer.0 == u.0) xs) false) (sessions_in c r site (node_at c r) at)
@@ -150,18 +171,21 @@ up_in_site c r site at u =
 -- KEPT
 
 -- what the router's site keeps of its routes is what the configuration keeps
-pub kept_routes_is : (c : Configuration) (r : Addr) (site : SiteConf) → site_of c r ≡ Some site → (routes : List (Addr × Attr)) → kept_routes site routes ≡ kept_from c r routes
+pub kept_routes_is : (c : Configuration) (r : Addr) (site : SiteConf) → site_of c r ≡ Some site →
+    (routes : List (Addr × Attr)) → kept_routes site routes ≡ kept_from c r routes
 kept_routes_is c r site at routes = λ i. filter (λ e. (up_in_site c r site at e.0 ∙ up_either c r e.0) i) routes
 
 site_if : (virtual : Bool) (o : Option SiteConf) (site : SiteConf) → cond virtual None o ≡ Some site → o ≡ Some site
 site_if true o site h = cc
 site_if false o site h = h
 
-pub site_of_router : (c : Configuration) (r : Addr) (site : SiteConf) → router_site c r ≡ Some site → site_of c r ≡ Some site
+pub site_of_router : (c : Configuration) (r : Addr) (site : SiteConf) → router_site c r ≡ Some site →
+    site_of c r ≡ Some site
 site_of_router c r site h = site_if (is_virtual c r) (site_of c r) site h
 
 -- a cell that the router decides again under its new site is the one that is kept
-pub refreshed_is_kept : (c : Configuration) (r : Addr) (old new : SiteConf) (p : Prefix) (h : Cell) → router_site c r ≡ Some new → (refreshed old new p h).cell ≡ kept_cell c r p h
+pub refreshed_is_kept : (c : Configuration) (r : Addr) (old new : SiteConf) (p : Prefix) (h : Cell) →
+    router_site c r ≡ Some new → (refreshed old new p h).cell ≡ kept_cell c r p h
 unfolding refreshed
 refreshed_is_kept c r old new p h at =
     ap (decided (Some new) p) (kept_routes_is c r new (site_of_router c r new at) h.received)

@@ -24,7 +24,8 @@ leaves_by true P h = tt
 leaves_by false P h = h refl
 
 -- no route with these NEXT_HOPs moves
-pub none_of_hops : (s : SitePair) → MovesCostsAlone s → (hops : Hops) → moves_one_of s hops ≡ false → (p : Prefix) (h : Cell) → Have hops h.received → is_moved s p h.received ≡ false
+pub none_of_hops : (s : SitePair) → MovesCostsAlone s → (hops : Hops) → moves_one_of s hops ≡ false →
+    (p : Prefix) (h : Cell) → Have hops h.received → is_moved s p h.received ≡ false
 none_of_hops s alone Nothing stays p h have = ap (is_moved s p) have ∙ none_moved s p alone
 none_of_hops s alone (Only a) stays p h have = none_by_hop s p a stays alone h.received have
 none_of_hops s alone Several stays p h have = absurd (true≢false stays)
@@ -38,11 +39,15 @@ module _ (b : Becoming) where
 
   none_chosen : (cells : List (Prefix × Cell)) → AllByRecursion (λ e. moves e ≡ false) cells → moved_cells b cells ≡ []
   none_chosen [] all = refl
-  none_chosen (e ∷ es) all = ap (λ c. map cell (cond c (e ∷ filter moves es) (filter moves es))) all.0 ∙ none_chosen es all.1
+  none_chosen (e ∷ es) all = ap (λ c. map cell (cond c (e ∷ filter moves es) (filter moves es))) all.0
+      ∙ none_chosen es all.1
 
   -- and so none of the table, whose routes have these
-  pub none_of_table : (hops : Hops) (t : Table Cell) → AreKnown hops t → ((p : Prefix) (h : Cell) → Have hops h.received → can_change b p h ≡ false) → moved_cells b (finite.entries t) ≡ []
+  pub none_of_table : (hops : Hops) (t : Table Cell) → AreKnown hops t →
+      ((p : Prefix) (h : Cell) → Have hops h.received → can_change b p h ≡ false) →
+      moved_cells b (finite.entries t) ≡ []
   none_of_table hops t known stays =
       none_chosen (finite.entries t)
-      (all_from (λ e. entries.find prefix_cmp e.0 (finite.entries t) ≡ Some e.1) (λ e. moves e ≡ false) (λ e found. stays e.0 e.1 (known e.0 e.1 (finite.get-entries t e.0 ∙ found))) (finite.entries t)
+      (all_from (λ e. entries.find prefix_cmp e.0 (finite.entries t) ≡ Some e.1) (λ e. moves e ≡ false)
+      (λ e found. stays e.0 e.1 (known e.0 e.1 (finite.get-entries t e.0 ∙ found))) (finite.entries t)
       (found_each prefix_total (finite.entries t) (of_T _ (finite.entries_sorted t))))

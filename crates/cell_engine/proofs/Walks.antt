@@ -30,7 +30,8 @@ abbrev is_beyond : {K : Type 0} → (K → K → Ordering) → Option K → K �
 is_beyond R None k = true
 is_beyond R (Some j) k = is_lt (R j k)
 
-still_beyond : {K : Type 0} {R : K → K → Ordering} → IsTotalOrder R → (past : Option K) (j k : K) → is_beyond R past j ≡ true → R j k ≡ Less → is_beyond R past k ≡ true
+still_beyond : {K : Type 0} {R : K → K → Ordering} → IsTotalOrder R → (past : Option K) (j k : K) →
+    is_beyond R past j ≡ true → R j k ≡ Less → is_beyond R past k ≡ true
 still_beyond o None j k h less = refl
 still_beyond o (Some i) j k h less = ap is_lt (o.trans i j k (less_of _ (T_of _ h)) less)
 
@@ -41,11 +42,14 @@ module _ {K X : Type 0} {R : K → K → Ordering} (o : IsTotalOrder R) where
   abbrev next : Option K → List (K × X) → Option (K × X)
   next past es = find (λ e. is_beyond R past e.0) es
 
-  all_left : (past : Option K) (k : K) (es : List (K × X)) → ((j : K) → R k j ≡ Less → is_beyond R past j ≡ true) → AllByRecursion (λ j. R k j ≡ Less) (keys_of es) → left past es ≡ es
+  all_left : (past : Option K) (k : K) (es : List (K × X)) → ((j : K) → R k j ≡ Less → is_beyond R past j ≡ true) →
+      AllByRecursion (λ j. R k j ≡ Less) (keys_of es) → left past es ≡ es
   all_left past k [] beyond h = refl
-  all_left past k (e ∷ es) beyond h = ap (λ b. cond b (e ∷ left past es) (left past es)) (beyond e.0 h.0) ∙ ap (λ l. e ∷ l) (all_left past k es beyond h.1)
+  all_left past k (e ∷ es) beyond h = ap (λ b. cond b (e ∷ left past es) (left past es)) (beyond e.0 h.0)
+      ∙ ap (λ l. e ∷ l) (all_left past k es beyond h.1)
 
-  above : (past : Option K) (k : K) (es : List (K × X)) (f : K × X) → AllByRecursion (λ j. R k j ≡ Less) (keys_of es) → next past es ≡ Some f → R k f.0 ≡ Less
+  above : (past : Option K) (k : K) (es : List (K × X)) (f : K × X) → AllByRecursion (λ j. R k j ≡ Less) (keys_of es) →
+      next past es ≡ Some f → R k f.0 ≡ Less
   above past k [] f h is = cc
   above past k (e ∷ es) f h is =
       elim (is_beyond R past e.0) as (λ b. cond b (Some e) (next past es) ≡ Some f → R k f.0 ≡ Less) [
@@ -54,11 +58,13 @@ module _ {K X : Type 0} {R : K → K → Ordering} (o : IsTotalOrder R) where
       ] is
 
   -- the walk comes to the next entry
-  left_step : (past : Option K) (es : List (K × X)) (f : K × X) → IsStrictlySortedBy R (keys_of es) → next past es ≡ Some f → left past es ≡ f ∷ left (Some f.0) es
+  left_step : (past : Option K) (es : List (K × X)) (f : K × X) → IsStrictlySortedBy R (keys_of es) →
+      next past es ≡ Some f → left past es ≡ f ∷ left (Some f.0) es
   unfolding IsStrictlySortedBy
   left_step past [] f h is = cc
   left_step past (e ∷ es) f h is =
-      elim (is_beyond R past e.0) as (λ b. is_beyond R past e.0 ≡ b → cond b (Some e) (next past es) ≡ Some f → cond b (e ∷ left past es) (left past es) ≡ f ∷ left (Some f.0) (e ∷ es)) [
+      elim (is_beyond R past e.0) as (λ b. is_beyond R past e.0 ≡ b → cond b (Some e) (next past es) ≡ Some f →
+      cond b (e ∷ left past es) (left past es) ≡ f ∷ left (Some f.0) (e ∷ es)) [
         | true ↦ λ beyond here.
             let same : e ≡ f = ap (λ x. unwrap_or x e) here in
             ap (λ l. e ∷ l) (all_left past e.0 es (λ j less. still_beyond o past e.0 j beyond less) h.0)
@@ -67,13 +73,15 @@ module _ {K X : Type 0} {R : K → K → Ordering} (o : IsTotalOrder R) where
             ∙ ap (λ x. x ∷ left (Some x.0) (e ∷ es)) same
         | false ↦ λ passed later.
             left_step past es f h.1 later
-            ∙ ap (λ b. f ∷ cond b (e ∷ left (Some f.0) es) (left (Some f.0) es)) (sym (ap is_lt (o.antisymm f.0 e.0 ∙ ap ordering_reverse (above past e.0 es f h.0 later))))
+            ∙ ap (λ b. f ∷ cond b (e ∷ left (Some f.0) es) (left (Some f.0) es))
+            (sym (ap is_lt (o.antisymm f.0 e.0 ∙ ap ordering_reverse (above past e.0 es f h.0 later))))
       ] refl is
 
   left_end : (past : Option K) (es : List (K × X)) → next past es ≡ None → left past es ≡ []
   left_end past [] is = refl
   left_end past (e ∷ es) is =
-      elim (is_beyond R past e.0) as (λ b. cond b (Some e) (next past es) ≡ None → cond b (e ∷ left past es) (left past es) ≡ []) [
+      elim (is_beyond R past e.0) as (λ b. cond b (Some e) (next past es) ≡ None →
+      cond b (e ∷ left past es) (left past es) ≡ []) [
         | true ↦ λ here. cc
         | false ↦ λ later. left_end past es later
       ] is
@@ -93,8 +101,10 @@ module _ (r : Addr) (ts : List (Addr × Table Cell)) where
   pub cells_begin : cells_after r ts None ≡ cells_of r ts
   cells_begin = left_all prefix_total (cells_of r ts)
 
-  pub cells_step : (after : Option Prefix) (f : Prefix × Cell) → first_after (table_at r ts) after ≡ Some f → cells_after r ts after ≡ f ∷ cells_after r ts (Some f.0)
-  cells_step after f is = left_step prefix_total after (cells_of r ts) f (keys_sorted prefix_total (cells_of r ts) (finite.entries_sorted (table_at r ts))) is
+  pub cells_step : (after : Option Prefix) (f : Prefix × Cell) → first_after (table_at r ts) after ≡ Some f →
+      cells_after r ts after ≡ f ∷ cells_after r ts (Some f.0)
+  cells_step after f is = left_step prefix_total after (cells_of r ts) f
+      (keys_sorted prefix_total (cells_of r ts) (finite.entries_sorted (table_at r ts))) is
 
   pub cells_end : (after : Option Prefix) → first_after (table_at r ts) after ≡ None → cells_after r ts after ≡ []
   cells_end after is = left_end prefix_total after (cells_of r ts) is
@@ -106,7 +116,8 @@ module _ (routes : List (Addr × Attr)) where
   pub senders_begin : received_past routes None ≡ routes
   senders_begin = left_all addr_total routes
 
-  pub senders_step : (past : Option Addr) (f : Addr × Attr) → AreInOrder routes → first_past routes past ≡ Some f → received_past routes past ≡ f ∷ received_past routes (Some f.0)
+  pub senders_step : (past : Option Addr) (f : Addr × Attr) → AreInOrder routes → first_past routes past ≡ Some f →
+      received_past routes past ≡ f ∷ received_past routes (Some f.0)
   senders_step past f sorted is = left_step addr_total past routes f sorted is
 
   pub senders_end : (past : Option Addr) → first_past routes past ≡ None → received_past routes past ≡ []

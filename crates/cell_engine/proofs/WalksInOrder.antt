@@ -31,14 +31,16 @@ T_of b is = subst T (sym is) tt
 
 -- WALKS
 
-module _ {K : Type 0} {R : K → K → Ordering} (total : IsTotalOrder R) (past : Option K → K → Bool) (from_none : (k : K) → past None k ≡ true) (from_some : (a k : K) → past (Some a) k ≡ is_lt (R a k)) where
+module _ {K : Type 0} {R : K → K → Ordering} (total : IsTotalOrder R) (past : Option K → K →
+    Bool) (from_none : (k : K) → past None k ≡ true) (from_some : (a k : K) → past (Some a) k ≡ is_lt (R a k)) where
   -- whether all that comes after y comes after o
   abbrev Reaches : Option K → K → Type 0
   Reaches o y = (z : K) → R y z ≡ Less → past o z ≡ true
 
   reaches : (o : Option K) (y : K) → past o y ≡ true → Reaches o y
   reaches None y h z l = from_none z
-  reaches (Some a) y h z l = from_some a z ∙ ap is_lt (total.trans a y z (less_of _ (T_of _ (sym (from_some a y) ∙ h))) l)
+  reaches (Some a) y h z l = from_some a z
+      ∙ ap is_lt (total.trans a y z (less_of _ (T_of _ (sym (from_some a y) ∙ h))) l)
 
   not_past : (y z : K) → R y z ≡ Less → past (Some z) y ≡ false
   not_past y z l = from_some z y ∙ ap is_lt (total.antisymm z y ∙ ap ordering_reverse l)
@@ -56,7 +58,8 @@ module _ {K : Type 0} {R : K → K → Ordering} (total : IsTotalOrder R) (past 
         ap (λ b. cond b (e ∷ rest o es) (rest o es)) (r e.0 (less_of _ (first_of _ _ h)))
         ∙ ap (λ l. e ∷ l) (all_past o y es r (second_of (is_lt (R y e.0)) (entries.below_all R y es) h))
 
-    found_above : (p : K × X → Bool) (y : K) (es : List (K × X)) (f : K × X) → T (entries.below_all R y es) → find p es ≡ Some f → R y f.0 ≡ Less
+    found_above : (p : K × X → Bool) (y : K) (es : List (K × X)) (f : K × X) → T (entries.below_all R y es) →
+        find p es ≡ Some f → R y f.0 ≡ Less
     found_above p y [] f h is = cc
     found_above p y (e ∷ es) f h is =
         elim (p e) as (λ b. cond b (Some e) (find p es) ≡ Some f → R y f.0 ≡ Less) [
@@ -64,10 +67,12 @@ module _ {K : Type 0} {R : K → K → Ordering} (total : IsTotalOrder R) (past 
           | false ↦ λ k. found_above p y es f (second_of (is_lt (R y e.0)) (entries.below_all R y es) h) k
         ] is
 
-    pub walk_step : (o : Option K) (es : List (K × X)) (f : K × X) → T (entries.is_sorted R es) → find (λ e. past o e.0) es ≡ Some f → rest o es ≡ f ∷ rest (Some f.0) es
+    pub walk_step : (o : Option K) (es : List (K × X)) (f : K × X) → T (entries.is_sorted R es) →
+        find (λ e. past o e.0) es ≡ Some f → rest o es ≡ f ∷ rest (Some f.0) es
     walk_step o [] f h is = cc
     walk_step o (e ∷ es) f h is =
-        elim (past o e.0) as (λ b. past o e.0 ≡ b → cond b (Some e) (find (λ e. past o e.0) es) ≡ Some f → cond b (e ∷ rest o es) (rest o es) ≡ f ∷ rest (Some f.0) (e ∷ es)) [
+        elim (past o e.0) as (λ b. past o e.0 ≡ b → cond b (Some e) (find (λ e. past o e.0) es) ≡ Some f →
+        cond b (e ∷ rest o es) (rest o es) ≡ f ∷ rest (Some f.0) (e ∷ es)) [
           | true ↦ λ p k.
               let same : e ≡ f = ap (λ o. unwrap_or o e) k in
               let below = first_of (entries.below_all R e.0 es) (entries.is_sorted R es) h in
@@ -78,20 +83,25 @@ module _ {K : Type 0} {R : K → K → Ordering} (total : IsTotalOrder R) (past 
           | false ↦ λ p k.
               let below = first_of (entries.below_all R e.0 es) (entries.is_sorted R es) h in
               walk_step o es f (second_of (entries.below_all R e.0 es) (entries.is_sorted R es) h) k
-              ∙ ap (λ b. f ∷ cond b (e ∷ rest (Some f.0) es) (rest (Some f.0) es)) (sym (not_past e.0 f.0 (found_above (λ e. past o e.0) e.0 es f below k)))
+              ∙ ap (λ b. f ∷ cond b (e ∷ rest (Some f.0) es) (rest (Some f.0) es))
+              (sym (not_past e.0 f.0 (found_above (λ e. past o e.0) e.0 es f below k)))
         ] refl is
 
     -- what is come by is found by its key
-    pub walk_found : (o : Option K) (es : List (K × X)) (f : K × X) → T (entries.is_sorted R es) → find (λ e. past o e.0) es ≡ Some f → entries.find R f.0 es ≡ Some f.1
+    pub walk_found : (o : Option K) (es : List (K × X)) (f : K × X) → T (entries.is_sorted R es) →
+        find (λ e. past o e.0) es ≡ Some f → entries.find R f.0 es ≡ Some f.1
     walk_found o [] f h is = cc
     walk_found o (e ∷ es) f h is =
-        elim (past o e.0) as (λ b. cond b (Some e) (find (λ e. past o e.0) es) ≡ Some f → cond (is_eq (R f.0 e.0)) (Some e.1) (entries.find R f.0 es) ≡ Some f.1) [
+        elim (past o e.0) as (λ b. cond b (Some e) (find (λ e. past o e.0) es) ≡ Some f →
+        cond (is_eq (R f.0 e.0)) (Some e.1) (entries.find R f.0 es) ≡ Some f.1) [
           | true ↦ λ k.
               let same : e ≡ f = ap (λ o. unwrap_or o e) k in
-              subst (λ x. cond (is_eq (R x.0 e.0)) (Some e.1) (entries.find R x.0 es) ≡ Some x.1) same (ap (λ r. cond (is_eq r) (Some e.1) (entries.find R e.0 es)) (tied_itself total e.0))
+              subst (λ x. cond (is_eq (R x.0 e.0)) (Some e.1) (entries.find R x.0 es) ≡ Some x.1) same
+              (ap (λ r. cond (is_eq r) (Some e.1) (entries.find R e.0 es)) (tied_itself total e.0))
           | false ↦ λ k.
               let below = first_of (entries.below_all R e.0 es) (entries.is_sorted R es) h in
-              let after : R f.0 e.0 ≡ Greater = total.antisymm f.0 e.0 ∙ ap ordering_reverse (found_above (λ e. past o e.0) e.0 es f below k) in
+              let after : R f.0 e.0 ≡ Greater = total.antisymm f.0 e.0
+              ∙ ap ordering_reverse (found_above (λ e. past o e.0) e.0 es f below k) in
               ap (λ r. cond (is_eq r) (Some e.1) (entries.find R f.0 es)) after
               ∙ walk_found o es f (second_of (entries.below_all R e.0 es) (entries.is_sorted R es) h) k
         ] is
@@ -99,14 +109,16 @@ module _ {K : Type 0} {R : K → K → Ordering} (total : IsTotalOrder R) (past 
     pub walk_end : (o : Option K) (es : List (K × X)) → find (λ e. past o e.0) es ≡ None → rest o es ≡ []
     walk_end o [] is = refl
     walk_end o (e ∷ es) is =
-        elim (past o e.0) as (λ b. cond b (Some e) (find (λ e. past o e.0) es) ≡ None → cond b (e ∷ rest o es) (rest o es) ≡ []) [
+        elim (past o e.0) as (λ b. cond b (Some e) (find (λ e. past o e.0) es) ≡ None →
+        cond b (e ∷ rest o es) (rest o es) ≡ []) [
           | true ↦ λ k. cc
           | false ↦ λ k. walk_end o es k
         ] is
 
     pub walk_start : (es : List (K × X)) → rest None es ≡ es
     walk_start [] = refl
-    walk_start (e ∷ es) = ap (λ b. cond b (e ∷ rest None es) (rest None es)) (from_none e.0) ∙ ap (λ l. e ∷ l) (walk_start es)
+    walk_start (e ∷ es) = ap (λ b. cond b (e ∷ rest None es) (rest None es)) (from_none e.0)
+        ∙ ap (λ l. e ∷ l) (walk_start es)
 
 -- TABLES OF ALL ROUTERS
 
@@ -118,19 +130,25 @@ module _ {V : Type 0} where
   pub tables_start : (ts : List (Addr × Table V)) → tables_past None ts ≡ ts
   tables_start ts = walk_start addr_total is_past (λ k. refl) (λ a k. refl) ts
 
-  step_by : (ts : List (Addr × Table V)) (o : Option Addr) (r : Addr) → T (entries.is_sorted addr_cmp ts) → (x : Option (Addr × Table V)) → find (λ t. is_past o t.0) ts ≡ x → option_map (λ t. t.0) x ≡ Some r → tables_past o ts ≡ (r, table_at r ts) ∷ tables_past (Some r) ts
+  step_by : (ts : List (Addr × Table V)) (o : Option Addr) (r : Addr) → T (entries.is_sorted addr_cmp ts) →
+      (x : Option (Addr × Table V)) → find (λ t. is_past o t.0) ts ≡ x → option_map (λ t. t.0) x ≡ Some r →
+      tables_past o ts ≡ (r, table_at r ts) ∷ tables_past (Some r) ts
   step_by ts o r sorted None found is = cc
   step_by ts o r sorted (Some f) found is =
       let here : f.0 ≡ r = ap (λ o. unwrap_or o f.0) is in
-      let table : table_at f.0 ts ≡ f.1 = ap (λ x. unwrap_or x finite.empty) (walk_found addr_total is_past (λ k. refl) (λ a k. refl) o ts f sorted found) in
+      let table : table_at f.0 ts ≡ f.1 =
+      ap (λ x. unwrap_or x finite.empty)
+      (walk_found addr_total is_past (λ k. refl) (λ a k. refl) o ts f sorted found) in
       walk_step addr_total is_past (λ k. refl) (λ a k. refl) o ts f sorted found
       ∙ ap (λ t. (f.0, t) ∷ tables_past (Some f.0) ts) (sym table)
       ∙ ap (λ s. (s, table_at s ts) ∷ tables_past (Some s) ts) here
 
-  pub tables_step : (ts : List (Addr × Table V)) (o : Option Addr) (r : Addr) → T (entries.is_sorted addr_cmp ts) → next_of ts o ≡ Some r → tables_past o ts ≡ (r, table_at r ts) ∷ tables_past (Some r) ts
+  pub tables_step : (ts : List (Addr × Table V)) (o : Option Addr) (r : Addr) → T (entries.is_sorted addr_cmp ts) →
+      next_of ts o ≡ Some r → tables_past o ts ≡ (r, table_at r ts) ∷ tables_past (Some r) ts
   tables_step ts o r sorted is = step_by ts o r sorted (find (λ t. is_past o t.0) ts) refl is
 
-  end_by : (ts : List (Addr × Table V)) (o : Option Addr) (x : Option (Addr × Table V)) → find (λ t. is_past o t.0) ts ≡ x → option_map (λ t. t.0) x ≡ None → tables_past o ts ≡ []
+  end_by : (ts : List (Addr × Table V)) (o : Option Addr) (x : Option (Addr × Table V)) →
+      find (λ t. is_past o t.0) ts ≡ x → option_map (λ t. t.0) x ≡ None → tables_past o ts ≡ []
   end_by ts o None found is = walk_end addr_total is_past (λ k. refl) (λ a k. refl) o ts found
   end_by ts o (Some f) found is = cc
 

@@ -40,12 +40,14 @@ hops_stay : (k : Hops) (routes : List (Addr × Attr)) (a : Addr) → May k a →
 hops_stay k [] a may = may
 hops_stay k (e ∷ routes) a may = hops_stay (with_hop k e.1.next) routes a (hop_stays k a e.1.next may)
 
-each_may : (k : Hops) (routes : List (Addr × Attr)) (j : ℕ) (d : Addr × Attr) → j < length routes → May (with_hops k routes) (slice_index_or routes j d).1.next
+each_may : (k : Hops) (routes : List (Addr × Attr)) (j : ℕ) (d : Addr × Attr) → j < length routes →
+    May (with_hops k routes) (slice_index_or routes j d).1.next
 each_may k [] j d within = absurd (omega arith)
 each_may k (e ∷ routes) zero d within = hops_stay (with_hop k e.1.next) routes e.1.next (hop_may k e.1.next)
 each_may k (e ∷ routes) (suc j) d within = each_may (with_hop k e.1.next) routes j d (omega arith)
 
-have_of_may : (k : Hops) (routes : List (Addr × Attr)) → ((j : ℕ) (d : Addr × Attr) → j < length routes → May k (slice_index_or routes j d).1.next) → Have k routes
+have_of_may : (k : Hops) (routes : List (Addr × Attr)) →
+    ((j : ℕ) (d : Addr × Attr) → j < length routes → May k (slice_index_or routes j d).1.next) → Have k routes
 have_of_may Nothing [] each = refl
 have_of_may Nothing (e ∷ routes) each = absurd (each 0 e (omega arith))
 have_of_may (Only a) routes each = each

@@ -15,7 +15,8 @@ has_attributes (Withdraw p) = false
 
 -- those of the message come to be admitted: they were, or they are the one more
 abbrev pub Admits : Message → List Attr → List Attr → Type 0
-Admits (Update p attr) old new = (IsAdmittedBy old (Update p attr) × (new ≡ old)) ⊎ ((IsAdmittedBy old (Update p attr) → ⊥) × (new ≡ old ++ attr ∷ []))
+Admits (Update p attr) old new = (IsAdmittedBy old (Update p attr) × (new ≡ old))
+    ⊎ ((IsAdmittedBy old (Update p attr) → ⊥) × (new ≡ old ++ attr ∷ []))
 Admits (Withdraw p) old new = new ≡ old
 
 -- those of each message are among these

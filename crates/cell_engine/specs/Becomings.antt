@@ -47,7 +47,8 @@ change_of b p h = cell_change b.before b.after b.address p h
 
 -- all its cells that can change
 abbrev pub becoming_changes : List (Addr × Table Cell) → Becoming → List Change
-becoming_changes ts b = router_changes (moves b.before b.after) b.before b.after b.address (finite.entries (table_at b.address ts))
+becoming_changes ts b = router_changes (moves b.before b.after) b.before b.after b.address
+    (finite.entries (table_at b.address ts))
 
 -- those of all of these
 abbrev pub all_changes : List Becoming → List (Addr × Table Cell) → List Change
@@ -65,7 +66,8 @@ change_at x = change_of x.becoming x.prefix x.cell
 
 -- those of these that can change
 abbrev pub moved_cells : Becoming → List (Prefix × Cell) → List MovedCell
-moved_cells b cells = map (λ e. record { becoming = b; prefix = e.0; cell = e.1 }) (filter (λ e. can_change b e.0 e.1) cells)
+moved_cells b cells = map (λ e. record { becoming = b; prefix = e.0; cell = e.1 })
+    (filter (λ e. can_change b e.0 e.1) cells)
 
 -- this one, if it can
 abbrev pub moved_cell : Becoming → Prefix → Cell → List MovedCell

@@ -12,7 +12,11 @@ use Rattle.session_queue.specs.contracts.message.Message as messages
 use Rattle.cell_engine.specs.Cells.{Cell, Outcome}
 
 abbrev pub coded_cell : Coded Cell
-coded_cell = code_by (List (Addr × Attr) × Standings) (coded× (coded_list (coded× address.the_row.coded attributes.the_row.coded)) coded_standings) (λ h. (h.received, h.standings)) (λ p. record { received = p.0; standings = p.1 }) (λ _. refl)
+coded_cell = code_by (List (Addr × Attr) × Standings)
+    (coded× (coded_list (coded× address.the_row.coded attributes.the_row.coded)) coded_standings)
+    (λ h. (h.received, h.standings)) (λ p. record { received = p.0; standings = p.1 }) (λ _. refl)
 
 abbrev pub coded_outcome : Coded Outcome
-coded_outcome = code_by (Cell × List (Addr × Message)) (coded× coded_cell (coded_list (coded× address.the_row.coded messages.the_row.coded))) (λ o. (o.cell, o.sends)) (λ p. record { cell = p.0; sends = p.1 }) (λ _. refl)
+coded_outcome = code_by (Cell × List (Addr × Message))
+    (coded× coded_cell (coded_list (coded× address.the_row.coded messages.the_row.coded))) (λ o. (o.cell, o.sends))
+    (λ p. record { cell = p.0; sends = p.1 }) (λ _. refl)

@@ -1,4 +1,5 @@
--- What an edit does to a cell, as it is planned beside the tables: another takes its place, or its one route has another cost.
+-- What an edit does to a cell, as it is planned beside the tables: another takes its place, or its one route has
+-- another cost.
 use Rattle.std.specs.Prelude.{◌≡◌, ℕ, true, List, [], ◌∷◌, map, Option, is_some}
 use Rattle.std.specs.List.{AllByRecursion}
 use Rattle.std.specs.Option.{option_map_or, unwrap_or}
@@ -33,7 +34,11 @@ edits_send xs = map (λ x. (x.router, edit_sends x)) xs
 
 -- what comes of the cell in these tables
 abbrev pub whole_change : List (Addr × Table Cell) → CellEdit → Change
-whole_change ts x = record { router = x.router; prefix = x.prefix; outcome = outcome_of x (cell_at x.router x.prefix ts) }
+whole_change ts x = record {
+  router = x.router;
+  prefix = x.prefix;
+  outcome = outcome_of x (cell_at x.router x.prefix ts);
+}
 
 -- what comes of all of these cells
 abbrev pub whole_changes : List (Addr × Table Cell) → List CellEdit → List Change

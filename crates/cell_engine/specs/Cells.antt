@@ -1,5 +1,5 @@
--- What one router has received for one prefix, how each route to it stands there, and what the router sends when that changes
--- (RFC 4271, 9; RFC 4456, 8 to 10).
+-- What one router has received for one prefix, how each route to it stands there, and what the router sends when that
+-- changes (RFC 4271, 9; RFC 4456, 8 to 10).
 use Rattle.std.specs.Prelude.{◌≡◌, Bool, true, false, ◌&&◌, List, [], ◌∷◌, ◌++◌, filter, Option, Some, None, option_map}
 use Rattle.std.specs.Option.{option_map_or}
 use Rattle.std.specs.List.{filter_map}
@@ -41,9 +41,11 @@ route_of routes u = lookup (is_at (addr_cmp u)) routes
 abbrev pub standing_of : SiteConf → Prefix → List (Addr × Attr) → SiteSession → Option (Source × Standing)
 standing_of site p routes from = standing_over site p from (route_of routes from.peer)
 
--- how each source's route to the prefix stands at the router of the site, by what it has received, and how it compares them
+-- how each source's route to the prefix stands at the router of the site, by what it has received, and how it compares
+-- them
 abbrev pub standings_by : SiteConf → Prefix → List (Addr × Attr) → Standings
-standings_by site p routes = added (no_standings site.med_always) (own_standings site p ++ filter_map (standing_of site p routes) site.sessions)
+standings_by site p routes =
+    added (no_standings site.med_always) (own_standings site p ++ filter_map (standing_of site p routes) site.sessions)
 
 abbrev pub is_any : {A : Type 0} → List A → Bool
 is_any [] = false
@@ -80,8 +82,11 @@ abbrev pub send_to : Addr → Option Message → Option (Addr × Message)
 send_to t message = option_map (λ m. (t, m)) message
 
 -- what the router sends over the session, which is up, when its site and its choice change
-abbrev pub send_over : SiteConf → SiteConf → Prefix → Option Candidate → Option Candidate → SiteSession → Option (Addr × Message)
-send_over old new p had has to = send_to to.peer (change_of p (advert_of (is_up_in old to.peer) (Some old) to.peer p had) (advert_of to.up (Some new) to.peer p has))
+abbrev pub send_over : SiteConf → SiteConf → Prefix → Option Candidate → Option Candidate → SiteSession →
+    Option (Addr × Message)
+send_over old new p had has to =
+    send_to to.peer (change_of p (advert_of (is_up_in old to.peer) (Some old) to.peer p had)
+    (advert_of to.up (Some new) to.peer p has))
 
 -- the sessions that are up
 abbrev pub up_sessions : SiteConf → List SiteSession
@@ -98,13 +103,15 @@ pub record Outcome : Type 0 where
 
 -- DELIVERIES
 
--- the routes received, once the peer's message has been taken: an update replaces its route, a withdrawal removes it (RFC 4271, 9)
+-- the routes received, once the peer's message has been taken: an update replaces its route, a withdrawal removes it
+-- (RFC 4271, 9)
 abbrev pub with_news : Addr → Message → List (Addr × Attr) → List (Addr × Attr)
 with_news u (Update p attr) routes = insert_entry addr_cmp routes u attr
 with_news u (Withdraw p) routes = remove_entry (is_at (addr_cmp u)) routes
 
 abbrev pub decision : SiteConf → SiteConf → Prefix → Cell → Cell → Outcome
-decision old new p had has = record { cell = has; sends = sends_of old new p (best_of had.standings) (best_of has.standings) }
+decision old new p had has =
+    record { cell = has; sends = sends_of old new p (best_of had.standings) (best_of has.standings) }
 
 -- what a router does with a peer's message
 unfoldable pub delivered : SiteConf → Cell → Addr → Message → Outcome

@@ -25,7 +25,11 @@ pub record Change : Type 0 where
 
 -- the router's cell, when the configuration c becomes d
 abbrev pub cell_change : Configuration → Configuration → Addr → Prefix → Cell → Change
-cell_change c d r p h = record { router = r; prefix = p; outcome = record { cell = kept_cell d r p h; sends = cell_sends c d r p h } }
+cell_change c d r p h = record {
+  router = r;
+  prefix = p;
+  outcome = record { cell = kept_cell d r p h; sends = cell_sends c d r p h };
+}
 
 -- a cell is decided anew, or not
 abbrev pub Choice : Type 0
@@ -39,7 +43,8 @@ router_changes holds c d r cells = map (λ e. cell_change c d r e.0 e.1) (filter
 abbrev pub changes_where : Choice → Scope → Configuration → Configuration → List (Addr × Table Cell) → List Change
 changes_where holds Network c d ts = flat_map (λ t. router_changes holds c d t.0 (finite.entries t.1)) ts
 changes_where holds (Site a) c d ts = router_changes holds c d a (finite.entries (table_at a ts))
-changes_where holds (Route a p) c d ts = router_changes holds c d a (option_to_list (option_map (λ h. (p, h)) (value_at a p ts)))
+changes_where holds (Route a p) c d ts =
+    router_changes holds c d a (option_to_list (option_map (λ h. (p, h)) (value_at a p ts)))
 
 -- of these the ones that it changes
 abbrev pub changes_in : Scope → Configuration → Configuration → List (Addr × Table Cell) → List Change

@@ -1,5 +1,5 @@
--- How the prover knows the tables of a state again, and the edited cells of an edit (their Models ask for it). No public contract cites
--- this file.
+-- How the prover knows the tables of a state again, and the edited cells of an edit (their Models ask for it). No
+-- public contract cites this file.
 use Rattle.std.specs.Prelude.{ℕ, Option, refl}
 use Rattle.std.specs.Coded.{Coded, code_by, coded×, coded_ℕ, coded_option}
 use Rattle.std.specs.FinMap as finite
@@ -15,4 +15,11 @@ abbrev pub coded_table : Coded (Table Cell)
 coded_table = finite.code coded_prefix coded_cell
 
 abbrev pub coded_edit : Coded CellEdit
-coded_edit = code_by ((Addr × Prefix) × (Option Outcome × ℕ)) (coded× (coded× address.the_row.coded coded_prefix) (coded× (coded_option coded_outcome) coded_ℕ)) (λ x. ((x.router, x.prefix), (x.remade, x.cost))) (λ p. record { router = p.0.0; prefix = p.0.1; remade = p.1.0; cost = p.1.1 }) (λ _. refl)
+coded_edit = code_by ((Addr × Prefix) × (Option Outcome × ℕ))
+    (coded× (coded× address.the_row.coded coded_prefix) (coded× (coded_option coded_outcome) coded_ℕ))
+    (λ x. ((x.router, x.prefix), (x.remade, x.cost))) (λ p. record {
+      router = p.0.0;
+      prefix = p.0.1;
+      remade = p.1.0;
+      cost = p.1.1;
+    }) (λ _. refl)

@@ -16,10 +16,11 @@ use Rattle.reference_machine.specs.Network.{Network}
 use Rattle.reference_machine.specs.Decision.{standings}
 use Rattle.cell_engine.specs.Cells.{effective}
 
--- how each route to the prefix stands at a router, and how it compares them, where one stands: none stands at a virtual peer, or where
--- nobody is
+-- how each route to the prefix stands at a router, and how it compares them, where one stands: none stands at a virtual
+-- peer, or where nobody is
 abbrev pub standings_at : Network → Addr → Prefix → Standings
-standings_at s r p = option_map_or (λ site. effective (standings site p s.received)) (router_site s.conf r) (no_standings false)
+standings_at s r p = option_map_or (λ site. effective (standings site p s.received)) (router_site s.conf r)
+    (no_standings false)
 
 -- a route to the prefix stands there
 abbrev pub HasStanding : Network → Addr → Prefix → Type 0
@@ -30,8 +31,8 @@ abbrev pub AreFactsMoved : Option SiteConf → Option SiteConf → Type 0
 AreFactsMoved (Some old) (Some new) = same_facts old new ≡ false
 AreFactsMoved _ _ = ⊥
 
--- why the router decides its route to the prefix anew when s becomes t: a route stands otherwise, comes or goes; or the router's
--- settings or sessions become other, and a route stands before, or after
+-- why the router decides its route to the prefix anew when s becomes t: a route stands otherwise, comes or goes; or the
+-- router's settings or sessions become other, and a route stands before, or after
 abbrev pub IsTouched : Network → Network → Addr → Prefix → Type 0
 IsTouched s t r p =
     (standings_at s r p ≡ standings_at t r p → ⊥)
@@ -44,9 +45,10 @@ cell_cmp x y = ordering_then (addr_cmp x.0 y.0) (prefix_cmp x.1 y.1)
 abbrev pub is_cell_of : Addr → Prefix → Addr × Prefix → Bool
 is_cell_of r p x = is_eq (cell_cmp (r, p) x)
 
--- routers and prefixes at which s becomes t: each once, by router, then prefix; all at which a route stands otherwise then; and none
--- that is not touched
+-- routers and prefixes at which s becomes t: each once, by router, then prefix; all at which a route stands otherwise
+-- then; and none that is not touched
 pub record IsRefreshed (s t : Network) (cells : List (Addr × Prefix)) : Type 0 where
   pub ascending : IsStrictlySortedBy cell_cmp cells
-  pub complete : (r : Addr) (p : Prefix) → list_any (is_cell_of r p) cells ≡ false → standings_at s r p ≡ standings_at t r p
+  pub complete : (r : Addr) (p : Prefix) → list_any (is_cell_of r p) cells ≡ false →
+      standings_at s r p ≡ standings_at t r p
   pub touched : AllByRecursion (λ x. IsTouched s t x.0 x.1) cells

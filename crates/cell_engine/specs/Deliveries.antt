@@ -1,5 +1,5 @@
--- What the engine does with a message, beside the network: the cell that it makes, and what has to be there before it can take the
--- message without memory.
+-- What the engine does with a message, beside the network: the cell that it makes, and what has to be there before it
+-- can take the message without memory.
 use Rattle.std.specs.Prelude.{◌≡◌, ◌≤◌, true, List, ◌∷◌, length, Option, Some, None, is_some}
 use Rattle.net_prefix.specs.declared.addr.Addr.{Addr}
 use Rattle.net_prefix.specs.Prefix.{Prefix}

@@ -24,7 +24,8 @@ use Rattle.cell_engine.specs.Sending.{told_from}
 
 -- a new session has a direction each way
 abbrev pub with_directions : Edit → List Direction → List Direction
-with_directions (Join a b) ds = insert_key direction_cmp (insert_key direction_cmp ds (record { from = b; to = a })) (record { from = a; to = b })
+with_directions (Join a b) ds = insert_key direction_cmp (insert_key direction_cmp ds (record { from = b; to = a }))
+    (record { from = a; to = b })
 with_directions _ ds = ds
 
 -- the router has a cell of the prefix: an empty one, where it had none
@@ -46,8 +47,8 @@ left_at c q f t = if is_up c f t then queue_at q f t else []
 
 -- WHAT IS SENT
 
--- for one cell, when the router's site becomes another. A router that is new has no session yet, and its new site stands for
--- the old one too; where there is no router, nothing is sent
+-- for one cell, when the router's site becomes another. A router that is new has no session yet, and its new site
+-- stands for the old one too; where there is no router, nothing is sent
 abbrev pub sends_between : Option SiteConf → Option SiteConf → Prefix → Cell → List (Addr × Message)
 sends_between old None p h = []
 sends_between old (Some new) p h = (refreshed (unwrap_or old new) new p h).sends

@@ -1,5 +1,5 @@
--- What the engine does with an edit, beside the network: what it plans before it changes anything, and the places that it needs
--- before it can change without memory.
+-- What the engine does with an edit, beside the network: what it plans before it changes anything, and the places that
+-- it needs before it can change without memory.
 use Rattle.std.specs.Prelude.{◌≡◌, ◌≤◌, ℕ, Bool, true, false, ◌||◌, List, map, filter, length, Option, Some, None, is_some}
 use Rattle.net_conf.specs.declared.tables.Kind.{Kind}
 use Rattle.net_conf.specs.declared.tables.Kind.TheVariants.{Router, Virtual}

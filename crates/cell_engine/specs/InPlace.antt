@@ -17,7 +17,8 @@ use Rattle.session_queue.specs.Telling.{prefix_of}
 use Rattle.cell_engine.specs.Cells.{sends_of, standings_by, with_news}
 use Rattle.cell_engine.specs.Updates.{standings_after}
 
--- the standings, once the peer's message has been taken, but for a route that it withdraws: that is excluded, and not yet forgotten
+-- the standings, once the peer's message has been taken, but for a route that it withdraws: that is excluded, and not
+-- yet forgotten
 abbrev pub set_aside : SiteConf → Addr → Message → Standings → Standings
 set_aside site u (Update p attr) m = standings_after site u (Update p attr) m
 set_aside site u (Withdraw p) m = with_standing (FromPeer u) (Excluded Loop) m
@@ -42,7 +43,8 @@ IsKnownIn source had m = (standing : Standing) → had ≡ Some standing → is_
 
 -- what a router that has received these routes sends for the peer's message
 abbrev pub sends_with : SiteConf → Addr → Message → List (Addr × Attr) → List (Addr × Message)
-sends_with site u m routes = sends_of site site (prefix_of m) (best_of (standings_by site (prefix_of m) routes)) (best_of (standings_by site (prefix_of m) (with_news u m routes)))
+sends_with site u m routes = sends_of site site (prefix_of m) (best_of (standings_by site (prefix_of m) routes))
+    (best_of (standings_by site (prefix_of m) (with_news u m routes)))
 
 -- a site's sessions are in the order of their peers
 abbrev pub ArePeersInOrder : Option SiteConf → Type 0

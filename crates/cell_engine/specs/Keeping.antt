@@ -1,4 +1,5 @@
--- What is left of the tables when the configuration becomes another: the routes over sessions that are up, decided anew.
+-- What is left of the tables when the configuration becomes another: the routes over sessions that are up, decided
+-- anew.
 use Rattle.std.specs.Prelude.{List, map, filter}
 use Rattle.std.specs.FinMap as finite
 use Rattle.net_prefix.specs.declared.addr.Addr.{Addr}

@@ -10,8 +10,8 @@ use Rattle.net_conf.specs.declared.site.SiteConf.{SiteConf}
 use Rattle.cell_engine.specs.Cells.{Cell}
 use Rattle.cell_engine.specs.SiteMoves.{has_route, is_moved}
 
--- a router's by what becomes of its part of the configuration, or where it is new by a route that it has; a virtual peer's where it
--- loses a route
+-- a router's by what becomes of its part of the configuration, or where it is new by a route that it has; a virtual
+-- peer's where it loses a route
 abbrev pub is_moved_by : Option SiteConf → Option SiteConf → Configuration → Addr → Prefix → Cell → Bool
 is_moved_by (Some old) (Some new) d r p h = is_moved (record { old = old; new = new }) p h.received
 is_moved_by None (Some new) d r p h = has_route new p h.received

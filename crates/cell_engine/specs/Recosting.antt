@@ -1,4 +1,5 @@
--- Cells of which an edit changes the cost of one route, and nothing else: no path attribute holds it (RFC 4271, 5 and 9.1.2.2 e).
+-- Cells of which an edit changes the cost of one route, and nothing else: no path attribute holds it (RFC 4271, 5 and
+-- 9.1.2.2 e).
 use Rattle.std.specs.Prelude.{ℕ, Bool, not, ◌&&◌, ◌||◌, List, [], ◌∷◌, Option, None, is_some, if◌then◌else◌}
 use Rattle.net_prefix.specs.declared.addr.Addr.{Addr}
 use Rattle.net_prefix.specs.Prefix.{Prefix}
@@ -23,7 +24,7 @@ lone_cost s _ = None
 abbrev pub is_own : SitePair → Prefix → Bool
 is_own s p = is_originated s.old p || is_originated s.new p
 
--- the cost that its one route has after the edit, where a cell that the edit changes changes in that alone: its settings and sessions
--- stay, and the router does not originate the prefix. None elsewhere
+-- the cost that its one route has after the edit, where a cell that the edit changes changes in that alone: its
+-- settings and sessions stay, and the router does not originate the prefix. None elsewhere
 abbrev pub recost : SitePair → Prefix → List (Addr × Attr) → Option ℕ
 recost s p routes = if same_facts s.old s.new && not (is_own s p) then lone_cost s routes else None

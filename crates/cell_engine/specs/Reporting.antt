@@ -48,7 +48,8 @@ routes_chosen r ts = filter_map held_in (cells_of r ts)
 
 -- what the router advertises to the peer of the best route of a cell
 abbrev pub advert_in : Configuration → Addr → Addr → Prefix × Cell → Option (Prefix × Attr)
-advert_in c r t e = option_map (λ attr. (e.0, attr)) (advert_of (is_up c r t) (site_of c r) t e.0 (best_of e.1.standings))
+advert_in c r t e = option_map (λ attr. (e.0, attr))
+    (advert_of (is_up c r t) (site_of c r) t e.0 (best_of e.1.standings))
 
 -- what it advertises to the peer of all its cells (RFC 4271, 3.2)
 abbrev pub adverts_to : Configuration → Addr → Addr → List (Addr × Table Cell) → List (Prefix × Attr)

@@ -29,7 +29,8 @@ abbrev pub with_value : {V : Type 0} → Addr → Prefix → V → List (Addr ×
 with_value r p v ts = entries.put addr_cmp r (finite.insert (table_at r ts) p v) ts
 
 -- the tables, with this value of the router and prefix, if it is one, changed
-abbrev pub adjusted_value : {V : Type 0} → (V → V) → Addr → Prefix → List (Addr × Table V) → Option V → List (Addr × Table V)
+abbrev pub adjusted_value : {V : Type 0} → (V → V) → Addr → Prefix → List (Addr × Table V) → Option V →
+    List (Addr × Table V)
 adjusted_value f r p ts None = ts
 adjusted_value f r p ts (Some v) = with_value r p (f v) ts
 

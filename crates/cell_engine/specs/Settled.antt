@@ -27,11 +27,13 @@ is_in (Route a q) r p = same_addr r a && same_prefix p q
 
 -- all cells that it cannot change are settled
 abbrev pub AreSettledOutside : Scope → Configuration → Configuration → List (Addr × Table Cell) → Type 0
-AreSettledOutside s c d ts = (r : Addr) (p : Prefix) (h : Cell) → value_at r p ts ≡ Some h → is_in s r p ≡ false → IsSettled c d r p h
+AreSettledOutside s c d ts = (r : Addr) (p : Prefix) (h : Cell) → value_at r p ts ≡ Some h → is_in s r p ≡ false →
+    IsSettled c d r p h
 
 -- and so are all that are not chosen
 abbrev pub AreSettledBut : Choice → Configuration → Configuration → List (Addr × Table Cell) → Type 0
-AreSettledBut holds c d ts = (r : Addr) (p : Prefix) (h : Cell) → value_at r p ts ≡ Some h → holds r p h ≡ false → IsSettled c d r p h
+AreSettledBut holds c d ts = (r : Addr) (p : Prefix) (h : Cell) → value_at r p ts ≡ Some h → holds r p h ≡ false →
+    IsSettled c d r p h
 
 -- there is a cell for each of the changes
 abbrev pub AreThere : List Change → List (Addr × Table Cell) → Type 0

@@ -1,5 +1,5 @@
--- Which cells an edit can change: those where the standing of a route can become another, or what is advertised of it. All others stay
--- as they are, and nothing is sent for them.
+-- Which cells an edit can change: those where the standing of a route can become another, or what is advertised of it.
+-- All others stay as they are, and nothing is sent for them.
 use Rattle.std.specs.Prelude.{◌≡◌, Bool, true, false, not, ◌&&◌, ◌||◌, List, Option, Some, None, if◌then◌else◌}
 use Rattle.std.specs.Option.{option_map_or}
 use Rattle.std.specs.List.{list_any}
@@ -54,8 +54,8 @@ is_own_moved s p = not (beq (is_originated s.old p) (is_originated s.new p))
 abbrev pub has_route : SiteConf → Prefix → List (Addr × Attr) → Bool
 has_route site p routes = is_any routes || is_originated site p
 
--- the router's cell can change: where its settings and which of its sessions are up stay, by its own route or by a cost that counts; else
--- wherever there is a route, before or after
+-- the router's cell can change: where its settings and which of its sessions are up stay, by its own route or by a cost
+-- that counts; else wherever there is a route, before or after
 abbrev pub is_moved : SitePair → Prefix → List (Addr × Attr) → Bool
 is_moved s p routes =
     if same_facts s.old s.new then is_own_moved s p || list_any (is_route_moved s p) routes

@@ -1,4 +1,5 @@
--- What the engine keeps, as plain data, and the network that this is. Empty cells, spare places and what is admitted are seen by nothing.
+-- What the engine keeps, as plain data, and the network that this is. Empty cells, spare places and what is admitted
+-- are seen by nothing.
 use Rattle.std.specs.Prelude.{◌≡◌, Bool, true, false, ◌&&◌, List, [], map, is_some, unwrap_or, IsTrue}
 use Rattle.std.specs.List.{flat_map, list_any, AllByRecursion}
 use Rattle.std.specs.List.Sorted.{IsStrictlySortedBy}
@@ -20,8 +21,9 @@ use Rattle.reference_machine.specs.Network.{Network}
 use Rattle.cell_engine.specs.RouterTables.{value_at}
 use Rattle.cell_engine.specs.Cells.{Cell, new_cell, decided}
 
--- conf: what is configured; tables: for each address that has one, its cells by prefix; directions: those of all sessions, by
--- sender, then receiver; queues: the messages of each direction, and its spare places, and the attributes that may be sent
+-- conf: what is configured; tables: for each address that has one, its cells by prefix; directions: those of all
+-- sessions, by sender, then receiver; queues: the messages of each direction, and its spare places, and the attributes
+-- that may be sent
 pub record State : Type 0 where
   pub conf : Configuration
   pub tables : List (Addr × Table Cell)

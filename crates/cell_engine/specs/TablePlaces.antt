@@ -1,5 +1,6 @@
 -- No public contract cites this file.
--- Where an address's entry, as a router's or a sender's, stands in a list in the order of the addresses, and where it would go.
+-- Where an address's entry, as a router's or a sender's, stands in a list in the order of the addresses, and where it
+-- would go.
 use Rattle.std.specs.Prelude.{◌≡◌, ℕ, ◌<◌, ◌≤◌, List, length, Some, None, slice_get}
 use Rattle.std.proofs.Common.{set}
 use Rattle.std.specs.List.{insert, remove}

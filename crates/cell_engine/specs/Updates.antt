@@ -1,4 +1,5 @@
--- No public contract cites this file. What a message does to standings that are kept, and what is sent over one session.
+-- No public contract cites this file. What a message does to standings that are kept, and what is sent over one
+-- session.
 use Rattle.std.specs.Prelude.{◌≡◌, Bool, Option, Some, None, option_map, if◌then◌else◌}
 use Rattle.std.specs.Option.{option_map_or, option_to_list}
 use Rattle.net_prefix.specs.declared.addr.Addr.{Addr}
@@ -16,7 +17,8 @@ use Rattle.cell_engine.specs.Cells.{effective, send_over}
 
 -- the standings, once the peer's message has been taken: its route is put, where their session is up, or dropped
 abbrev pub standings_after : SiteConf → Addr → Message → Standings → Standings
-standings_after site u (Update p attr) m = option_map_or (λ x. added m (option_to_list (standing_over site p x (Some attr)))) (session_with site u) m
+standings_after site u (Update p attr) m =
+    option_map_or (λ x. added m (option_to_list (standing_over site p x (Some attr)))) (session_with site u) m
 standings_after site u (Withdraw p) m = without_source (FromPeer u) m
 
 -- these standings, compared like that
@@ -33,7 +35,8 @@ pub record Basis : Type 0 where
   pub best : Option Candidate
 
 -- what is sent over the session: nothing while it is down
-abbrev pub send_if_up : SiteConf → SiteConf → Prefix → Option Candidate → Option Candidate → SiteSession → Option (Addr × Message)
+abbrev pub send_if_up : SiteConf → SiteConf → Prefix → Option Candidate → Option Candidate → SiteSession →
+    Option (Addr × Message)
 send_if_up old new p had has to = if to.up then send_over old new p had has to else None
 
 -- the route, whatever its cost: no path attribute holds it (RFC 4271, 5)

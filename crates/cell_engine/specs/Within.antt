@@ -1,4 +1,5 @@
--- No public contract cites this file. What is sent where the site stays: each advert is made of the session itself, which need not be looked up.
+-- No public contract cites this file. What is sent where the site stays: each advert is made of the session itself,
+-- which need not be looked up.
 use Rattle.std.specs.Prelude.{Option, Some, None, option_map, option_and_then, if◌then◌else◌}
 use Rattle.net_prefix.specs.declared.addr.Addr.{Addr}
 use Rattle.net_prefix.specs.Prefix.{Prefix}
@@ -21,4 +22,5 @@ told_by basis to = option_and_then (λ (x : Basis). told_over x.site x.prefix x.
 
 -- what is sent over the session: nothing while it is down
 abbrev pub send_within : Prefix → Option Basis → Option Basis → SiteSession → Option (Addr × Message)
-send_within p before after to = if to.up then send_to to.peer (change_of p (told_by before to) (told_by after to)) else None
+send_within p before after to = if to.up then send_to to.peer (change_of p (told_by before to) (told_by after to))
+    else None

@@ -123,52 +123,63 @@ event_follows (AnAsk Quiet) h = tt
 event_follows (AnAsk (Cost r x)) h = ((r, x), h, refl)
 event_follows (AnAsk (Trace r d)) h = ((r, d), h, refl)
 
-follows : (word : List ℕ) (words : List (List ℕ)) (e : Event) → IsEvent e → word ∷ words ≡ words_of e → Follows (shape_of word) words
+follows : (word : List ℕ) (words : List (List ℕ)) (e : Event) → IsEvent e → word ∷ words ≡ words_of e →
+    Follows (shape_of word) words
 follows word words e h s = subst (λ ws. Follows (shape_of (head_word ws)) (more_words ws)) (sym s) (event_follows e h)
 
-pub node_follows : (v : NodeVerb) (words : List (List ℕ)) (e : Event) → IsEvent e → node_word v ∷ words ≡ words_of e → Shaped IsNumberedAddress numbered_words words
+pub node_follows : (v : NodeVerb) (words : List (List ℕ)) (e : Event) → IsEvent e → node_word v ∷ words ≡ words_of e →
+    Shaped IsNumberedAddress numbered_words words
 unfolding Follows shape_of is_one
 node_follows node.Router = follows (codes "router")
 node_follows node.Virtual = follows (codes "virtual")
 
-pub link_follows : (v : LinkVerb) (words : List (List ℕ)) (e : Event) → IsEvent e → link_word v ∷ words ≡ words_of e → Shaped AreEndsAndMetric metric_words words
+pub link_follows : (v : LinkVerb) (words : List (List ℕ)) (e : Event) → IsEvent e → link_word v ∷ words ≡ words_of e →
+    Shaped AreEndsAndMetric metric_words words
 unfolding Follows shape_of is_one
 link_follows link.Link = follows (codes "link")
 link_follows link.Metric = follows (codes "metric")
 
-pub pair_follows : (v : PairVerb) (words : List (List ℕ)) (e : Event) → IsEvent e → pair_word v ∷ words ≡ words_of e → Shaped AreAddresses addresses_words words
+pub pair_follows : (v : PairVerb) (words : List (List ℕ)) (e : Event) → IsEvent e → pair_word v ∷ words ≡ words_of e →
+    Shaped AreAddresses addresses_words words
 unfolding Follows shape_of is_one
 pair_follows pair.Fail = follows (codes "fail")
 pair_follows v = follows (pair_word v)
 
-pub switch_follows : (v : SwitchVerb) (words : List (List ℕ)) (e : Event) → IsEvent e → setting_word v ∷ words ≡ words_of e → Shaped AreEnds switch_words words
+pub switch_follows : (v : SwitchVerb) (words : List (List ℕ)) (e : Event) → IsEvent e →
+    setting_word v ∷ words ≡ words_of e → Shaped AreEnds switch_words words
 unfolding Follows shape_of is_one
 switch_follows switch.Client = follows (codes "client")
 switch_follows switch.OwnNext = follows (codes "self")
 
-pub prefix_follows : (v : PrefixVerb) (words : List (List ℕ)) (e : Event) → IsEvent e → prefix_word v ∷ words ≡ words_of e → Shaped IsAddressAndPrefix prefix_words words
+pub prefix_follows : (v : PrefixVerb) (words : List (List ℕ)) (e : Event) → IsEvent e →
+    prefix_word v ∷ words ≡ words_of e → Shaped IsAddressAndPrefix prefix_words words
 unfolding Follows shape_of is_one
 prefix_follows prefix.Origin = follows (codes "origin")
 prefix_follows v = follows (prefix_word v)
 
-pub rule_follows : (words : List (List ℕ)) (e : Event) → IsEvent e → codes "rule" ∷ words ≡ words_of e → Shaped IsAddedRule added_words words
+pub rule_follows : (words : List (List ℕ)) (e : Event) → IsEvent e → codes "rule" ∷ words ≡ words_of e →
+    Shaped IsAddedRule added_words words
 unfolding Follows shape_of is_one
 rule_follows = follows (codes "rule")
 
-pub clear_follows : (words : List (List ℕ)) (e : Event) → IsEvent e → codes "clear" ∷ words ≡ words_of e → Shaped AreEnds side_words words
+pub clear_follows : (words : List (List ℕ)) (e : Event) → IsEvent e → codes "clear" ∷ words ≡ words_of e →
+    Shaped AreEnds side_words words
 unfolding Follows shape_of is_one
 clear_follows = follows (codes "clear")
 
-pub med_follows : (words : List (List ℕ)) (e : Event) → IsEvent e → codes "med" ∷ words ≡ words_of e → Shaped IsAddressAndComparison comparison_words words
+pub med_follows : (words : List (List ℕ)) (e : Event) → IsEvent e → codes "med" ∷ words ≡ words_of e →
+    Shaped IsAddressAndComparison comparison_words words
 unfolding Follows shape_of is_one
 med_follows = follows (codes "med")
 
-pub feed_follows : (words : List (List ℕ)) (e : Event) → IsEvent e → codes "feed" ∷ words ≡ words_of e → Shaped IsFeed feed_words words
+pub feed_follows : (words : List (List ℕ)) (e : Event) → IsEvent e → codes "feed" ∷ words ≡ words_of e →
+    Shaped IsFeed feed_words words
 unfolding Follows shape_of is_one
 feed_follows = follows (codes "feed")
 
 -- the first word of an event, where it is not that of a feed, is a verb
-event_verb : (e : Event) → (head_word (words_of e) ≡ codes "feed" → ⊥) → (v : Verb) × (head_word (words_of e) ≡ verb_word v)
+event_verb : (e : Event) → (head_word (words_of e) ≡ codes "feed" → ⊥) → (v : Verb)
+    × (head_word (words_of e) ≡ verb_word v)
 event_verb (AnEdit (Router a n)) other = (verb.Node node.Router, refl)
 event_verb (AnEdit (Virtual a n)) other = (verb.Node node.Virtual, refl)
 event_verb (AnEdit (Link a b m)) other = (verb.Link link.Link, refl)
@@ -198,6 +209,7 @@ event_verb (AnAsk Quiet) other = (verb.Quiet, refl)
 event_verb (AnAsk (Cost r x)) other = (verb.Pair pair.Cost, refl)
 event_verb (AnAsk (Trace r d)) other = (verb.Pair pair.Trace, refl)
 
-pub first_verb : (first : List ℕ) (words : List (List ℕ)) (e : Event) → first ∷ words ≡ words_of e → (first ≡ codes "feed" → ⊥) → (v : Verb) × (first ≡ verb_word v)
+pub first_verb : (first : List ℕ) (words : List (List ℕ)) (e : Event) → first ∷ words ≡ words_of e →
+    (first ≡ codes "feed" → ⊥) → (v : Verb) × (first ≡ verb_word v)
 first_verb first words e s =
     subst (λ ws. (head_word ws ≡ codes "feed" → ⊥) → (v : Verb) × (head_word ws ≡ verb_word v)) (sym s) (event_verb e)

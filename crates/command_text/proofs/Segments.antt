@@ -26,25 +26,32 @@ segment_lacks (Sequence ns) h = numbers_lack 95 (λ digit. omega arith) (λ e. o
 segment_lacks (Set ns) h =
     let Other : ℕ → Type 0 = λ b. b ≢ 95 in
     All-cons Other 123 _ (λ e. omega (arith, e)) (All-append Other (numbers_text ns) (125 ∷ [])
-    (numbers_lack 95 (λ digit. omega arith) (λ e. omega (arith, e)) ns) (All-cons Other 125 [] (λ e. omega (arith, e)) (All-nil Other)))
+    (numbers_lack 95 (λ digit. omega arith) (λ e. omega (arith, e)) ns)
+    (All-cons Other 125 [] (λ e. omega (arith, e)) (All-nil Other)))
 
 -- a text in braces
 pub set_ascending : (text inner : List ℕ) → text ≡ braced inner → HasSegment text → HasAscending 1 inner
 set_ascending text inner e (Sequence ns, h, s) =
-    absurd (All-head (λ b. b ≢ 123) 123 (inner ++ (125 ∷ [])) (subst (Lacks 123) (sym s ∙ e) (numbers_lack 123 (λ digit. omega arith) (λ e. omega (arith, e)) ns)) refl)
+    absurd (All-head (λ b. b ≢ 123) 123 (inner ++ (125 ∷ []))
+    (subst (Lacks 123) (sym s ∙ e) (numbers_lack 123 (λ digit. omega arith) (λ e. omega (arith, e)) ns)) refl)
 set_ascending text inner e (Set ns, h, s) =
     let same : braced inner ≡ braced (numbers_text ns) = sym e ∙ s in
-    let tails : inner ++ (125 ∷ []) ≡ numbers_text ns ++ (125 ∷ []) = cc in
-    (ns, (h.0.0, recursion_from_All IsAsNumber ns h.1, append_cancel_right inner (numbers_text ns) (125 ∷ []) tails), h.0.1)
+    let tails : inner ++ (125 ∷ []) ≡ numbers_text ns ++ (125 ∷ []) = cc in (
+      ns,
+      (h.0.0, recursion_from_All IsAsNumber ns h.1, append_cancel_right inner (numbers_text ns) (125 ∷ []) tails),
+      h.0.1,
+    )
 
-pub set_of : (text inner ns : List ℕ) → text ≡ braced inner → AreNumbers ns inner → IsAscending ns → IsPart (Set ns) × (text ≡ segment_text (Set ns))
+pub set_of : (text inner ns : List ℕ) → text ≡ braced inner → AreNumbers ns inner → IsAscending ns → IsPart (Set ns)
+    × (text ≡ segment_text (Set ns))
 set_of text inner ns e are up = (((are.0, up), All-from_recursion IsAsNumber ns are.1), e ∙ ap braced are.2)
 
 pub ascending_set : (text inner : List ℕ) → text ≡ braced inner → HasAscending 1 inner → HasSegment text
 ascending_set text inner e has = let made = set_of text inner has.0 e has.1 has.2 in (Set has.0, made.0, made.1)
 
 -- a text in no braces
-pub sequence_numbers : (text : List ℕ) → ((inner : List ℕ) → text ≡ braced inner → ⊥) → HasSegment text → HasNumbers text
+pub sequence_numbers : (text : List ℕ) → ((inner : List ℕ) → text ≡ braced inner → ⊥) →
+    HasSegment text → HasNumbers text
 sequence_numbers text other (Sequence ns, h, s) = (ns, (h.0, recursion_from_All IsAsNumber ns h.1, s))
 sequence_numbers text other (Set ns, h, s) = absurd (other (numbers_text ns) s)
 
@@ -56,27 +63,33 @@ numbers_sequence text has = let made = sequence_of text has.0 has.1 in (Sequence
 
 -- what was read of a text in braces, and of another
 pub set_read : {E : Type 0} (text inner : List ℕ) (r : Result (Option Segment) E) → text ≡ braced inner →
-    IfOk r (λ made. IfSome made (λ part. IsPart part × (braced inner ≡ segment_text part))) → IfOk r (λ made. IfNone made (HasAscending 1 inner → ⊥)) →
+    IfOk r (λ made. IfSome made (λ part. IsPart part × (braced inner ≡ segment_text part))) →
+    IfOk r (λ made. IfNone made (HasAscending 1 inner → ⊥)) →
     IfOk r (λ made. Reads IsPart segment_text text made)
 set_read text inner (Ok (Some s)) e found none = (found.0, e ∙ found.1)
 set_read text inner (Ok None) e found none = λ s h is. none (set_ascending text inner e (s, h, is))
 set_read text inner (Err x) e found none = tt
 
-pub sequence_read : {E : Type 0} (text : List ℕ) (r : Result (Option Segment) E) → ((inner : List ℕ) → text ≡ braced inner → ⊥) →
-    IfOk r (λ made. IfSome made (λ part. IsPart part × (text ≡ segment_text part))) → IfOk r (λ made. IfNone made (HasNumbers text → ⊥)) →
+pub sequence_read : {E : Type 0} (text : List ℕ) (r : Result (Option Segment) E) →
+    ((inner : List ℕ) → text ≡ braced inner → ⊥) →
+    IfOk r (λ made. IfSome made (λ part. IsPart part × (text ≡ segment_text part))) →
+    IfOk r (λ made. IfNone made (HasNumbers text → ⊥)) →
     IfOk r (λ made. Reads IsPart segment_text text made)
 sequence_read text (Ok (Some s)) other found none = found
 sequence_read text (Ok None) other found none = λ s h is. none (sequence_numbers text other (s, h, is))
 sequence_read text (Err x) other found none = tt
 
 -- segments joined by underscores
-pub segments_first : (text first after : List ℕ) → text ≡ first ++ (95 ∷ after) → Lacks 95 first → HasSegments text → HasSegment first
+pub segments_first : (text first after : List ℕ) → text ≡ first ++ (95 ∷ after) → Lacks 95 first →
+    HasSegments text → HasSegment first
 segments_first = has_first 95 IsPart segment_text segment_lacks
 
-pub segments_after : (text first after : List ℕ) → text ≡ first ++ (95 ∷ after) → Lacks 95 first → HasSegments text → HasSegments after
+pub segments_after : (text first after : List ℕ) → text ≡ first ++ (95 ∷ after) → Lacks 95 first →
+    HasSegments text → HasSegments after
 segments_after = has_after 95 IsPart segment_text segment_lacks
 
-pub segments_more : (text first after : List ℕ) → text ≡ first ++ (95 ∷ after) → HasSegment first → HasSegments after → HasSegments text
+pub segments_more : (text first after : List ℕ) → text ≡ first ++ (95 ∷ after) → HasSegment first →
+    HasSegments after → HasSegments text
 segments_more = has_more 95 IsPart segment_text segment_lacks
 
 pub segments_last : (text : List ℕ) → Lacks 95 text → HasSegments text → HasSegment text
@@ -89,10 +102,13 @@ segments_one = has_one 95 IsPart segment_text segment_lacks
 abbrev pub SegmentsGoOn : List Segment → List ℕ → List ℕ → Type 0
 SegmentsGoOn ss rest text = GoesOn 95 IsPart segment_text ss rest text
 
-pub segments_go_more : (ss : List Segment) (s : Segment) (rest first after text : List ℕ) → rest ≡ first ++ (95 ∷ after) → IsPart s → first ≡ segment_text s → SegmentsGoOn ss rest text → SegmentsGoOn (ss ++ (s ∷ [])) after text
+pub segments_go_more : (ss : List Segment) (s : Segment) (rest first after text : List ℕ) →
+    rest ≡ first ++ (95 ∷ after) → IsPart s → first ≡ segment_text s → SegmentsGoOn ss rest text →
+    SegmentsGoOn (ss ++ (s ∷ [])) after text
 segments_go_more = goes_more 95 IsPart segment_text segment_lacks
 
-pub segments_go_last : (ss : List Segment) (s : Segment) (rest text : List ℕ) → IsPart s → rest ≡ segment_text s → SegmentsGoOn ss rest text → AreParts (ss ++ (s ∷ [])) text
+pub segments_go_last : (ss : List Segment) (s : Segment) (rest text : List ℕ) → IsPart s → rest ≡ segment_text s →
+    SegmentsGoOn ss rest text → AreParts (ss ++ (s ∷ [])) text
 segments_go_last = goes_last 95 IsPart segment_text segment_lacks
 
 -- a path has no more numbers than its text has bytes
@@ -104,7 +120,13 @@ count_within : (ss : List Segment) → number_count ss ≤ length (join_with_byt
 count_within [] = omega arith
 count_within (s ∷ []) = omega (arith, segment_within s, sum_by-cons (λ s. length (numbers_of s)) s [])
 count_within (s ∷ t ∷ ts) =
-    omega (arith, segment_within s, count_within (t ∷ ts), sum_by-cons (λ s. length (numbers_of s)) s (t ∷ ts), length-append (segment_text s) (95 ∷ join_with_byte 95 (map segment_text (t ∷ ts))))
+    omega (
+      arith,
+      segment_within s,
+      count_within (t ∷ ts),
+      sum_by-cons (λ s. length (numbers_of s)) s (t ∷ ts),
+      length-append (segment_text s) (95 ∷ join_with_byte 95 (map segment_text (t ∷ ts))),
+    )
 
 parts_segments : (ss : List Segment) → AllByRecursion IsPart ss → AreSegments ss × HasAsNumbers ss
 parts_segments [] h = (tt, tt)
@@ -115,7 +137,8 @@ segments_parts [] h g = tt
 segments_parts (s ∷ ss) h g = ((h.0, g.0), segments_parts ss h.1 g.1)
 
 -- a path of one segment or more
-pub path_of : (ss : List Segment) (text : List ℕ) → length text ≤ most_command_bytes → AreParts ss text → IsAsPath ss × (text ≡ path_text ss)
+pub path_of : (ss : List Segment) (text : List ℕ) → length text ≤ most_command_bytes → AreParts ss text → IsAsPath ss
+    × (text ≡ path_text ss)
 unfolding path_text
 path_of [] text short are = absurd (omega (arith, are.0))
 path_of (s ∷ ss) text short are =
@@ -139,9 +162,12 @@ path_segments text other ([], h, e) = absurd (other e)
 path_segments text other (s ∷ ss, h, e) = (s ∷ ss, (omega arith, segments_parts (s ∷ ss) h.0.0 h.1, e))
 
 -- the path of segments that were read, and none where none were
-pub path_read : (ss : List Segment) (text : List ℕ) (p : Option (List Segment)) → length text ≤ most_command_bytes → AreParts ss text → SomeIff p (IsPath ss) ss → Reads IsAsPath path_text text p
-path_read ss text (Some p) short are is = subst (λ p. IsAsPath p × (text ≡ path_text p)) (sym is.1) (path_of ss text short are)
+pub path_read : (ss : List Segment) (text : List ℕ) (p : Option (List Segment)) → length text ≤ most_command_bytes →
+    AreParts ss text → SomeIff p (IsPath ss) ss → Reads IsAsPath path_text text p
+path_read ss text (Some p) short are is = subst (λ p. IsAsPath p × (text ≡ path_text p)) (sym is.1)
+    (path_of ss text short are)
 path_read ss text None short are is = absurd (is (path_of ss text short are).0.0)
 
-pub no_path : (text : List ℕ) → (text ≡ none_text → ⊥) → (HasSegments text → ⊥) → (p : List Segment) → IsAsPath p → text ≡ path_text p → ⊥
+pub no_path : (text : List ℕ) → (text ≡ none_text → ⊥) → (HasSegments text → ⊥) → (p : List Segment) → IsAsPath p →
+    text ≡ path_text p → ⊥
 no_path text other none p h e = none (path_segments text other (p, h, e))

@@ -89,7 +89,8 @@ origin_exact a b e = sym (back a) ∙ ap origin_of e ∙ back b
 not_dash : (n : ℕ) → none_text ≡ decimal n → ⊥
 not_dash n e = All-head (λ b. b ≢ 45) 45 [] (subst (Lacks 45) (sym e) (decimal_lacks 45 (λ digit. omega arith) n)) refl
 
-pub maybe_exact : (m n : Option ℕ) → IsMaybeNumber m → IsMaybeNumber n → maybe_number_text m ≡ maybe_number_text n → m ≡ n
+pub maybe_exact : (m n : Option ℕ) → IsMaybeNumber m → IsMaybeNumber n → maybe_number_text m ≡ maybe_number_text n →
+    m ≡ n
 maybe_exact None None h g e = refl
 maybe_exact None (Some n) h g e = absurd (not_dash n e)
 maybe_exact (Some m) None h g e = absurd (not_dash m (sym e))
@@ -97,22 +98,33 @@ maybe_exact (Some m) (Some n) h g e = ap Some (small_exact m n h g e)
 
 -- segments and paths
 unbraced : (ns : List ℕ) (inner : List ℕ) → numbers_text ns ≡ 123 ∷ inner → ⊥
-unbraced ns inner e = All-head (λ b. b ≢ 123) 123 inner (subst (Lacks 123) e (numbers_lack 123 (λ digit. omega arith) (λ e. omega (arith, e)) ns)) refl
+unbraced ns inner e = All-head (λ b. b ≢ 123) 123 inner
+    (subst (Lacks 123) e (numbers_lack 123 (λ digit. omega arith) (λ e. omega (arith, e)) ns)) refl
 
 segment_exact : (s t : Segment) → IsPart s → IsPart t → segment_text s ≡ segment_text t → s ≡ t
 segment_exact (Sequence ms) (Sequence ns) h g e =
-    ap Sequence (numbers_exact 1 ms ns (numbers_text ns) (h.0, recursion_from_All IsAsNumber ms h.1, sym e) (g.0, recursion_from_All IsAsNumber ns g.1, refl))
+    ap Sequence (numbers_exact 1 ms ns (numbers_text ns) (h.0, recursion_from_All IsAsNumber ms h.1, sym e) (
+      g.0,
+      recursion_from_All IsAsNumber ns g.1,
+      refl,
+    ))
 segment_exact (Sequence ms) (Set ns) h g e = absurd (unbraced ms _ e)
 segment_exact (Set ms) (Sequence ns) h g e = absurd (unbraced ns _ (sym e))
 segment_exact (Set ms) (Set ns) h g e =
     let tails : numbers_text ms ++ (125 ∷ []) ≡ numbers_text ns ++ (125 ∷ []) = cc in
-    let same : numbers_text ms ≡ numbers_text ns = append_cancel_right (numbers_text ms) (numbers_text ns) (125 ∷ []) tails in
-    ap Set (numbers_exact 1 ms ns (numbers_text ns) (h.0.0, recursion_from_All IsAsNumber ms h.1, sym same) (g.0.0, recursion_from_All IsAsNumber ns g.1, refl))
+    let same : numbers_text ms ≡ numbers_text ns = append_cancel_right (numbers_text ms) (numbers_text ns)
+    (125 ∷ []) tails in
+    ap Set (numbers_exact 1 ms ns (numbers_text ns) (h.0.0, recursion_from_All IsAsNumber ms h.1, sym same) (
+      g.0.0,
+      recursion_from_All IsAsNumber ns g.1,
+      refl,
+    ))
 
 -- a dash is no segment
 not_segment : (s : Segment) → IsPart s → none_text ≡ segment_text s → ⊥
 not_segment (Sequence ns) h e =
-    All-head (λ b. b ≢ 45) 45 [] (subst (Lacks 45) (sym e) (numbers_lack 45 (λ digit. omega arith) (λ e. omega (arith, e)) ns)) refl
+    All-head (λ b. b ≢ 45) 45 []
+    (subst (Lacks 45) (sym e) (numbers_lack 45 (λ digit. omega arith) (λ e. omega (arith, e)) ns)) refl
 not_segment (Set ns) h e = let heads : ◌≡◌ {A = ℕ} 45 123 = cc in omega (arith, heads)
 
 not_parts : (ss : List Segment) → AreParts ss none_text → ⊥
@@ -130,10 +142,14 @@ parts_of ss some h = (some, segments_parts ss h.0.0 h.1, refl)
 pub path_exact : (p q : List Segment) → IsAsPath p → IsAsPath q → path_text p ≡ path_text q → p ≡ q
 unfolding path_text
 path_exact [] [] h g e = refl
-path_exact [] (t ∷ ts) h g e = absurd (not_parts (t ∷ ts) (subst (AreParts (t ∷ ts)) (sym e) (parts_of (t ∷ ts) (omega arith) g)))
-path_exact (s ∷ ss) [] h g e = absurd (not_parts (s ∷ ss) (subst (AreParts (s ∷ ss)) e (parts_of (s ∷ ss) (omega arith) h)))
+path_exact [] (t ∷ ts) h g e =
+    absurd (not_parts (t ∷ ts) (subst (AreParts (t ∷ ts)) (sym e) (parts_of (t ∷ ts) (omega arith) g)))
+path_exact (s ∷ ss) [] h g e =
+    absurd (not_parts (s ∷ ss) (subst (AreParts (s ∷ ss)) e (parts_of (s ∷ ss) (omega arith) h)))
 path_exact (s ∷ ss) (t ∷ ts) h g e =
-    joins_same 95 IsPart segment_text segment_lacks segment_exact (s ∷ ss) (t ∷ ts) _ (parts_of (s ∷ ss) (omega arith) h) (subst (AreParts (t ∷ ts)) (sym e) (parts_of (t ∷ ts) (omega arith) g))
+    joins_same 95 IsPart segment_text segment_lacks segment_exact (s ∷ ss)
+    (t ∷ ts) _ (parts_of (s ∷ ss) (omega arith) h)
+    (subst (AreParts (t ∷ ts)) (sym e) (parts_of (t ∷ ts) (omega arith) g))
 
 -- words that begin with two different words
 pub apart : {C : Type 0} (a b : List ℕ) (more rest : List (List ℕ)) → bytes_eq a b ≡ false → a ∷ more ≡ b ∷ rest → C
@@ -148,7 +164,8 @@ kind_word (First n) = codes "first"
 kind_word (Comm n) = codes "comm"
 
 -- a match, and what follows it
-pub match_exact : (m n : Match) (more rest : List (List ℕ)) → IsMatch m → IsMatch n → match_words m ++ more ≡ match_words n ++ rest → (m ≡ n) × (more ≡ rest)
+pub match_exact : (m n : Match) (more rest : List (List ℕ)) → IsMatch m → IsMatch n →
+    match_words m ++ more ≡ match_words n ++ rest → (m ≡ n) × (more ≡ rest)
 match_exact Any Any more rest h g e = (refl, cc)
 match_exact (Is p) (Is q) more rest h g e = (ap Is (prefix_exact p q h g (cc)), cc)
 match_exact (Under p) (Under q) more rest h g e = (ap Under (prefix_exact p q h g (cc)), cc)
@@ -159,9 +176,12 @@ match_exact m n more rest h g e = apart (kind_word m) (kind_word n) _ _ refl e
 
 settings_exact : (s t : Settings) → AreSettings s → AreSettings t → settings_words s ≡ settings_words t → s ≡ t
 settings_exact s t h g e =
-    let first = setting_exact (codes "pref=") s.pref t.pref (from_med s) (from_med t) h.0 g.0 (after_pref s) (after_pref t) (sym (in_order s) ∙ e ∙ in_order t) in
-    let second = setting_exact (codes "med=") s.med t.med (from_prepend s) (from_prepend t) h.1 g.1 (after_med s) (after_med t) first.1 in
-    let third = setting_exact (codes "prepend=") s.prepend t.prepend (from_add s) (from_add t) (small_repeat s.prepend h.2) (small_repeat t.prepend g.2) (after_prepend s) (after_prepend t) second.1 in
+    let first = setting_exact (codes "pref=") s.pref t.pref (from_med s) (from_med t) h.0 g.0 (after_pref s)
+    (after_pref t) (sym (in_order s) ∙ e ∙ in_order t) in
+    let second = setting_exact (codes "med=") s.med t.med (from_prepend s) (from_prepend t) h.1 g.1 (after_med s)
+    (after_med t) first.1 in
+    let third = setting_exact (codes "prepend=") s.prepend t.prepend (from_add s) (from_add t)
+    (small_repeat s.prepend h.2) (small_repeat t.prepend g.2) (after_prepend s) (after_prepend t) second.1 in
     let fourth = setting_exact (codes "add=") s.add t.add [] [] h.3 g.3 after_add after_add third.1 in
     λ i. record { pref = first.0 i; med = second.0 i; prepend = third.0 i; add = fourth.0 i }
 

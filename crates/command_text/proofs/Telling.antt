@@ -176,33 +176,78 @@ data Kind (e : Event) : Type 0 where
 
 kind_of : (e : Event) → IsEvent e → Kind e
 unfolding Follows IsIn more_words event_of
-kind_of (AnEdit (Router a n)) h = by_verb (record { made_verb = verb.Node node.Router; more = (a, n); is_in = h; made = refl; spelled = refl })
-kind_of (AnEdit (Virtual a n)) h = by_verb (record { made_verb = verb.Node node.Virtual; more = (a, n); is_in = h; made = refl; spelled = refl })
-kind_of (AnEdit (Link a b m)) h = by_verb (record { made_verb = verb.Link link.Link; more = (a, b, m); is_in = h; made = refl; spelled = refl })
-kind_of (AnEdit (Metric a b m)) h = by_verb (record { made_verb = verb.Link link.Metric; more = (a, b, m); is_in = h; made = refl; spelled = refl })
-kind_of (AnEdit (Fail a b)) h = by_verb (record { made_verb = verb.Pair pair.Fail; more = (a, b); is_in = h; made = refl; spelled = refl })
-kind_of (AnEdit (Mend a b)) h = by_verb (record { made_verb = verb.Pair pair.Mend; more = (a, b); is_in = h; made = refl; spelled = refl })
-kind_of (AnEdit (Join a b)) h = by_verb (record { made_verb = verb.Pair pair.Join; more = (a, b); is_in = h; made = refl; spelled = refl })
-kind_of (AnEdit (Stop a b)) h = by_verb (record { made_verb = verb.Pair pair.Stop; more = (a, b); is_in = h; made = refl; spelled = refl })
-kind_of (AnEdit (Start a b)) h = by_verb (record { made_verb = verb.Pair pair.Start; more = (a, b); is_in = h; made = refl; spelled = refl })
-kind_of (AnEdit (Cluster a b)) h = by_verb (record { made_verb = verb.Pair pair.Cluster; more = (a, b); is_in = h; made = refl; spelled = refl })
-kind_of (Deliver a b) h = by_verb (record { made_verb = verb.Pair pair.Deliver; more = (a, b); is_in = h; made = refl; spelled = refl })
-kind_of (AnAsk (In a b)) h = by_verb (record { made_verb = verb.Pair pair.In; more = (a, b); is_in = h; made = refl; spelled = refl })
-kind_of (AnAsk (Out a b)) h = by_verb (record { made_verb = verb.Pair pair.Out; more = (a, b); is_in = h; made = refl; spelled = refl })
-kind_of (AnAsk (Queue a b)) h = by_verb (record { made_verb = verb.Pair pair.Queue; more = (a, b); is_in = h; made = refl; spelled = refl })
-kind_of (AnAsk (Cost a b)) h = by_verb (record { made_verb = verb.Pair pair.Cost; more = (a, b); is_in = h; made = refl; spelled = refl })
-kind_of (AnAsk (Trace a b)) h = by_verb (record { made_verb = verb.Pair pair.Trace; more = (a, b); is_in = h; made = refl; spelled = refl })
-kind_of (AnEdit (Client a b on)) h = by_verb (record { made_verb = verb.Switch switch.Client; more = (a, b, on); is_in = h; made = refl; spelled = refl })
-kind_of (AnEdit (OwnNext a b on)) h = by_verb (record { made_verb = verb.Switch switch.OwnNext; more = (a, b, on); is_in = h; made = refl; spelled = refl })
-kind_of (AnEdit (Origin a p)) h = by_verb (record { made_verb = verb.Prefix prefix.Origin; more = (a, p); is_in = h; made = refl; spelled = refl })
-kind_of (AnEdit (NoOrigin a p)) h = by_verb (record { made_verb = verb.Prefix prefix.NoOrigin; more = (a, p); is_in = h; made = refl; spelled = refl })
-kind_of (AnAsk (Best a p)) h = by_verb (record { made_verb = verb.Prefix prefix.Best; more = (a, p); is_in = h; made = refl; spelled = refl })
-kind_of (AnAsk (Why a p)) h = by_verb (record { made_verb = verb.Prefix prefix.Why; more = (a, p); is_in = h; made = refl; spelled = refl })
-kind_of (AnEdit (AddRule a b side rule)) h = by_verb (record { made_verb = verb.Rule; more = (a, b, side, rule); is_in = (h.0, h.1, (h.2, h.3)); made = refl; spelled = refl })
-kind_of (AnEdit (Clear a b side)) h = by_verb (record { made_verb = verb.Clear; more = (a, b, side); is_in = h; made = refl; spelled = refl })
-kind_of (AnEdit (MedAlways a always)) h = by_verb (record { made_verb = verb.Med; more = (a, always); is_in = h; made = refl; spelled = refl })
-kind_of (AnAsk (Routes r)) h = by_verb (record { made_verb = verb.Routes; more = r; is_in = h; made = refl; spelled = refl })
-kind_of (AnAsk Quiet) h = by_verb (record { made_verb = verb.Quiet; more = tt; is_in = tt; made = refl; spelled = refl })
+kind_of (AnEdit (Router a n)) h =
+    by_verb (record { made_verb = verb.Node node.Router; more = (a, n); is_in = h; made = refl; spelled = refl })
+kind_of (AnEdit (Virtual a n)) h =
+    by_verb (record { made_verb = verb.Node node.Virtual; more = (a, n); is_in = h; made = refl; spelled = refl })
+kind_of (AnEdit (Link a b m)) h =
+    by_verb (record { made_verb = verb.Link link.Link; more = (a, b, m); is_in = h; made = refl; spelled = refl })
+kind_of (AnEdit (Metric a b m)) h =
+    by_verb (record { made_verb = verb.Link link.Metric; more = (a, b, m); is_in = h; made = refl; spelled = refl })
+kind_of (AnEdit (Fail a b)) h =
+    by_verb (record { made_verb = verb.Pair pair.Fail; more = (a, b); is_in = h; made = refl; spelled = refl })
+kind_of (AnEdit (Mend a b)) h =
+    by_verb (record { made_verb = verb.Pair pair.Mend; more = (a, b); is_in = h; made = refl; spelled = refl })
+kind_of (AnEdit (Join a b)) h =
+    by_verb (record { made_verb = verb.Pair pair.Join; more = (a, b); is_in = h; made = refl; spelled = refl })
+kind_of (AnEdit (Stop a b)) h =
+    by_verb (record { made_verb = verb.Pair pair.Stop; more = (a, b); is_in = h; made = refl; spelled = refl })
+kind_of (AnEdit (Start a b)) h =
+    by_verb (record { made_verb = verb.Pair pair.Start; more = (a, b); is_in = h; made = refl; spelled = refl })
+kind_of (AnEdit (Cluster a b)) h =
+    by_verb (record { made_verb = verb.Pair pair.Cluster; more = (a, b); is_in = h; made = refl; spelled = refl })
+kind_of (Deliver a b) h =
+    by_verb (record { made_verb = verb.Pair pair.Deliver; more = (a, b); is_in = h; made = refl; spelled = refl })
+kind_of (AnAsk (In a b)) h =
+    by_verb (record { made_verb = verb.Pair pair.In; more = (a, b); is_in = h; made = refl; spelled = refl })
+kind_of (AnAsk (Out a b)) h =
+    by_verb (record { made_verb = verb.Pair pair.Out; more = (a, b); is_in = h; made = refl; spelled = refl })
+kind_of (AnAsk (Queue a b)) h =
+    by_verb (record { made_verb = verb.Pair pair.Queue; more = (a, b); is_in = h; made = refl; spelled = refl })
+kind_of (AnAsk (Cost a b)) h =
+    by_verb (record { made_verb = verb.Pair pair.Cost; more = (a, b); is_in = h; made = refl; spelled = refl })
+kind_of (AnAsk (Trace a b)) h =
+    by_verb (record { made_verb = verb.Pair pair.Trace; more = (a, b); is_in = h; made = refl; spelled = refl })
+kind_of (AnEdit (Client a b on)) h =
+    by_verb (record {
+      made_verb = verb.Switch switch.Client;
+      more = (a, b, on);
+      is_in = h;
+      made = refl;
+      spelled = refl;
+    })
+kind_of (AnEdit (OwnNext a b on)) h =
+    by_verb (record {
+      made_verb = verb.Switch switch.OwnNext;
+      more = (a, b, on);
+      is_in = h;
+      made = refl;
+      spelled = refl;
+    })
+kind_of (AnEdit (Origin a p)) h =
+    by_verb (record { made_verb = verb.Prefix prefix.Origin; more = (a, p); is_in = h; made = refl; spelled = refl })
+kind_of (AnEdit (NoOrigin a p)) h =
+    by_verb (record { made_verb = verb.Prefix prefix.NoOrigin; more = (a, p); is_in = h; made = refl; spelled = refl })
+kind_of (AnAsk (Best a p)) h =
+    by_verb (record { made_verb = verb.Prefix prefix.Best; more = (a, p); is_in = h; made = refl; spelled = refl })
+kind_of (AnAsk (Why a p)) h =
+    by_verb (record { made_verb = verb.Prefix prefix.Why; more = (a, p); is_in = h; made = refl; spelled = refl })
+kind_of (AnEdit (AddRule a b side rule)) h =
+    by_verb (record {
+      made_verb = verb.Rule;
+      more = (a, b, side, rule);
+      is_in = (h.0, h.1, (h.2, h.3));
+      made = refl;
+      spelled = refl;
+    })
+kind_of (AnEdit (Clear a b side)) h =
+    by_verb (record { made_verb = verb.Clear; more = (a, b, side); is_in = h; made = refl; spelled = refl })
+kind_of (AnEdit (MedAlways a always)) h =
+    by_verb (record { made_verb = verb.Med; more = (a, always); is_in = h; made = refl; spelled = refl })
+kind_of (AnAsk (Routes r)) h =
+    by_verb (record { made_verb = verb.Routes; more = r; is_in = h; made = refl; spelled = refl })
+kind_of (AnAsk Quiet) h =
+    by_verb (record { made_verb = verb.Quiet; more = tt; is_in = tt; made = refl; spelled = refl })
 kind_of (AFeed f) h = by_feed f h refl refl
 
 -- what follows a verb is known from its words
@@ -278,19 +323,25 @@ not_feed : (v : Verb) → verb_word v ≡ codes "feed" → ⊥
 unfolding verb_of
 not_feed v e = let both : Some v ≡ None = sym (verb_back v) ∙ ap verb_of e in cc
 
-same_verb : (v w : Verb) → v ≡ w → (x : Follows v) (y : Follows w) → IsIn v x → IsIn w y → more_words v x ≡ more_words w y → event_of v x ≡ event_of w y
-same_verb v w same = subst (λ w. (x : Follows v) (y : Follows w) → IsIn v x → IsIn w y → more_words v x ≡ more_words w y → event_of v x ≡ event_of w y) same
+same_verb : (v w : Verb) → v ≡ w → (x : Follows v) (y : Follows w) → IsIn v x → IsIn w y →
+    more_words v x ≡ more_words w y → event_of v x ≡ event_of w y
+same_verb v w same = subst (λ w. (x : Follows v) (y : Follows w) → IsIn v x → IsIn w y →
+    more_words v x ≡ more_words w y → event_of v x ≡ event_of w y) same
     (λ x y h g e. ap (event_of v) (more_exact v x y h g e))
 
 by_kinds : (e f : Event) → Kind e → Kind f → words_of e ≡ words_of f → e ≡ f
 by_kinds e f (by_verb a) (by_verb b) s =
-    let all : verb_word a.made_verb ∷ more_words a.made_verb a.more ≡ verb_word b.made_verb ∷ more_words b.made_verb b.more = sym a.spelled ∙ s ∙ b.spelled in
-    sym a.made ∙ same_verb a.made_verb b.made_verb (verb_exact a.made_verb b.made_verb (cc)) a.more b.more a.is_in b.is_in (cc) ∙ b.made
+    let all : verb_word a.made_verb ∷ more_words a.made_verb a.more ≡ verb_word b.made_verb
+    ∷ more_words b.made_verb b.more = sym a.spelled ∙ s ∙ b.spelled in
+    sym a.made ∙ same_verb a.made_verb b.made_verb (verb_exact a.made_verb b.made_verb (cc)) a.more b.more a.is_in
+    b.is_in (cc) ∙ b.made
 by_kinds e f (by_verb a) (by_feed g hg is sg) s =
-    let all : verb_word a.made_verb ∷ more_words a.made_verb a.more ≡ codes "feed" ∷ feed_words g = sym a.spelled ∙ s ∙ sg in
+    let all : verb_word a.made_verb ∷ more_words a.made_verb a.more ≡ codes "feed" ∷ feed_words g = sym a.spelled ∙ s
+    ∙ sg in
     absurd (not_feed a.made_verb (cc))
 by_kinds e f (by_feed g hg is sg) (by_verb b) s =
-    let all : codes "feed" ∷ feed_words g ≡ verb_word b.made_verb ∷ more_words b.made_verb b.more = sym sg ∙ s ∙ b.spelled in
+    let all : codes "feed" ∷ feed_words g ≡ verb_word b.made_verb ∷ more_words b.made_verb b.more = sym sg ∙ s
+    ∙ b.spelled in
     absurd (not_feed b.made_verb (cc))
 by_kinds e f (by_feed g hg is sg) (by_feed k hk are sk) s =
     let all : codes "feed" ∷ feed_words g ≡ codes "feed" ∷ feed_words k = sym sg ∙ s ∙ sk in

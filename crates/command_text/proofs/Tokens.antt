@@ -22,7 +22,8 @@ tokens_last text h = ap kept (slice_split_none (λ b. b == 32) text (lacks_test 
 with_some : (word : List ℕ) (words : List (List ℕ)) → 0 < length word → with_part word words ≡ word ∷ words
 with_some word words h = cond-true (nat_lt 0 (length word)) (word ∷ words) words (lt-ltb 0 (length word) h)
 
-pub word_first : (text word after : List ℕ) → text ≡ word ++ (32 ∷ after) → Lacks 32 word → 0 < length word → tokens text ≡ word ∷ tokens after
+pub word_first : (text word after : List ℕ) → text ≡ word ++ (32 ∷ after) → Lacks 32 word → 0 < length word →
+    tokens text ≡ word ∷ tokens after
 word_first text word after e lacks some = ap tokens e ∙ tokens_cut word after lacks ∙ with_some word (tokens after) some
 
 pub word_last : (text : List ℕ) → Lacks 32 text → 0 < length text → tokens text ≡ text ∷ []

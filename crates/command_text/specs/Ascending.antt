@@ -1,4 +1,5 @@
--- No public contract cites this file. Which texts spell numbers of 32 bits from a least one on, AS numbers from 1 and communities from 0.
+-- No public contract cites this file. Which texts spell numbers of 32 bits from a least one on, AS numbers from 1 and
+-- communities from 0.
 use Rattle.std.specs.Prelude.{ℕ, ◌<◌, ◌≤◌, ◌^◌, List}
 use Rattle.std.specs.Fmt.{decimal}
 use Rattle.path_attr.specs.Path.{IsAscending}

@@ -8,12 +8,13 @@ abbrev pub Reads : {X S : Type 0} → (X → Type 0) → (X → S) → S → Opt
 Reads IsIn spelling text (Some x) = IsIn x × (text ≡ spelling x)
 Reads {X} IsIn spelling text None = (x : X) → IsIn x → text ≡ spelling x → ⊥
 
--- the same, where making some values takes memory: a fault of syntax where there is none, want of memory only where one of those is
--- spelled so
+-- the same, where making some values takes memory: a fault of syntax where there is none, want of memory only where one
+-- of those is spelled so
 abbrev pub Makes : {X S : Type 0} → (X → Type 0) → (X → Bool) → (X → S) → S → Result X Refusal → Type 0
 Makes IsIn takes_memory spelling text (Ok x) = IsIn x × (text ≡ spelling x)
 Makes {X} IsIn takes_memory spelling text (Err Syntax) = (x : X) → IsIn x → text ≡ spelling x → ⊥
-Makes {X} IsIn takes_memory spelling text (Err Memory) = (x : X) × IsIn x × (takes_memory x ≡ true) × (text ≡ spelling x)
+Makes {X} IsIn takes_memory spelling text (Err Memory) = (x : X) × IsIn x × (takes_memory x ≡ true)
+    × (text ≡ spelling x)
 Makes IsIn takes_memory spelling text (Err _) = ⊥
 
 -- the first word begins with the name

@@ -1,4 +1,5 @@
--- No public contract cites this file. The words of an update: all but the path are tested, and path and communities are not made.
+-- No public contract cites this file. The words of an update: all but the path are tested, and path and communities are
+-- not made.
 use Rattle.std.specs.Prelude.{◌≡◌, ℕ, ◌<◌, ◌≤◌, ◌^◌, List, ◌∷◌, codes, IfSome, length}
 use Rattle.net_prefix.specs.Prefix.{prefix_text}
 use Rattle.sim_event.specs.declared.event.FedRoute.{FedRoute}
@@ -17,12 +18,14 @@ kind_word Update = codes "update"
 kind_word Withdraw = codes "withdraw"
 
 abbrev pub update_words : UpdateWords → List (List ℕ)
-update_words u = prefix_text u.prefix ∷ u.path.now ∷ origin_text u.origin ∷ maybe_number_text u.med ∷ tokens u.communities.now
+update_words u = prefix_text u.prefix ∷ u.path.now ∷ origin_text u.origin ∷ maybe_number_text u.med
+    ∷ tokens u.communities.now
 
 -- they spell a route, where the word of the path spells one
 abbrev pub AreUpdateWords : UpdateWords → Type 0
 AreUpdateWords u =
-    IsPrefix u.prefix × (length u.path.now ≤ most_command_bytes) × IfSome u.med (λ m. m < 2 ^ 32) × HasCommunities (tokens u.communities.now)
+    IsPrefix u.prefix × (length u.path.now ≤ most_command_bytes) × IfSome u.med (λ m. m < 2 ^ 32)
+    × HasCommunities (tokens u.communities.now)
 
 -- some route is spelled so
 abbrev pub HasRoute : List (List ℕ) → Type 0

@@ -50,7 +50,8 @@ setting_words name (Some n) = (name ++ decimal n) ∷ []
 -- the settings, in this order
 abbrev pub settings_words : Settings → List (List ℕ)
 settings_words s =
-    setting_words (codes "pref=") s.pref ++ setting_words (codes "med=") s.med ++ setting_words (codes "prepend=") s.prepend ++ setting_words (codes "add=") s.add
+    setting_words (codes "pref=") s.pref ++ setting_words (codes "med=") s.med
+    ++ setting_words (codes "prepend=") s.prepend ++ setting_words (codes "add=") s.add
 
 abbrev pub action_words : Action → List (List ℕ)
 action_words Deny = codes "deny" ∷ []
@@ -70,7 +71,8 @@ edit_words (Client a b on) = codes "client" ∷ addr_text a ∷ addr_text b ∷ 
 edit_words (OwnNext a b on) = codes "self" ∷ addr_text a ∷ addr_text b ∷ switch_word on ∷ []
 edit_words (Cluster a id) = codes "cluster" ∷ addr_text a ∷ addr_text id ∷ []
 edit_words (MedAlways a always) = codes "med" ∷ addr_text a ∷ comparison_word always ∷ []
-edit_words (AddRule a b side rule) = codes "rule" ∷ addr_text a ∷ addr_text b ∷ side_word side ∷ match_words rule.cond ++ action_words rule.act
+edit_words (AddRule a b side rule) = codes "rule" ∷ addr_text a ∷ addr_text b ∷ side_word side ∷ match_words rule.cond
+    ++ action_words rule.act
 edit_words (Clear a b side) = codes "clear" ∷ addr_text a ∷ addr_text b ∷ side_word side ∷ []
 edit_words (Origin a p) = codes "origin" ∷ addr_text a ∷ prefix_text p ∷ []
 edit_words (NoOrigin a p) = codes "noorigin" ∷ addr_text a ∷ prefix_text p ∷ []
@@ -81,7 +83,8 @@ communities_words [] = []
 communities_words (c ∷ cs) = (codes "comm=" ++ numbers_text (c ∷ cs)) ∷ []
 
 abbrev pub fed_words : FedRoute → List (List ℕ)
-fed_words r = prefix_text r.prefix ∷ path_text r.path ∷ origin_text r.origin ∷ maybe_number_text r.med ∷ communities_words r.comms
+fed_words r = prefix_text r.prefix ∷ path_text r.path ∷ origin_text r.origin ∷ maybe_number_text r.med
+    ∷ communities_words r.comms
 
 abbrev pub news_words : News → List (List ℕ)
 news_words (Update r) = codes "update" ∷ fed_words r

@@ -30,7 +30,8 @@ AreSeats n = (1 ≤ n) × (n ≤ 256)
 abbrev pub AreShards : ℕ → Type 0
 AreShards n = (1 ≤ n) × (n ≤ 64)
 
--- the ledger that counts the calls: it has the name and the parts that its type says, and 256 parts, one for each seat that there may be
+-- the ledger that counts the calls: it has the name and the parts that its type says, and 256 parts, one for each seat
+-- that there may be
 pub record IsDeskLedger (name parts type_name type_parts : ℕ) : Type 0 where
   pub same_name : name ≡ type_name
   pub same_parts : parts ≡ type_parts
@@ -78,15 +79,18 @@ pub record IsNoted (seat : SeatBook) : Type 0 where
   pub legal : IsLegal history
   pub calls : calls_of seat.number history ≡ seat.notes
 
--- after its outcome is committed the seat has one call more, with the machine's reply; or something has moved, and the seat is as it was
+-- after its outcome is committed the seat has one call more, with the machine's reply; or something has moved, and the
+-- seat is as it was
 abbrev pub IsSeatAfter : SeatBook → Job → Committed → SeatBook → Type 0
-IsSeatAfter seat x (Delivered reply) new = (new ≡ with_call seat (delivery_of x) reply) × IsReplied (delivery_of x) reply
+IsSeatAfter seat x (Delivered reply) new = (new ≡ with_call seat (delivery_of x) reply)
+    × IsReplied (delivery_of x) reply
 IsSeatAfter seat x (Stale newer) new = (new ≡ seat) × IsMoved x newer
 
 -- so it is after each of its outcomes, which are committed one after another
 abbrev pub IsSeatAfterAll : SeatBook → List Job → SeatBook → Type 0
 IsSeatAfterAll seat [] new = new ≡ seat
-IsSeatAfterAll seat (x ∷ xs) new = (told : Committed) × (next : SeatBook) × IsSeatAfter seat x told next × IsSeatAfterAll next xs new
+IsSeatAfterAll seat (x ∷ xs) new = (told : Committed) × (next : SeatBook) × IsSeatAfter seat x told next
+    × IsSeatAfterAll next xs new
 
 -- so it is after the first of them; then there was no memory, and the others are let go
 pub record IsSeatAfterFirst (seat : SeatBook) (xs : List Job) (new : SeatBook) : Type 0 where
@@ -105,7 +109,8 @@ pub record IsDeliveryOf (shard shards : ℕ) (call : Call) : Type 0 where
   pub of_shard : shard_of to shards ≡ shard
   pub replied : IsReplied call.event call.reply
 
--- so many turns were made for the shard: the seat is the same, and has got as many calls at most, deliveries of the shard all of them
+-- so many turns were made for the shard: the seat is the same, and has got as many calls at most, deliveries of the
+-- shard all of them
 pub record IsWorked (shard shards turns : ℕ) (old new : SeatBook) : Type 0 where
   pub same : new.number ≡ old.number
   pub calls : List Call
@@ -120,7 +125,8 @@ IsWorkedAt place shards turns old new = IsWorked (place % shards) shards turns o
 -- so did each worker from this place on, at the seat of its position
 abbrev pub AllWorkedFrom : ℕ → ℕ → ℕ → List SeatBook → List SeatBook → Type 0
 AllWorkedFrom place shards turns [] [] = Unit {0}
-AllWorkedFrom place shards turns (x ∷ xs) (y ∷ ys) = IsWorkedAt place shards turns x y × AllWorkedFrom (place + 1) shards turns xs ys
+AllWorkedFrom place shards turns (x ∷ xs) (y ∷ ys) = IsWorkedAt place shards turns x y
+    × AllWorkedFrom (place + 1) shards turns xs ys
 AllWorkedFrom place shards turns [] (y ∷ ys) = ⊥
 AllWorkedFrom place shards turns (x ∷ xs) [] = ⊥
 

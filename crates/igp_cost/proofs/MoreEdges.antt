@@ -16,11 +16,13 @@ module _ (nodes : Nodes) (old new : Edges) (joined : JoinAllOf old new) (r : Add
       let on = led b x steps walk.2 in
       ((b, edge.0) ∷ on.0, (walk.0, edge.1, on.1))
 
-  walk_of_cost : (x : Addr) (o : Option ℕ) → IsCost nodes old r x o → is_some o ≡ true → (steps : Steps) × IsWalk nodes old r x steps
+  walk_of_cost : (x : Addr) (o : Option ℕ) → IsCost nodes old r x o → is_some o ≡ true → (steps : Steps)
+      × IsWalk nodes old r x steps
   walk_of_cost x None is some = absurd (true≢false (sym some))
   walk_of_cost x (Some c) is some = (is.0, is.1.walk)
 
-  cost_of_walk : (x : Addr) (o : Option ℕ) → IsCost nodes new r x o → (steps : Steps) → IsWalk nodes new r x steps → is_some o ≡ true
+  cost_of_walk : (x : Addr) (o : Option ℕ) → IsCost nodes new r x o → (steps : Steps) →
+      IsWalk nodes new r x steps → is_some o ≡ true
   cost_of_walk x None none steps walk = absurd (none steps walk)
   cost_of_walk x (Some c) is steps walk = refl
 

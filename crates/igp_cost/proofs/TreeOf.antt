@@ -31,7 +31,8 @@ row_of x c h = (x, record { cost = c; hop = h })
 abbrev row_with : Addr → Label → Addr × Label
 row_with x l = (x, l)
 
-split : (x : Addr) (o : Option ℕ) (p : Option Addr) → option_and_then (λ c. option_map (row_of x c) p) o ≡ option_map (row_with x) (label_by o p)
+split : (x : Addr) (o : Option ℕ) (p : Option Addr) → option_and_then (λ c. option_map (row_of x c) p) o
+    ≡ option_map (row_with x) (label_by o p)
 split x None p = refl
 split x (Some c) None = refl
 split x (Some c) (Some h) = refl
@@ -40,7 +41,8 @@ split x (Some c) (Some h) = refl
 is_there : (nodes : Nodes) (x : Addr) (n : ℕ) → asn_of nodes x ≡ Some n → IsTrue (is_node nodes x)
 is_there nodes x n is = ap is_some is
 
-module _ (nodes : Nodes) (edges : Edges) (top : IsTopology nodes edges) (metrics : All (λ e. IsMetric e.2) edges) (r : Addr) (r_in : IsTrue (is_node nodes r)) where
+module _ (nodes : Nodes) (edges : Edges) (top : IsTopology nodes edges) (metrics : All (λ e. IsMetric e.2) edges)
+    (r : Addr) (r_in : IsTrue (is_node nodes r)) where
   rising : IsRising nodes
   rising = rises_from_sorted nowhere nodes top.ascending
 
@@ -53,26 +55,40 @@ module _ (nodes : Nodes) (edges : Edges) (top : IsTopology nodes edges) (metrics
   abbrev tree : Reached
   tree = record { source = r; labels = rows_of nodes labels }
 
-  agree_by : (x : Addr) (o : Option ℕ) (p : Option Addr) → IsCost nodes edges r x o → IsFirstHop nodes edges r x p → (option_map (λ l. l.cost) (label_by o p) ≡ o) × (option_map (λ l. l.hop) (label_by o p) ≡ p)
+  agree_by : (x : Addr) (o : Option ℕ) (p : Option Addr) → IsCost nodes edges r x o → IsFirstHop nodes edges r x p →
+      (option_map (λ l. l.cost) (label_by o p) ≡ o) × (option_map (λ l. l.hop) (label_by o p) ≡ p)
   agree_by x None None g h = (refl, refl)
   agree_by x None (Some b) g h = absurd (g h.begins.0 h.begins.1.walk)
   agree_by x (Some c) None g h = absurd (h g.0 g.1.walk)
   agree_by x (Some c) (Some b) g h = (refl, refl)
 
-  agree : (x : Addr) → (option_map (λ l. l.cost) (label_of x) ≡ cost nodes edges r x) × (option_map (λ l. l.hop) (label_of x) ≡ first_hop nodes edges r x)
-  agree x = agree_by x (cost nodes edges r x) (first_hop nodes edges r x) (cost_exact nodes edges r x) (first_hop_exact nodes edges metrics r x)
+  agree : (x : Addr) → (option_map (λ l. l.cost) (label_of x) ≡ cost nodes edges r x)
+      × (option_map (λ l. l.hop) (label_of x) ≡ first_hop nodes edges r x)
+  agree x = agree_by x (cost nodes edges r x) (first_hop nodes edges r x) (cost_exact nodes edges r x)
+      (first_hop_exact nodes edges metrics r x)
 
   at_node : (i : ℕ) → i < length nodes → label_in tree (addr_at nodes i) ≡ label_of (addr_at nodes i)
   at_node i lt = row_at nodes labels rising (same_length label_of nodes) i lt ∙ mapped label_of nodes i lt
 
   pub edge_end : (a x : Addr) (m : ℕ) → HasEdge edges a x m → IsTrue (is_node nodes x)
-  edge_end a x m (inl e) = (All-contains (λ (e : Addr × Addr × ℕ). IsTrue (is_node nodes e.0) × IsTrue (is_node nodes e.1)) edges (a, x, m) top.ends e).1
-  edge_end a x m (inr e) = (All-contains (λ (e : Addr × Addr × ℕ). IsTrue (is_node nodes e.0) × IsTrue (is_node nodes e.1)) edges (x, a, m) top.ends e).0
+  edge_end a x m (inl e) =
+      (All-contains (λ (e : Addr × Addr × ℕ). IsTrue (is_node nodes e.0) × IsTrue (is_node nodes e.1)) edges (
+        a,
+        x,
+        m,
+      ) top.ends e).1
+  edge_end a x m (inr e) =
+      (All-contains (λ (e : Addr × Addr × ℕ). IsTrue (is_node nodes e.0) × IsTrue (is_node nodes e.1)) edges (
+        x,
+        a,
+        m,
+      ) top.ends e).0
 
   -- a walk leads to a node
   pub leads_in : (x : Addr) (steps : Steps) → IsWalk nodes edges r x steps → IsTrue (is_node nodes x)
   leads_in x [] walk = subst (λ y. IsTrue (is_node nodes y)) walk r_in
-  leads_in x ((b, m) ∷ steps) walk = let s = split_last nodes edges r r x b m steps walk in edge_end s.before x s.metric s.edge
+  leads_in x ((b, m) ∷ steps) walk = let s = split_last nodes edges r r x b m steps walk in
+      edge_end s.before x s.metric s.edge
 
   -- the label of an address says its cost and its first hop
   record IsRight (x : Addr) : Type 0 where
@@ -84,34 +100,46 @@ module _ (nodes : Nodes) (edges : Edges) (top : IsTopology nodes edges) (metrics
       let x = addr_at nodes i in
       let same = at_node i lt in
       record {
-        cost = subst (λ o. IsCost nodes edges r x o) (sym (ap (option_map (λ l. l.cost)) same ∙ (agree x).0)) (cost_exact nodes edges r x);
-        hop = subst (λ o. IsFirstHop nodes edges r x o) (sym (ap (option_map (λ l. l.hop)) same ∙ (agree x).1)) (first_hop_exact nodes edges metrics r x);
+        cost = subst (λ o. IsCost nodes edges r x o) (sym (ap (option_map (λ l. l.cost)) same ∙ (agree x).0))
+            (cost_exact nodes edges r x);
+        hop = subst (λ o. IsFirstHop nodes edges r x o) (sym (ap (option_map (λ l. l.hop)) same ∙ (agree x).1))
+            (first_hop_exact nodes edges metrics r x);
       }
 
   right : (x : Addr) → IsRight x
   right x = by (asn_of nodes x) refl (label_in tree x) refl
     where
       by : (o : Option ℕ) → asn_of nodes x ≡ o → (p : Option Label) → label_in tree x ≡ p → IsRight x
-      by (Some n) is p is_p = let found = placed nowhere nodes x n is in subst IsRight found.key (right_at found.place found.within)
+      by (Some n) is p is_p = let found = placed nowhere nodes x n is in
+          subst IsRight found.key (right_at found.place found.within)
       by None is (Some l) is_p =
           let row = placed no_row (rows_of nodes labels) x l is_p in
           let node = row_node nodes labels row.place row.within in
           subst IsRight (node.same ∙ row.key) (right_at node.place node.within)
       by None is None is_p =
-          let none : HasNoWalk nodes edges r x = λ steps walk. false≢true (sym (ap is_some is) ∙ leads_in x steps walk) in
+          let none : HasNoWalk nodes edges r x = λ steps walk. false≢true (sym (ap is_some is)
+          ∙ leads_in x steps walk) in
           record {
             cost = subst (λ o. IsCost nodes edges r x (option_map (λ l. l.cost) o)) (sym is_p) none;
             hop = subst (λ o. IsFirstHop nodes edges r x (option_map (λ l. l.hop) o)) (sym is_p) none;
           }
 
   is_tree : IsTreeOf nodes edges r tree
-  is_tree = record { source = refl; ascending = sorted_from_rises no_row (rows_of nodes labels) (rows_rise nodes labels rising); costs = λ x. (right x).cost; first_hops = λ x. (right x).hop }
+  is_tree = record {
+    source = refl;
+    ascending = sorted_from_rises no_row (rows_of nodes labels) (rows_rise nodes labels rising);
+    costs = λ x. (right x).cost;
+    first_hops = λ x. (right x).hop;
+  }
 
   same_tree : tree_of nodes edges r ≡ tree
   unfolding tree_of
   same_tree =
       let made : List (Addr × Label) → Reached = λ rows. record { source = r; labels = rows } in
-      sym (ap made (rows_are (reached nodes edges r) nodes labels (same_length label_of nodes) (λ i lt. split (addr_at nodes i) (cost nodes edges r (addr_at nodes i)) (first_hop nodes edges r (addr_at nodes i)) ∙ ap (option_map (row_with (addr_at nodes i))) (sym (mapped label_of nodes i lt)))))
+      sym (ap made (rows_are (reached nodes edges r) nodes labels (same_length label_of nodes)
+      (λ i lt. split (addr_at nodes i) (cost nodes edges r (addr_at nodes i))
+      (first_hop nodes edges r (addr_at nodes i))
+      ∙ ap (option_map (row_with (addr_at nodes i))) (sym (mapped label_of nodes i lt)))))
 
   pub tree_of_tree : IsTreeOf nodes edges r (tree_of nodes edges r)
   tree_of_tree = subst (λ (t : Reached). IsTreeOf nodes edges r t) (sym same_tree) is_tree

@@ -1,4 +1,5 @@
--- Labels of nodes by their places in the list of nodes, and what holds of them while they are improved. No public contract cites this file.
+-- Labels of nodes by their places in the list of nodes, and what holds of them while they are improved. No public
+-- contract cites this file.
 use Rattle.std.specs.Prelude.{◌≡◌, ℕ, ◌+◌, ◌*◌, ◌^◌, ◌<◌, ◌≤◌, ◌⊎◌, ◌==◌, List, length, Contains, if◌then◌else◌, slice_index_or, Some, None, Option, IfSome, IsSomeAnd, sum_by, All}
 use Rattle.std.specs.declared.cmp.Reverse.{Reverse}
 use Rattle.net_prefix.specs.declared.addr.Addr.{Addr}
@@ -102,7 +103,8 @@ pub record IsBounded (nodes : Nodes) (labels : Labels) : Type 0 where
 
 -- each label but the source's is backed
 abbrev pub AllBacked : Nodes → ℕ → List Link → Labels → Type 0
-AllBacked nodes s links labels = (v : ℕ) (l : Label) → label_at labels v ≡ Some l → (v ≡ s) ⊎ IsBacked nodes s links labels v l
+AllBacked nodes s links labels = (v : ℕ) (l : Label) → label_at labels v ≡ Some l → (v ≡ s)
+    ⊎ IsBacked nodes s links labels v l
 
 -- the source is at no cost
 abbrev pub Starts : Nodes → ℕ → Labels → Type 0
@@ -133,7 +135,9 @@ ClosesAt nodes s links labels at = (link : Link) → slice_index_or links at lin
 
 -- a link stands from the start of the node that it leaves on, and before the next one
 abbrev pub StandsByStart : Nodes → List Link → List ℕ → Type 0
-StandsByStart nodes links starts = (v k : ℕ) (link : Link) → v < length nodes → k < length links → slice_index_or links k link ≡ link → link.from ≡ v → (slice_index_or starts v 0 ≤ k) × (k < slice_index_or starts (v + 1) 0)
+StandsByStart nodes links starts = (v k : ℕ) (link : Link) → v < length nodes → k < length links →
+    slice_index_or links k link ≡ link → link.from ≡ v → (slice_index_or starts v 0 ≤ k)
+    × (k < slice_index_or starts (v + 1) 0)
 
 -- where the links of each node start, and where they all end
 pub record IsIndexed (nodes : Nodes) (links : List Link) (starts : List ℕ) : Type 0 where

@@ -1,4 +1,5 @@
--- What edges offer by a tree's labels, and what a look at the links of some nodes tells of it. No public contract cites this file.
+-- What edges offer by a tree's labels, and what a look at the links of some nodes tells of it. No public contract cites
+-- this file.
 use Rattle.std.specs.Prelude.{◌≡◌, ℕ, ◌+◌, ◌<◌, ◌==◌, ◌≢◌, ◌⊎◌, List, length, Contains, IsTrue, Some, None, if◌then◌else◌}
 use Rattle.net_prefix.specs.declared.addr.Addr.{Addr}
 use Rattle.igp_cost.specs.declared.change.Change.{Change}
@@ -27,7 +28,8 @@ pub record Offers (nodes : Nodes) (t : Reached) (a b : Addr) (m : ℕ) (l : Labe
 
 -- an edge from a to b with this metric offers nothing better than what is there
 abbrev pub OffersNoBetter : Nodes → Reached → Addr → Addr → ℕ → Type 0
-OffersNoBetter nodes t a b m = (l : Label) → IsTrue (share_as nodes (source_of t) a) → label_in t a ≡ Some l → (k : Label) × (label_in t b ≡ Some k) × IsNotAfter k (via (source_of t) a b m l)
+OffersNoBetter nodes t a b m = (l : Label) → IsTrue (share_as nodes (source_of t) a) → label_in t a ≡ Some l →
+    (k : Label) × (label_in t b ≡ Some k) × IsNotAfter k (via (source_of t) a b m l)
 
 -- some link from x is, the other way round, one that offers x its label l
 pub record IsOffered (nodes : Nodes) (links : List Link) (t : Reached) (x : Addr) (l : Label) : Type 0 where
@@ -42,11 +44,14 @@ IsHeld nodes links t x = (l : Label) → label_in t x ≡ Some l → (x ≡ sour
 
 -- what is gone backed no label alone
 abbrev pub LosesNothing : Change → Nodes → List Link → Reached → Type 0
-LosesNothing change nodes links t = Loses change → IsHeld nodes links t (ends_of change).0 × IsHeld nodes links t (ends_of change).1
+LosesNothing change nodes links t = Loses change → IsHeld nodes links t (ends_of change).0
+    × IsHeld nodes links t (ends_of change).1
 
 -- what is new offers nothing better
 abbrev pub GainsNothing : Change → Nodes → Reached → Type 0
-GainsNothing change nodes t = (m : ℕ) → metric_of change ≡ Some m → OffersNoBetter nodes t (ends_of change).0 (ends_of change).1 m × OffersNoBetter nodes t (ends_of change).1 (ends_of change).0 m
+GainsNothing change nodes t = (m : ℕ) → metric_of change ≡ Some m →
+    OffersNoBetter nodes t (ends_of change).0 (ends_of change).1 m
+    × OffersNoBetter nodes t (ends_of change).1 (ends_of change).0 m
 
 -- both trees say the same of an address
 abbrev pub SaySameOf : Reached → Reached → Addr → Type 0
@@ -56,7 +61,8 @@ SaySameOf t made x = label_in made x ≡ label_in t x
 abbrev pub SaySame : Nodes → Reached → Reached → Type 0
 SaySame nodes t made = (v : ℕ) → v < length nodes → SaySameOf t made (addr_at nodes v)
 
--- a link from a offers its other end nothing better; and if that has the label that it had, it is held, and offered a nothing better
+-- a link from a offers its other end nothing better; and if that has the label that it had, it is held, and offered a
+-- nothing better
 pub record IsSettledOver (nodes : Nodes) (links : List Link) (t made : Reached) (a : Addr) (link : Link) : Type 0 where
   pub out : OffersNoBetter nodes made a (addr_at nodes link.to) link.metric
   pub back : SaySameOf t made (addr_at nodes link.to) → OffersNoBetter nodes made (addr_at nodes link.to) a link.metric
@@ -65,7 +71,8 @@ pub record IsSettledOver (nodes : Nodes) (links : List Link) (t made : Reached) 
 -- so do the links of the node at a place, and it is held itself
 pub record IsSettledAround (nodes : Nodes) (links : List Link) (t made : Reached) (v : ℕ) : Type 0 where
   pub held : IsHeld nodes links made (addr_at nodes v)
-  pub each : (link : Link) → Contains links link → link.from ≡ v → IsSettledOver nodes links t made (addr_at nodes v) link
+  pub each : (link : Link) → Contains links link → link.from ≡ v →
+      IsSettledOver nodes links t made (addr_at nodes v) link
 
 -- the node at a place has the label that it had, or is settled
 abbrev pub IsSameOrSettled : Nodes → List Link → Reached → Reached → ℕ → Type 0

@@ -1,4 +1,5 @@
--- Rows by the places of nodes, one for each, in which a cost past all others says that no walk is known. No public contract cites this file.
+-- Rows by the places of nodes, one for each, in which a cost past all others says that no walk is known. No public
+-- contract cites this file.
 use Rattle.std.specs.Prelude.{◌≡◌, ◌≢◌, ℕ, ◌==◌, ◌<◌, ◌≤◌, List, length, map, if◌then◌else◌, slice_index_or, Option, Some, None}
 use Rattle.net_prefix.specs.declared.addr.Addr.{Addr}
 use Rattle.igp_cost.specs.declared.label.Label.{Label}
@@ -42,7 +43,8 @@ HasLabel nodes s rows v label = label_in (tree_in nodes s rows) (addr_at nodes v
 
 -- so it has, within the limit, and it is not the source
 abbrev pub IsPlain : Nodes → ℕ → List (Addr × Label) → ℕ → Label → Type 0
-IsPlain nodes s rows v label = HasLabel nodes s rows v label × (label.cost ≤ 268435456) × ((addr_at nodes v).0 ≢ (addr_at nodes s).0)
+IsPlain nodes s rows v label = HasLabel nodes s rows v label × (label.cost ≤ 268435456)
+    × ((addr_at nodes v).0 ≢ (addr_at nodes s).0)
 
 -- by the rows, the node at v is held
 abbrev pub IsHeldAt : Nodes → List Link → ℕ → List (Addr × Label) → ℕ → Type 0

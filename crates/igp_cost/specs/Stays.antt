@@ -18,8 +18,10 @@ pub record WasTree (change : Change) (nodes : Nodes) (edges : Edges) (t : Reache
 
 -- if the tree was that of the edges before the change, it is the tree of these
 abbrev pub Stays : Change → Nodes → Edges → Reached → Type 0
-Stays change nodes edges t = (old : Edges) → IsChange change old edges → IsTreeOf nodes old (source_of t) t → IsTree nodes edges t
+Stays change nodes edges t = (old : Edges) → IsChange change old edges → IsTreeOf nodes old (source_of t) t →
+    IsTree nodes edges t
 
 -- if the one tree was that of the edges before the change, the other is the tree of these
 abbrev pub Follows : Change → Nodes → Edges → Reached → Reached → Type 0
-Follows change nodes edges t made = (old : Edges) → IsChange change old edges → IsTreeOf nodes old (source_of t) t → IsTree nodes edges made
+Follows change nodes edges t made = (old : Edges) → IsChange change old edges → IsTreeOf nodes old (source_of t) t →
+    IsTree nodes edges made

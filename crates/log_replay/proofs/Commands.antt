@@ -21,9 +21,11 @@ split text = slice_split (λ b. b == 32) text
 
 -- words, joined by spaces and split again
 split_joined : (w : List ℕ) (ws : List (List ℕ)) → AreSolid (w ∷ ws) → split (join_with_byte 32 (w ∷ ws)) ≡ w ∷ ws
-split_joined w [] h = slice_split_none (λ b. b == 32) w (lacks_test 32 w (visible_lacks 32 (λ over. omega arith) w h.0.1))
+split_joined w [] h = slice_split_none (λ b. b == 32) w
+    (lacks_test 32 w (visible_lacks 32 (λ over. omega arith) w h.0.1))
 split_joined w (v ∷ vs) h =
-    slice_split_at (λ b. b == 32) w 32 (join_with_byte 32 (v ∷ vs)) (lacks_test 32 w (visible_lacks 32 (λ over. omega arith) w h.0.1)) refl
+    slice_split_at (λ b. b == 32) w 32 (join_with_byte 32 (v ∷ vs))
+    (lacks_test 32 w (visible_lacks 32 (λ over. omega arith) w h.0.1)) refl
     ∙ ap (λ t. w ∷ t) (split_joined v vs h.1)
 
 split_words : (words : List (List ℕ)) → IsSpelled words → split (join_with_byte 32 words) ≡ words
@@ -44,13 +46,15 @@ kept (p ∷ ps) h = cond-true (nat_lt 0 (length p)) _ _ (lt-ltb 0 (length p) h.0
 
 -- a command has single spaces
 pub command_spaced : (e : Event) → IsEvent e → IsSpaced (command_text e)
-command_spaced e is = subst AreSome (sym (split_words (words_of e) (spelled e is))) (some_solid (words_of e) (spelled e is).solid)
+command_spaced e is = subst AreSome (sym (split_words (words_of e) (spelled e is)))
+    (some_solid (words_of e) (spelled e is).solid)
 
 -- and its words are those of its event
 pub command_tokens : (e : Event) → IsEvent e → tokens (command_text e) ≡ words_of e
 command_tokens e is =
     let words = spelled e is in
-    ap (filter (λ word. nat_lt 0 (length word))) (split_words (words_of e) words) ∙ kept (words_of e) (some_solid (words_of e) words.solid)
+    ap (filter (λ word. nat_lt 0 (length word))) (split_words (words_of e) words)
+    ∙ kept (words_of e) (some_solid (words_of e) words.solid)
 
 -- so it means it
 pub command_means : (e : Event) → IsEvent e → length (command_text e) ≤ most_command_bytes → Means (command_text e) e
@@ -89,7 +93,8 @@ read_fault text Syntax h other = fault_event text h
 read_fault text Memory h other = absurd (other refl)
 read_fault text _ h other = absurd h
 
-pub read_memory : (text : List ℕ) (r : Refusal) → IsSpaced text → IsReading text (Err r) → r ≡ Memory → (event : Event) × IsCommand text event
+pub read_memory : (text : List ℕ) (r : Refusal) → IsSpaced text → IsReading text (Err r) → r ≡ Memory → (event : Event)
+    × IsCommand text event
 read_memory text r spaced h is =
     let found = subst (λ x. IsReading text (let err : Result (Option Event) Refusal = Err x in err)) is h in
     (found.0, meant text found.0 spaced found.1)

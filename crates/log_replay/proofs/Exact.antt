@@ -67,7 +67,8 @@ record Tells (v : Version) (n m : ℕ) (s : Network) (due ls : List (List ℕ)) 
 regroup : (a m f e : List ℕ) → a ++ (m ++ (f ++ e)) ≡ ((a ++ m) ++ f) ++ e
 regroup a m f e = sym (append_assoc a m (f ++ e)) ∙ sym (append_assoc (a ++ m) f e)
 
-tells : (v : Version) (n m : ℕ) (s : Network) (due ls : List (List ℕ)) → TakesAll (within v n s due) ls (finished m) → Tells v n m s due ls
+tells : (v : Version) (n m : ℕ) (s : Network) (due ls : List (List ℕ)) → TakesAll (within v n s due) ls (finished m) →
+    Tells v n m s due ls
 unfolding entry_text
 tells v n m s due [] h = absurd (not_within v n m s due h)
 tells v n m s (d ∷ ds) (line ∷ more) h =
@@ -77,7 +78,8 @@ tells v n m s (d ∷ ds) (line ∷ more) h =
       answered = t.answered;
       calls = t.calls;
       count = t.count;
-      text = ap (λ x. x ++ lines_text more) h.1.0 ∙ ap (λ x. (reply_mark ++ d) ++ x) t.text ∙ sym (append_assoc (reply_mark ++ d) (marked reply_mark ds) rest);
+      text = ap (λ x. x ++ lines_text more) h.1.0 ∙ ap (λ x. (reply_mark ++ d) ++ x) t.text
+          ∙ sym (append_assoc (reply_mark ++ d) (marked reply_mark ds) rest);
     }
 tells v n m s [] (line ∷ more) h = ⊎_elim
     (λ c.
@@ -98,7 +100,8 @@ tells v n m s [] (line ∷ more) h = ⊎_elim
       answered = tt;
       calls = tt;
       count = omega (arith, last.1);
-      text = ap (λ x. (x ++ line_end) ++ lines_text more) d.0 ∙ ap (λ x. ((codes "end " ++ decimal n) ++ line_end) ++ lines_text x) last.0
+      text = ap (λ x. (x ++ line_end) ++ lines_text more) d.0
+          ∙ ap (λ x. ((codes "end " ++ decimal n) ++ line_end) ++ lines_text x) last.0
           ∙ append-nil ((codes "end " ++ decimal n) ++ line_end) ∙ ap end_line (sym last.1);
     })
     h.1
@@ -167,18 +170,27 @@ end_lacks n =
     (All-cons (λ b. b ≢ 10) 32 (decimal n) (λ x. omega (arith, x)) (decimal_lacks 10 feed_is_none n))))
 
 -- a line at the head of the text
-line_cut : (line first rest after : List ℕ) → Lacks 10 line → Lacks 10 first → (line ++ line_end) ++ rest ≡ first ++ (10 ∷ after) → (line ≡ first) × (rest ≡ after)
-line_cut line first rest after h g e = cut_exact 10 line first rest after h g (sym (append_assoc line line_end rest) ∙ e)
+line_cut : (line first rest after : List ℕ) → Lacks 10 line → Lacks 10 first →
+    (line ++ line_end) ++ rest ≡ first ++ (10 ∷ after) → (line ≡ first) × (rest ≡ after)
+line_cut line first rest after h g e = cut_exact 10 line first rest after h g (sym (append_assoc line line_end rest)
+    ∙ e)
 
 no_lines : (ls : List (List ℕ)) → lines_text ls ≡ [] → ls ≡ []
 no_lines [] e = refl
-no_lines (l ∷ ls) e = absurd (omega (arith, ap length e, length-append (l ++ line_end) (lines_text ls), length-append l line_end))
+no_lines (l ∷ ls) e = absurd (omega (
+  arith,
+  ap length e,
+  length-append (l ++ line_end) (lines_text ls),
+  length-append l line_end,
+))
 
 some_end : (front : List ℕ) (m : ℕ) → front ++ end_line m ≡ [] → ⊥
 some_end front m e = omega (arith, ap length e, length-append front (end_line m))
 
-takes_log : (v : Version) (ls due : List (List ℕ)) (h : List Entry) (s : Network) (n m : ℕ) → RepliesAreLines → AllByRecursion IsFit ls → AllByRecursion IsLine due → AreAnswered s h → AreCalls v h → n + length h ≡ m
-    → lines_text ls ≡ marked reply_mark due ++ (flat_map entry_text h ++ end_line m) → TakesAll (within v n s due) ls (finished m)
+takes_log : (v : Version) (ls due : List (List ℕ)) (h : List Entry) (s : Network) (n m : ℕ) → RepliesAreLines →
+    AllByRecursion IsFit ls → AllByRecursion IsLine due → AreAnswered s h → AreCalls v h → n + length h ≡ m
+    → lines_text ls ≡ marked reply_mark due ++ (flat_map entry_text h ++ end_line m) →
+    TakesAll (within v n s due) ls (finished m)
 unfolding entry_text
 takes_log v [] due h s n m law fit are answered calls count e =
     let rest = flat_map entry_text h in
@@ -186,21 +198,30 @@ takes_log v [] due h s n m law fit are answered calls count e =
 takes_log v (line ∷ more) (d ∷ ds) h s n m law fit are answered calls count e =
     let rest = flat_map entry_text h ++ end_line m in
     let front = are.0.0 in
-    let head = ap (λ t. t ++ rest) (due_begins d ds are.0) ∙ append_assoc (reply_mark ++ front) (10 ∷ marked reply_mark ds) rest in
-    let cut = line_cut line (reply_mark ++ front) (lines_text more) (marked reply_mark ds ++ rest) fit.0.0 (mark_lacks front are.0.1) (e ∙ head) in (
+    let head = ap (λ t. t ++ rest) (due_begins d ds are.0)
+    ∙ append_assoc (reply_mark ++ front) (10 ∷ marked reply_mark ds) rest in
+    let cut = line_cut line (reply_mark ++ front) (lines_text more) (marked reply_mark ds ++ rest) fit.0.0
+    (mark_lacks front are.0.1) (e ∙ head) in (
       within v n s ds,
-      (ap (λ t. t ++ line_end) cut.0 ∙ append_assoc reply_mark front line_end ∙ ap (λ t. reply_mark ++ t) (sym are.0.2), refl),
+      (
+        ap (λ t. t ++ line_end) cut.0 ∙ append_assoc reply_mark front line_end
+            ∙ ap (λ t. reply_mark ++ t) (sym are.0.2),
+        refl,
+      ),
       takes_log v more ds h s n m law fit.1 are.1 answered calls count cut.1,
     )
 takes_log v (line ∷ more) [] (x ∷ xs) s n m law fit are answered calls count e =
     let call = call_line x.seat x.event in
     let next = step s x.event in
     let rest = flat_map entry_text xs ++ end_line m in
-    let head = sym (regroup (call ++ line_end) (marked reply_mark (reply_lines x.reply)) (flat_map entry_text xs) (end_line m)) ∙ append_assoc call line_end (marked reply_mark (reply_lines x.reply) ++ rest) in
-    let cut = line_cut line call (lines_text more) (marked reply_mark (reply_lines x.reply) ++ rest) fit.0.0 (call_lacks x.seat x.event calls.0.1) (e ∙ head) in (
+    let head = sym (regroup (call ++ line_end) (marked reply_mark (reply_lines x.reply)) (flat_map entry_text xs)
+    (end_line m)) ∙ append_assoc call line_end (marked reply_mark (reply_lines x.reply) ++ rest) in
+    let cut = line_cut line call (lines_text more) (marked reply_mark (reply_lines x.reply) ++ rest) fit.0.0
+    (call_lacks x.seat x.event calls.0.1) (e ∙ head) in (
       within v (n + 1) next.next (reply_lines next.reply),
       inl (x.event, (x.seat, calls.0, cut.0), refl),
-      takes_log v more (reply_lines next.reply) xs next.next (n + 1) m law fit.1 (law next.reply).1 answered.1 calls.1 (omega (arith, count))
+      takes_log v more (reply_lines next.reply) xs next.next (n + 1) m law fit.1 (law next.reply).1 answered.1 calls.1
+          (omega (arith, count))
           (cut.1 ∙ ap (λ r. marked reply_mark (reply_lines r) ++ rest) answered.0),
     )
 takes_log v (line ∷ more) [] [] s n m law fit are answered calls count e =
@@ -213,17 +234,31 @@ takes_log v (line ∷ more) [] [] s n m law fit are answered calls count e =
     )
 
 header_lacks : (v : Version) → Lacks 10 (header v)
-header_lacks One = joined_lacks (codes "bgpsim" ∷ codes "log" ∷ codes "1" ∷ []) (literal (codes "bgpsim") refl refl, (literal (codes "log") refl refl, (literal (codes "1") refl refl, tt)))
-header_lacks Two = joined_lacks (codes "bgpsim" ∷ codes "log" ∷ codes "2" ∷ []) (literal (codes "bgpsim") refl refl, (literal (codes "log") refl refl, (literal (codes "2") refl refl, tt)))
+header_lacks One = joined_lacks (codes "bgpsim" ∷ codes "log" ∷ codes "1" ∷ []) (
+  literal (codes "bgpsim") refl refl,
+  (literal (codes "log") refl refl, (literal (codes "1") refl refl, tt)),
+)
+header_lacks Two = joined_lacks (codes "bgpsim" ∷ codes "log" ∷ codes "2" ∷ []) (
+  literal (codes "bgpsim") refl refl,
+  (literal (codes "log") refl refl, (literal (codes "2") refl refl, tt)),
+)
 
 -- the lines of the log of a legal history lead to its end
-leads : (v : Version) (ls : List (List ℕ)) (h : List Entry) (n : ℕ) → RepliesAreLines → AllByRecursion IsFit ls → IsLogged v h → length h ≡ n → lines_text ls ≡ log_of v h → TakesAll beginning ls (finished n)
-leads v [] h n law fit logged count e = absurd (some_end ((header v ++ line_end) ++ flat_map entry_text h) (length h) (sym e))
+leads : (v : Version) (ls : List (List ℕ)) (h : List Entry) (n : ℕ) → RepliesAreLines → AllByRecursion IsFit ls →
+    IsLogged v h → length h ≡ n → lines_text ls ≡ log_of v h → TakesAll beginning ls (finished n)
+leads v [] h n law fit logged count e =
+    absurd (some_end ((header v ++ line_end) ++ flat_map entry_text h) (length h) (sym e))
 leads v (line ∷ more) h n law fit logged count e =
     let text = flat_map entry_text h in
-    let head = append_assoc (header v ++ line_end) text (end_line (length h)) ∙ append_assoc (header v) line_end (text ++ end_line (length h)) in
-    let cut = line_cut line (header v) (lines_text more) (text ++ end_line (length h)) fit.0.0 (header_lacks v) (e ∙ head) in
-    (within v 0 nothing [], (v, cut.0, refl), takes_log v more [] h nothing 0 n law fit.1 tt logged.0 logged.1 (omega (arith, count)) (cut.1 ∙ ap (λ k. text ++ end_line k) count))
+    let head = append_assoc (header v ++ line_end) text (end_line (length h))
+    ∙ append_assoc (header v) line_end (text ++ end_line (length h)) in
+    let cut = line_cut line (header v) (lines_text more) (text ++ end_line (length h)) fit.0.0 (header_lacks v) (e
+    ∙ head) in (
+      within v 0 nothing [],
+      (v, cut.0, refl),
+      takes_log v more [] h nothing 0 n law fit.1 tt logged.0 logged.1 (omega (arith, count)) (cut.1
+          ∙ ap (λ k. text ++ end_line k) count),
+    )
 
 -- a header names one version
 same_version : (v w : Version) → header v ≡ header w → v ≡ w
@@ -233,10 +268,12 @@ same_version Two One e = let last : ◌≡◌ {A = ℕ} 50 49 = ap (λ t. get_or
 same_version Two Two e = refl
 
 call_is_no_end : (line rest more : List ℕ) → line ≡ 64 ∷ rest → line ≡ 101 ∷ more → ⊥
-call_is_no_end line rest more a b = let both : 64 ∷ rest ≡ 101 ∷ more = sym a ∙ b in let heads : ◌≡◌ {A = ℕ} 64 101 = cc in omega (arith, heads)
+call_is_no_end line rest more a b = let both : 64 ∷ rest ≡ 101 ∷ more = sym a ∙ b in let heads : ◌≡◌ {A = ℕ} 64 101 =
+    cc in omega (arith, heads)
 
 no_call : (v : Version) (line : List ℕ) (e : Event) (n : ℕ) → IsCallLine v line e → line ≡ codes "end " ++ decimal n → ⊥
-no_call v line e n call end = call_is_no_end line ((decimal call.0 ++ codes " ") ++ command_text e) (110 ∷ 100 ∷ 32 ∷ decimal n) call.2 end
+no_call v line e n call end = call_is_no_end line ((decimal call.0 ++ codes " ") ++ command_text e)
+    (110 ∷ 100 ∷ 32 ∷ decimal n) call.2 end
 
 -- a line leads from a place to one place alone
 same_place : OneMeaning → (p : Place) (line : List ℕ) (q r : Place) → Takes p line q → Takes p line r → q ≡ r
@@ -245,7 +282,8 @@ same_place law beginning line q r a b =
     a.2 ∙ ap (λ v. within v 0 nothing []) same ∙ sym b.2
 same_place law (within v n s []) line q r a b = ⊎_elim
     (λ c. ⊎_elim
-    (λ d. c.2 ∙ ap (λ e. within v (n + 1) (step s e).next (reply_lines (step s e).reply)) (same_event law v v line c.0 d.0 c.1 d.1) ∙ sym d.2)
+    (λ d. c.2 ∙ ap (λ e. within v (n + 1) (step s e).next (reply_lines (step s e).reply))
+    (same_event law v v line c.0 d.0 c.1 d.1) ∙ sym d.2)
     (λ d. absurd (no_call v line c.0 n c.1 d.0))
     b)
     (λ c. ⊎_elim
@@ -264,15 +302,31 @@ record Ahead (q f : Place) (left : List ℕ) (done ls : List (List ℕ)) : Type 
   count : length ls ≡ length done + length rest
   taken : TakesAll q rest f
 
-ahead : OneMeaning → (done ls : List (List ℕ)) (left : List ℕ) (p q f : Place) → AllByRecursion IsFit done → AllByRecursion IsFit ls → lines_text done ++ left ≡ lines_text ls → TakesAll p done q → TakesAll p ls f → Ahead q f left done ls
-ahead law [] ls left p q f hd hl e a b = record { rest = ls; fit = hl; text = e; count = omega arith; taken = subst (λ x. TakesAll x ls f) (sym a) b }
+ahead : OneMeaning → (done ls : List (List ℕ)) (left : List ℕ) (p q f : Place) → AllByRecursion IsFit done →
+    AllByRecursion IsFit ls → lines_text done ++ left ≡ lines_text ls → TakesAll p done q → TakesAll p ls f →
+    Ahead q f left done ls
+ahead law [] ls left p q f hd hl e a b = record {
+  rest = ls;
+  fit = hl;
+  text = e;
+  count = omega arith;
+  taken = subst (λ x. TakesAll x ls f) (sym a) b;
+}
 ahead law (d ∷ ds) [] left p q f hd hl e a b =
-    absurd (omega (arith, ap length e, length-append ((d ++ line_end) ++ lines_text ds) left, length-append (d ++ line_end) (lines_text ds), length-append d line_end))
+    absurd (omega (
+      arith,
+      ap length e,
+      length-append ((d ++ line_end) ++ lines_text ds) left,
+      length-append (d ++ line_end) (lines_text ds),
+      length-append d line_end,
+    ))
 ahead law (d ∷ ds) (l ∷ more) left p q f hd hl e a b =
     let text = append_assoc (d ++ line_end) (lines_text ds) left in
-    let cut = line_cut d l (lines_text ds ++ left) (lines_text more) hd.0.0 hl.0.0 (sym text ∙ e ∙ append_assoc l line_end (lines_text more)) in
+    let cut = line_cut d l (lines_text ds ++ left) (lines_text more) hd.0.0 hl.0.0 (sym text ∙ e
+    ∙ append_assoc l line_end (lines_text more)) in
     let same : a.0 ≡ b.0 = same_place law p d a.0 b.0 a.1 (subst (λ x. Takes p x b.0) (sym cut.0) b.1) in
-    let later = ahead law ds more left a.0 q f hd.1 hl.1 cut.1 a.2 (subst (λ x. TakesAll x more f) (sym same) b.2) in record {
+    let later = ahead law ds more left a.0 q f hd.1 hl.1 cut.1 a.2 (subst (λ x. TakesAll x more f) (sym same) b.2) in
+    record {
       rest = later.rest;
       fit = later.fit;
       text = later.text;
@@ -281,38 +335,53 @@ ahead law (d ∷ ds) (l ∷ more) left p q f hd hl e a b =
     }
 
 -- what is ahead at a place that replaying has come to
-log_ahead : OneMeaning → RepliesAreLines → (bytes left : List ℕ) (k n : ℕ) (p : Place) → Stands bytes left k p → (log : IsLogOf bytes n) → (rest : List (List ℕ)) × AllByRecursion IsFit rest × (left ≡ lines_text rest) × (k + length rest ≤ most_lines) × TakesAll p rest (finished n)
+log_ahead : OneMeaning → RepliesAreLines → (bytes left : List ℕ) (k n : ℕ) (p : Place) → Stands bytes left k p →
+    (log : IsLogOf bytes n) → (rest : List (List ℕ)) × AllByRecursion IsFit rest × (left ≡ lines_text rest)
+    × (k + length rest ≤ most_lines) × TakesAll p rest (finished n)
 log_ahead law lines bytes left k n p so log =
     let ls = log.5.0 in
-    let a = ahead law so.done ls left beginning p (finished n) so.fit log.5.2 (sym so.parts ∙ log.5.1) so.taken (leads log.0 ls log.1 n lines log.5.2 log.2 log.3 (sym log.5.1 ∙ log.4)) in
+    let a = ahead law so.done ls left beginning p (finished n) so.fit log.5.2 (sym so.parts ∙ log.5.1) so.taken
+    (leads log.0 ls log.1 n lines log.5.2 log.2 log.3 (sym log.5.1 ∙ log.4)) in
     (a.rest, a.fit, a.text, omega (arith, a.count, so.count, log.5.3), a.taken)
 
 -- the next line may stand there
-not_refused : (left : List ℕ) (p f : Place) (rest : List (List ℕ)) → AllByRecursion IsFit rest → left ≡ lines_text rest → TakesAll p rest f → IsRefused p left → ⊥
+not_refused : (left : List ℕ) (p f : Place) (rest : List (List ℕ)) → AllByRecursion IsFit rest →
+    left ≡ lines_text rest → TakesAll p rest f → IsRefused p left → ⊥
 not_refused left p f [] fit e t h = omega (arith, ap length (sym e ∙ h.1.1), length-append h.0 (10 ∷ h.1.0))
 not_refused left p f (l ∷ more) fit e t h =
     let cut = line_cut l h.0 (lines_text more) h.1.0 fit.0.0 h.1.2.0 (sym e ∙ h.1.1) in
     h.2 t.0 (subst (λ x. Takes p x t.0) cut.0 t.1)
 
 -- and is not too long
-before_feed : (l front after rest : List ℕ) → Lacks 10 front → l ++ (10 ∷ after) ≡ front ++ rest → length front ≤ length l
+before_feed : (l front after rest : List ℕ) → Lacks 10 front → l ++ (10 ∷ after) ≡ front ++ rest →
+    length front ≤ length l
 before_feed l [] after rest h e = omega arith
 before_feed [] (b ∷ bs) after rest h e = absurd (All-head (λ x. x ≢ 10) b bs h (cc))
 before_feed (c ∷ cs) (b ∷ bs) after rest h e =
     let tails : cs ++ (10 ∷ after) ≡ bs ++ rest = cc in
     omega (arith, before_feed cs bs after rest (All-tail (λ x. x ≢ 10) b bs h) tails)
 
-not_long : (left : List ℕ) (rest : List (List ℕ)) → AllByRecursion IsFit rest → left ≡ lines_text rest → IsTooLong left → ⊥
+not_long : (left : List ℕ) (rest : List (List ℕ)) → AllByRecursion IsFit rest →
+    left ≡ lines_text rest → IsTooLong left → ⊥
 not_long left [] fit e h = omega (arith, ap length (sym e ∙ h.2), length-append h.0 h.1, h.4)
 not_long left (l ∷ more) fit e h =
-    omega (arith, before_feed l h.0 (lines_text more) h.1 h.3 (sym (append_assoc l line_end (lines_text more)) ∙ sym e ∙ h.2), h.4, fit.0.1)
+    omega (
+      arith,
+      before_feed l h.0 (lines_text more) h.1 h.3 (sym (append_assoc l line_end (lines_text more)) ∙ sym e
+          ∙ h.2),
+      h.4,
+      fit.0.1,
+    )
 
 -- and is there whole
-not_cut : (left : List ℕ) (p : Place) (n : ℕ) (rest : List (List ℕ)) → left ≡ lines_text rest → TakesAll p rest (finished n) → IsCutOff p left → ⊥
+not_cut : (left : List ℕ) (p : Place) (n : ℕ) (rest : List (List ℕ)) → left ≡ lines_text rest →
+    TakesAll p rest (finished n) → IsCutOff p left → ⊥
 not_cut left p n [] e t h = let some = h.1 (ap is_finished (sym t)) in omega (arith, ap length e, some)
-not_cut left p n (l ∷ more) e t h = not_lacks 10 l (lines_text more) (subst (Lacks 10) (e ∙ append_assoc l line_end (lines_text more)) h.0)
+not_cut left p n (l ∷ more) e t h =
+    not_lacks 10 l (lines_text more) (subst (Lacks 10) (e ∙ append_assoc l line_end (lines_text more)) h.0)
 
-fair_verdict : OneMeaning → RepliesAreLines → (bytes : List ℕ) (v : Replayed) (i : Reading) (n : ℕ) → IsReplay bytes (Ok v) i → IsLogOf bytes n → v ≡ Agrees n
+fair_verdict : OneMeaning → RepliesAreLines → (bytes : List ℕ) (v : Replayed) (i : Reading) (n : ℕ) →
+    IsReplay bytes (Ok v) i → IsLogOf bytes n → v ≡ Agrees n
 fair_verdict law lines bytes (Agrees m) i n h log =
     let a = log_ahead law lines bytes [] h.0 n (finished m) h.1 log in
     let none : a.0 ≡ [] = no_lines a.0 (sym a.2) in
@@ -331,14 +400,16 @@ length_none : (ls : List (List ℕ)) → length ls ≤ 0 → ls ≡ []
 length_none [] h = refl
 length_none (l ∷ ls) h = absurd (omega (arith, h))
 
-not_many : OneMeaning → RepliesAreLines → (bytes left : List ℕ) (n : ℕ) (p : Place) → Stands bytes left most_lines p → 0 < length left → IsLogOf bytes n → ⊥
+not_many : OneMeaning → RepliesAreLines → (bytes left : List ℕ) (n : ℕ) (p : Place) → Stands bytes left most_lines p →
+    0 < length left → IsLogOf bytes n → ⊥
 not_many law lines bytes left n p so some log =
     let a = log_ahead law lines bytes left most_lines n p so log in
     let none : a.0 ≡ [] = length_none a.0 (omega (arith, a.3)) in
     let nothing_left : left ≡ [] = a.2 ∙ ap lines_text none in
     omega (arith, ap length nothing_left, some)
 
-pub fair : OneMeaning → RepliesAreLines → (bytes : List ℕ) (r : Result Replayed ReplayFault) (i : Reading) → IsReplay bytes r i → IsFair bytes r
+pub fair : OneMeaning → RepliesAreLines → (bytes : List ℕ) (r : Result Replayed ReplayFault) (i : Reading) →
+    IsReplay bytes r i → IsFair bytes r
 fair law lines bytes (Ok v) i h = λ n log. fair_verdict law lines bytes v i n h log
 fair law lines bytes (Err (Read line)) i h = tt
 fair law lines bytes (Err TooManyLines) i h = λ n log. not_many law lines bytes h.1 n h.0 h.2 h.3 log

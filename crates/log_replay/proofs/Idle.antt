@@ -19,4 +19,5 @@ asked_quiet q is = subst (λ x. IsStep nothing (AnAsk x) (AReport (IsQuiet true)
 
 pub no_memory : (t : Edit) (a : Addr) (n : ℕ) → t ≡ Router a n → IsStep nothing (AnEdit t) (Refused Memory) nothing
 unfolding edit_step refusal_of
-no_memory t a n is = subst (λ x. IsStep nothing (AnEdit x) (Refused Memory) nothing) (sym is) (inr (refl, refl, refl, refl))
+no_memory t a n is = subst (λ x. IsStep nothing (AnEdit x) (Refused Memory) nothing) (sym is)
+    (inr (refl, refl, refl, refl))

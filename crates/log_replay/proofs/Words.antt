@@ -78,7 +78,8 @@ med : (n : Option ℕ) → IsSolid (maybe_number_text n)
 med None = literal (maybe_number_text None) refl refl
 med (Some n) = number n
 
-joined_some : {X : Type 0} (c : ℕ) (f : X → List ℕ) (x : X) (xs : List X) → 0 < length (f x) → 0 < length (join_with_byte c (map f (x ∷ xs)))
+joined_some : {X : Type 0} (c : ℕ) (f : X → List ℕ) (x : X) (xs : List X) → 0 < length (f x) →
+    0 < length (join_with_byte c (map f (x ∷ xs)))
 joined_some c f x [] some = some
 joined_some c f x (y ∷ ys) some = omega (arith, length-append (f x) (c ∷ join_with_byte c (map f (y ∷ ys))))
 
@@ -106,14 +107,22 @@ matches (Comm n) = (literal (codes "comm") refl refl, (number n, tt))
 
 setting : (name : List ℕ) (n : Option ℕ) → are_visible name ≡ true → AreSolid (setting_words name n)
 setting name None h = tt
-setting name (Some n) h =
-    ((omega (arith, decimal_some n, length-append name (decimal n)), visible_both name (decimal n) (visible_word name h) (visible_decimal n)), tt)
+setting name (Some n) h = (
+  (
+    omega (arith, decimal_some n, length-append name (decimal n)),
+    visible_both name (decimal n) (visible_word name h) (visible_decimal n),
+  ),
+  tt,
+)
 
 settings : (s : Settings) → AreSolid (settings_words s)
 settings s =
-    append (setting_words (codes "pref=") s.pref ++ setting_words (codes "med=") s.med ++ setting_words (codes "prepend=") s.prepend) (setting_words (codes "add=") s.add)
-    (append (setting_words (codes "pref=") s.pref ++ setting_words (codes "med=") s.med) (setting_words (codes "prepend=") s.prepend)
-    (append (setting_words (codes "pref=") s.pref) (setting_words (codes "med=") s.med) (setting (codes "pref=") s.pref refl) (setting (codes "med=") s.med refl))
+    append (setting_words (codes "pref=") s.pref ++ setting_words (codes "med=") s.med
+    ++ setting_words (codes "prepend=") s.prepend) (setting_words (codes "add=") s.add)
+    (append (setting_words (codes "pref=") s.pref ++ setting_words (codes "med=") s.med)
+    (setting_words (codes "prepend=") s.prepend)
+    (append (setting_words (codes "pref=") s.pref) (setting_words (codes "med=") s.med)
+    (setting (codes "pref=") s.pref refl) (setting (codes "med=") s.med refl))
     (setting (codes "prepend=") s.prepend refl))
     (setting (codes "add=") s.add refl)
 
@@ -135,34 +144,78 @@ prefixed a p = (address a, (block p, tt))
 edit : (e : Edit) → IsSpelled (edit_words e)
 edit (Router a n) = record { solid = (literal (codes "router") refl refl, (address a, (number n, tt))); loud = refl }
 edit (Virtual a n) = record { solid = (literal (codes "virtual") refl refl, (address a, (number n, tt))); loud = refl }
-edit (Link a b m) = record { solid = (literal (codes "link") refl refl, (address a, (address b, (number m, tt)))); loud = refl }
-edit (Metric a b m) = record { solid = (literal (codes "metric") refl refl, (address a, (address b, (number m, tt)))); loud = refl }
+edit (Link a b m) = record {
+  solid = (literal (codes "link") refl refl, (address a, (address b, (number m, tt))));
+  loud = refl;
+}
+edit (Metric a b m) = record {
+  solid = (literal (codes "metric") refl refl, (address a, (address b, (number m, tt))));
+  loud = refl;
+}
 edit (Fail a b) = record { solid = (literal (codes "fail") refl refl, two a b); loud = refl }
 edit (Mend a b) = record { solid = (literal (codes "mend") refl refl, two a b); loud = refl }
 edit (Join a b) = record { solid = (literal (codes "join") refl refl, two a b); loud = refl }
 edit (Stop a b) = record { solid = (literal (codes "stop") refl refl, two a b); loud = refl }
 edit (Start a b) = record { solid = (literal (codes "start") refl refl, two a b); loud = refl }
-edit (Client a b on) = record { solid = (literal (codes "client") refl refl, (address a, (address b, (switch on, tt)))); loud = refl }
-edit (OwnNext a b on) = record { solid = (literal (codes "self") refl refl, (address a, (address b, (switch on, tt)))); loud = refl }
-edit (Cluster a id) = record { solid = (literal (codes "cluster") refl refl, two a id); loud = refl }
-edit (MedAlways a always) = record { solid = (literal (codes "med") refl refl, (address a, (comparison always, tt))); loud = refl }
-edit (AddRule a b s rule) = record {
-  solid = (literal (codes "rule") refl refl, (address a, (address b, (side s, append (match_words rule.cond) (action_words rule.act) (matches rule.cond) (action rule.act)))));
+edit (Client a b on) = record {
+  solid = (literal (codes "client") refl refl, (address a, (address b, (switch on, tt))));
   loud = refl;
 }
-edit (Clear a b s) = record { solid = (literal (codes "clear") refl refl, (address a, (address b, (side s, tt)))); loud = refl }
+edit (OwnNext a b on) = record {
+  solid = (literal (codes "self") refl refl, (address a, (address b, (switch on, tt))));
+  loud = refl;
+}
+edit (Cluster a id) = record { solid = (literal (codes "cluster") refl refl, two a id); loud = refl }
+edit (MedAlways a always) = record {
+  solid = (literal (codes "med") refl refl, (address a, (comparison always, tt)));
+  loud = refl;
+}
+edit (AddRule a b s rule) = record {
+  solid = (
+    literal (codes "rule") refl refl,
+    (
+      address a,
+      (
+        address b,
+        (
+          side s,
+          append (match_words rule.cond) (action_words rule.act) (matches rule.cond)
+              (action rule.act),
+        ),
+      ),
+    ),
+  );
+  loud = refl;
+}
+edit (Clear a b s) = record {
+  solid = (literal (codes "clear") refl refl, (address a, (address b, (side s, tt))));
+  loud = refl;
+}
 edit (Originate a p) = record { solid = (literal (codes "origin") refl refl, prefixed a p); loud = refl }
 edit (NoOrigin a p) = record { solid = (literal (codes "noorigin") refl refl, prefixed a p); loud = refl }
 
 communities : (cs : List ℕ) → AreSolid (communities_words cs)
 communities [] = tt
 communities (c ∷ cs) =
-    let numbers = numbers_text (c ∷ cs) in
-    ((omega (arith, length-append (codes "comm=") numbers), visible_both (codes "comm=") numbers (visible_word (codes "comm=") refl) (visible_numbers (c ∷ cs))), tt)
+    let numbers = numbers_text (c ∷ cs) in (
+      (
+        omega (arith, length-append (codes "comm=") numbers),
+        visible_both (codes "comm=") numbers (visible_word (codes "comm=") refl) (visible_numbers (c ∷ cs)),
+      ),
+      tt,
+    )
 
 news : (n : News) → IsNews n → AreSolid (news_words n)
-news (Update r) h =
-    (literal (codes "update") refl refl, (block r.prefix, ((path_some r.path h.1.0, visible_path r.path), (origin r.origin, (med r.med, communities r.comms)))))
+news (Update r) h = (
+  literal (codes "update") refl refl,
+  (
+    block r.prefix,
+    (
+      (path_some r.path h.1.0, visible_path r.path),
+      (origin r.origin, (med r.med, communities r.comms)),
+    ),
+  ),
+)
 news (Withdraw p) h = (literal (codes "withdraw") refl refl, (block p, tt))
 
 ask : (q : Ask) → IsSpelled (ask_words q)
@@ -178,6 +231,12 @@ ask (Trace r d) = record { solid = (literal (codes "trace") refl refl, two r d);
 
 pub spelled : (e : Event) → IsEvent e → IsSpelled (words_of e)
 spelled (AnEdit e) h = edit e
-spelled (AFeed f) h = record { solid = (literal (codes "feed") refl refl, (address f.from, (address f.to, news f.news h.2))); loud = refl }
+spelled (AFeed f) h = record {
+  solid = (
+    literal (codes "feed") refl refl,
+    (address f.from, (address f.to, news f.news h.2)),
+  );
+  loud = refl;
+}
 spelled (Deliver a b) h = record { solid = (literal (codes "deliver") refl refl, two a b); loud = refl }
 spelled (AnAsk q) h = ask q

@@ -21,7 +21,8 @@ AreLogLines bytes = (ls : List (List ℕ)) × (bytes ≡ lines_text ls) × AllBy
 
 -- the bytes are the log, of either version, of a legal history of n calls, within the limits
 abbrev pub IsLogOf : List ℕ → ℕ → Type 0
-IsLogOf bytes n = (v : Version) × (h : List Entry) × IsLogged v h × (length h ≡ n) × (bytes ≡ log_of v h) × AreLogLines bytes
+IsLogOf bytes n = (v : Version) × (h : List Entry) × IsLogged v h × (length h ≡ n) × (bytes ≡ log_of v h)
+    × AreLogLines bytes
 
 -- where the answer is that the log agrees, it is such a log
 abbrev pub IsProof : List ℕ → Result Replayed ReplayFault → Type 0

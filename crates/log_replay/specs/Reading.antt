@@ -47,7 +47,8 @@ ReadsCall v line (Err e) = (event : Event) × IsCallLine Two line event
 
 abbrev pub IsAtStage : Stage → ℕ → List ℕ → Network → Place → Type 0
 IsAtStage Beginning n due s p = (p ≡ beginning) × (s ≡ nothing) × (n ≡ 0) × (due ≡ [])
-IsAtStage (Within v) n due s p = (lines : List (List ℕ)) × AllByRecursion IsLine lines × (due ≡ marked reply_mark lines) × (p ≡ within v n s lines)
+IsAtStage (Within v) n due s p = (lines : List (List ℕ)) × AllByRecursion IsLine lines × (due ≡ marked reply_mark lines)
+    × (p ≡ within v n s lines)
 IsAtStage Finished n due s p = p ≡ finished n
 
 -- the checker, and the machine's state, are at the place

@@ -36,16 +36,19 @@ replay_status (Err fault) = fault_status (run_fault fault)
 -- the line was written, and nothing was told; or the writer failed, after a front of the line, and that was told
 abbrev pub IsAnswered : Replayed → Writing → Writing → ℕ → Writing → Writing → Type 0
 IsAnswered found o errors status o' errors' =
-    ((status ≡ replay_status (Ok found)) × (o'.failed ≡ false) × Appends o.written o'.written (found_text found) × (errors' ≡ errors))
-    ⊎ ((status ≡ write_fault) × (o'.failed ≡ true) × AppendsFront o.written o'.written (found_text found) × IsTold errors (fault_text Unwritten) errors')
+    ((status ≡ replay_status (Ok found)) × (o'.failed ≡ false) × Appends o.written o'.written (found_text found)
+    × (errors' ≡ errors))
+    ⊎ ((status ≡ write_fault) × (o'.failed ≡ true) × AppendsFront o.written o'.written (found_text found)
+    × IsTold errors (fault_text Unwritten) errors')
 
 -- what the log is found to be was answered; or nothing was written, and the fault was told
 abbrev pub IsEnding : Result Replayed ReplayFault → Writing → Writing → ℕ → Writing → Writing → Type 0
 IsEnding (Ok found) o errors status o' errors' = IsAnswered found o errors status o' errors'
-IsEnding (Err fault) o errors status o' errors' = (status ≡ replay_status (Err fault)) × (o' ≡ o) × IsTold errors (fault_text (run_fault fault)) errors'
+IsEnding (Err fault) o errors status o' errors' = (status ≡ replay_status (Err fault)) × (o' ≡ o)
+    × IsTold errors (fault_text (run_fault fault)) errors'
 
--- it was replayed, as far as its bytes are known: where it is found to agree it is the log of a legal history, and each such log is;
--- the reader failed just where that was the fault; and what was found is how it ended
+-- it was replayed, as far as its bytes are known: where it is found to agree it is the log of a legal history, and each
+-- such log is; the reader failed just where that was the fault; and what was found is how it ended
 abbrev pub IsReplayedRun : Option (List ℕ) → Writing → Writing → ℕ → Reading → Writing → Writing → Type 0
 IsReplayedRun bytes o errors status i' o' errors' = (found : Result Replayed ReplayFault)
     × IfSome bytes (λ known. IsReplay known found i' × IsProof known found × IsFair known found)
@@ -53,8 +56,10 @@ IsReplayedRun bytes o errors status i' o' errors' = (found : Result Replayed Rep
 
 -- there was no memory to read a line: nothing was read
 abbrev pub IsUnreplayed : Option (List ℕ) → Writing → Writing → ℕ → Reading → Writing → Writing → Type 0
-IsUnreplayed bytes o errors status i' o' errors' = (i'.remaining ≡ bytes) × (i'.failed ≡ false) × IsWithoutMemory o errors status o' errors'
+IsUnreplayed bytes o errors status i' o' errors' = (i'.remaining ≡ bytes) × (i'.failed ≡ false)
+    × IsWithoutMemory o errors status o' errors'
 
 -- a log was replayed, or there was no memory to begin
 abbrev pub IsReplayRun : Option (List ℕ) → Writing → Writing → ℕ → Reading → Writing → Writing → Type 0
-IsReplayRun bytes o errors status i' o' errors' = IsReplayedRun bytes o errors status i' o' errors' ⊎ IsUnreplayed bytes o errors status i' o' errors'
+IsReplayRun bytes o errors status i' o' errors' = IsReplayedRun bytes o errors status i' o' errors'
+    ⊎ IsUnreplayed bytes o errors status i' o' errors'

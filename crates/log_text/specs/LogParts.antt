@@ -22,19 +22,24 @@ last_line h = end_line (length h)
 
 module _ {E : Type 0} where
   -- the first line was not written in full
-  pub log_cut_first : (h : List Entry) (old new : Writing) (r : Result Unit E) → IsErr r → WritesFront old first_line new → Writes old (log_text h) r new
+  pub log_cut_first : (h : List Entry) (old new : Writing) (r : Result Unit E) → IsErr r →
+      WritesFront old first_line new → Writes old (log_text h) r new
   log_cut_first h old new r err cut =
       writes_same old new _ _ r (append_assoc first_line (calls_text h) (last_line h))
       (writes_cut old new first_line (calls_text h ++ last_line h) r err cut)
 
   -- the calls were not written in full
-  pub log_cut_calls : (h : List Entry) (old mid new : Writing) (r : Result Unit E) → WritesAll old first_line mid → IsErr r → WritesFront mid (calls_text h) new → Writes old (log_text h) r new
+  pub log_cut_calls : (h : List Entry) (old mid new : Writing) (r : Result Unit E) → WritesAll old first_line mid →
+      IsErr r → WritesFront mid (calls_text h) new → Writes old (log_text h) r new
   log_cut_calls h old mid new r all err cut =
       writes_same old new _ _ r (append_assoc first_line (calls_text h) (last_line h))
-      (writes_next old mid new first_line (calls_text h ++ last_line h) r all (writes_cut mid new (calls_text h) (last_line h) r err cut))
+      (writes_next old mid new first_line (calls_text h ++ last_line h) r all
+      (writes_cut mid new (calls_text h) (last_line h) r err cut))
 
   -- all was written but for the last line, and then that
-  pub log_whole : (h : List Entry) (old mid more new : Writing) (r : Result Unit E) → WritesAll old first_line mid → WritesAll mid (calls_text h) more → Writes more (last_line h) r new → Writes old (log_text h) r new
+  pub log_whole : (h : List Entry) (old mid more new : Writing) (r : Result Unit E) → WritesAll old first_line mid →
+      WritesAll mid (calls_text h) more → Writes more (last_line h) r new → Writes old (log_text h) r new
   log_whole h old mid more new r all rest end =
       writes_same old new _ _ r (append_assoc first_line (calls_text h) (last_line h))
-      (writes_next old mid new first_line (calls_text h ++ last_line h) r all (writes_next mid more new (calls_text h) (last_line h) r rest end))
+      (writes_next old mid new first_line (calls_text h ++ last_line h) r all
+      (writes_next mid more new (calls_text h) (last_line h) r rest end))

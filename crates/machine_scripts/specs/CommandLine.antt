@@ -17,7 +17,8 @@ Names word None = (kind : Kind) → word ≡ name_of kind → ⊥
 
 -- the program's name and that of a machine, and after them nothing, or `script`
 abbrev pub AskFor : List (List ℕ) → Kind → Type 0
-AskFor words kind = (program : List ℕ) × ((words ≡ program ∷ name_of kind ∷ []) ⊎ (words ≡ program ∷ name_of kind ∷ codes "script" ∷ []))
+AskFor words kind = (program : List ℕ)
+    × ((words ≡ program ∷ name_of kind ∷ []) ⊎ (words ≡ program ∷ name_of kind ∷ codes "script" ∷ []))
 
 -- the machine that the words ask for, if they ask for one
 abbrev pub IsChoice : List (List ℕ) → Option Kind → Type 0

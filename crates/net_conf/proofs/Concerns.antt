@@ -45,14 +45,19 @@ site_with r n cluster reflector med_always originated sessions costs =
     else option_map (site_of_parts r cluster reflector med_always originated sessions costs) n
 
 abbrev site_in : Configuration → Addr → Reached → Option SiteConf
-site_in c r costs = site_with r (node_at c r) (cluster_id c r) (is_reflector c r) (compares_all_meds c r) (origins_of c r) (sessions_of c r) costs
+site_in c r costs = site_with r (node_at c r) (cluster_id c r) (is_reflector c r) (compares_all_meds c r)
+    (origins_of c r) (sessions_of c r) costs
 
 is_site_in : (c : Configuration) (r : Addr) → router_site c r ≡ site_in c r (costs_of c r)
 unfolding site_of site_with
 is_site_in c r = refl
 
 -- other costs
-with_costs : (r : Addr) (n : Option Node) (cluster : Addr) (reflector med_always : Bool) (originated : List Prefix) (sessions : List SiteSession) (old new : Reached) → site_with r n cluster reflector med_always originated sessions new ≡ option_map (λ (s : SiteConf). record s { costs = new }) (site_with r n cluster reflector med_always originated sessions old)
+with_costs : (r : Addr) (n : Option Node) (cluster : Addr) (reflector med_always : Bool) (originated : List Prefix)
+    (sessions : List SiteSession) (old new : Reached) →
+    site_with r n cluster reflector med_always originated sessions new
+    ≡ option_map (λ (s : SiteConf). record s { costs = new })
+    (site_with r n cluster reflector med_always originated sessions old)
 unfolding site_with
 with_costs r None cluster reflector med_always originated sessions old new = refl
 with_costs r (Some n) cluster reflector med_always originated sessions old new = by (is_kind_virtual n.kind)
@@ -60,7 +65,8 @@ with_costs r (Some n) cluster reflector med_always originated sessions old new =
     site : Reached → SiteConf
     site costs = site_of_parts r cluster reflector med_always originated sessions costs n
 
-    by : (virtual : Bool) → (if virtual then None else Some (site new)) ≡ option_map (λ (s : SiteConf). record s { costs = new }) (if virtual then None else Some (site old))
+    by : (virtual : Bool) → (if virtual then None else Some (site new))
+        ≡ option_map (λ (s : SiteConf). record s { costs = new }) (if virtual then None else Some (site old))
     by true = refl
     by false = refl
 
@@ -73,21 +79,37 @@ pub record AreAlike (c d : Configuration) (r : Addr) : Type 0 where
   pub origins : origins_of d r ≡ origins_of c r
   pub sessions : sessions_of d r ≡ sessions_of c r
 
-pub facts_alike : (c d : Configuration) (r : Addr) → AreAlike c d r → router_site d r ≡ option_map (λ (s : SiteConf). record s { costs = costs_of d r }) (router_site c r)
+pub facts_alike : (c d : Configuration) (r : Addr) → AreAlike c d r →
+    router_site d r ≡ option_map (λ (s : SiteConf). record s { costs = costs_of d r }) (router_site c r)
 facts_alike c d r alike =
     is_site_in d r
-    ∙ ap (λ x. site_with r x (cluster_id d r) (is_reflector d r) (compares_all_meds d r) (origins_of d r) (sessions_of d r) (costs_of d r)) alike.node
-    ∙ ap (λ x. site_with r (node_at c r) x (is_reflector d r) (compares_all_meds d r) (origins_of d r) (sessions_of d r) (costs_of d r)) alike.cluster
-    ∙ ap (λ x. site_with r (node_at c r) (cluster_id c r) x (compares_all_meds d r) (origins_of d r) (sessions_of d r) (costs_of d r)) alike.reflector
-    ∙ ap (λ x. site_with r (node_at c r) (cluster_id c r) (is_reflector c r) x (origins_of d r) (sessions_of d r) (costs_of d r)) alike.med_always
-    ∙ ap (λ x. site_with r (node_at c r) (cluster_id c r) (is_reflector c r) (compares_all_meds c r) x (sessions_of d r) (costs_of d r)) alike.origins
-    ∙ ap (λ x. site_with r (node_at c r) (cluster_id c r) (is_reflector c r) (compares_all_meds c r) (origins_of c r) x (costs_of d r)) alike.sessions
-    ∙ with_costs r (node_at c r) (cluster_id c r) (is_reflector c r) (compares_all_meds c r) (origins_of c r) (sessions_of c r) (costs_of c r) (costs_of d r)
+    ∙ ap (λ x. site_with r x (cluster_id d r) (is_reflector d r) (compares_all_meds d r) (origins_of d r)
+    (sessions_of d r) (costs_of d r)) alike.node
+    ∙ ap (λ x. site_with r (node_at c r) x (is_reflector d r) (compares_all_meds d r) (origins_of d r) (sessions_of d r)
+    (costs_of d r)) alike.cluster
+    ∙ ap (λ x. site_with r (node_at c r) (cluster_id c r) x (compares_all_meds d r) (origins_of d r) (sessions_of d r)
+    (costs_of d r)) alike.reflector
+    ∙ ap (λ x. site_with r (node_at c r) (cluster_id c r) (is_reflector c r) x (origins_of d r) (sessions_of d r)
+    (costs_of d r)) alike.med_always
+    ∙ ap (λ x. site_with r (node_at c r) (cluster_id c r) (is_reflector c r) (compares_all_meds c r) x (sessions_of d r)
+    (costs_of d r)) alike.origins
+    ∙ ap (λ x. site_with r (node_at c r) (cluster_id c r) (is_reflector c r) (compares_all_meds c r) (origins_of c r) x
+    (costs_of d r)) alike.sessions
+    ∙ with_costs r (node_at c r) (cluster_id c r) (is_reflector c r) (compares_all_meds c r) (origins_of c r)
+    (sessions_of c r) (costs_of c r) (costs_of d r)
     ∙ ap (option_map (λ (s : SiteConf). record s { costs = costs_of d r })) (sym (is_site_in c r))
 
 -- a site with the costs that it has
-pub own_costs : (c : Configuration) (r : Addr) → option_map (λ (s : SiteConf). record s { costs = costs_of c r }) (router_site c r) ≡ router_site c r
-own_costs c r = sym (facts_alike c c r (record { node = refl; cluster = refl; reflector = refl; med_always = refl; origins = refl; sessions = refl }))
+pub own_costs : (c : Configuration) (r : Addr) →
+    option_map (λ (s : SiteConf). record s { costs = costs_of c r }) (router_site c r) ≡ router_site c r
+own_costs c r = sym (facts_alike c c r (record {
+  node = refl;
+  cluster = refl;
+  reflector = refl;
+  med_always = refl;
+  origins = refl;
+  sessions = refl;
+}))
 
 -- a router keeps all where nothing changes
 pub stays_itself : (c : Configuration) (r : Addr) → StaysAt c c r
@@ -95,7 +117,8 @@ stays_itself c r = record { facts = sym (own_costs c r); costs = λ ends. refl; 
 
 -- SETTINGS
 
-settings_costs : (c : Configuration) (e : Edit) (a r : Addr) → router_in (scope e) ≡ Some a → costs_of (edited c e) r ≡ costs_of c r
+settings_costs : (c : Configuration) (e : Edit) (a r : Addr) → router_in (scope e) ≡ Some a →
+    costs_of (edited c e) r ≡ costs_of c r
 settings_costs c (Client x y on) a r is = refl
 settings_costs c (OwnNext x y on) a r is = refl
 settings_costs c (Cluster x id) a r is = refl
@@ -109,11 +132,13 @@ settings_costs c (NoOrigin x p) a r is = refl
 settings_costs c _ a r is = absurd (none-some a is)
 
 -- an edit of one router's settings concerns it alone
-pub settings_concern : (c : Configuration) (e : Edit) (a r : Addr) → router_in (scope e) ≡ Some a → (r.0 == a.0) ≡ false → StaysAt c (edited c e) r
+pub settings_concern : (c : Configuration) (e : Edit) (a r : Addr) → router_in (scope e) ≡ Some a →
+    (r.0 == a.0) ≡ false → StaysAt c (edited c e) r
 settings_concern c e a r one apart =
     let same = settings_costs c e a r one in
     record {
-      facts = sites_of_others c e a r one apart ∙ sym (own_costs c r) ∙ ap (λ x. option_map (λ (s : SiteConf). record s { costs = x }) (router_site c r)) (sym same);
+      facts = sites_of_others c e a r one apart ∙ sym (own_costs c r)
+          ∙ ap (λ x. option_map (λ (s : SiteConf). record s { costs = x }) (router_site c r)) (sym same);
       costs = λ ends. same;
       up = λ u. sessions_stay c e a u r one;
     }
@@ -128,14 +153,19 @@ number_turned (Some m) (Some n) = nat_eq_equiv.symm m n
 
 connected_turned : (c : Configuration) (a b : Addr) → is_connected c a b ≡ is_connected c b a
 connected_turned c a b =
-    ap (λ x. if not x then has_link_up c a b else (is_some (cost c a b) && is_some (cost c b a))) (number_turned (as_of c a) (as_of c b))
-    ∙ ap (λ x. if is_external c b a then unwrap_or (option_map (λ l. l.up) x) false else (is_some (cost c a b) && is_some (cost c b a))) (ap (λ e. lookup (is_at (ends_cmp e)) c.links) (ends_turned a b))
-    ∙ ap (λ x. if is_external c b a then has_link_up c b a else x) (and_comm (is_some (cost c a b)) (is_some (cost c b a)))
+    ap (λ x. if not x then has_link_up c a b else (is_some (cost c a b) && is_some (cost c b a)))
+    (number_turned (as_of c a) (as_of c b))
+    ∙ ap (λ x. if is_external c b a then unwrap_or (option_map (λ l. l.up) x) false
+    else (is_some (cost c a b) && is_some (cost c b a)))
+    (ap (λ e. lookup (is_at (ends_cmp e)) c.links) (ends_turned a b))
+    ∙ ap (λ x. if is_external c b a then has_link_up c b a else x)
+    (and_comm (is_some (cost c a b)) (is_some (cost c b a)))
 
 pub up_turned : (c : Configuration) (a b : Addr) → is_up c a b ≡ is_up c b a
 unfolding session_up
 up_turned c a b =
-    ap (λ o. unwrap_or (option_map (λ enabled. enabled && is_connected c a b) o) false) (ap (λ e. lookup (is_at (ends_cmp e)) c.sessions) (ends_turned a b))
+    ap (λ o. unwrap_or (option_map (λ enabled. enabled && is_connected c a b) o) false)
+    (ap (λ e. lookup (is_at (ends_cmp e)) c.sessions) (ends_turned a b))
     ∙ ap (λ x. unwrap_or (option_map (λ enabled. enabled && x) (session_between c b a)) false) (connected_turned c a b)
 
 -- without a session, none is up

@@ -41,7 +41,8 @@ is_session c e = list_any (is_at (ends_cmp e)) (keys_of c.sessions)
 
 -- A SESSION AMONG THEM
 
-up_by : (c : Configuration) (a b : Addr) (le : Bool) (e : Ends) → e ≡ (if le then record { low = a; high = b } else record { low = b; high = a }) → is_up c e.low e.high ≡ is_up c a b
+up_by : (c : Configuration) (a b : Addr) (le : Bool) (e : Ends) →
+    e ≡ (if le then record { low = a; high = b } else record { low = b; high = a }) → is_up c e.low e.high ≡ is_up c a b
 up_by c a b true e is = ap (λ x. is_up c x.low x.high) is
 up_by c a b false e is = ap (λ x. is_up c x.low x.high) is ∙ up_turned c b a
 
@@ -50,8 +51,10 @@ pub up_of_ends : (c : Configuration) (a b : Addr) → is_up c (ends_of a b).low 
 up_of_ends c a b = up_by c a b (nat_le a.0 b.0) (ends_of a b) refl
 
 -- who is among those that are down is a session that is down
-pub among_down : (c : Configuration) (e : Ends) → list_any (is_at (ends_cmp e)) (down_sessions c) ≡ (is_down c e && is_session c e)
-among_down c e = any-filter_same (is_at (ends_cmp e)) (is_down c) (is_down c e) (λ x at. ap (is_down c) (sym (same_ends e x at))) (keys_of c.sessions)
+pub among_down : (c : Configuration) (e : Ends) → list_any (is_at (ends_cmp e)) (down_sessions c)
+    ≡ (is_down c e && is_session c e)
+among_down c e = any-filter_same (is_at (ends_cmp e)) (is_down c) (is_down c e)
+    (λ x at. ap (is_down c) (sym (same_ends e x at))) (keys_of c.sessions)
 
 and_true : (b : Bool) → (b && true) ≡ b
 and_true true = refl
@@ -61,7 +64,8 @@ and_false : (b : Bool) → (b && false) ≡ false
 and_false true = refl
 and_false false = refl
 
-pub among_if_down : (c : Configuration) (e : Ends) → is_session c e ≡ true → list_any (is_at (ends_cmp e)) (down_sessions c) ≡ is_down c e
+pub among_if_down : (c : Configuration) (e : Ends) → is_session c e ≡ true →
+    list_any (is_at (ends_cmp e)) (down_sessions c) ≡ is_down c e
 among_if_down c e there = among_down c e ∙ ap (λ t. is_down c e && t) there ∙ and_true (is_down c e)
 
 not_not : (b : Bool) → not (not b) ≡ b
@@ -69,11 +73,14 @@ not_not true = refl
 not_not false = refl
 
 -- a session at a place among all
-pub session_at : (c : Configuration) (i : ℕ) (d : Ends) → i < length (keys_of c.sessions) → is_session c (get_or (keys_of c.sessions) i d) ≡ true
-session_at c i d lt = let e = get_or (keys_of c.sessions) i d in list_any_at (is_at (ends_cmp e)) (keys_of c.sessions) i d lt (ap is_eq (tied_itself ends_total e))
+pub session_at : (c : Configuration) (i : ℕ) (d : Ends) → i < length (keys_of c.sessions) →
+    is_session c (get_or (keys_of c.sessions) i d) ≡ true
+session_at c i d lt = let e = get_or (keys_of c.sessions) i d in
+    list_any_at (is_at (ends_cmp e)) (keys_of c.sessions) i d lt (ap is_eq (tied_itself ends_total e))
 
 -- a session that is among those that are down, and one that is not
-pub up_unless_among : (c : Configuration) (e : Ends) (t : Bool) → is_session c e ≡ true → list_any (is_at (ends_cmp e)) (down_sessions c) ≡ t → is_up c e.low e.high ≡ not t
+pub up_unless_among : (c : Configuration) (e : Ends) (t : Bool) → is_session c e ≡ true →
+    list_any (is_at (ends_cmp e)) (down_sessions c) ≡ t → is_up c e.low e.high ≡ not t
 up_unless_among c e t there is = sym (not_not (is_up c e.low e.high)) ∙ ap not (sym (among_if_down c e there) ∙ is)
 
 pub session_there : (c : Configuration) (a b : Addr) → has_session c a b ≡ true → is_session c (ends_of a b) ≡ true
@@ -92,7 +99,8 @@ has_state : (c : Configuration) (a b : Addr) → is_some (session_up c a b) ≡ 
 unfolding session_up
 has_state c a b = some_mapped (λ enabled. enabled && is_connected c a b) (session_between c a b)
 
-pub state_found : (c : Configuration) (a b : Addr) → has_session c a b ≡ true → Some (not (list_any (is_at (ends_cmp (ends_of a b))) (down_sessions c))) ≡ session_up c a b
+pub state_found : (c : Configuration) (a b : Addr) → has_session c a b ≡ true →
+    Some (not (list_any (is_at (ends_cmp (ends_of a b))) (down_sessions c))) ≡ session_up c a b
 state_found c a b there =
     ap (λ t. Some (not t)) (among_if_down c (ends_of a b) (session_there c a b there) ∙ ap not (up_of_ends c a b))
     ∙ ap Some (not_not (is_up c a b))
@@ -111,7 +119,8 @@ not_true : (b : Bool) → not b ≡ true → b ≡ false
 not_true true is = absurd (true≢false (sym is))
 not_true false is = refl
 
-pub down_at : (c : Configuration) (i : ℕ) (d : Ends) → i < length (down_sessions c) → IsDownSession c (get_or (down_sessions c) i d)
+pub down_at : (c : Configuration) (i : ℕ) (d : Ends) → i < length (down_sessions c) →
+    IsDownSession c (get_or (down_sessions c) i d)
 down_at c i d lt =
     let ks = keys_of c.sessions in
     let HasLow : Ends → Type 0 = λ e. ends_session c e.low ≡ true in
@@ -119,21 +128,26 @@ down_at c i d lt =
     record {
       low = All-filter (is_down c) HasLow ks (λ k x within. low_ends c k x within) i d lt;
       high = All-filter (is_down c) HasHigh ks (λ k x within. high_ends c k x within) i d lt;
-      down = not_true (is_up c (get_or (down_sessions c) i d).low (get_or (down_sessions c) i d).high) (filter_passes (is_down c) ks i d lt);
+      down = not_true (is_up c (get_or (down_sessions c) i d).low (get_or (down_sessions c) i d).high)
+          (filter_passes (is_down c) ks i d lt);
     }
 
-pub down_in_order : (c : Configuration) → IsStrictlySortedBy ends_cmp (keys_of c.sessions) → IsStrictlySortedBy ends_cmp (down_sessions c)
+pub down_in_order : (c : Configuration) → IsStrictlySortedBy ends_cmp (keys_of c.sessions) →
+    IsStrictlySortedBy ends_cmp (down_sessions c)
 down_in_order c sorted = IsStrictlySortedBy-filter ends_cmp (is_down c) (keys_of c.sessions) sorted
 
 -- A LINK
 
 -- those that are left of fewer
-filter_fewer : {X : Type 0} (p q : X → Bool) → ((x : X) → q x ≡ true → p x ≡ true) → (xs : List X) → filter q (filter p xs) ≡ filter q xs
+filter_fewer : {X : Type 0} (p q : X → Bool) → ((x : X) → q x ≡ true → p x ≡ true) → (xs : List X) →
+    filter q (filter p xs) ≡ filter q xs
 filter_fewer p q fewer [] = refl
 filter_fewer p q fewer (x ∷ xs) = by (p x) (q x) refl refl (filter_fewer p q fewer xs)
   where
-    by : (t u : Bool) → p x ≡ t → q x ≡ u → filter q (filter p xs) ≡ filter q xs → filter q (cond t (x ∷ filter p xs) (filter p xs)) ≡ cond u (x ∷ filter q xs) (filter q xs)
-    by true u first second rest = ap (λ v. cond v (x ∷ filter q (filter p xs)) (filter q (filter p xs))) second ∙ ap (λ ys. cond u (x ∷ ys) ys) rest
+    by : (t u : Bool) → p x ≡ t → q x ≡ u → filter q (filter p xs) ≡ filter q xs →
+        filter q (cond t (x ∷ filter p xs) (filter p xs)) ≡ cond u (x ∷ filter q xs) (filter q xs)
+    by true u first second rest = ap (λ v. cond v (x ∷ filter q (filter p xs)) (filter q (filter p xs))) second
+        ∙ ap (λ ys. cond u (x ∷ ys) ys) rest
     by false true first second rest = absurd (true≢false (sym (fewer x second) ∙ first))
     by false false first second rest = rest
 
@@ -154,9 +168,11 @@ pub same_sessions : (c d : Configuration) (a b : Addr) → IsLinked c d a b → 
 same_sessions c d a b linked = ap (λ (z : Configuration). keys_of z.sessions) linked.is
 
 -- where none goes down, those that are down are left of those that were
-pub left_down : (c d : Configuration) (a b : Addr) → IsLinked c d a b → NoneGoesDown c d → filter (is_down d) (down_sessions c) ≡ down_sessions d
+pub left_down : (c d : Configuration) (a b : Addr) → IsLinked c d a b → NoneGoesDown c d →
+    filter (is_down d) (down_sessions c) ≡ down_sessions d
 left_down c d a b linked none =
-    filter_fewer (is_down c) (is_down d) (λ e. not_both (is_up c e.low e.high) (is_up d e.low e.high) (none e.low e.high)) (keys_of c.sessions)
+    filter_fewer (is_down c) (is_down d) (λ e. not_both (is_up c e.low e.high) (is_up d e.low e.high)
+    (none e.low e.high)) (keys_of c.sessions)
     ∙ ap (filter (is_down d)) (sym (same_sessions c d a b linked))
 
 pub one_state : (p q : Bool) → beq p q ≡ true → p ≡ q
@@ -175,8 +191,10 @@ pub all_stay : (c d : Configuration) → NoneGoesDown c d → NoneGoesDown d c �
 all_stay c d to from a b = same_bool (is_up c a b) (is_up d a b) (to a b) (from a b)
 
 -- and the same ones are down
-pub same_down : (c d : Configuration) → keys_of d.sessions ≡ keys_of c.sessions → ((a b : Addr) → is_up d a b ≡ is_up c a b) → down_sessions d ≡ down_sessions c
-same_down c d sessions same = filter_agree (is_down d) (is_down c) (λ e. ap not (same e.low e.high)) (keys_of d.sessions) ∙ ap (filter (is_down c)) sessions
+pub same_down : (c d : Configuration) → keys_of d.sessions ≡ keys_of c.sessions →
+    ((a b : Addr) → is_up d a b ≡ is_up c a b) → down_sessions d ≡ down_sessions c
+same_down c d sessions same = filter_agree (is_down d) (is_down c) (λ e. ap not (same e.low e.high))
+    (keys_of d.sessions) ∙ ap (filter (is_down c)) sessions
 
 not_same : (p q : Bool) → not p ≡ not q → p ≡ q
 not_same true true is = refl
@@ -185,13 +203,18 @@ not_same false true is = absurd (true≢false is)
 not_same false false is = refl
 
 -- who ends no session that is down by one and not by the other has all sessions as before
-pub stays_up_with : (c d : Configuration) (a b r : Addr) → IsLinked c d a b → ((e : Ends) → is_end r e ≡ true → list_any (is_at (ends_cmp e)) (down_sessions d) ≡ list_any (is_at (ends_cmp e)) (down_sessions c)) → (u : Addr) → is_up d u r ≡ is_up c u r
+pub stays_up_with : (c d : Configuration) (a b r : Addr) → IsLinked c d a b →
+    ((e : Ends) → is_end r e ≡ true → list_any (is_at (ends_cmp e)) (down_sessions d) ≡ list_any (is_at (ends_cmp e))
+    (down_sessions c)) → (u : Addr) → is_up d u r ≡ is_up c u r
 stays_up_with c d a b r linked same = stays_with_each c d a b linked r (λ e end there.
     not_same (is_up d e.low e.high) (is_up c e.low e.high)
-    (sym (among_if_down d e (ap (list_any (is_at (ends_cmp e))) (same_sessions c d a b linked) ∙ there)) ∙ same e end ∙ among_if_down c e there))
+    (sym (among_if_down d e (ap (list_any (is_at (ends_cmp e))) (same_sessions c d a b linked) ∙ there)) ∙ same e end
+    ∙ among_if_down c e there))
 
 -- so the link concerns those whose costs have moved, and the ends of the sessions that have turned
-pub turned_is : (c d : Configuration) (a b : Addr) → IsLinked c d a b → (moved turned : List Addr) (down : List Ends) → CostsStayBut c d moved → down ≡ down_sessions d → ((r : Addr) → is_among r turned ≡ false → (u : Addr) → is_up d u r ≡ is_up c u r) → IsTurned c d moved down turned
+pub turned_is : (c d : Configuration) (a b : Addr) → IsLinked c d a b → (moved turned : List Addr) (down : List Ends) →
+    CostsStayBut c d moved → down ≡ down_sessions d →
+    ((r : Addr) → is_among r turned ≡ false → (u : Addr) → is_up d u r ≡ is_up c u r) → IsTurned c d moved down turned
 turned_is c d a b linked moved turned down costs is same = record {
   are_down = is;
   sessions = λ r u out. same r out u;
@@ -206,9 +229,11 @@ ends_ordered low high lt = grind (arith, nat_tests)
 
 -- ends that are apart are those of their two
 pub apart_are : (e : Ends) → AreApart e → ends_of e.low e.high ≡ e
-apart_are e apart = ap (λ t. if t then record { low = e.low; high = e.high } else record { low = e.high; high = e.low }) (ends_ordered e.low e.high apart)
+apart_are e apart = ap (λ t. if t then record { low = e.low; high = e.high } else record { low = e.high; high = e.low })
+    (ends_ordered e.low e.high apart)
 
-module _ (c d : Configuration) (a b : Addr) (joined : IsJoined c d a b) (apart : All AreApart (keys_of c.sessions)) where
+module _ (c d : Configuration) (a b : Addr) (joined : IsJoined c d a b)
+    (apart : All AreApart (keys_of c.sessions)) where
   abbrev own : Ends
   own = ends_of a b
 
@@ -219,7 +244,8 @@ module _ (c d : Configuration) (a b : Addr) (joined : IsJoined c d a b) (apart :
       ∙ ap is_some (found_in ends_cmp ends_exact own joined.enabled ends_total e c.sessions)
       ∙ by (is_at (ends_cmp e) own)
     where
-      by : (t : Bool) → is_some (cond t (Some joined.enabled) (lookup (is_at (ends_cmp e)) c.sessions)) ≡ (t || is_session c e)
+      by : (t : Bool) → is_some (cond t (Some joined.enabled) (lookup (is_at (ends_cmp e)) c.sessions))
+          ≡ (t || is_session c e)
       by true = refl
       by false = is_some-lookup (is_at (ends_cmp e)) c.sessions
 
@@ -229,35 +255,54 @@ module _ (c d : Configuration) (a b : Addr) (joined : IsJoined c d a b) (apart :
   other_stays e other is_apart =
       ap (λ z. is_up z e.low e.high) joined.is
       ∙ ap (λ o. unwrap_or (option_map (λ enabled. enabled && is_connected c e.low e.high) o) false)
-      (lookup_with ends_cmp ends_exact (is_at (ends_cmp (ends_of e.low e.high))) own (ap (λ x. is_at (ends_cmp x) own) (apart_are e is_apart) ∙ other) joined.enabled c.sessions)
+      (lookup_with ends_cmp ends_exact (is_at (ends_cmp (ends_of e.low e.high))) own
+      (ap (λ x. is_at (ends_cmp x) own) (apart_are e is_apart) ∙ other) joined.enabled c.sessions)
 
-  among_others : (e : Ends) → is_at (ends_cmp e) own ≡ false → list_any (is_at (ends_cmp e)) (down_sessions d) ≡ list_any (is_at (ends_cmp e)) (down_sessions c)
-  among_others e other = among_down d e ∙ ap (λ t. is_down d e && t) (session_after e ∙ ap (λ t. t || is_session c e) other) ∙ by (is_session c e) refl ∙ sym (among_down c e)
+  among_others : (e : Ends) → is_at (ends_cmp e) own ≡ false → list_any (is_at (ends_cmp e)) (down_sessions d)
+      ≡ list_any (is_at (ends_cmp e)) (down_sessions c)
+  among_others e other = among_down d e
+      ∙ ap (λ t. is_down d e && t) (session_after e ∙ ap (λ t. t || is_session c e) other) ∙ by (is_session c e) refl
+      ∙ sym (among_down c e)
     where
       by : (t : Bool) → is_session c e ≡ t → (is_down d e && is_session c e) ≡ (is_down c e && is_session c e)
-      by true is = ap (λ up. not up && is_session c e) (other_stays e other (All-contains AreApart (keys_of c.sessions) e apart (Contains-from_any {eq = λ x. is_at (ends_cmp x)} same_ends e (keys_of c.sessions) is)))
-      by false is = ap (λ t. is_down d e && t) is ∙ and_false (is_down d e) ∙ sym (ap (λ t. is_down c e && t) is ∙ and_false (is_down c e))
+      by true is = ap (λ up. not up && is_session c e)
+          (other_stays e other (All-contains AreApart (keys_of c.sessions) e apart
+          (Contains-from_any {eq = λ x. is_at (ends_cmp x)} same_ends e (keys_of c.sessions) is)))
+      by false is = ap (λ t. is_down d e && t) is ∙ and_false (is_down d e)
+          ∙ sym (ap (λ t. is_down c e && t) is ∙ and_false (is_down c e))
 
-  among_own : (up : Bool) → is_up d a b ≡ up → (e : Ends) → is_at (ends_cmp e) own ≡ true → list_any (is_at (ends_cmp e)) (down_sessions d) ≡ not up
+  among_own : (up : Bool) → is_up d a b ≡ up → (e : Ends) → is_at (ends_cmp e) own ≡ true →
+      list_any (is_at (ends_cmp e)) (down_sessions d) ≡ not up
   among_own up is e at =
       among_if_down d e (session_after e ∙ ap (λ t. t || is_session c e) at)
       ∙ ap (is_down d) (same_ends e own at) ∙ ap not (up_of_ends d a b ∙ is)
 
-  module _ (before : IsStrictlySortedBy ends_cmp (down_sessions c)) (sessions : IsStrictlySortedBy ends_cmp (keys_of d.sessions)) where
-    pub down_with_one : is_up d a b ≡ false → IsStrictlySortedBy ends_cmp (insert_key ends_cmp (down_sessions c) own) → insert_key ends_cmp (down_sessions c) own ≡ down_sessions d
+  module _ (before : IsStrictlySortedBy ends_cmp (down_sessions c))
+      (sessions : IsStrictlySortedBy ends_cmp (keys_of d.sessions)) where
+    pub down_with_one : is_up d a b ≡ false → IsStrictlySortedBy ends_cmp (insert_key ends_cmp (down_sessions c) own) →
+        insert_key ends_cmp (down_sessions c) own ≡ down_sessions d
     down_with_one is sorted = same_keys ends_cmp ends_total ends_exact _ _ sorted (down_in_order d sessions)
-        (λ e. any_key ends_cmp ends_exact own (is_at (ends_cmp e)) (down_sessions c) ∙ by e (is_at (ends_cmp e) own) refl)
+        (λ e. any_key ends_cmp ends_exact own (is_at (ends_cmp e)) (down_sessions c)
+        ∙ by e (is_at (ends_cmp e) own) refl)
       where
-        by : (e : Ends) (t : Bool) → is_at (ends_cmp e) own ≡ t → (t || list_any (is_at (ends_cmp e)) (down_sessions c)) ≡ list_any (is_at (ends_cmp e)) (down_sessions d)
+        by : (e : Ends) (t : Bool) → is_at (ends_cmp e) own ≡ t → (t || list_any (is_at (ends_cmp e)) (down_sessions c))
+            ≡ list_any (is_at (ends_cmp e)) (down_sessions d)
         by e true at = sym (among_own false is e at)
         by e false at = sym (among_others e at)
 
-    pub down_without_one : is_up d a b ≡ true → IsStrictlySortedBy ends_cmp (remove_key (is_at (ends_cmp own)) (down_sessions c)) → remove_key (is_at (ends_cmp own)) (down_sessions c) ≡ down_sessions d
-    down_without_one is sorted = same_keys ends_cmp ends_total ends_exact _ _ sorted (down_in_order d sessions) (λ e. by e (is_at (ends_cmp e) own) refl)
+    pub down_without_one : is_up d a b ≡ true →
+        IsStrictlySortedBy ends_cmp (remove_key (is_at (ends_cmp own)) (down_sessions c)) →
+        remove_key (is_at (ends_cmp own)) (down_sessions c) ≡ down_sessions d
+    down_without_one is sorted = same_keys ends_cmp ends_total ends_exact _ _ sorted (down_in_order d sessions)
+        (λ e. by e (is_at (ends_cmp e) own) refl)
       where
-        by : (e : Ends) (t : Bool) → is_at (ends_cmp e) own ≡ t → list_any (is_at (ends_cmp e)) (remove_key (is_at (ends_cmp own)) (down_sessions c)) ≡ list_any (is_at (ends_cmp e)) (down_sessions d)
+        by : (e : Ends) (t : Bool) → is_at (ends_cmp e) own ≡ t →
+            list_any (is_at (ends_cmp e)) (remove_key (is_at (ends_cmp own)) (down_sessions c))
+            ≡ list_any (is_at (ends_cmp e)) (down_sessions d)
         by e true at =
-            ap (λ x. list_any (is_at (ends_cmp x)) (remove_key (is_at (ends_cmp own)) (down_sessions c))) (same_ends e own at)
+            ap (λ x. list_any (is_at (ends_cmp x)) (remove_key (is_at (ends_cmp own)) (down_sessions c)))
+            (same_ends e own at)
             ∙ taken_out ends_cmp ends_total ends_exact own (down_sessions c) before
             ∙ sym (among_own true is e at)
-        by e false at = any_without ends_cmp ends_exact (is_at (ends_cmp e)) own at (down_sessions c) ∙ sym (among_others e at)
+        by e false at = any_without ends_cmp ends_exact (is_at (ends_cmp e)) own at (down_sessions c)
+            ∙ sym (among_others e at)

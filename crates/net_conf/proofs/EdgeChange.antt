@@ -40,23 +40,33 @@ pub equal_numbers : (m n : ℕ) → (m == n) ≡ true → m ≡ n
 equal_numbers m n is = grind (arith, nat_tests)
 
 -- the lists of edges, where one edge is between two that are the same
-change_is : OneEdgeIsAChange → (front back : Edges) (e : Ends) (before after : Option ℕ) (change : Change) → IfSome before IsMetric → IfSome after IsMetric → edge_change e before after ≡ Some change → IsChange change (front ++ with_edge e before back) (front ++ with_edge e after back)
+change_is : OneEdgeIsAChange → (front back : Edges) (e : Ends) (before after : Option ℕ) (change : Change) →
+    IfSome before IsMetric → IfSome after IsMetric → edge_change e before after ≡ Some change →
+    IsChange change (front ++ with_edge e before back) (front ++ with_edge e after back)
 change_is law front back e None None change m n is = absurd (none-some change is)
-change_is law front back e None (Some new) change m n is = subst (λ x. IsChange x (front ++ back) (front ++ (e.low, e.high, new) ∷ back)) (same_Some _ _ is) (law front back e.low e.high new new n).added
-change_is law front back e (Some old) None change m n is = subst (λ x. IsChange x (front ++ (e.low, e.high, old) ∷ back) (front ++ back)) (same_Some _ _ is) (law front back e.low e.high old old m).removed
+change_is law front back e None (Some new) change m n is =
+    subst (λ x. IsChange x (front ++ back) (front ++ (e.low, e.high, new) ∷ back)) (same_Some _ _ is)
+    (law front back e.low e.high new new n).added
+change_is law front back e (Some old) None change m n is =
+    subst (λ x. IsChange x (front ++ (e.low, e.high, old) ∷ back) (front ++ back)) (same_Some _ _ is)
+    (law front back e.low e.high old old m).removed
 change_is law front back e (Some old) (Some new) change m n is = by (old == new) is
   where
-    by : (same : Bool) → (if same then None else Some (Changed e.low e.high new)) ≡ Some change → IsChange change (front ++ (e.low, e.high, old) ∷ back) (front ++ (e.low, e.high, new) ∷ back)
+    by : (same : Bool) → (if same then None else Some (Changed e.low e.high new)) ≡ Some change →
+        IsChange change (front ++ (e.low, e.high, old) ∷ back) (front ++ (e.low, e.high, new) ∷ back)
     by true it = absurd (none-some change it)
-    by false it = subst (λ x. IsChange x (front ++ (e.low, e.high, old) ∷ back) (front ++ (e.low, e.high, new) ∷ back)) (same_Some _ _ it) (law front back e.low e.high old new m).changed
+    by false it = subst (λ x. IsChange x (front ++ (e.low, e.high, old) ∷ back) (front ++ (e.low, e.high, new) ∷ back))
+        (same_Some _ _ it) (law front back e.low e.high old new m).changed
 
-no_change_is : (front back : Edges) (e : Ends) (before after : Option ℕ) → edge_change e before after ≡ None → front ++ with_edge e before back ≡ front ++ with_edge e after back
+no_change_is : (front back : Edges) (e : Ends) (before after : Option ℕ) → edge_change e before after ≡ None →
+    front ++ with_edge e before back ≡ front ++ with_edge e after back
 no_change_is front back e None None is = refl
 no_change_is front back e None (Some new) is = absurd (none-some _ (sym is))
 no_change_is front back e (Some old) None is = absurd (none-some _ (sym is))
 no_change_is front back e (Some old) (Some new) is = by (old == new) refl is
   where
-    by : (same : Bool) → (old == new) ≡ same → (if same then None else Some (Changed e.low e.high new)) ≡ None → front ++ (e.low, e.high, old) ∷ back ≡ front ++ (e.low, e.high, new) ∷ back
+    by : (same : Bool) → (old == new) ≡ same → (if same then None else Some (Changed e.low e.high new)) ≡ None →
+        front ++ (e.low, e.high, old) ∷ back ≡ front ++ (e.low, e.high, new) ∷ back
     by true at it = ap (λ m. front ++ (e.low, e.high, m) ∷ back) (equal_numbers old new at)
     by false at it = absurd (none-some _ (sym it))
 
@@ -64,7 +74,8 @@ no_change_is front back e (Some old) (Some new) is = by (old == new) refl is
 
 -- an edge has one of its ends among those where the one edge is another, or is there besides
 module _ (e : Ends) (back : Edges) where
-  joined_behind : (before after : Option ℕ) → (is_some before ≡ true → is_some after ≡ true) → (u v : Addr) (m : ℕ) → Contains (with_edge e before back) (u, v, m) → (n : ℕ) × Contains (with_edge e after back) (u, v, n)
+  joined_behind : (before after : Option ℕ) → (is_some before ≡ true → is_some after ≡ true) → (u v : Addr) (m : ℕ) →
+      Contains (with_edge e before back) (u, v, m) → (n : ℕ) × Contains (with_edge e after back) (u, v, n)
   joined_behind None None still u v m h = (m, h)
   joined_behind None (Some new) still u v m h = (m, (suc h.0, omega (arith, h.1), h.2))
   joined_behind (Some old) None still u v m h = absurd (true≢false (sym (still refl)))
@@ -75,7 +86,8 @@ module _ (e : Ends) (back : Edges) where
   joined_behind (Some old) (Some new) still u v m (suc k, lt, h) = (m, (suc k, omega (arith, lt), h))
 
   module _ (front : Edges) (before after : Option ℕ) (still : is_some before ≡ true → is_some after ≡ true) where
-    joined_in : (u v : Addr) (m : ℕ) → Contains (front ++ with_edge e before back) (u, v, m) → (n : ℕ) × Contains (front ++ with_edge e after back) (u, v, n)
+    joined_in : (u v : Addr) (m : ℕ) → Contains (front ++ with_edge e before back) (u, v, m) → (n : ℕ)
+        × Contains (front ++ with_edge e after back) (u, v, n)
     joined_in u v m h = elim (Contains-append_cases front (with_edge e before back) (u, v, m) h) [
       | inl early ↦ (m, Contains-append_left front (with_edge e after back) (u, v, m) early)
       | inr late ↦
@@ -96,10 +108,12 @@ up_is (Some l) = by l.up
     by true = refl
     by false = refl
 
-edge_at : (e : Ends) (link : TheLink) (back : List (Ends × TheLink)) → filter_map edge_of ((e, link) ∷ back) ≡ with_edge e (metric_of (Some link)) (filter_map edge_of back)
+edge_at : (e : Ends) (link : TheLink) (back : List (Ends × TheLink)) →
+    filter_map edge_of ((e, link) ∷ back) ≡ with_edge e (metric_of (Some link)) (filter_map edge_of back)
 edge_at e link back = by link.up
   where
-    by : (up : Bool) → cons_option (if up then Some (e.low, e.high, link.metric) else None) (filter_map edge_of back) ≡ with_edge e (if up then Some link.metric else None) (filter_map edge_of back)
+    by : (up : Bool) → cons_option (if up then Some (e.low, e.high, link.metric) else None) (filter_map edge_of back)
+        ≡ with_edge e (if up then Some link.metric else None) (filter_map edge_of back)
     by true = refl
     by false = refl
 
@@ -111,7 +125,8 @@ metric_holds (Some l) all = by l.up
     by true = all
     by false = tt
 
-module _ (c : Configuration) (a b : Addr) (link : TheLink) (sorted : IsStrictlySortedBy ends_cmp (keys_of c.links)) where
+module _ (c : Configuration) (a b : Addr) (link : TheLink)
+    (sorted : IsStrictlySortedBy ends_cmp (keys_of c.links)) where
   abbrev e : Ends
   e = ends_of a b
 
@@ -124,44 +139,59 @@ module _ (c : Configuration) (a b : Addr) (link : TheLink) (sorted : IsStrictlyS
   abbrev back : Edges
   back = filter_map edge_of parts.back
 
-  before_is : (before : Option TheLink) → link_between c a b ≡ before → edges_of c ≡ front ++ with_edge e (metric_of before) back
+  before_is : (before : Option TheLink) → link_between c a b ≡ before →
+      edges_of c ≡ front ++ with_edge e (metric_of before) back
   before_is None is = ap (filter_map edge_of) (parts.was.0 is) ∙ filter_map-append edge_of parts.front parts.back
-  before_is (Some l) is = ap (filter_map edge_of) (parts.was.1 l is) ∙ filter_map-append edge_of parts.front ((e, l) ∷ parts.back) ∙ ap (λ es. front ++ es) (edge_at e l parts.back)
+  before_is (Some l) is = ap (filter_map edge_of) (parts.was.1 l is)
+      ∙ filter_map-append edge_of parts.front ((e, l) ∷ parts.back) ∙ ap (λ es. front ++ es) (edge_at e l parts.back)
 
   after_is : edges_of (with_link c a b link) ≡ front ++ with_edge e (metric_of (Some link)) back
-  after_is = ap (filter_map edge_of) parts.is ∙ filter_map-append edge_of parts.front ((e, link) ∷ parts.back) ∙ ap (λ es. front ++ es) (edge_at e link parts.back)
+  after_is = ap (filter_map edge_of) parts.is ∙ filter_map-append edge_of parts.front ((e, link) ∷ parts.back)
+      ∙ ap (λ es. front ++ es) (edge_at e link parts.back)
 
   link_after : link_between (with_link c a b link) a b ≡ Some link
-  link_after = found_in ends_cmp ends_exact e link ends_total e c.links ∙ ap (λ t. if t then Some link else link_between c a b) (itself e)
+  link_after = found_in ends_cmp ends_exact e link ends_total e c.links
+      ∙ ap (λ t. if t then Some link else link_between c a b) (itself e)
     where
       itself : (x : Ends) → is_at (ends_cmp x) x ≡ true
       itself x = ap is_eq (tied_itself ends_total x)
 
-  edges_changed : OneEdgeIsAChange → (change : Change) → IfSome (link_between c a b) (λ l. IsMetric l.metric) → IsMetric link.metric → edge_change e (metric_up c a b) (metric_of (Some link)) ≡ Some change → IsChange change (edges_of c) (edges_of (with_link c a b link))
+  edges_changed : OneEdgeIsAChange → (change : Change) → IfSome (link_between c a b) (λ l. IsMetric l.metric) →
+      IsMetric link.metric → edge_change e (metric_up c a b) (metric_of (Some link)) ≡ Some change →
+      IsChange change (edges_of c) (edges_of (with_link c a b link))
   edges_changed law change m n is =
       subst (λ es. IsChange change es (edges_of (with_link c a b link))) (sym (before_is (link_between c a b) refl))
       (subst (λ es. IsChange change (front ++ with_edge e (metric_up c a b) back) es) (sym after_is)
-      (change_is law front back e (metric_up c a b) (metric_of (Some link)) change (metric_holds (link_between c a b) m) (metric_holds (Some link) n) is))
+      (change_is law front back e (metric_up c a b) (metric_of (Some link)) change (metric_holds (link_between c a b) m)
+      (metric_holds (Some link) n) is))
 
-  edges_stay : edge_change e (metric_up c a b) (metric_of (Some link)) ≡ None → edges_of (with_link c a b link) ≡ edges_of c
-  edges_stay is = after_is ∙ sym (no_change_is front back e (metric_up c a b) (metric_of (Some link)) is) ∙ sym (before_is (link_between c a b) refl)
+  edges_stay : edge_change e (metric_up c a b) (metric_of (Some link)) ≡ None →
+      edges_of (with_link c a b link) ≡ edges_of c
+  edges_stay is = after_is ∙ sym (no_change_is front back e (metric_up c a b) (metric_of (Some link)) is)
+      ∙ sym (before_is (link_between c a b) refl)
 
-  joined_after : (is_some (metric_up c a b) ≡ true → is_some (metric_of (Some link)) ≡ true) → JoinAllOf (edges_of c) (edges_of (with_link c a b link))
+  joined_after : (is_some (metric_up c a b) ≡ true → is_some (metric_of (Some link)) ≡ true) →
+      JoinAllOf (edges_of c) (edges_of (with_link c a b link))
   joined_after still =
       subst (λ es. JoinAllOf es (edges_of (with_link c a b link))) (sym (before_is (link_between c a b) refl))
       (subst (λ es. JoinAllOf (front ++ with_edge e (metric_up c a b) back) es) (sym after_is)
       (all_joined e back front (metric_up c a b) (metric_of (Some link)) still))
 
-  joined_before : (is_some (metric_of (Some link)) ≡ true → is_some (metric_up c a b) ≡ true) → JoinAllOf (edges_of (with_link c a b link)) (edges_of c)
+  joined_before : (is_some (metric_of (Some link)) ≡ true → is_some (metric_up c a b) ≡ true) →
+      JoinAllOf (edges_of (with_link c a b link)) (edges_of c)
   joined_before still =
       subst (λ es. JoinAllOf (edges_of (with_link c a b link)) es) (sym (before_is (link_between c a b) refl))
       (subst (λ es. JoinAllOf es (front ++ with_edge e (metric_up c a b) back)) (sym after_is)
       (all_joined e back front (metric_of (Some link)) (metric_up c a b) still))
 
--- where the link does not go down, the edges join all that they joined, and where it does not come up, no more than they joined
-module _ (c d : Configuration) (a b : Addr) (sorted : IsStrictlySortedBy ends_cmp (keys_of c.links)) (linked : IsLinked c d a b) where
+-- where the link does not go down, the edges join all that they joined, and where it does not come up, no more than
+-- they joined
+module _ (c d : Configuration) (a b : Addr) (sorted : IsStrictlySortedBy ends_cmp (keys_of c.links))
+    (linked : IsLinked c d a b) where
   up_after : is_some (metric_of (Some linked.link)) ≡ has_link_up d a b
-  up_after = up_is (Some linked.link) ∙ sym (ap (λ x. has_link_up x a b) linked.is ∙ ap (λ o. unwrap_or (option_map (λ (l : TheLink). l.up) o) false) (link_after c a b linked.link sorted))
+  up_after = up_is (Some linked.link)
+      ∙ sym (ap (λ x. has_link_up x a b) linked.is
+      ∙ ap (λ o. unwrap_or (option_map (λ (l : TheLink). l.up) o) false) (link_after c a b linked.link sorted))
 
   up_before : is_some (metric_up c a b) ≡ has_link_up c a b
   up_before = up_is (link_between c a b)
@@ -177,24 +207,33 @@ module _ (c d : Configuration) (a b : Addr) (sorted : IsStrictlySortedBy ends_cm
       (joined_before c a b linked.link sorted (λ up. up_before ∙ still (sym up_after ∙ up)))
 
 -- the metrics of two configurations, of which the one is the other with a link, tell what changes of the edges
-module _ (c d : Configuration) (a b : Addr) (sound : IsSound c) (after : IsSound d) (sorted : IsStrictlySortedBy ends_cmp (keys_of c.links)) (linked : IsLinked c d a b) where
+module _ (c d : Configuration) (a b : Addr) (sound : IsSound c) (after : IsSound d)
+    (sorted : IsStrictlySortedBy ends_cmp (keys_of c.links)) (linked : IsLinked c d a b) where
   metric_after : metric_up d a b ≡ metric_of (Some linked.link)
   metric_after = ap (λ x. metric_up x a b) linked.is ∙ ap metric_of (link_after c a b linked.link sorted)
 
   metric_is : IsMetric linked.link.metric
-  metric_is = subst (λ o. IfSome o (λ l. IsMetric l.metric)) (ap (λ x. link_between x a b) linked.is ∙ link_after c a b linked.link sorted) (IfSome-lookup_from_All (λ l. IsMetric l.metric) (is_at (ends_cmp (ends_of a b))) d.links after.metrics)
+  metric_is = subst (λ o. IfSome o (λ l. IsMetric l.metric)) (ap (λ x. link_between x a b) linked.is
+      ∙ link_after c a b linked.link sorted)
+      (IfSome-lookup_from_All (λ l. IsMetric l.metric) (is_at (ends_cmp (ends_of a b))) d.links after.metrics)
 
-  pub changed_by : OneEdgeIsAChange → (change : Change) → edge_change (ends_of a b) (metric_up c a b) (metric_up d a b) ≡ Some change → IsChange change (edges_of c) (edges_of d)
+  pub changed_by : OneEdgeIsAChange → (change : Change) → edge_change (ends_of a b) (metric_up c a b) (metric_up d a b)
+      ≡ Some change → IsChange change (edges_of c) (edges_of d)
   changed_by law change is =
       subst (λ x. IsChange change (edges_of c) (edges_of x)) (sym linked.is)
-      (edges_changed c a b linked.link sorted law change (IfSome-lookup_from_All (λ l. IsMetric l.metric) (is_at (ends_cmp (ends_of a b))) c.links sound.metrics) metric_is
+      (edges_changed c a b linked.link sorted law change
+      (IfSome-lookup_from_All (λ l. IsMetric l.metric) (is_at (ends_cmp (ends_of a b))) c.links sound.metrics)
+      metric_is
       (ap (edge_change (ends_of a b) (metric_up c a b)) (sym metric_after) ∙ is))
 
   pub edges_same : edge_change (ends_of a b) (metric_up c a b) (metric_up d a b) ≡ None → edges_of d ≡ edges_of c
-  edges_same is = ap edges_of linked.is ∙ edges_stay c a b linked.link sorted (ap (edge_change (ends_of a b) (metric_up c a b)) (sym metric_after) ∙ is)
+  edges_same is = ap edges_of linked.is
+      ∙ edges_stay c a b linked.link sorted (ap (edge_change (ends_of a b) (metric_up c a b)) (sym metric_after) ∙ is)
 
 -- the trees that are kept are from before the change
-pub were_trees : (c d : Configuration) (a b : Addr) (trees : List (Addr × Reached)) (change : Change) → TreeOfIsATree → IsSound c → IsStrictlySortedBy addr_cmp (keys_of c.nodes) → IsLinked c d a b → AreKept c trees → IsChange change (edges_of c) (edges_of d) → WereTrees change (nodes_of d) (edges_of d) trees
+pub were_trees : (c d : Configuration) (a b : Addr) (trees : List (Addr × Reached)) (change : Change) → TreeOfIsATree →
+    IsSound c → IsStrictlySortedBy addr_cmp (keys_of c.nodes) → IsLinked c d a b → AreKept c trees →
+    IsChange change (edges_of c) (edges_of d) → WereTrees change (nodes_of d) (edges_of d) trees
 were_trees c d a b trees change law sound sorted linked kept changes r t found =
     let there = kept_is c r t (sym (kept r) ∙ found) in
     let node : IsTrue (is_node (nodes_of c) r) = same_node c r ∙ end_node c r sound there.0 in
@@ -205,5 +244,9 @@ were_trees c d a b trees change law sound sorted linked kept changes r t found =
     (record {
       source = tree.source;
       node = node;
-      was = record { before = edges_of c; changes = changes; was = subst (λ s. IsTreeOf (nodes_of c) (edges_of c) s (costs_of c r)) (sym tree.source) tree };
+      was = record {
+        before = edges_of c;
+        changes = changes;
+        was = subst (λ s. IsTreeOf (nodes_of c) (edges_of c) s (costs_of c r)) (sym tree.source) tree;
+      };
     }))

@@ -34,11 +34,14 @@ use Rattle.net_conf.proofs.Concerns.{own_costs, up_turned}
 use Rattle.net_conf.proofs.TreesAfter.{linked_after}
 
 -- where the router's part and its ends stay, so does its site
-pub same_kept : (c d : Configuration) (r : Addr) → StaysAt c d r → ends_session d r ≡ ends_session c r → site_kept d r ≡ site_kept c r
+pub same_kept : (c d : Configuration) (r : Addr) → StaysAt c d r → ends_session d r ≡ ends_session c r →
+    site_kept d r ≡ site_kept c r
 same_kept c d r stays ends = ap (λ t. if t then router_site d r else None) ends ∙ by (ends_session c r) refl
   where
-    by : (t : Bool) → ends_session c r ≡ t → (if t then router_site d r else None) ≡ (if t then router_site c r else None)
-    by true is = stays.facts ∙ ap (λ x. option_map (λ (s : SiteConf). record s { costs = x }) (router_site c r)) (stays.costs is) ∙ own_costs c r
+    by : (t : Bool) → ends_session c r ≡ t →
+        (if t then router_site d r else None) ≡ (if t then router_site c r else None)
+    by true is = stays.facts ∙ ap (λ x. option_map (λ (s : SiteConf). record s { costs = x }) (router_site c r))
+        (stays.costs is) ∙ own_costs c r
     by false is = refl
 
 -- the site of an end of a session
@@ -49,11 +52,13 @@ kept_there c r is = ap (λ t. if t then router_site c r else None) is
 pub made_then : (c : Configuration) (r : Addr) → site_kept c r ≡ None → site_made c r ≡ router_site c r
 made_then c r none = by (ends_session c r) none
   where
-    by : (t : Bool) → (if t then router_site c r else None) ≡ None → (if t then None else router_site c r) ≡ router_site c r
+    by : (t : Bool) → (if t then router_site c r else None) ≡ None →
+        (if t then None else router_site c r) ≡ router_site c r
     by true is = sym is
     by false is = refl
 
-pub kept_then : (c : Configuration) (r : Addr) (site : SiteConf) → site_kept c r ≡ Some site → router_site c r ≡ Some site
+pub kept_then : (c : Configuration) (r : Addr) (site : SiteConf) → site_kept c r ≡ Some site →
+    router_site c r ≡ Some site
 kept_then c r site is = by (ends_session c r) is
   where
     by : (t : Bool) → (if t then router_site c r else None) ≡ Some site → router_site c r ≡ Some site
@@ -65,7 +70,8 @@ kept_then c r site is = by (ends_session c r) is
 pub relinked_by : (c d : Configuration) (a b : Addr) → IsLinked c d a b → IsRelinked c d
 relinked_by c d a b linked = linked.is ∙ ap (λ (x : Configuration). record c { links = x.links }) (sym linked.is)
 
-pub relinked_after : (c : Configuration) (e : Edit) → refusal_of c e ≡ None → is_some (link_in e) ≡ true → IsRelinked c (edited c e)
+pub relinked_after : (c : Configuration) (e : Edit) → refusal_of c e ≡ None → is_some (link_in e) ≡ true →
+    IsRelinked c (edited c e)
 relinked_after c e none some = by (link_in e) refl some
   where
     by : (o : Option (Addr × Addr)) → link_in e ≡ o → is_some o ≡ true → IsRelinked c (edited c e)
@@ -87,15 +93,19 @@ module _ (c : Configuration) (links : List (Ends × Link)) (r : Addr) where
       one : (n : Node) → site_at with_links r n ≡ relinked with_links r (site_at c r n)
       one n = ap (λ xs. record (site_at with_links r n) { sessions = xs }) (each_asked (peers_of c r))
 
-      by : (o : Option Node) → (if unwrap_or (option_map (λ n. is_kind_virtual n.kind) o) false then None else option_map (site_at with_links r) o) ≡ option_map (relinked with_links r) (if unwrap_or (option_map (λ n. is_kind_virtual n.kind) o) false then None else option_map (site_at c r) o)
+      by : (o : Option Node) → (if unwrap_or (option_map (λ n. is_kind_virtual n.kind) o) false then None
+          else option_map (site_at with_links r) o) ≡ option_map (relinked with_links r)
+          (if unwrap_or (option_map (λ n. is_kind_virtual n.kind) o) false then None else option_map (site_at c r) o)
       by None = refl
       by (Some n) = at (is_kind_virtual n.kind)
         where
-          at : (virtual : Bool) → (if virtual then None else Some (site_at with_links r n)) ≡ option_map (relinked with_links r) (if virtual then None else Some (site_at c r n))
+          at : (virtual : Bool) → (if virtual then None else Some (site_at with_links r n))
+              ≡ option_map (relinked with_links r) (if virtual then None else Some (site_at c r n))
           at true = refl
           at false = ap Some (one n)
 
-pub site_after_link : (c d : Configuration) (r : Addr) → IsRelinked c d → router_site d r ≡ option_map (relinked d r) (router_site c r)
+pub site_after_link : (c d : Configuration) (r : Addr) → IsRelinked c d →
+    router_site d r ≡ option_map (relinked d r) (router_site c r)
 site_after_link c d r is =
     ap (λ x. router_site x r) is
     ∙ site_with_links c d.links r
@@ -114,13 +124,16 @@ module _ (c d : Configuration) (r : Addr) (same : (u : Addr) → is_up d u r ≡
   unfolding site_of
   sessions_stay_in site is = by (node_at c r) is
     where
-      by : (o : Option Node) → (if unwrap_or (option_map (λ n. is_kind_virtual n.kind) o) false then None else option_map (site_at c r) o) ≡ Some site → map (asked d r) site.sessions ≡ site.sessions
+      by : (o : Option Node) → (if unwrap_or (option_map (λ n. is_kind_virtual n.kind) o) false then None
+          else option_map (site_at c r) o) ≡ Some site → map (asked d r) site.sessions ≡ site.sessions
       by None it = absurd (none-some site it)
       by (Some n) it = at (is_kind_virtual n.kind) it
         where
-          at : (virtual : Bool) → (if virtual then None else Some (site_at c r n)) ≡ Some site → map (asked d r) site.sessions ≡ site.sessions
+          at : (virtual : Bool) → (if virtual then None else Some (site_at c r n)) ≡ Some site →
+              map (asked d r) site.sessions ≡ site.sessions
           at true it = absurd (none-some site it)
-          at false it = subst (λ (s : SiteConf). map (asked d r) s.sessions ≡ s.sessions) (same_Some (site_at c r n) site it) (all_asked (peers_of c r))
+          at false it = subst (λ (s : SiteConf). map (asked d r) s.sessions ≡ s.sessions)
+              (same_Some (site_at c r n) site it) (all_asked (peers_of c r))
 
 -- ONE SITE MORE
 
@@ -128,7 +141,9 @@ turned : (a r : Addr) → is_at (addr_cmp a) r ≡ is_at (addr_cmp r) a
 turned a r = sym (unsigned_ties a.0 r.0) ∙ nat_eq_equiv.symm a.0 r.0 ∙ unsigned_ties r.0 a.0
 
 -- one more of the routers
-pub one_renewed : (f : Addr → Option SiteConf) (old : Option SiteConf) (r : Addr) (xs : List Addr) (i : ℕ) (d : Addr) → i < length xs → cond (is_at (addr_cmp (get_or xs i d)) r) (f (get_or xs i d)) (cond (is_among r (take i xs)) (f r) old) ≡ cond (is_among r (take (i + 1) xs)) (f r) old
+pub one_renewed : (f : Addr → Option SiteConf) (old : Option SiteConf) (r : Addr) (xs : List Addr) (i : ℕ) (d : Addr) →
+    i < length xs → cond (is_at (addr_cmp (get_or xs i d)) r) (f (get_or xs i d))
+    (cond (is_among r (take i xs)) (f r) old) ≡ cond (is_among r (take (i + 1) xs)) (f r) old
 one_renewed f old r xs i d lt =
     ap (λ t. cond t (f x) (cond (is_among r (take i xs)) (f r) old)) (turned x r)
     ∙ by (is_at (addr_cmp r) x) (is_among r (take i xs)) refl
@@ -151,9 +166,16 @@ either_kept new old false same = sym (same refl)
 -- ONE SITE PUT IN, OR TAKEN OUT
 
 -- what is found after the router's own is put in
-pub site_put : (a r : Addr) (site : SiteConf) (es : List (Addr × SiteConf)) → lookup (is_at (addr_cmp r)) (insert_entry addr_cmp es a site) ≡ cond (is_at (addr_cmp a) r) (Some site) (lookup (is_at (addr_cmp r)) es)
-site_put a r site es = found_in addr_cmp addr_exact a site addr_total r es ∙ ap (λ t. cond t (Some site) (lookup (is_at (addr_cmp r)) es)) (sym (turned a r))
+pub site_put : (a r : Addr) (site : SiteConf) (es : List (Addr × SiteConf)) →
+    lookup (is_at (addr_cmp r)) (insert_entry addr_cmp es a site) ≡ cond (is_at (addr_cmp a) r) (Some site)
+    (lookup (is_at (addr_cmp r)) es)
+site_put a r site es = found_in addr_cmp addr_exact a site addr_total r es
+    ∙ ap (λ t. cond t (Some site) (lookup (is_at (addr_cmp r)) es)) (sym (turned a r))
 
 -- and after it is taken out
-pub site_taken : (a r : Addr) (es : List (Addr × SiteConf)) → IsStrictlySortedBy addr_cmp (keys_of es) → lookup (is_at (addr_cmp r)) (remove_entry (is_at (addr_cmp a)) es) ≡ cond (is_at (addr_cmp a) r) None (lookup (is_at (addr_cmp r)) es)
-site_taken a r es sorted = lookup-remove_entry (eq_by_cmp_equiv addr_total) (is_at (addr_cmp a)) (λ x y is. ap is_eq (addr_total.congr a x y (equal_when (addr_cmp a x) is))) r es (IsDistinct-from_sorted addr_cmp (keys_of es) sorted)
+pub site_taken : (a r : Addr) (es : List (Addr × SiteConf)) → IsStrictlySortedBy addr_cmp (keys_of es) →
+    lookup (is_at (addr_cmp r)) (remove_entry (is_at (addr_cmp a)) es) ≡ cond (is_at (addr_cmp a) r) None
+    (lookup (is_at (addr_cmp r)) es)
+site_taken a r es sorted = lookup-remove_entry (eq_by_cmp_equiv addr_total) (is_at (addr_cmp a))
+    (λ x y is. ap is_eq (addr_total.congr a x y (equal_when (addr_cmp a x) is))) r es
+    (IsDistinct-from_sorted addr_cmp (keys_of es) sorted)

@@ -55,13 +55,16 @@ ends_turned a b = ends_by (nat_le a.0 b.0) (nat_le b.0 a.0) a b refl refl
 
 -- a session of the two is one of the two in the other order
 pub session_turned : (c : Configuration) (a b : Addr) → has_session c a b ≡ true → has_session c b a ≡ true
-session_turned c a b is = ap (λ e. is_some (lookup (is_at (ends_cmp e)) c.sessions)) (ends_by (nat_le b.0 a.0) (nat_le a.0 b.0) b a refl refl) ∙ is
+session_turned c a b is = ap (λ e. is_some (lookup (is_at (ends_cmp e)) c.sessions))
+    (ends_by (nat_le b.0 a.0) (nat_le a.0 b.0) b a refl refl) ∙ is
 
 -- who is an end of the ends of two is one of the two
 pub end_of_two : (r a b : Addr) → is_end r (ends_of a b) ≡ (is_at (addr_cmp r) a || is_at (addr_cmp r) b)
-end_of_two r a b = by (nat_le a.0 b.0) ∙ both (nat_eq_equiv.symm a.0 r.0 ∙ unsigned_ties r.0 a.0) (nat_eq_equiv.symm b.0 r.0 ∙ unsigned_ties r.0 b.0)
+end_of_two r a b = by (nat_le a.0 b.0)
+    ∙ both (nat_eq_equiv.symm a.0 r.0 ∙ unsigned_ties r.0 a.0) (nat_eq_equiv.symm b.0 r.0 ∙ unsigned_ties r.0 b.0)
   where
-    by : (le : Bool) → is_end r (if le then record { low = a; high = b } else record { low = b; high = a }) ≡ (a.0 == r.0 || b.0 == r.0)
+    by : (le : Bool) → is_end r (if le then record { low = a; high = b } else record { low = b; high = a })
+        ≡ (a.0 == r.0 || b.0 == r.0)
     by true = refl
     by false = or_comm (b.0 == r.0) (a.0 == r.0)
 
@@ -78,30 +81,40 @@ pub or_right : (t : Bool) {u : Bool} → u ≡ true → (t || u) ≡ true
 or_right true is = refl
 or_right false is = is
 
-ends_found : (a : Addr) (e : Ends) → is_end a e ≡ true → (sessions : List (Ends × Bool)) → is_some (lookup (is_at (ends_cmp e)) sessions) ≡ true → list_any (λ s. is_end a s.0) sessions ≡ true
+ends_found : (a : Addr) (e : Ends) → is_end a e ≡ true → (sessions : List (Ends × Bool)) →
+    is_some (lookup (is_at (ends_cmp e)) sessions) ≡ true → list_any (λ s. is_end a s.0) sessions ≡ true
 ends_found a e is [] found = absurd (true≢false (sym found))
 ends_found a e is (s ∷ sessions) found = by (is_at (ends_cmp e) s.0) refl (ends_found a e is sessions)
   where
-    by : (t : Bool) → is_at (ends_cmp e) s.0 ≡ t → (is_some (lookup (is_at (ends_cmp e)) sessions) ≡ true → list_any (λ s. is_end a s.0) sessions ≡ true) → (is_end a s.0 || list_any (λ s. is_end a s.0) sessions) ≡ true
-    by true at rest = ap (λ t. t || list_any (λ s. is_end a s.0) sessions) (ap (is_end a) (sym (same_ends e s.0 at)) ∙ is)
-    by false at rest = or_right (is_end a s.0) (rest (sym (ap (λ t. is_some (cond t (Some s.1) (lookup (is_at (ends_cmp e)) sessions))) at) ∙ found))
+    by : (t : Bool) → is_at (ends_cmp e) s.0 ≡ t →
+        (is_some (lookup (is_at (ends_cmp e)) sessions) ≡ true → list_any (λ s. is_end a s.0) sessions ≡ true) →
+        (is_end a s.0 || list_any (λ s. is_end a s.0) sessions) ≡ true
+    by true at rest = ap (λ t. t || list_any (λ s. is_end a s.0) sessions) (ap (is_end a) (sym (same_ends e s.0 at))
+        ∙ is)
+    by false at rest = or_right (is_end a s.0)
+        (rest (sym (ap (λ t. is_some (cond t (Some s.1) (lookup (is_at (ends_cmp e)) sessions))) at) ∙ found))
 
 -- a session has its first end
 pub session_ends : (c : Configuration) (a b : Addr) → has_session c a b ≡ true → ends_session c a ≡ true
 session_ends c a b is = ends_found a (ends_of a b) (first_of_two a b) c.sessions is
 
 -- an end of a session is a node
-pub node_of_end : (c : Configuration) (r : Addr) → All (HasEnds c) (keys_of c.sessions) → ends_session c r ≡ true → has_node c r ≡ true
+pub node_of_end : (c : Configuration) (r : Addr) → All (HasEnds c) (keys_of c.sessions) → ends_session c r ≡ true →
+    has_node c r ≡ true
 node_of_end c r ends is = among c.sessions ends is
   where
-    one : (e : Ends) (t u : Bool) → e.low.0 == r.0 ≡ t → e.high.0 == r.0 ≡ u → HasEnds c e → (rest : Bool) → (rest ≡ true → has_node c r ≡ true) → ((t || u) || rest) ≡ true → has_node c r ≡ true
+    one : (e : Ends) (t u : Bool) → e.low.0 == r.0 ≡ t → e.high.0 == r.0 ≡ u → HasEnds c e → (rest : Bool) →
+        (rest ≡ true → has_node c r ≡ true) → ((t || u) || rest) ≡ true → has_node c r ≡ true
     one e true u low high has rest later is = subst (λ x. has_node c x ≡ true) (same_address e.low r low) has.0
     one e false true low high has rest later is = subst (λ x. has_node c x ≡ true) (same_address e.high r high) has.1
     one e false false low high has rest later is = later is
 
-    among : (sessions : List (Ends × Bool)) → All (HasEnds c) (keys_of sessions) → list_any (λ s. is_end r s.0) sessions ≡ true → has_node c r ≡ true
+    among : (sessions : List (Ends × Bool)) → All (HasEnds c) (keys_of sessions) →
+        list_any (λ s. is_end r s.0) sessions ≡ true → has_node c r ≡ true
     among [] all is = absurd (true≢false (sym is))
-    among (s ∷ sessions) all is = one s.0 (s.0.low.0 == r.0) (s.0.high.0 == r.0) refl refl (All-head (HasEnds c) s.0 (keys_of sessions) all) (list_any (λ s. is_end r s.0) sessions) (among sessions (All-tail (HasEnds c) s.0 (keys_of sessions) all)) is
+    among (s ∷ sessions) all is = one s.0 (s.0.low.0 == r.0) (s.0.high.0 == r.0) refl refl
+        (All-head (HasEnds c) s.0 (keys_of sessions) all) (list_any (λ s. is_end r s.0) sessions)
+        (among sessions (All-tail (HasEnds c) s.0 (keys_of sessions) all)) is
 
 pub end_node : (c : Configuration) (r : Addr) → IsSound c → ends_session c r ≡ true → has_node c r ≡ true
 end_node c r sound is = node_of_end c r sound.sessions is
@@ -111,7 +124,8 @@ pub tree_there : (c : Configuration) (a : Addr) → ends_session c a ≡ true �
 tree_there c a is = ap (λ t. if t then Some (costs_of c a) else None) is
 
 -- a tree that is kept is the address's, which is an end of a session
-pub kept_is : (c : Configuration) (a : Addr) (t : Reached) → tree_kept c a ≡ Some t → (ends_session c a ≡ true) × (t ≡ costs_of c a)
+pub kept_is : (c : Configuration) (a : Addr) (t : Reached) → tree_kept c a ≡ Some t → (ends_session c a ≡ true)
+    × (t ≡ costs_of c a)
 kept_is c a t is = by (ends_session c a) is
   where
     by : (ends : Bool) → (if ends then Some (costs_of c a) else None) ≡ Some t → (ends ≡ true) × (t ≡ costs_of c a)

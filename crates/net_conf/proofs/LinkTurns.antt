@@ -49,10 +49,12 @@ both_so is is' = λ i. is i && is' i
 
 module _ (laws : HasLaws) where
   -- the cost by a tree is the least
-  cost_is : (c : Configuration) → IsOrderly c → (x y : Addr) → has_node c x ≡ true → cost c x y ≡ least_cost (nodes_of c) (edges_of c) x y
+  cost_is : (c : Configuration) → IsOrderly c → (x y : Addr) → has_node c x ≡ true →
+      cost c x y ≡ least_cost (nodes_of c) (edges_of c) x y
   cost_is c ok x y node =
       laws.one (nodes_of c) (edges_of c) x y (cost c x y) (least_cost (nodes_of c) (edges_of c) x y)
-      ((laws.trees (nodes_of c) (edges_of c) (topology c ok.sound ok.nodes) (edge_metrics c ok.sound) x (same_node c x ∙ node)).costs y)
+      ((laws.trees (nodes_of c) (edges_of c) (topology c ok.sound ok.nodes) (edge_metrics c ok.sound) x
+      (same_node c x ∙ node)).costs y)
       (laws.least (nodes_of c) (edges_of c) x y)
 
   module _ (c d : Configuration) (before : IsOrderly c) (after : IsOrderly d) (keeps : Keeps c d) where
@@ -61,7 +63,8 @@ module _ (laws : HasLaws) where
         let there : has_node d x ≡ true = ap (λ ns. is_some (lookup (is_at (addr_cmp x)) ns)) keeps.nodes ∙ node in
         let same : nodes_of d ≡ nodes_of c = ap nodes_in keeps.nodes in
         ap is_some (cost_is d after x y there ∙ ap (λ ns. least_cost ns (edges_of d) x y) same)
-        ∙ laws.more (nodes_of c) (edges_of c) (edges_of d) keeps.joined x y (sym (ap is_some (cost_is c before x y node)) ∙ some)
+        ∙ laws.more (nodes_of c) (edges_of c) (edges_of d) keeps.joined x y
+        (sym (ap is_some (cost_is c before x y node)) ∙ some)
       where
         nodes_in : List (Addr × Node) → List (Addr × ℕ)
         nodes_in ns = map (λ e. (e.0, e.1.asn)) ns
@@ -78,24 +81,32 @@ module _ (laws : HasLaws) where
     connected : (x y : Addr) → has_session c x y ≡ true → is_connected c x y ≡ true → is_connected d x y ≡ true
     connected x y session is = by (is_external c x y) refl is
       where
-        by : (external : Bool) → is_external c x y ≡ external → (if external then has_link_up c x y else (is_some (cost c x y) && is_some (cost c y x))) ≡ true → is_connected d x y ≡ true
-        by true e it = ap (λ t. if t then has_link_up d x y else (is_some (cost d x y) && is_some (cost d y x))) (same_external x y ∙ e) ∙ keeps.up x y it
+        by : (external : Bool) → is_external c x y ≡ external →
+            (if external then has_link_up c x y else (is_some (cost c x y) && is_some (cost c y x))) ≡ true →
+            is_connected d x y ≡ true
+        by true e it = ap (λ t. if t then has_link_up d x y else (is_some (cost d x y) && is_some (cost d y x)))
+            (same_external x y ∙ e) ∙ keeps.up x y it
         by false e it =
             let costs = both_are (is_some (cost c x y)) (is_some (cost c y x)) it in
             let first : has_node c x ≡ true = end_node c x before.sound (session_ends c x y session) in
-            let second : has_node c y ≡ true = end_node c y before.sound (session_ends c y x (session_turned c x y session)) in
-            ap (λ t. if t then has_link_up d x y else (is_some (cost d x y) && is_some (cost d y x))) (same_external x y ∙ e)
+            let second : has_node c y ≡ true =
+            end_node c y before.sound (session_ends c y x (session_turned c x y session)) in
+            ap (λ t. if t then has_link_up d x y else (is_some (cost d x y) && is_some (cost d y x))) (same_external x y
+            ∙ e)
             ∙ both_so (reached x y first costs.0) (reached y x second costs.1)
 
     pub none_goes_down : NoneGoesDown c d
     unfolding session_up
     none_goes_down x y up = by (session_between c x y) refl up
       where
-        by : (o : Option Bool) → session_between c x y ≡ o → unwrap_or (option_map (λ enabled. enabled && is_connected c x y) o) false ≡ true → unwrap_or (option_map (λ enabled. enabled && is_connected d x y) (session_between d x y)) false ≡ true
+        by : (o : Option Bool) → session_between c x y ≡ o →
+            unwrap_or (option_map (λ enabled. enabled && is_connected c x y) o) false ≡ true →
+            unwrap_or (option_map (λ enabled. enabled && is_connected d x y) (session_between d x y)) false ≡ true
         by None is it = absurd (true≢false (sym it))
         by (Some enabled) is it =
             let parts = both_are enabled (is_connected c x y) it in
-            let there : session_between d x y ≡ Some enabled = ap (λ ss. lookup (is_at (ends_cmp (ends_of x y))) ss) keeps.sessions ∙ is in
+            let there : session_between d x y ≡ Some enabled =
+            ap (λ ss. lookup (is_at (ends_cmp (ends_of x y))) ss) keeps.sessions ∙ is in
             ap (λ o. unwrap_or (option_map (λ on. on && is_connected d x y) o) false) there
             ∙ both_so parts.0 (connected x y (ap is_some is) parts.1)
 
@@ -103,11 +114,15 @@ module _ (laws : HasLaws) where
 
 -- the links that are not the one that is put in
 module _ (c : Configuration) (a b : Addr) (link : TheLink) where
-  other_link : (x y : Addr) → is_at (ends_cmp (ends_of x y)) (ends_of a b) ≡ false → has_link_up (record c { links = insert_entry ends_cmp c.links (ends_of a b) link }) x y ≡ has_link_up c x y
-  other_link x y other = ap (λ o. unwrap_or (option_map (λ (l : TheLink). l.up) o) false) (lookup_with ends_cmp ends_exact (is_at (ends_cmp (ends_of x y))) (ends_of a b) other link c.links)
+  other_link : (x y : Addr) → is_at (ends_cmp (ends_of x y)) (ends_of a b) ≡ false →
+      has_link_up (record c { links = insert_entry ends_cmp c.links (ends_of a b) link }) x y ≡ has_link_up c x y
+  other_link x y other = ap (λ o. unwrap_or (option_map (λ (l : TheLink). l.up) o) false)
+      (lookup_with ends_cmp ends_exact (is_at (ends_cmp (ends_of x y))) (ends_of a b) other link c.links)
 
 -- what is so of the link of the two, and stays so of all others, is so of all
-all_up : (c d : Configuration) (a b : Addr) → (has_link_up c a b ≡ true → has_link_up d a b ≡ true) → ((x y : Addr) → is_at (ends_cmp (ends_of x y)) (ends_of a b) ≡ false → has_link_up d x y ≡ has_link_up c x y) → (x y : Addr) → has_link_up c x y ≡ true → has_link_up d x y ≡ true
+all_up : (c d : Configuration) (a b : Addr) → (has_link_up c a b ≡ true → has_link_up d a b ≡ true) →
+    ((x y : Addr) → is_at (ends_cmp (ends_of x y)) (ends_of a b) ≡ false → has_link_up d x y ≡ has_link_up c x y) →
+    (x y : Addr) → has_link_up c x y ≡ true → has_link_up d x y ≡ true
 all_up c d a b still others x y up = by (is_at (ends_cmp (ends_of x y)) (ends_of a b)) refl
   where
     up_in : Configuration → Ends → Bool
@@ -119,7 +134,8 @@ all_up c d a b still others x y up = by (is_at (ends_cmp (ends_of x y)) (ends_of
         ap (up_in d) same ∙ still (sym (ap (up_in c) same) ∙ up)
     by false at = others x y at ∙ up
 
-module _ (laws : HasLaws) (c d : Configuration) (a b : Addr) (before : IsOrderly c) (after : IsOrderly d) (sorted : IsStrictlySortedBy ends_cmp (keys_of c.links)) (linked : IsLinked c d a b) where
+module _ (laws : HasLaws) (c d : Configuration) (a b : Addr) (before : IsOrderly c) (after : IsOrderly d)
+    (sorted : IsStrictlySortedBy ends_cmp (keys_of c.links)) (linked : IsLinked c d a b) where
   others : (x y : Addr) → is_at (ends_cmp (ends_of x y)) (ends_of a b) ≡ false → has_link_up d x y ≡ has_link_up c x y
   others x y other = ap (λ z. has_link_up z x y) linked.is ∙ other_link c a b linked.link x y other
 

@@ -28,10 +28,12 @@ use Rattle.net_conf.proofs.TreesAfter.{node_is_new, others_stay, joined_after, e
 pub record NamesNot (e : Edit) (r : Addr) : Type 0 where
   pub router : (a : Addr) → router_in (scope e) ≡ Some a → is_at (addr_cmp r) a ≡ false
   pub node : (a : Addr) → node_in e ≡ Some a → is_at (addr_cmp r) a ≡ false
-  pub session : (a b : Addr) → session_in e ≡ Some (a, b) → (is_at (addr_cmp r) a ≡ false) × (is_at (addr_cmp r) b ≡ false)
+  pub session : (a b : Addr) → session_in e ≡ Some (a, b) → (is_at (addr_cmp r) a ≡ false)
+      × (is_at (addr_cmp r) b ≡ false)
 
 -- an edit of neither a link nor a session makes no session
-sessions_as_before : (c : Configuration) (e : Edit) → link_in e ≡ None → session_in e ≡ None → (edited c e).sessions ≡ c.sessions
+sessions_as_before : (c : Configuration) (e : Edit) → link_in e ≡ None → session_in e ≡ None →
+    (edited c e).sessions ≡ c.sessions
 sessions_as_before c (Router a n) link own = refl
 sessions_as_before c (Virtual a n) link own = refl
 sessions_as_before c (Link a b m) link own = absurd (none-some _ (sym link))
@@ -52,20 +54,26 @@ sessions_as_before c (Clear a b Export) link own = refl
 sessions_as_before c (Origin a p) link own = refl
 sessions_as_before c (NoOrigin a p) link own = refl
 
-module _ (law : LoneNodeMovesNoTree) (c : Configuration) (sound : IsSound c) (sorted : IsStrictlySortedBy addr_cmp (keys_of c.nodes)) (r : Addr) where
+module _ (law : LoneNodeMovesNoTree) (c : Configuration) (sound : IsSound c)
+    (sorted : IsStrictlySortedBy addr_cmp (keys_of c.nodes)) (r : Addr) where
   settings : (e : Edit) (a : Addr) → router_in (scope e) ≡ Some a → NamesNot e r → StaysAt c (edited c e) r
   settings e a is out = settings_concern c e a r is (unsigned_ties r.0 a.0 ∙ out.router a is)
 
   pub named_concerns : (e : Edit) → refusal_of c e ≡ None → link_in e ≡ None → NamesNot e r → StaysAt c (edited c e) r
-  named_concerns (Router a n) none link out = node_concerns law c a _ sound sorted (node_is_new c (Router a n) none) r (out.node a refl)
-  named_concerns (Virtual a n) none link out = node_concerns law c a _ sound sorted (node_is_new c (Virtual a n) none) r (out.node a refl)
+  named_concerns (Router a n) none link out =
+      node_concerns law c a _ sound sorted (node_is_new c (Router a n) none) r (out.node a refl)
+  named_concerns (Virtual a n) none link out =
+      node_concerns law c a _ sound sorted (node_is_new c (Virtual a n) none) r (out.node a refl)
   named_concerns (Link a b m) none link out = absurd (none-some _ (sym link))
   named_concerns (Metric a b m) none link out = absurd (none-some _ (sym link))
   named_concerns (Fail a b) none link out = absurd (none-some _ (sym link))
   named_concerns (Mend a b) none link out = absurd (none-some _ (sym link))
-  named_concerns (Join a b) none link out = let ends = out.session a b refl in session_concerns c a b r true ends.0 ends.1
-  named_concerns (Stop a b) none link out = let ends = out.session a b refl in session_concerns c a b r false ends.0 ends.1
-  named_concerns (Start a b) none link out = let ends = out.session a b refl in session_concerns c a b r true ends.0 ends.1
+  named_concerns (Join a b) none link out = let ends = out.session a b refl in
+      session_concerns c a b r true ends.0 ends.1
+  named_concerns (Stop a b) none link out = let ends = out.session a b refl in
+      session_concerns c a b r false ends.0 ends.1
+  named_concerns (Start a b) none link out = let ends = out.session a b refl in
+      session_concerns c a b r true ends.0 ends.1
   named_concerns (Client a b on) none link out = settings (Client a b on) a refl out
   named_concerns (OwnNext a b on) none link out = settings (OwnNext a b on) a refl out
   named_concerns (Cluster a id) none link out = settings (Cluster a id) a refl out
@@ -76,18 +84,22 @@ module _ (law : LoneNodeMovesNoTree) (c : Configuration) (sound : IsSound c) (so
   named_concerns (NoOrigin a p) none link out = settings (NoOrigin a p) a refl out
 
   -- who is not named ends a session as before
-  pub ends_not_named : (e : Edit) → refusal_of c e ≡ None → link_in e ≡ None → NamesNot e r → ends_session (edited c e) r ≡ ends_session c r
+  pub ends_not_named : (e : Edit) → refusal_of c e ≡ None → link_in e ≡ None → NamesNot e r →
+      ends_session (edited c e) r ≡ ends_session c r
   ends_not_named e none link out = by (session_in e) refl
     where
       by : (o : Option (Addr × Addr)) → session_in e ≡ o → ends_session (edited c e) r ≡ ends_session c r
       by None is = (others_stay law c e sound sorted (node_is_new c e none) link is).ends r
       by (Some p) is =
           let ends = out.session p.0 p.1 is in
-          ends_joined c (edited c e) p.0 p.1 (joined_after c e p.0 p.1 is) r ∙ (λ i. (ends.0 i || ends.1 i) || ends_session c r)
+          ends_joined c (edited c e) p.0 p.1 (joined_after c e p.0 p.1 is) r
+          ∙ (λ i. (ends.0 i || ends.1 i) || ends_session c r)
 
 -- without a session of its own it turns none
-module _ (law : LoneNodeMovesNoTree) (c : Configuration) (sound : IsSound c) (sorted : IsStrictlySortedBy addr_cmp (keys_of c.nodes)) where
-  up_as_before : (e : Edit) → refusal_of c e ≡ None → link_in e ≡ None → session_in e ≡ None → (u v : Addr) → is_up (edited c e) u v ≡ is_up c u v
+module _ (law : LoneNodeMovesNoTree) (c : Configuration) (sound : IsSound c)
+    (sorted : IsStrictlySortedBy addr_cmp (keys_of c.nodes)) where
+  up_as_before : (e : Edit) → refusal_of c e ≡ None → link_in e ≡ None → session_in e ≡ None → (u v : Addr) →
+      is_up (edited c e) u v ≡ is_up c u v
   up_as_before (Router a n) none link own u v = same_up law c a _ sound sorted (node_is_new c (Router a n) none) u v
   up_as_before (Virtual a n) none link own u v = same_up law c a _ sound sorted (node_is_new c (Virtual a n) none) u v
   up_as_before (Link a b m) none link own u v = absurd (none-some _ (sym link))
@@ -106,5 +118,7 @@ module _ (law : LoneNodeMovesNoTree) (c : Configuration) (sound : IsSound c) (so
   up_as_before (Origin a p) none link own u v = sessions_stay c (Origin a p) a u v refl
   up_as_before (NoOrigin a p) none link own u v = sessions_stay c (NoOrigin a p) a u v refl
 
-  pub down_as_before : (e : Edit) → refusal_of c e ≡ None → link_in e ≡ None → session_in e ≡ None → down_sessions (edited c e) ≡ down_sessions c
-  down_as_before e none link own = same_down c (edited c e) (ap (λ es. keys_of es) (sessions_as_before c e link own)) (up_as_before e none link own)
+  pub down_as_before : (e : Edit) → refusal_of c e ≡ None → link_in e ≡ None → session_in e ≡ None →
+      down_sessions (edited c e) ≡ down_sessions c
+  down_as_before e none link own = same_down c (edited c e) (ap (λ es. keys_of es) (sessions_as_before c e link own))
+      (up_as_before e none link own)

@@ -26,7 +26,8 @@ use Rattle.net_conf.proofs.KeptTrees.{equal_when, end_node, session_ends, sessio
 use Rattle.net_conf.proofs.TreesAfter.{costs_with_node}
 use Rattle.net_conf.proofs.Unseen.{lookup_with}
 
-module _ (law : LoneNodeMovesNoTree) (c : Configuration) (a : Addr) (n : Node) (sound : IsSound c) (sorted : IsStrictlySortedBy addr_cmp (keys_of c.nodes)) (new : has_node c a ≡ false) where
+module _ (law : LoneNodeMovesNoTree) (c : Configuration) (a : Addr) (n : Node) (sound : IsSound c)
+    (sorted : IsStrictlySortedBy addr_cmp (keys_of c.nodes)) (new : has_node c a ≡ false) where
   abbrev d : Configuration
   d = record c { nodes = insert_entry addr_cmp c.nodes a n }
 
@@ -35,7 +36,8 @@ module _ (law : LoneNodeMovesNoTree) (c : Configuration) (a : Addr) (n : Node) (
   apart u there = by (is_at (addr_cmp u) a) refl
     where
       by : (t : Bool) → is_at (addr_cmp u) a ≡ t → t ≡ false
-      by true is = absurd (true≢false (sym there ∙ ap (has_node c) (addr_exact u a (equal_when (addr_cmp u a) is)) ∙ new))
+      by true is = absurd (true≢false (sym there ∙ ap (has_node c) (addr_exact u a (equal_when (addr_cmp u a) is))
+          ∙ new))
       by false is = refl
 
   same_node : (u : Addr) → is_at (addr_cmp u) a ≡ false → node_at d u ≡ node_at c u
@@ -44,20 +46,26 @@ module _ (law : LoneNodeMovesNoTree) (c : Configuration) (a : Addr) (n : Node) (
   same_as : (u : Addr) → is_at (addr_cmp u) a ≡ false → as_of d u ≡ as_of c u
   same_as u other = ap (option_map (λ (x : Node). x.asn)) (same_node u other)
 
-  same_external : (u v : Addr) → is_at (addr_cmp u) a ≡ false → is_at (addr_cmp v) a ≡ false → is_external d u v ≡ is_external c u v
+  same_external : (u v : Addr) → is_at (addr_cmp u) a ≡ false → is_at (addr_cmp v) a ≡ false →
+      is_external d u v ≡ is_external c u v
   same_external u v first second = λ i. not (same_number (same_as u first i) (same_as v second i))
 
   same_connected : (u v : Addr) → has_node c u ≡ true → has_node c v ≡ true → is_connected d u v ≡ is_connected c u v
   same_connected u v first second =
-      ap (λ x. if x then has_link_up c u v else (is_some (cost d u v) && is_some (cost d v u))) (same_external u v (apart u first) (apart v second))
-      ∙ ap (λ x. if is_external c u v then has_link_up c u v else (is_some (cost_in x v) && is_some (cost d v u))) (costs_with_node law c a n sound sorted new u first)
-      ∙ ap (λ x. if is_external c u v then has_link_up c u v else (is_some (cost c u v) && is_some (cost_in x u))) (costs_with_node law c a n sound sorted new v second)
+      ap (λ x. if x then has_link_up c u v else (is_some (cost d u v) && is_some (cost d v u)))
+      (same_external u v (apart u first) (apart v second))
+      ∙ ap (λ x. if is_external c u v then has_link_up c u v else (is_some (cost_in x v) && is_some (cost d v u)))
+      (costs_with_node law c a n sound sorted new u first)
+      ∙ ap (λ x. if is_external c u v then has_link_up c u v else (is_some (cost c u v) && is_some (cost_in x u)))
+      (costs_with_node law c a n sound sorted new v second)
 
   pub same_up : (u v : Addr) → is_up d u v ≡ is_up c u v
   unfolding session_up
   same_up u v = by (session_between c u v) refl
     where
-      by : (o : Option Bool) → session_between c u v ≡ o → unwrap_or (option_map (λ enabled. enabled && is_connected d u v) (session_between c u v)) false ≡ unwrap_or (option_map (λ enabled. enabled && is_connected c u v) (session_between c u v)) false
+      by : (o : Option Bool) → session_between c u v ≡ o →
+          unwrap_or (option_map (λ enabled. enabled && is_connected d u v) (session_between c u v)) false
+          ≡ unwrap_or (option_map (λ enabled. enabled && is_connected c u v) (session_between c u v)) false
       by None is =
           ap (λ x. unwrap_or (option_map (λ enabled. enabled && is_connected d u v) x) false) is
           ∙ sym (ap (λ x. unwrap_or (option_map (λ enabled. enabled && is_connected c u v) x) false) is)
@@ -65,7 +73,8 @@ module _ (law : LoneNodeMovesNoTree) (c : Configuration) (a : Addr) (n : Node) (
           let there : has_session c u v ≡ true = ap is_some is in
           let first : has_node c u ≡ true = end_node c u sound (session_ends c u v there) in
           let second : has_node c v ≡ true = end_node c v sound (session_ends c v u (session_turned c u v there)) in
-          ap (λ x. unwrap_or (option_map (λ enabled. enabled && x) (session_between c u v)) false) (same_connected u v first second)
+          ap (λ x. unwrap_or (option_map (λ enabled. enabled && x) (session_between c u v)) false)
+          (same_connected u v first second)
 
   module _ (r : Addr) (other : is_at (addr_cmp r) a ≡ false) where
     same_session : (u : Addr) → has_node c u ≡ true → session_of d r u ≡ session_of c r u
@@ -89,17 +98,33 @@ module _ (law : LoneNodeMovesNoTree) (c : Configuration) (a : Addr) (n : Node) (
         by true = has.1
         by false = has.0
 
-    each_session : (sessions : List (Ends × Bool)) → All (HasEnds c) (keys_of sessions) → map (session_of d r) (map (λ e. peer_in r e.0) (filter (λ e. is_end r e.0) sessions)) ≡ map (session_of c r) (map (λ e. peer_in r e.0) (filter (λ e. is_end r e.0) sessions))
+    each_session : (sessions : List (Ends × Bool)) → All (HasEnds c) (keys_of sessions) →
+        map (session_of d r) (map (λ e. peer_in r e.0) (filter (λ e. is_end r e.0) sessions))
+        ≡ map (session_of c r) (map (λ e. peer_in r e.0) (filter (λ e. is_end r e.0) sessions))
     each_session [] all = refl
-    each_session (s ∷ sessions) all = by (is_end r s.0) (each_session sessions (All-tail (HasEnds c) s.0 (keys_of sessions) all))
+    each_session (s ∷ sessions) all =
+        by (is_end r s.0) (each_session sessions (All-tail (HasEnds c) s.0 (keys_of sessions) all))
       where
-        by : (t : Bool) → map (session_of d r) (map (λ e. peer_in r e.0) (filter (λ e. is_end r e.0) sessions)) ≡ map (session_of c r) (map (λ e. peer_in r e.0) (filter (λ e. is_end r e.0) sessions)) → map (session_of d r) (map (λ e. peer_in r e.0) (cond t (s ∷ filter (λ e. is_end r e.0) sessions) (filter (λ e. is_end r e.0) sessions))) ≡ map (session_of c r) (map (λ e. peer_in r e.0) (cond t (s ∷ filter (λ e. is_end r e.0) sessions) (filter (λ e. is_end r e.0) sessions)))
-        by true later = λ i. same_session (peer_in r s.0) (peer_there s.0 (All-head (HasEnds c) s.0 (keys_of sessions) all)) i ∷ later i
+        by : (t : Bool) → map (session_of d r) (map (λ e. peer_in r e.0) (filter (λ e. is_end r e.0) sessions))
+            ≡ map (session_of c r) (map (λ e. peer_in r e.0) (filter (λ e. is_end r e.0) sessions)) →
+            map (session_of d r) (map (λ e. peer_in r e.0)
+            (cond t (s ∷ filter (λ e. is_end r e.0) sessions) (filter (λ e. is_end r e.0) sessions)))
+            ≡ map (session_of c r) (map (λ e. peer_in r e.0)
+            (cond t (s ∷ filter (λ e. is_end r e.0) sessions) (filter (λ e. is_end r e.0) sessions)))
+        by true later = λ i. same_session (peer_in r s.0)
+            (peer_there s.0 (All-head (HasEnds c) s.0 (keys_of sessions) all)) i ∷ later i
         by false later = later
 
     pub node_concerns : StaysAt c d r
     node_concerns = record {
-      facts = facts_alike c d r (record { node = same_node r other; cluster = refl; reflector = refl; med_always = refl; origins = refl; sessions = each_session c.sessions sound.sessions });
+      facts = facts_alike c d r (record {
+        node = same_node r other;
+        cluster = refl;
+        reflector = refl;
+        med_always = refl;
+        origins = refl;
+        sessions = each_session c.sessions sound.sessions;
+      });
       costs = λ ends. costs_with_node law c a n sound sorted new r (end_node c r sound ends);
       up = λ u. same_up u r;
     }

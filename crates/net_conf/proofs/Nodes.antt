@@ -24,19 +24,26 @@ some_mapped f None = refl
 some_mapped f (Some a) = refl
 
 pub same_node : (c : Configuration) (a : Addr) → is_node (nodes_of c) a ≡ has_node c a
-same_node c a = ap is_some (lookup-map_values (λ n. n.asn) (is_at (addr_cmp a)) c.nodes) ∙ some_mapped (λ n. n.asn) (node_at c a)
+same_node c a = ap is_some (lookup-map_values (λ n. n.asn) (is_at (addr_cmp a)) c.nodes)
+    ∙ some_mapped (λ n. n.asn) (node_at c a)
 
 module _ (c : Configuration) where
   abbrev pub HasNodes : Addr × Addr × ℕ → Type 0
   HasNodes e = IsTrue (is_node (nodes_of c) e.0) × IsTrue (is_node (nodes_of c) e.1)
 
-  kept_edge : (e : Ends × Link) (up : Bool) (edges : List (Addr × Addr × ℕ)) → HasEnds c e.0 → All HasNodes edges → All HasNodes (cons_option (if up then Some (e.0.low, e.0.high, e.1.metric) else None) edges)
-  kept_edge e true edges has all = All-cons HasNodes (e.0.low, e.0.high, e.1.metric) edges (same_node c e.0.low ∙ has.0, same_node c e.0.high ∙ has.1) all
+  kept_edge : (e : Ends × Link) (up : Bool) (edges : List (Addr × Addr × ℕ)) → HasEnds c e.0 → All HasNodes edges →
+      All HasNodes (cons_option (if up then Some (e.0.low, e.0.high, e.1.metric) else None) edges)
+  kept_edge e true edges has all = All-cons HasNodes (e.0.low, e.0.high, e.1.metric) edges (
+    same_node c e.0.low ∙ has.0,
+    same_node c e.0.high ∙ has.1,
+  ) all
   kept_edge e false edges has all = all
 
   ends_hold : (links : List (Ends × Link)) → All (HasEnds c) (keys_of links) → All HasNodes (filter_map edge_of links)
   ends_hold [] all = All-nil HasNodes
-  ends_hold (e ∷ links) all = kept_edge e e.1.up (filter_map edge_of links) (All-head (HasEnds c) e.0 (keys_of links) all) (ends_hold links (All-tail (HasEnds c) e.0 (keys_of links) all))
+  ends_hold (e ∷ links) all =
+      kept_edge e e.1.up (filter_map edge_of links) (All-head (HasEnds c) e.0 (keys_of links) all)
+      (ends_hold links (All-tail (HasEnds c) e.0 (keys_of links) all))
 
   pub ends_are_nodes : IsSound c → All HasNodes (edges_of c)
   ends_are_nodes sound = ends_hold c.links sound.links
@@ -51,12 +58,20 @@ module _ (c : Configuration) where
   pub sorted_nodes : IsStrictlySortedBy addr_cmp (keys_of c.nodes) → IsStrictlySortedBy addr_cmp (keys_of (nodes_of c))
   sorted_nodes ascending = subst (IsStrictlySortedBy addr_cmp) (sym (keys_of-map_values (λ n. n.asn) c.nodes)) ascending
 
-  metrics_hold : (links : List (Ends × Link)) → All (λ l. IsMetric l.metric) (values_of links) → All (λ e. IsMetric e.2) (filter_map edge_of links)
+  metrics_hold : (links : List (Ends × Link)) → All (λ l. IsMetric l.metric) (values_of links) →
+      All (λ e. IsMetric e.2) (filter_map edge_of links)
   metrics_hold [] all = All-nil (λ e. IsMetric e.2)
-  metrics_hold (e ∷ links) all = by e.1.up (All-head (λ l. IsMetric l.metric) e.1 (values_of links) all) (metrics_hold links (All-tail (λ l. IsMetric l.metric) e.1 (values_of links) all))
+  metrics_hold (e ∷ links) all = by e.1.up (All-head (λ l. IsMetric l.metric) e.1 (values_of links) all)
+      (metrics_hold links (All-tail (λ l. IsMetric l.metric) e.1 (values_of links) all))
     where
-      by : (up : Bool) → IsMetric e.1.metric → All (λ e. IsMetric e.2) (filter_map edge_of links) → All (λ e. IsMetric e.2) (cons_option (if up then Some (e.0.low, e.0.high, e.1.metric) else None) (filter_map edge_of links))
-      by true metric rest = All-cons (λ e. IsMetric e.2) (e.0.low, e.0.high, e.1.metric) (filter_map edge_of links) metric rest
+      by : (up : Bool) → IsMetric e.1.metric → All (λ e. IsMetric e.2) (filter_map edge_of links) →
+          All (λ e. IsMetric e.2) (cons_option (if up then Some (e.0.low, e.0.high, e.1.metric) else None)
+          (filter_map edge_of links))
+      by true metric rest = All-cons (λ e. IsMetric e.2) (
+        e.0.low,
+        e.0.high,
+        e.1.metric,
+      ) (filter_map edge_of links) metric rest
       by false metric rest = rest
 
   pub edge_metrics : IsSound c → All (λ e. IsMetric e.2) (edges_of c)

@@ -5,7 +5,8 @@ use Rattle.std.specs.declared.vec.Vec.{Vec}
 use Rattle.std.proofs.lemmas.List.{map-append, take-append-drop}
 
 -- what is made of each piece, one after the other, is what is made of the whole
-pub made_in_pieces : {X Y A E : Type 0} (make : X → Y) (n : ℕ) (xs front back : List X) (made rest : Result (Vec Y A) E) (v w : Vec Y A)
+pub made_in_pieces : {X Y A E : Type 0} (make : X → Y) (n : ℕ) (xs front back : List X)
+    (made rest : Result (Vec Y A) E) (v w : Vec Y A)
     → made ≡ Ok v → rest ≡ Ok w → front ≡ take n xs → back ≡ drop n xs
     → IfOk made (λ m. m.items ≡ map make front) → IfOk rest (λ m. m.items ≡ map make back)
     → v.items ++ w.items ≡ map make xs

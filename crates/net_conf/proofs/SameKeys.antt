@@ -24,7 +24,8 @@ module _ {K : Type 0} (cmp : K → K → Ordering) (total : IsTotalOrder cmp) (e
   below_all k [] all = refl
   below_all k (x ∷ ks) all = ap (λ o. is_eq o || has ks k) all.0 ∙ below_all k ks all.1
 
-  all_past : (k x : K) (ks : List K) → cmp k x ≡ Less → AllByRecursion (λ y. cmp x y ≡ Less) ks → AllByRecursion (λ y. cmp k y ≡ Less) ks
+  all_past : (k x : K) (ks : List K) → cmp k x ≡ Less → AllByRecursion (λ y. cmp x y ≡ Less) ks →
+      AllByRecursion (λ y. cmp k y ≡ Less) ks
   all_past k x [] is all = tt
   all_past k x (y ∷ ks) is all = (total.trans k x y is all.0, all_past k x ks is all.1)
 
@@ -36,40 +37,50 @@ module _ {K : Type 0} (cmp : K → K → Ordering) (total : IsTotalOrder cmp) (e
   first_there x ks = ap (λ t. t || has ks x) (itself x)
 
   -- behind the same first key too
-  behind : (x : K) (ks ls : List K) → IsStrictlySortedBy cmp (x ∷ ks) → IsStrictlySortedBy cmp (x ∷ ls) → ((k : K) → has (x ∷ ks) k ≡ has (x ∷ ls) k) → (k : K) → has ks k ≡ has ls k
+  behind : (x : K) (ks ls : List K) → IsStrictlySortedBy cmp (x ∷ ks) → IsStrictlySortedBy cmp (x ∷ ls) →
+      ((k : K) → has (x ∷ ks) k ≡ has (x ∷ ls) k) → (k : K) → has ks k ≡ has ls k
   unfolding IsStrictlySortedBy
   behind x ks ls first second same k = by (is_at (cmp k) x) refl (same k)
     where
-      by : (t : Bool) → is_at (cmp k) x ≡ t → (is_at (cmp k) x || has ks k) ≡ (is_at (cmp k) x || has ls k) → has ks k ≡ has ls k
+      by : (t : Bool) → is_at (cmp k) x ≡ t → (is_at (cmp k) x || has ks k) ≡ (is_at (cmp k) x || has ls k) →
+          has ks k ≡ has ls k
       by true is both =
           ap (has ks) (exact k x (equal_when (cmp k x) is)) ∙ below_all x ks first.0
           ∙ sym (ap (has ls) (exact k x (equal_when (cmp k x) is)) ∙ below_all x ls second.0)
       by false is both = ap (λ t. t || has ks k) (sym is) ∙ both ∙ ap (λ t. t || has ls k) is
 
-  pub same_keys : (ks ls : List K) → IsStrictlySortedBy cmp ks → IsStrictlySortedBy cmp ls → ((k : K) → list_any (is_at (cmp k)) ks ≡ list_any (is_at (cmp k)) ls) → ks ≡ ls
+  pub same_keys : (ks ls : List K) → IsStrictlySortedBy cmp ks → IsStrictlySortedBy cmp ls →
+      ((k : K) → list_any (is_at (cmp k)) ks ≡ list_any (is_at (cmp k)) ls) → ks ≡ ls
   unfolding IsStrictlySortedBy
   same_keys [] [] first second same = refl
   same_keys [] (y ∷ ls) first second same = absurd (true≢false (sym (first_there y ls) ∙ sym (same y)))
   same_keys (x ∷ ks) [] first second same = absurd (true≢false (sym (first_there x ks) ∙ same x))
   same_keys (x ∷ ks) (y ∷ ls) first second same = by (cmp x y) refl (λ s t u. same_keys ks ls s t u)
     where
-      by : (o : Ordering) → cmp x y ≡ o → (IsStrictlySortedBy cmp ks → IsStrictlySortedBy cmp ls → ((k : K) → has ks k ≡ has ls k) → ks ≡ ls) → x ∷ ks ≡ y ∷ ls
+      by : (o : Ordering) → cmp x y ≡ o →
+          (IsStrictlySortedBy cmp ks → IsStrictlySortedBy cmp ls → ((k : K) → has ks k ≡ has ls k) → ks ≡ ls) →
+          x ∷ ks ≡ y ∷ ls
       by Less is rest = absurd (true≢false (sym (first_there x ks) ∙ same x ∙ below_first x y ls is second))
       by Equal is rest = one (exact x y is) second same
         where
           one : x ≡ y → IsStrictlySortedBy cmp (y ∷ ls) → ((k : K) → has (x ∷ ks) k ≡ has (y ∷ ls) k) → x ∷ ks ≡ y ∷ ls
           one e sorted alike =
-              let sorted' : IsStrictlySortedBy cmp (x ∷ ls) = subst (λ z. IsStrictlySortedBy cmp (z ∷ ls)) (sym e) sorted in
-              let alike' : (k : K) → has (x ∷ ks) k ≡ has (x ∷ ls) k = λ k. alike k ∙ ap (λ z. has (z ∷ ls) k) (sym e) in
+              let sorted' : IsStrictlySortedBy cmp (x ∷ ls) =
+              subst (λ z. IsStrictlySortedBy cmp (z ∷ ls)) (sym e) sorted in
+              let alike' : (k : K) → has (x ∷ ks) k ≡ has (x ∷ ls) k = λ k. alike k
+              ∙ ap (λ z. has (z ∷ ls) k) (sym e) in
               ap (λ zs. x ∷ zs) (rest first.1 sorted'.1 (behind x ks ls first sorted' alike')) ∙ ap (λ z. z ∷ ls) e
-      by Greater is rest = absurd (true≢false (sym (first_there y ls) ∙ sym (same y) ∙ below_first y x ks (total.antisymm y x ∙ ap ordering_reverse is) first))
+      by Greater is rest = absurd (true≢false (sym (first_there y ls) ∙ sym (same y)
+          ∙ below_first y x ks (total.antisymm y x ∙ ap ordering_reverse is) first))
 
   -- a key that is taken out is there no more
-  pub taken_out : (k : K) (ks : List K) → IsStrictlySortedBy cmp ks → list_any (is_at (cmp k)) (remove_key (is_at (cmp k)) ks) ≡ false
+  pub taken_out : (k : K) (ks : List K) → IsStrictlySortedBy cmp ks →
+      list_any (is_at (cmp k)) (remove_key (is_at (cmp k)) ks) ≡ false
   unfolding IsStrictlySortedBy
   taken_out k [] sorted = refl
   taken_out k (x ∷ ks) sorted = by (is_at (cmp k) x) refl (taken_out k ks sorted.1)
     where
-      by : (t : Bool) → is_at (cmp k) x ≡ t → has (remove_key (is_at (cmp k)) ks) k ≡ false → has (cond t ks (x ∷ remove_key (is_at (cmp k)) ks)) k ≡ false
+      by : (t : Bool) → is_at (cmp k) x ≡ t → has (remove_key (is_at (cmp k)) ks) k ≡ false →
+          has (cond t ks (x ∷ remove_key (is_at (cmp k)) ks)) k ≡ false
       by true is rest = ap (has ks) (exact k x (equal_when (cmp k x) is)) ∙ below_all x ks sorted.0
       by false is rest = ap (λ t. t || has (remove_key (is_at (cmp k)) ks) k) is ∙ rest

@@ -32,10 +32,12 @@ other_facts s t differ same =
 -- so are other originated prefixes
 pub other_origins : (s t : SiteConf) → pointwise same_prefix s.origins t.origins ≡ false → s ≡ t → ⊥
 other_origins s t differ same =
-    true≢false (sym ((lists_exact prefixes_exact s.origins s.origins).1 refl) ∙ ap (λ (x : SiteConf). pointwise same_prefix s.origins x.origins) same ∙ differ)
+    true≢false (sym ((lists_exact prefixes_exact s.origins s.origins).1 refl)
+    ∙ ap (λ (x : SiteConf). pointwise same_prefix s.origins x.origins) same ∙ differ)
 
 -- and sites that agree in these are the same where their costs are
-pub same_but_costs : (s t : SiteConf) → same_facts s t ≡ true → pointwise same_prefix s.origins t.origins ≡ true → s.costs ≡ t.costs → s ≡ t
+pub same_but_costs : (s t : SiteConf) → same_facts s t ≡ true → pointwise same_prefix s.origins t.origins ≡ true →
+    s.costs ≡ t.costs → s ≡ t
 same_but_costs s t facts origins costs =
     let is = (lists_exact prefixes_exact s.origins t.origins).0 origins in
     (λ i. with_facts_of s (is i) (costs i)) ∙ sym (facts_exact s t facts)

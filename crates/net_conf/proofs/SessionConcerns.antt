@@ -16,7 +16,8 @@ use Rattle.net_conf.proofs.Concerns.{facts_alike, up_turned}
 use Rattle.net_conf.proofs.KeptTrees.{ends_exact, same_ends, end_of_two, first_of_two}
 use Rattle.net_conf.proofs.Unseen.{entry_put_in, lookup_with}
 
-module _ (c : Configuration) (a b r : Addr) (on : Bool) (first : is_at (addr_cmp r) a ≡ false) (second : is_at (addr_cmp r) b ≡ false) where
+module _ (c : Configuration) (a b r : Addr) (on : Bool) (first : is_at (addr_cmp r) a ≡ false)
+    (second : is_at (addr_cmp r) b ≡ false) where
   abbrev d : Configuration
   d = with_session c a b on
 
@@ -28,11 +29,13 @@ module _ (c : Configuration) (a b r : Addr) (on : Bool) (first : is_at (addr_cmp
   other_ends u = by (is_at (ends_cmp (ends_of r u)) (ends_of a b)) refl
     where
       by : (t : Bool) → is_at (ends_cmp (ends_of r u)) (ends_of a b) ≡ t → t ≡ false
-      by true is = absurd (true≢false (sym (first_of_two r u) ∙ ap (is_end r) (same_ends (ends_of r u) (ends_of a b) is) ∙ no_end))
+      by true is = absurd (true≢false (sym (first_of_two r u) ∙ ap (is_end r) (same_ends (ends_of r u) (ends_of a b) is)
+          ∙ no_end))
       by false is = refl
 
   same_between : (u : Addr) → session_between d r u ≡ session_between c r u
-  same_between u = lookup_with ends_cmp ends_exact (is_at (ends_cmp (ends_of r u))) (ends_of a b) (other_ends u) on c.sessions
+  same_between u = lookup_with ends_cmp ends_exact (is_at (ends_cmp (ends_of r u))) (ends_of a b)
+      (other_ends u) on c.sessions
 
   same_up : (u : Addr) → is_up d r u ≡ is_up c r u
   unfolding session_up
@@ -48,7 +51,8 @@ module _ (c : Configuration) (a b r : Addr) (on : Bool) (first : is_at (addr_cmp
   own_unseen v es = ap (λ t. cond t ((ends_of a b, v) ∷ own es) (own es)) no_end
 
   same_peers : peers_of d r ≡ peers_of c r
-  same_peers = ap (map (λ e. peer_in r e.0)) (entry_put_in own own_step ends_cmp (ends_of a b) on ends_exact own_unseen c.sessions)
+  same_peers = ap (map (λ e. peer_in r e.0))
+      (entry_put_in own own_step ends_cmp (ends_of a b) on ends_exact own_unseen c.sessions)
 
   same_session : (u : Addr) → session_of d r u ≡ session_of c r u
   same_session u = ap (λ (up : Bool). session up) (same_up u)
@@ -71,7 +75,14 @@ module _ (c : Configuration) (a b r : Addr) (on : Bool) (first : is_at (addr_cmp
 
   pub session_concerns : StaysAt c d r
   session_concerns = record {
-    facts = facts_alike c d r (record { node = refl; cluster = refl; reflector = refl; med_always = refl; origins = refl; sessions = each_session (peers_of d r) ∙ ap (map (session_of c r)) same_peers });
+    facts = facts_alike c d r (record {
+      node = refl;
+      cluster = refl;
+      reflector = refl;
+      med_always = refl;
+      origins = refl;
+      sessions = each_session (peers_of d r) ∙ ap (map (session_of c r)) same_peers;
+    });
     costs = λ ends. refl;
     up = λ u. up_turned d u r ∙ same_up u ∙ up_turned c r u;
   }

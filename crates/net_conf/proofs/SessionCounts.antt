@@ -12,13 +12,16 @@ use Rattle.net_conf.specs.Sites.{peer_in, peers_of, session_of, sessions_of, sit
 use Rattle.net_conf.proofs.Carry.{both_false}
 
 counted : (c : Configuration) (r : Addr) → length (sessions_of c r) ≡ session_count c r
-counted c r = length-map (peers_of c r) (session_of c r) ∙ length-map (filter (λ e. is_end r e.0) c.sessions) (λ e. peer_in r e.0)
+counted c r = length-map (peers_of c r) (session_of c r)
+    ∙ length-map (filter (λ e. is_end r e.0) c.sessions) (λ e. peer_in r e.0)
 
-pub count_of_site : (c : Configuration) (r : Addr) (s : SiteConf) → site_kept c r ≡ Some s → length s.sessions ≡ session_count c r
+pub count_of_site : (c : Configuration) (r : Addr) (s : SiteConf) → site_kept c r ≡ Some s →
+    length s.sessions ≡ session_count c r
 unfolding site_of
 count_of_site c r s is = by (ends_session c r) (is_virtual c r) (node_at c r) is
   where
-    by : (t u : Bool) (o : Option Node) → (if t then (if u then None else option_map (λ n. site_at c r n) o) else None) ≡ Some s → length s.sessions ≡ session_count c r
+    by : (t u : Bool) (o : Option Node) → (if t then (if u then None else option_map (λ n. site_at c r n) o) else None)
+        ≡ Some s → length s.sessions ≡ session_count c r
     by true false (Some n) it = ap (λ (x : SiteConf). length x.sessions) (sym (same_Some _ _ it)) ∙ counted c r
     by true false None it = absurd (none-some s it)
     by true true o it = absurd (none-some s it)

@@ -26,7 +26,8 @@ at_one P r a x there other = by (r.0 == a.0) refl
     by false is = other
 
 -- the same of either of two addresses
-at_either : (P : SiteEffect → Type 0) (r a b : Addr) (x y : SiteEffect) → (r ≡ a → P x) → (r ≡ b → P y) → P Other → P (if r.0 == a.0 then x else effect_at r b y)
+at_either : (P : SiteEffect → Type 0) (r a b : Addr) (x y : SiteEffect) → (r ≡ a → P x) → (r ≡ b → P y) → P Other →
+    P (if r.0 == a.0 then x else effect_at r b y)
 at_either P r a b x y first second other = by (r.0 == a.0) refl
   where
     by : (t : Bool) → (r.0 == a.0) ≡ t → P (if t then x else effect_at r b y)
@@ -46,7 +47,8 @@ module _ (c : Configuration) (before : IsConfigured c) (r : Addr) (s : SiteConf)
   HasEffect e x = router_site (edited c e) r ≡ site_from (edited c e) e r x s
 
   by_link : (e : Edit) → refusal_of c e ≡ None → is_some (link_in e) ≡ true → HasEffect e Costs
-  by_link e none link = site_after_link c (edited c e) r (relinked_after c e none link) ∙ ap (option_map (relinked (edited c e) r)) was
+  by_link e none link = site_after_link c (edited c e) r (relinked_after c e none link)
+      ∙ ap (option_map (relinked (edited c e) r)) was
 
   by_session : (e : Edit) (u : Addr) → IsResettled c (edited c e) r u (sets_client e) → HasEffect e (Session u)
   by_session e u is = is.site ∙ ap (option_map (resettled (edited c e) r u (sets_client e))) was
@@ -83,12 +85,17 @@ module _ (c : Configuration) (before : IsConfigured c) (r : Addr) (s : SiteConf)
       (λ is. by_session (Start a b) b (started_after c a b r b before.ordered.sessions none (first_end r a b is)))
       (λ is. by_session (Start a b) a (started_after c a b r a before.ordered.sessions none (second_end r a b is)))
       refl
-  site_after (Client a b on) after none = at_one (HasEffect (Client a b on)) r a (Session b) (λ is. by_session (Client a b on) b (by_client c a b r on)) refl
-  site_after (OwnNext a b on) after none = at_one (HasEffect (OwnNext a b on)) r a (Session b) (λ is. by_session (OwnNext a b on) b (by_own_next c a b r on)) refl
+  site_after (Client a b on) after none = at_one (HasEffect (Client a b on)) r a (Session b)
+      (λ is. by_session (Client a b on) b (by_client c a b r on)) refl
+  site_after (OwnNext a b on) after none = at_one (HasEffect (OwnNext a b on)) r a (Session b)
+      (λ is. by_session (OwnNext a b on) b (by_own_next c a b r on)) refl
   site_after (Cluster a id) after none = at_one (HasEffect (Cluster a id)) r a ClusterId (λ is. by_cluster a id) refl
-  site_after (MedAlways a on) after none = at_one (HasEffect (MedAlways a on)) r a MedComparison (λ is. by_comparison a on) refl
-  site_after (Rule a b side rule) after none = at_one (HasEffect (Rule a b side rule)) r a (Session b) (λ is. by_session (Rule a b side rule) b (ruled_after c a b r side rule)) refl
-  site_after (Clear a b side) after none = at_one (HasEffect (Clear a b side)) r a (Session b) (λ is. by_session (Clear a b side) b (cleared_after c a b r side)) refl
+  site_after (MedAlways a on) after none = at_one (HasEffect (MedAlways a on)) r a MedComparison
+      (λ is. by_comparison a on) refl
+  site_after (Rule a b side rule) after none = at_one (HasEffect (Rule a b side rule)) r a (Session b)
+      (λ is. by_session (Rule a b side rule) b (ruled_after c a b r side rule)) refl
+  site_after (Clear a b side) after none = at_one (HasEffect (Clear a b side)) r a (Session b)
+      (λ is. by_session (Clear a b side) b (cleared_after c a b r side)) refl
   site_after (Origin a p) after none =
       at_one (HasEffect (Origin a p)) r a Origins
       (λ is. site_with_origin c r before.ordered.origins a p is ∙ ap (option_map (reoriginated (Origin a p))) was)

@@ -29,30 +29,37 @@ use Rattle.net_conf.proofs.KeptTrees.{same_ends}
 
 -- what is found is found still, once an entry is put in
 module _ {K X : Type 0} (cmp : K → K → Ordering) (test : K → Bool) (k : K) (v : X) where
-  found_before : (t u : Bool) (x : X) (later : Option X) → is_some (cond t (Some x) later) ≡ true → is_some (cond u (Some v) (cond t (Some x) later)) ≡ true
+  found_before : (t u : Bool) (x : X) (later : Option X) → is_some (cond t (Some x) later) ≡ true →
+      is_some (cond u (Some v) (cond t (Some x) later)) ≡ true
   found_before t true x later is = refl
   found_before t false x later is = is
 
-  found_at : (t : Bool) (x : X) (later : Option X) → is_some (cond t (Some x) later) ≡ true → is_some (cond t (Some v) later) ≡ true
+  found_at : (t : Bool) (x : X) (later : Option X) → is_some (cond t (Some x) later) ≡ true →
+      is_some (cond t (Some v) later) ≡ true
   found_at true x later is = refl
   found_at false x later is = is
 
-  found_after : (t : Bool) (x : X) (later more : Option X) → (is_some later ≡ true → is_some more ≡ true) → is_some (cond t (Some x) later) ≡ true → is_some (cond t (Some x) more) ≡ true
+  found_after : (t : Bool) (x : X) (later more : Option X) → (is_some later ≡ true → is_some more ≡ true) →
+      is_some (cond t (Some x) later) ≡ true → is_some (cond t (Some x) more) ≡ true
   found_after true x later more still is = refl
   found_after false x later more still is = still is
 
-  found_in : (o : Ordering) (e : K × X) (es more : List (K × X)) → (is_some (lookup test es) ≡ true → is_some (lookup test more) ≡ true) → is_some (lookup test (e ∷ es)) ≡ true → is_some (lookup test (match_ordering o ((k, v) ∷ e ∷ es) ((e.0, v) ∷ es) (e ∷ more))) ≡ true
+  found_in : (o : Ordering) (e : K × X) (es more : List (K × X)) →
+      (is_some (lookup test es) ≡ true → is_some (lookup test more) ≡ true) → is_some (lookup test (e ∷ es)) ≡ true →
+      is_some (lookup test (match_ordering o ((k, v) ∷ e ∷ es) ((e.0, v) ∷ es) (e ∷ more))) ≡ true
   found_in Less e es more still is = found_before (test e.0) (test k) e.1 (lookup test es) is
   found_in Equal e es more still is = found_at (test e.0) e.1 (lookup test es) is
   found_in Greater e es more still is = found_after (test e.0) e.1 (lookup test es) (lookup test more) still is
 
-  pub found_still : (es : List (K × X)) → is_some (lookup test es) ≡ true → is_some (lookup test (insert_entry cmp es k v)) ≡ true
+  pub found_still : (es : List (K × X)) → is_some (lookup test es) ≡ true →
+      is_some (lookup test (insert_entry cmp es k v)) ≡ true
   found_still [] is = absurd (true≢false (sym is))
   found_still (e ∷ es) is = found_in (cmp k e.0) e es (insert_entry cmp es k v) (found_still es) is
 
 -- one entry more at most
 module _ {K X : Type 0} (cmp : K → K → Ordering) (k : K) (v : X) where
-  longer : (o : Ordering) (e : K × X) (es more : List (K × X)) → length more ≤ length es + 1 → length (match_ordering o ((k, v) ∷ e ∷ es) ((e.0, v) ∷ es) (e ∷ more)) ≤ length (e ∷ es) + 1
+  longer : (o : Ordering) (e : K × X) (es more : List (K × X)) → length more ≤ length es + 1 →
+      length (match_ordering o ((k, v) ∷ e ∷ es) ((e.0, v) ∷ es) (e ∷ more)) ≤ length (e ∷ es) + 1
   longer Less e es more le = omega arith
   longer Equal e es more le = omega arith
   longer Greater e es more le = omega (arith, le)
@@ -64,7 +71,8 @@ module _ {K X : Type 0} (cmp : K → K → Ordering) (k : K) (v : X) where
 some_none : (r : Refusal) → Some r ≡ None → ⊥
 some_none r e = cc
 
-passed : (b : Bool) (r : Refusal) (ts : List (Bool × Refusal)) → first_of ((b, r) ∷ ts) ≡ None → (b ≡ false) × (first_of ts ≡ None)
+passed : (b : Bool) (r : Refusal) (ts : List (Bool × Refusal)) → first_of ((b, r) ∷ ts) ≡ None → (b ≡ false)
+    × (first_of ts ≡ None)
 passed false r ts none = (refl, none)
 passed true r ts none = absurd (some_none r none)
 
@@ -93,17 +101,21 @@ ends_there c a b first second = by (nat_le a.0 b.0)
 ends_apart : (a b : Addr) → (a.0 == b.0) ≡ false → AreApart (ends_of a b)
 ends_apart a b differ = by (nat_le a.0 b.0) refl
   where
-    by : (le : Bool) → nat_le a.0 b.0 ≡ le → AreApart (if le then record { low = a; high = b } else record { low = b; high = a })
+    by : (le : Bool) → nat_le a.0 b.0 ≡ le →
+        AreApart (if le then record { low = a; high = b } else record { low = b; high = a })
     by true is = grind (arith, nat_tests)
     by false is = grind (arith, nat_tests)
 
 -- what holds of the keys holds of one that is found
-of_found : {X : Type 0} (a b : Addr) (es : List (Ends × X)) → All AreApart (keys_of es) → is_some (lookup (is_at (ends_cmp (ends_of a b))) es) ≡ true → AreApart (ends_of a b)
-of_found a b es all found = All-contains AreApart (keys_of es) (ends_of a b) all (Contains-keys_from_lookup {eq = λ x. is_at (ends_cmp x)} same_ends (ends_of a b) es found)
+of_found : {X : Type 0} (a b : Addr) (es : List (Ends × X)) → All AreApart (keys_of es) →
+    is_some (lookup (is_at (ends_cmp (ends_of a b))) es) ≡ true → AreApart (ends_of a b)
+of_found a b es all found = All-contains AreApart (keys_of es) (ends_of a b) all
+    (Contains-keys_from_lookup {eq = λ x. is_at (ends_cmp x)} same_ends (ends_of a b) es found)
 
 module _ (c : Configuration) (sound : IsSound c) where
   -- a node more
-  with_node : (a : Addr) (n : Node) → length c.nodes < most_nodes → IsSound (record c { nodes = insert_entry addr_cmp c.nodes a n })
+  with_node : (a : Addr) (n : Node) → length c.nodes < most_nodes →
+      IsSound (record c { nodes = insert_entry addr_cmp c.nodes a n })
   with_node a n room = record {
     size = omega (arith, one_longer addr_cmp a n c.nodes, room);
     links = λ k d lt. still (get_or (keys_of c.links) k d) (sound.links k d lt);
@@ -114,9 +126,13 @@ module _ (c : Configuration) (sound : IsSound c) where
   }
     where
       still : (e : Ends) → HasEnds c e → HasEnds (record c { nodes = insert_entry addr_cmp c.nodes a n }) e
-      still e has = (found_still addr_cmp (is_at (addr_cmp e.low)) a n c.nodes has.0, found_still addr_cmp (is_at (addr_cmp e.high)) a n c.nodes has.1)
+      still e has = (
+        found_still addr_cmp (is_at (addr_cmp e.low)) a n c.nodes has.0,
+        found_still addr_cmp (is_at (addr_cmp e.high)) a n c.nodes has.1,
+      )
 
-  linked : (a b : Addr) (link : TheLink) → HasEnds c (ends_of a b) → AreApart (ends_of a b) → IsMetric link.metric → IsSound (with_link c a b link)
+  linked : (a b : Addr) (link : TheLink) → HasEnds c (ends_of a b) → AreApart (ends_of a b) → IsMetric link.metric →
+      IsSound (with_link c a b link)
   linked a b link has apart metric = record {
     size = sound.size;
     links = All-keys-insert_entry ends_cmp (ends_of a b) link (HasEnds c) c.links sound.links has;
@@ -128,19 +144,26 @@ module _ (c : Configuration) (sound : IsSound c) where
 
   -- the metric of a link that is there
   metric_there : (a b : Addr) (link : TheLink) → link_between c a b ≡ Some link → IsMetric link.metric
-  metric_there a b link is = subst (λ o. IfSome o (λ l. IsMetric l.metric)) is (IfSome-lookup_from_All (λ l. IsMetric l.metric) (is_at (ends_cmp (ends_of a b))) c.links sound.metrics)
+  metric_there a b link is = subst (λ o. IfSome o (λ l. IsMetric l.metric)) is
+      (IfSome-lookup_from_All (λ l. IsMetric l.metric) (is_at (ends_cmp (ends_of a b))) c.links sound.metrics)
 
-  changed : (a b : Addr) (change : TheLink → TheLink) (link : Option TheLink) → link_between c a b ≡ link → HasEnds c (ends_of a b) → ((l : TheLink) → IsMetric l.metric → IsMetric (change l).metric) → IsSound (with_link_changed c a b change link)
+  changed : (a b : Addr) (change : TheLink → TheLink) (link : Option TheLink) → link_between c a b ≡ link →
+      HasEnds c (ends_of a b) → ((l : TheLink) → IsMetric l.metric → IsMetric (change l).metric) →
+      IsSound (with_link_changed c a b change link)
   changed a b change None is has metric = sound
-  changed a b change (Some link) is has metric = linked a b (change link) has (of_found a b c.links sound.links_apart (ap is_some is)) (metric link (metric_there a b link is))
+  changed a b change (Some link) is has metric =
+      linked a b (change link) has (of_found a b c.links sound.links_apart (ap is_some is))
+      (metric link (metric_there a b link is))
 
-  joined : (a b : Addr) (enabled : Bool) → HasEnds c (ends_of a b) → AreApart (ends_of a b) → IsSound (with_session c a b enabled)
+  joined : (a b : Addr) (enabled : Bool) → HasEnds c (ends_of a b) → AreApart (ends_of a b) →
+      IsSound (with_session c a b enabled)
   joined a b enabled has apart = record {
     size = sound.size;
     links = sound.links;
     sessions = All-keys-insert_entry ends_cmp (ends_of a b) enabled (HasEnds c) c.sessions sound.sessions has;
     links_apart = sound.links_apart;
-    sessions_apart = All-keys-insert_entry ends_cmp (ends_of a b) enabled AreApart c.sessions sound.sessions_apart apart;
+    sessions_apart = All-keys-insert_entry ends_cmp (ends_of a b) enabled AreApart c.sessions
+        sound.sessions_apart apart;
     metrics = sound.metrics;
   }
 
@@ -153,21 +176,29 @@ module _ (c : Configuration) (sound : IsSound c) where
   same_tables : (d : Configuration) → d.nodes ≡ c.nodes → d.links ≡ c.links → d.sessions ≡ c.sessions → IsSound d
   same_tables d nodes links sessions = record {
     size = subst (λ n. length n ≤ most_nodes) (sym nodes) sound.size;
-    links = subst (λ n. All (λ e. (is_some (lookup (is_at (addr_cmp e.low)) n) ≡ true) × (is_some (lookup (is_at (addr_cmp e.high)) n) ≡ true)) (keys_of d.links)) (sym nodes) (subst (λ l. All (HasEnds c) (keys_of l)) (sym links) sound.links);
-    sessions = subst (λ n. All (λ e. (is_some (lookup (is_at (addr_cmp e.low)) n) ≡ true) × (is_some (lookup (is_at (addr_cmp e.high)) n) ≡ true)) (keys_of d.sessions)) (sym nodes) (subst (λ l. All (HasEnds c) (keys_of l)) (sym sessions) sound.sessions);
+    links = subst (λ n. All (λ e. (is_some (lookup (is_at (addr_cmp e.low)) n) ≡ true)
+        × (is_some (lookup (is_at (addr_cmp e.high)) n) ≡ true)) (keys_of d.links)) (sym nodes)
+        (subst (λ l. All (HasEnds c) (keys_of l)) (sym links) sound.links);
+    sessions = subst (λ n. All (λ e. (is_some (lookup (is_at (addr_cmp e.low)) n) ≡ true)
+        × (is_some (lookup (is_at (addr_cmp e.high)) n) ≡ true)) (keys_of d.sessions)) (sym nodes)
+        (subst (λ l. All (HasEnds c) (keys_of l)) (sym sessions) sound.sessions);
     links_apart = subst (λ l. All AreApart (keys_of l)) (sym links) sound.links_apart;
     sessions_apart = subst (λ l. All AreApart (keys_of l)) (sym sessions) sound.sessions_apart;
     metrics = subst (λ l. All (λ l. IsMetric l.metric) (values_of l)) (sym links) sound.metrics;
   }
 
   -- an edit between two that are there and differ, of a session that is there, and that passes no limit
-  pub sound_edited : (e : Edit) → HasMetric e → lacks_node c e ≡ false → has_one_end e ≡ false → lacks_session c e ≡ false → is_past_limit c e ≡ false → IsSound (edited c e)
+  pub sound_edited : (e : Edit) → HasMetric e → lacks_node c e ≡ false → has_one_end e ≡ false →
+      lacks_session c e ≡ false → is_past_limit c e ≡ false → IsSound (edited c e)
   sound_edited (Router a n) metric there two session room = with_node a _ (below_limit (length c.nodes) room)
   sound_edited (Virtual a n) metric there two session room = with_node a _ (below_limit (length c.nodes) room)
   sound_edited (Link a b m) metric there two session room = linked a b _ (ends a b there) (ends_apart a b two) metric
-  sound_edited (Metric a b m) metric there two session room = changed a b _ (link_between c a b) refl (ends a b there) (λ l was. metric)
-  sound_edited (Fail a b) metric there two session room = changed a b _ (link_between c a b) refl (ends a b there) (λ l was. was)
-  sound_edited (Mend a b) metric there two session room = changed a b _ (link_between c a b) refl (ends a b there) (λ l was. was)
+  sound_edited (Metric a b m) metric there two session room =
+      changed a b _ (link_between c a b) refl (ends a b there) (λ l was. metric)
+  sound_edited (Fail a b) metric there two session room =
+      changed a b _ (link_between c a b) refl (ends a b there) (λ l was. was)
+  sound_edited (Mend a b) metric there two session room =
+      changed a b _ (link_between c a b) refl (ends a b there) (λ l was. was)
   sound_edited (Join a b) metric there two session room = joined a b true (ends a b there) (ends_apart a b two)
   sound_edited (Stop a b) metric there two session room = joined a b false (ends a b there) (session_apart a b session)
   sound_edited (Start a b) metric there two session room = joined a b true (ends a b there) (session_apart a b session)
@@ -186,7 +217,8 @@ pub within_limits : (c : Configuration) (e : Edit) → refusal_of c e ≡ None �
 unfolding refusal_of
 within_limits c e none = (all_fail (tests_of c e) none).1.1.1.1.1.1.1.1.1.1.1.1.1.1.0
 
-pub sound_after : (c : Configuration) (e : Edit) → IsSound c → HasMetric e → refusal_of c e ≡ None → IsSound (edited c e)
+pub sound_after : (c : Configuration) (e : Edit) → IsSound c → HasMetric e → refusal_of c e ≡ None →
+    IsSound (edited c e)
 unfolding refusal_of
 sound_after c e sound metric none =
     let all = all_fail (tests_of c e) none in

@@ -10,9 +10,12 @@ use Rattle.igp_cost.specs.Trees.{Reached, source_of}
 use Rattle.net_conf.specs.Concerned.{is_among}
 use Rattle.net_conf.specs.MovedTrees.{MovedTree, AreMoved, owners}
 
-pub moved_spread : (graph : Topology) (old : List (Addr × Reached)) (xs ys : List MovedTree) → IsPermutation xs ys → AreMoved graph old xs → AreMoved graph old ys
+pub moved_spread : (graph : Topology) (old : List (Addr × Reached)) (xs ys : List MovedTree) → IsPermutation xs ys →
+    AreMoved graph old xs → AreMoved graph old ys
 moved_spread graph old xs ys same are =
-    let among : (r : Addr) → is_among r (owners xs) ≡ is_among r (owners ys) = λ r. list_any-IsPermutation (is_at (addr_cmp r)) (owners xs) (owners ys) (IsPermutation-map (λ (x : MovedTree). source_of x.tree) xs ys same) in
+    let among : (r : Addr) → is_among r (owners xs) ≡ is_among r (owners ys) =
+    λ r. list_any-IsPermutation (is_at (addr_cmp r)) (owners xs) (owners ys)
+    (IsPermutation-map (λ (x : MovedTree). source_of x.tree) xs ys same) in
     record {
       graphs = All-permutation (λ (x : MovedTree). x.graph ≡ graph) xs ys same are.graphs;
       there = λ r is. are.there r (among r ∙ is);

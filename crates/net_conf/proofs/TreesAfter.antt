@@ -36,14 +36,17 @@ pub record TreesStay (c d : Configuration) : Type 0 where
 pub still_kept : (c d : Configuration) → TreesStay c d → (r : Addr) → tree_kept d r ≡ tree_kept c r
 still_kept c d stay r = ap (λ t. if t then Some (costs_of d r) else None) (stay.ends r) ∙ by (ends_session c r) refl
   where
-    by : (ends : Bool) → ends_session c r ≡ ends → (if ends then Some (costs_of d r) else None) ≡ (if ends then Some (costs_of c r) else None)
+    by : (ends : Bool) → ends_session c r ≡ ends → (if ends then Some (costs_of d r) else None)
+        ≡ (if ends then Some (costs_of c r) else None)
     by true is = ap Some (stay.costs r is)
     by false is = refl
 
-pub kept_still : (c d : Configuration) (trees : List (Addr × Reached)) → TreesStay c d → AreKept c trees → AreKept d trees
+pub kept_still : (c d : Configuration) (trees : List (Addr × Reached)) → TreesStay c d →
+    AreKept c trees → AreKept d trees
 kept_still c d trees stay kept r = kept r ∙ sym (still_kept c d stay r)
 
-pub costs_from_kept : (c d : Configuration) (r : Addr) → ends_session d r ≡ ends_session c r → tree_kept d r ≡ tree_kept c r → ends_session c r ≡ true → costs_of d r ≡ costs_of c r
+pub costs_from_kept : (c d : Configuration) (r : Addr) → ends_session d r ≡ ends_session c r →
+    tree_kept d r ≡ tree_kept c r → ends_session c r ≡ true → costs_of d r ≡ costs_of c r
 costs_from_kept c d r ends same is = same_Some _ _ (sym (tree_there d r (ends ∙ is)) ∙ same ∙ tree_there c r is)
 
 -- A NODE MORE
@@ -52,7 +55,8 @@ pub none_there : {X : Type 0} (o : Option X) → is_some o ≡ false → o ≡ N
 none_there None is = refl
 none_there (Some x) is = absurd (true≢false is)
 
-module _ (law : LoneNodeMovesNoTree) (c : Configuration) (a : Addr) (n : Node) (sound : IsSound c) (sorted : IsStrictlySortedBy addr_cmp (keys_of c.nodes)) (new : has_node c a ≡ false) where
+module _ (law : LoneNodeMovesNoTree) (c : Configuration) (a : Addr) (n : Node) (sound : IsSound c)
+    (sorted : IsStrictlySortedBy addr_cmp (keys_of c.nodes)) (new : has_node c a ≡ false) where
   abbrev with_node : Configuration
   with_node = record c { nodes = insert_entry addr_cmp c.nodes a n }
 
@@ -63,13 +67,15 @@ module _ (law : LoneNodeMovesNoTree) (c : Configuration) (a : Addr) (n : Node) (
   parts = split addr_cmp addr_exact a n addr_total c.nodes sorted
 
   before_is : nodes_of c ≡ numbered parts.front ++ numbered parts.back
-  before_is = ap numbered (parts.was.0 (none_there (node_at c a) new)) ∙ map-append (λ e. (e.0, e.1.asn)) parts.front parts.back
+  before_is = ap numbered (parts.was.0 (none_there (node_at c a) new))
+      ∙ map-append (λ e. (e.0, e.1.asn)) parts.front parts.back
 
   after_is : nodes_of with_node ≡ numbered parts.front ++ (a, n.asn) ∷ numbered parts.back
   after_is = ap numbered parts.is ∙ map-append (λ e. (e.0, e.1.asn)) parts.front ((a, n) ∷ parts.back)
 
   absent : asn_of (nodes_of c) a ≡ None
-  absent = lookup-map_values (λ x. x.asn) (is_at (addr_cmp a)) c.nodes ∙ ap (option_map (λ x. x.asn)) (none_there (node_at c a) new)
+  absent = lookup-map_values (λ x. x.asn) (is_at (addr_cmp a)) c.nodes
+      ∙ ap (option_map (λ x. x.asn)) (none_there (node_at c a) new)
 
   pub costs_with_node : (r : Addr) → has_node c r ≡ true → costs_of with_node r ≡ costs_of c r
   costs_with_node r node =
@@ -90,7 +96,9 @@ unfolding refusal_of
 node_is_new c e none = let all = all_fail (tests_of c e) none in all.1.0
 
 -- an edit of neither a link nor a session
-pub others_stay : LoneNodeMovesNoTree → (c : Configuration) (e : Edit) → IsSound c → IsStrictlySortedBy addr_cmp (keys_of c.nodes) → repeats_node c e ≡ false → link_in e ≡ None → session_in e ≡ None → TreesStay c (edited c e)
+pub others_stay : LoneNodeMovesNoTree → (c : Configuration) (e : Edit) → IsSound c →
+    IsStrictlySortedBy addr_cmp (keys_of c.nodes) → repeats_node c e ≡ false → link_in e ≡ None → session_in e ≡ None →
+    TreesStay c (edited c e)
 others_stay law c (Router a n) sound sorted new link session = stay_with_node law c a _ sound sorted new
 others_stay law c (Virtual a n) sound sorted new link session = stay_with_node law c a _ sound sorted new
 others_stay law c (Link a b m) sound sorted new link session = absurd (none-some _ (sym link))
@@ -104,8 +112,10 @@ others_stay law c (Client a b on) sound sorted new link session = record { ends 
 others_stay law c (OwnNext a b on) sound sorted new link session = record { ends = λ r. refl; costs = λ r is. refl }
 others_stay law c (Cluster a id) sound sorted new link session = record { ends = λ r. refl; costs = λ r is. refl }
 others_stay law c (MedAlways a on) sound sorted new link session = record { ends = λ r. refl; costs = λ r is. refl }
-others_stay law c (AddRule a b Import rule) sound sorted new link session = record { ends = λ r. refl; costs = λ r is. refl }
-others_stay law c (AddRule a b Export rule) sound sorted new link session = record { ends = λ r. refl; costs = λ r is. refl }
+others_stay law c (AddRule a b Import rule) sound sorted new link session =
+    record { ends = λ r. refl; costs = λ r is. refl }
+others_stay law c (AddRule a b Export rule) sound sorted new link session =
+    record { ends = λ r. refl; costs = λ r is. refl }
 others_stay law c (Clear a b Import) sound sorted new link session = record { ends = λ r. refl; costs = λ r is. refl }
 others_stay law c (Clear a b Export) sound sorted new link session = record { ends = λ r. refl; costs = λ r is. refl }
 others_stay law c (Origin a p) sound sorted new link session = record { ends = λ r. refl; costs = λ r is. refl }
@@ -117,7 +127,9 @@ link_there : (c : Configuration) (e : Edit) → refusal_of c e ≡ None → lack
 unfolding refusal_of
 link_there c e none = let all = all_fail (tests_of c e) none in all.1.1.1.1.1.0
 
-changed_link : (c : Configuration) (a b : Addr) (change : TheLink → TheLink) (link : Option TheLink) → link_between c a b ≡ link → not (is_some (link_between c a b)) ≡ false → IsLinked c (with_link_changed c a b change link) a b
+changed_link : (c : Configuration) (a b : Addr) (change : TheLink → TheLink) (link : Option TheLink) →
+    link_between c a b ≡ link → not (is_some (link_between c a b)) ≡ false →
+    IsLinked c (with_link_changed c a b change link) a b
 changed_link c a b change None is lacks = absurd (true≢false (sym (ap (λ o. not (is_some o)) is) ∙ lacks))
 changed_link c a b change (Some link) is lacks = record { link = change link; is = refl }
 
@@ -125,14 +137,20 @@ turn_linked : {c d : Configuration} {p q : Addr × Addr} → p ≡ q → IsLinke
 turn_linked {c} {d} is linked = subst (λ p. IsLinked c d p.0 p.1) is linked
 
 -- an edit of a link makes the configuration with a link of the two
-linked_by : (c : Configuration) (e : Edit) (x y : Addr) → lacks_link c e ≡ false → link_in e ≡ Some (x, y) → IsLinked c (edited c e) x y
-linked_by c (Link a b m) x y lacks is = turn_linked (same_Some _ _ is) (record { link = record { metric = m; up = true }; is = refl })
-linked_by c (Metric a b m) x y lacks is = turn_linked (same_Some _ _ is) (changed_link c a b _ (link_between c a b) refl lacks)
-linked_by c (Fail a b) x y lacks is = turn_linked (same_Some _ _ is) (changed_link c a b _ (link_between c a b) refl lacks)
-linked_by c (Mend a b) x y lacks is = turn_linked (same_Some _ _ is) (changed_link c a b _ (link_between c a b) refl lacks)
+linked_by : (c : Configuration) (e : Edit) (x y : Addr) → lacks_link c e ≡ false → link_in e ≡ Some (x, y) →
+    IsLinked c (edited c e) x y
+linked_by c (Link a b m) x y lacks is =
+    turn_linked (same_Some _ _ is) (record { link = record { metric = m; up = true }; is = refl })
+linked_by c (Metric a b m) x y lacks is =
+    turn_linked (same_Some _ _ is) (changed_link c a b _ (link_between c a b) refl lacks)
+linked_by c (Fail a b) x y lacks is =
+    turn_linked (same_Some _ _ is) (changed_link c a b _ (link_between c a b) refl lacks)
+linked_by c (Mend a b) x y lacks is =
+    turn_linked (same_Some _ _ is) (changed_link c a b _ (link_between c a b) refl lacks)
 linked_by c _ x y lacks is = absurd (none-some _ is)
 
-pub linked_after : (c : Configuration) (e : Edit) (x y : Addr) → refusal_of c e ≡ None → link_in e ≡ Some (x, y) → IsLinked c (edited c e) x y
+pub linked_after : (c : Configuration) (e : Edit) (x y : Addr) → refusal_of c e ≡ None → link_in e ≡ Some (x, y) →
+    IsLinked c (edited c e) x y
 linked_after c e x y none is = linked_by c e x y (link_there c e none) is
 
 -- where the edges stay, so do the trees
@@ -143,17 +161,21 @@ stay_with_link c d a b linked same = record {
 }
 
 -- the trees of the changed edges are those that are kept
-pub kept_with_link : (c d : Configuration) (a b : Addr) → IsLinked c d a b → (r : Addr) → option_map (λ t. tree_of (nodes_of d) (edges_of d) r) (tree_kept c r) ≡ tree_kept d r
-kept_with_link c d a b linked r = by (ends_session c r) ∙ ap (λ x. if ends_session x r then Some (costs_of d r) else None) (sym linked.is)
+pub kept_with_link : (c d : Configuration) (a b : Addr) → IsLinked c d a b → (r : Addr) →
+    option_map (λ t. tree_of (nodes_of d) (edges_of d) r) (tree_kept c r) ≡ tree_kept d r
+kept_with_link c d a b linked r = by (ends_session c r)
+    ∙ ap (λ x. if ends_session x r then Some (costs_of d r) else None) (sym linked.is)
   where
-    by : (ends : Bool) → option_map (λ t. tree_of (nodes_of d) (edges_of d) r) (if ends then Some (costs_of c r) else None) ≡ (if ends then Some (costs_of d r) else None)
+    by : (ends : Bool) → option_map (λ t. tree_of (nodes_of d) (edges_of d) r) (if ends then Some (costs_of c r)
+        else None) ≡ (if ends then Some (costs_of d r) else None)
     by true = refl
     by false = refl
 
 -- A SESSION
 
 -- what is put in at an address counts there alone
-pub at_one : (f g : Addr → Reached) (r b : Addr) → f b ≡ g b → (o : Option Reached) → cond (is_at (addr_cmp r) b) (Some (f r)) o ≡ cond (is_at (addr_cmp r) b) (Some (g r)) o
+pub at_one : (f g : Addr → Reached) (r b : Addr) → f b ≡ g b → (o : Option Reached) →
+    cond (is_at (addr_cmp r) b) (Some (f r)) o ≡ cond (is_at (addr_cmp r) b) (Some (g r)) o
 at_one f g r b same o = by (is_at (addr_cmp r) b) refl
   where
     by : (t : Bool) → is_at (addr_cmp r) b ≡ t → cond t (Some (f r)) o ≡ cond t (Some (g r)) o
@@ -164,7 +186,8 @@ turn_joined : {c d : Configuration} {p q : Addr × Addr} → p ≡ q → IsJoine
 turn_joined {c} {d} is joined = subst (λ p. IsJoined c d p.0 p.1) is joined
 
 -- an edit of a session makes the configuration with a session of the two
-pub joined_after : (c : Configuration) (e : Edit) (x y : Addr) → session_in e ≡ Some (x, y) → IsJoined c (edited c e) x y
+pub joined_after : (c : Configuration) (e : Edit) (x y : Addr) → session_in e ≡ Some (x, y) →
+    IsJoined c (edited c e) x y
 joined_after c (Join a b) x y is = turn_joined (same_Some _ _ is) (record { enabled = true; is = refl })
 joined_after c (Stop a b) x y is = turn_joined (same_Some _ _ is) (record { enabled = false; is = refl })
 joined_after c (Start a b) x y is = turn_joined (same_Some _ _ is) (record { enabled = true; is = refl })
@@ -180,10 +203,15 @@ module _ (c d : Configuration) (a b : Addr) (joined : IsJoined c d a b) where
   pub costs_joined : (r : Addr) → costs_of d r ≡ costs_of c r
   costs_joined r = ap (λ x. costs_of x r) joined.is
 
-  pub kept_joined : (r : Addr) → cond (is_at (addr_cmp r) b) (Some (costs_of d r)) (cond (is_at (addr_cmp r) a) (Some (costs_of d r)) (tree_kept c r)) ≡ tree_kept d r
-  kept_joined r = by (is_at (addr_cmp r) b) (is_at (addr_cmp r) a) (ends_session c r) ∙ ap (λ t. if t then Some (costs_of d r) else None) (sym (ends_joined r))
+  pub kept_joined : (r : Addr) →
+      cond (is_at (addr_cmp r) b) (Some (costs_of d r))
+      (cond (is_at (addr_cmp r) a) (Some (costs_of d r)) (tree_kept c r)) ≡ tree_kept d r
+  kept_joined r = by (is_at (addr_cmp r) b) (is_at (addr_cmp r) a) (ends_session c r)
+      ∙ ap (λ t. if t then Some (costs_of d r) else None) (sym (ends_joined r))
     where
-      by : (t u ends : Bool) → cond t (Some (costs_of d r)) (cond u (Some (costs_of d r)) (if ends then Some (costs_of c r) else None)) ≡ (if (u || t) || ends then Some (costs_of d r) else None)
+      by : (t u ends : Bool) →
+          cond t (Some (costs_of d r)) (cond u (Some (costs_of d r)) (if ends then Some (costs_of c r) else None))
+          ≡ (if (u || t) || ends then Some (costs_of d r) else None)
       by true true ends = refl
       by true false ends = refl
       by false true ends = refl
@@ -191,12 +219,17 @@ module _ (c d : Configuration) (a b : Addr) (joined : IsJoined c d a b) where
       by false false false = refl
 
   pub stay_joined : ends_session c a ≡ true → ends_session c b ≡ true → TreesStay c d
-  stay_joined first second = record { ends = λ r. ends_joined r ∙ by r (is_at (addr_cmp r) a) (is_at (addr_cmp r) b) refl refl; costs = λ r is. costs_joined r }
+  stay_joined first second = record {
+    ends = λ r. ends_joined r
+        ∙ by r (is_at (addr_cmp r) a) (is_at (addr_cmp r) b) refl refl;
+    costs = λ r is. costs_joined r;
+  }
     where
       there : (r x : Addr) → is_at (addr_cmp r) x ≡ true → ends_session c x ≡ true → true ≡ ends_session c r
       there r x is ends = sym (ap (ends_session c) (addr_exact r x (equal_when (addr_cmp r x) is)) ∙ ends)
 
-      by : (r : Addr) (t u : Bool) → is_at (addr_cmp r) a ≡ t → is_at (addr_cmp r) b ≡ u → ((t || u) || ends_session c r) ≡ ends_session c r
+      by : (r : Addr) (t u : Bool) → is_at (addr_cmp r) a ≡ t → is_at (addr_cmp r) b ≡ u →
+          ((t || u) || ends_session c r) ≡ ends_session c r
       by r true u is is' = there r a is first
       by r false true is is' = there r b is' second
       by r false false is is' = refl
@@ -211,12 +244,15 @@ module _ (c d : Configuration) (a b : Addr) (joined : IsJoined c d a b) where
   pub right_still : (r : Addr) (t : Reached) → tree_kept c r ≡ Some t → t ≡ costs_of d r
   right_still r t kept = (kept_is c r t kept).1 ∙ sym (costs_joined r)
 
-  pub right_then : (r : Addr) (t : Reached) (u : Bool) → cond u (Some (costs_of d r)) (tree_kept c r) ≡ Some t → t ≡ costs_of d r
+  pub right_then : (r : Addr) (t : Reached) (u : Bool) → cond u (Some (costs_of d r)) (tree_kept c r) ≡ Some t →
+      t ≡ costs_of d r
   right_then r t true is = sym (same_Some _ _ is)
   right_then r t false is = right_still r t is
 
 -- where no link is touched, the costs stay
-pub costs_stay : LoneNodeMovesNoTree → (c : Configuration) (e : Edit) → IsSound c → IsStrictlySortedBy addr_cmp (keys_of c.nodes) → refusal_of c e ≡ None → link_in e ≡ None → (r : Addr) → ends_session c r ≡ true → costs_of (edited c e) r ≡ costs_of c r
+pub costs_stay : LoneNodeMovesNoTree → (c : Configuration) (e : Edit) → IsSound c →
+    IsStrictlySortedBy addr_cmp (keys_of c.nodes) → refusal_of c e ≡ None → link_in e ≡ None → (r : Addr) →
+    ends_session c r ≡ true → costs_of (edited c e) r ≡ costs_of c r
 costs_stay law c e sound sorted none link r ends = by (session_in e) refl
   where
     by : (o : Option (Addr × Addr)) → session_in e ≡ o → costs_of (edited c e) r ≡ costs_of c r

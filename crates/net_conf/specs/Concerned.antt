@@ -13,7 +13,8 @@ use Rattle.net_conf.specs.RouterSites.{router_site}
 abbrev pub is_among : Addr → List Addr → Bool
 is_among r rs = list_any (is_at (addr_cmp r)) rs
 
--- the router's part of the configuration stays, but for its costs where it has no session; and each session to it stays up or down
+-- the router's part of the configuration stays, but for its costs where it has no session; and each session to it stays
+-- up or down
 pub record StaysAt (c d : Configuration) (r : Addr) : Type 0 where
   pub facts : router_site d r ≡ option_map (λ (s : SiteConf). record s { costs = costs_of d r }) (router_site c r)
   pub costs : ends_session c r ≡ true → costs_of d r ≡ costs_of c r

@@ -20,10 +20,10 @@ use Rattle.net_conf.specs.declared.tables.End.{End}
 use Rattle.net_conf.specs.declared.tables.Origination.{Origination}
 
 -- routers and virtual peers by address: a router's address is its BGP Identifier, that of its sessions and its own
--- NEXT_HOP (own), and a virtual peer is an external neighbour that decides nothing (own); links, and whether each session
--- is enabled, by their ends, so one of each for two addresses (own); the settings of the ends of sessions: which peers are
--- clients, where a router puts itself as NEXT_HOP, and both policies; the CLUSTER_IDs that were set; the routers that
--- compare MULTI_EXIT_DISC whatever the neighbouring AS; and who originates what
+-- NEXT_HOP (own), and a virtual peer is an external neighbour that decides nothing (own); links, and whether each
+-- session is enabled, by their ends, so one of each for two addresses (own); the settings of the ends of sessions:
+-- which peers are clients, where a router puts itself as NEXT_HOP, and both policies; the CLUSTER_IDs that were set;
+-- the routers that compare MULTI_EXIT_DISC whatever the neighbouring AS; and who originates what
 pub record Configuration : Type 0 where
   pub nodes : List (Addr × Node)
   pub links : List (Ends × Link)
@@ -37,7 +37,18 @@ pub record Configuration : Type 0 where
   pub origins : List Origination
 
 abbrev pub unconfigured : Configuration
-unconfigured = record { nodes = []; links = []; sessions = []; clients = []; own_next = []; imports = []; exports = []; clusters = []; med_always = []; origins = [] }
+unconfigured = record {
+  nodes = [];
+  links = [];
+  sessions = [];
+  clients = [];
+  own_next = [];
+  imports = [];
+  exports = [];
+  clusters = [];
+  med_always = [];
+  origins = [];
+}
 
 -- the two ends of a link or a session, the lower first: the same in both orders
 abbrev pub ends_of : Addr → Addr → Ends

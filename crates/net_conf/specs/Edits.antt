@@ -1,5 +1,5 @@
--- What an edit does, and when it is refused: which edits there are, and by which tests they are refused, is this project's
--- choice (own).
+-- What an edit does, and when it is refused: which edits there are, and by which tests they are refused, is this
+-- project's choice (own).
 use Rattle.std.specs.Prelude.{◌≡◌, ℕ, Bool, true, false, not, ◌==◌, ◌&&◌, ◌||◌, nat_le, List, [], ◌∷◌, ◌++◌, length, Option, Some, None, is_some, Result, Ok, Err, if◌then◌else◌}
 use Rattle.std.specs.Map.{remove_entry}
 use Rattle.std.specs.Set.{remove_key}
@@ -261,7 +261,8 @@ edited c (MedAlways a on) = record c { med_always = router_switched on a c.med_a
 edited c (AddRule a b side rule) = with_rule_of c a b side rule
 edited c (Clear a b side) = without_rules_of c a b side
 edited c (Origin a p) = record c { origins = insert_key origination_cmp c.origins (record { router = a; prefix = p }) }
-edited c (NoOrigin a p) = record c { origins = remove_key (is_at (origination_cmp (record { router = a; prefix = p }))) c.origins }
+edited c (NoOrigin a p) =
+    record c { origins = remove_key (is_at (origination_cmp (record { router = a; prefix = p }))) c.origins }
 
 -- the refusal of a test, or want of memory where there is none
 abbrev pub refusal_or_memory : Option Refusal → Refusal

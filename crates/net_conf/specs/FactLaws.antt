@@ -67,19 +67,37 @@ module _ (x y : SiteSession) (h : same_session x y ≡ true) where
       let after_client = second_so (beq x.client y.client) own after_external in
       let after_own = second_so (beq x.own_next y.own_next) policies after_client in
       let peer = addr_true x.peer y.peer (first_so (same_addr x.peer y.peer) numbers h) in
-      let peer_asn = maybe_number_true x.peer_asn y.peer_asn (first_so (same_number x.peer_asn y.peer_asn) ups after_peer) in
+      let peer_asn = maybe_number_true x.peer_asn y.peer_asn
+      (first_so (same_number x.peer_asn y.peer_asn) ups after_peer) in
       let up = (booleans_Decides x.up y.up).0 (first_so (beq x.up y.up) externals after_number) in
-      let external = (booleans_Decides x.external y.external).0 (first_so (beq x.external y.external) clients after_up) in
+      let external = (booleans_Decides x.external y.external).0
+      (first_so (beq x.external y.external) clients after_up) in
       let client = (booleans_Decides x.client y.client).0 (first_so (beq x.client y.client) own after_external) in
-      let own_next = (booleans_Decides x.own_next y.own_next).0 (first_so (beq x.own_next y.own_next) policies after_client) in
-      let policy_in = (policies_exact x.policy_in y.policy_in).0 (first_so (same_policy x.policy_in y.policy_in) (same_policy x.policy_out y.policy_out) after_own) in
-      let policy_out = (policies_exact x.policy_out y.policy_out).0 (second_so (same_policy x.policy_in y.policy_in) (same_policy x.policy_out y.policy_out) after_own) in
-      λ i. record { peer = peer i; peer_asn = peer_asn i; up = up i; external = external i; client = client i; own_next = own_next i; policy_in = policy_in i; policy_out = policy_out i }
+      let own_next = (booleans_Decides x.own_next y.own_next).0
+      (first_so (beq x.own_next y.own_next) policies after_client) in
+      let policy_in = (policies_exact x.policy_in y.policy_in).0
+      (first_so (same_policy x.policy_in y.policy_in) (same_policy x.policy_out y.policy_out) after_own) in
+      let policy_out = (policies_exact x.policy_out y.policy_out).0
+      (second_so (same_policy x.policy_in y.policy_in) (same_policy x.policy_out y.policy_out) after_own) in
+      λ i. record {
+        peer = peer i;
+        peer_asn = peer_asn i;
+        up = up i;
+        external = external i;
+        client = client i;
+        own_next = own_next i;
+        policy_in = policy_in i;
+        policy_out = policy_out i;
+      }
 
 session_itself : (x : SiteSession) → same_session x x ≡ true
 session_itself x =
-    both_true _ _ (number_itself x.peer.0) (both_true _ _ (maybe_number_itself x.peer_asn) (both_true _ _ (bool_itself x.up) (both_true _ _ (bool_itself x.external)
-    (both_true _ _ (bool_itself x.client) (both_true _ _ (bool_itself x.own_next) (both_true _ _ ((policies_exact x.policy_in x.policy_in).1 refl) ((policies_exact x.policy_out x.policy_out).1 refl)))))))
+    both_true _ _ (number_itself x.peer.0)
+    (both_true _ _ (maybe_number_itself x.peer_asn)
+    (both_true _ _ (bool_itself x.up) (both_true _ _ (bool_itself x.external)
+    (both_true _ _ (bool_itself x.client)
+    (both_true _ _ (bool_itself x.own_next) (both_true _ _ ((policies_exact x.policy_in x.policy_in).1 refl)
+    ((policies_exact x.policy_out x.policy_out).1 refl)))))))
 
 sessions_exact : IsExact same_session
 sessions_exact x y = (session_true x y, λ e. subst (λ z. same_session x z ≡ true) e (session_itself x))
@@ -109,14 +127,30 @@ module _ (s t : SiteConf) (h : same_facts s t ≡ true) where
       let after_reflector = second_so (beq s.reflector t.reflector) comparisons after_cluster in
       let me = sym (addr_true s.me t.me (first_so (same_addr s.me t.me) systems h)) in
       let asn = sym ((unsigned_Decides s.asn t.asn).0 (first_so (s.asn == t.asn) clusters after_me)) in
-      let cluster = sym (addr_true s.cluster t.cluster (first_so (same_addr s.cluster t.cluster) reflectors after_asn)) in
-      let reflector = sym ((booleans_Decides s.reflector t.reflector).0 (first_so (beq s.reflector t.reflector) comparisons after_cluster)) in
-      let med_always = sym ((booleans_Decides s.med_always t.med_always).0 (first_so (beq s.med_always t.med_always) sessions after_reflector)) in
-      let same = sym ((lists_exact sessions_exact s.sessions t.sessions).0 (second_so (beq s.med_always t.med_always) sessions after_reflector)) in
-      λ i. record { me = me i; asn = asn i; cluster = cluster i; reflector = reflector i; med_always = med_always i; origins = t.origins; sessions = same i; costs = t.costs }
+      let cluster = sym (addr_true s.cluster t.cluster
+      (first_so (same_addr s.cluster t.cluster) reflectors after_asn)) in
+      let reflector = sym ((booleans_Decides s.reflector t.reflector).0
+      (first_so (beq s.reflector t.reflector) comparisons after_cluster)) in
+      let med_always = sym ((booleans_Decides s.med_always t.med_always).0
+      (first_so (beq s.med_always t.med_always) sessions after_reflector)) in
+      let same = sym ((lists_exact sessions_exact s.sessions t.sessions).0
+      (second_so (beq s.med_always t.med_always) sessions after_reflector)) in
+      λ i. record {
+        me = me i;
+        asn = asn i;
+        cluster = cluster i;
+        reflector = reflector i;
+        med_always = med_always i;
+        origins = t.origins;
+        sessions = same i;
+        costs = t.costs;
+      }
 
 -- and a site has the same facts as itself with other originated prefixes and costs
-pub facts_itself : (s : SiteConf) (origins : List Prefix) (costs : Reached) → same_facts s (with_facts_of s origins costs) ≡ true
+pub facts_itself : (s : SiteConf) (origins : List Prefix) (costs : Reached) →
+    same_facts s (with_facts_of s origins costs) ≡ true
 facts_itself s origins costs =
-    both_true _ _ (number_itself s.me.0) (both_true _ _ (number_itself s.asn) (both_true _ _ (number_itself s.cluster.0) (both_true _ _ (bool_itself s.reflector)
+    both_true _ _ (number_itself s.me.0)
+    (both_true _ _ (number_itself s.asn)
+    (both_true _ _ (number_itself s.cluster.0) (both_true _ _ (bool_itself s.reflector)
     (both_true _ _ (bool_itself s.med_always) ((lists_exact sessions_exact s.sessions s.sessions).1 refl)))))

@@ -14,7 +14,9 @@ use Rattle.net_conf.specs.declared.site.SiteSession.{SiteSession}
 abbrev pub same_session : SiteSession → SiteSession → Bool
 same_session x y =
     same_addr x.peer y.peer && (same_number x.peer_asn y.peer_asn && (beq x.up y.up && (beq x.external y.external
-    && (beq x.client y.client && (beq x.own_next y.own_next && (same_policy x.policy_in y.policy_in && same_policy x.policy_out y.policy_out))))))
+    && (beq x.client y.client
+    && (beq x.own_next y.own_next
+    && (same_policy x.policy_in y.policy_in && same_policy x.policy_out y.policy_out))))))
 
 -- the sites differ in the prefixes that they originate and in their costs alone
 abbrev pub same_facts : SiteConf → SiteConf → Bool

@@ -1,4 +1,5 @@
--- What is kept beside the tables, and what holds of every configuration that edits lead to. No public contract cites this file.
+-- What is kept beside the tables, and what holds of every configuration that edits lead to. No public contract cites
+-- this file.
 use Rattle.std.specs.Prelude.{◌≡◌, ◌≤◌, ℕ, Bool, true, false, not, ◌==◌, nat_lt, List, ◌∷◌, ◌++◌, length, map, filter, Option, Some, None, option_map, IsTrue, All, if◌then◌else◌}
 use Rattle.std.proofs.Math.Bool.{beq}
 use Rattle.std.specs.Option.{unwrap_or}
@@ -65,7 +66,8 @@ pub record WasTreeOf (change : Change) (nodes : Nodes) (edges : Edges) (r : Addr
 
 -- each tree is that of the node at its key from before the change
 abbrev pub WereTrees : Change → Nodes → Edges → List (Addr × Reached) → Type 0
-WereTrees change nodes edges trees = (r : Addr) (t : Reached) → lookup (is_at (addr_cmp r)) trees ≡ Some t → WasTreeOf change nodes edges r t
+WereTrees change nodes edges trees = (r : Addr) (t : Reached) → lookup (is_at (addr_cmp r)) trees ≡ Some t →
+    WasTreeOf change nodes edges r t
 
 -- THE SESSIONS THAT ARE DOWN
 
@@ -130,9 +132,13 @@ reoriginated e s = record s { origins = origins_after e s.origins }
 abbrev pub settled : Configuration → Addr → Addr → SiteSession → SiteSession
 settled d r u x = if x.peer.0 == u.0 then session_of d r u else x
 
--- the site, with the session with the peer by the configuration; and so whether it is a reflector, where its clients change
+-- the site, with the session with the peer by the configuration; and so whether it is a reflector, where its clients
+-- change
 abbrev pub resettled : Configuration → Addr → Addr → Bool → SiteConf → SiteConf
-resettled d r u clients s = record s { reflector = if clients then is_reflector d r else s.reflector; sessions = map (settled d r u) s.sessions }
+resettled d r u clients s = record s {
+  reflector = if clients then is_reflector d r else s.reflector;
+  sessions = map (settled d r u) s.sessions;
+}
 
 -- of the router's part its session with the peer differs alone, and whether it is a reflector, where its clients change
 pub record IsResettled (c d : Configuration) (r u : Addr) (clients : Bool) : Type 0 where

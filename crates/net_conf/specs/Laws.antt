@@ -21,7 +21,8 @@ PeersAreInOrder = (c : Configuration) (r : Addr) → IsConfigured c → IsStrict
 
 -- they are those with which it has a session
 abbrev pub PeersHaveSessions : Type 0
-PeersHaveSessions = (c : Configuration) (r t : Addr) → IsConfigured c → list_any (same_addr t) (peers_of c r) ≡ has_session c r t
+PeersHaveSessions = (c : Configuration) (r t : Addr) → IsConfigured c →
+    list_any (same_addr t) (peers_of c r) ≡ has_session c r t
 
 -- SITES
 
@@ -31,7 +32,8 @@ SitesAreOfTheirRouters = (c : Configuration) (r : Addr) (site : SiteConf) → si
 
 -- the sessions of a site are in order of the peers' addresses, one a peer
 abbrev pub SiteSessionsAreInOrder : Type 0
-SiteSessionsAreInOrder = (c : Configuration) (r : Addr) (site : SiteConf) → IsConfigured c → site_of c r ≡ Some site → IsStrictlySortedBy addr_cmp (map (λ x. x.peer) site.sessions)
+SiteSessionsAreInOrder = (c : Configuration) (r : Addr) (site : SiteConf) → IsConfigured c → site_of c r ≡ Some site →
+    IsStrictlySortedBy addr_cmp (map (λ x. x.peer) site.sessions)
 
 -- a router's session with a peer, by the configuration
 abbrev pub session_if_any : Configuration → Addr → Addr → Option SiteSession
@@ -39,12 +41,15 @@ session_if_any c r t = if has_session c r t then Some (session_of c r t) else No
 
 -- a site has just the sessions of its router
 abbrev pub SitesHaveSessions : Type 0
-SitesHaveSessions = (c : Configuration) (r t : Addr) (site : SiteConf) → IsConfigured c → site_of c r ≡ Some site → session_with site t ≡ session_if_any c r t
+SitesHaveSessions = (c : Configuration) (r t : Addr) (site : SiteConf) → IsConfigured c → site_of c r ≡ Some site →
+    session_with site t ≡ session_if_any c r t
 
 -- a session is up by the site where it is by the configuration
 abbrev pub SitesKnowSessionsUp : Type 0
-SitesKnowSessionsUp = (c : Configuration) (r t : Addr) (site : SiteConf) → IsConfigured c → site_of c r ≡ Some site → option_map_or (λ x. x.up) (session_with site t) false ≡ is_up c r t
+SitesKnowSessionsUp = (c : Configuration) (r t : Addr) (site : SiteConf) → IsConfigured c → site_of c r ≡ Some site →
+    option_map_or (λ x. x.up) (session_with site t) false ≡ is_up c r t
 
 -- the prefixes listed for a router are those that it originates
 abbrev pub OriginsAreListed : Type 0
-OriginsAreListed = (c : Configuration) (r : Addr) (p : Prefix) → list_any (same_prefix p) (origins_of c r) ≡ originates c r p
+OriginsAreListed = (c : Configuration) (r : Addr) (p : Prefix) →
+    list_any (same_prefix p) (origins_of c r) ≡ originates c r p

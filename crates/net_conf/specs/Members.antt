@@ -64,4 +64,5 @@ trees_of rs trees = filter_map (λ r. option_map (λ t. (r, t)) (lookup (is_at (
 
 -- the tree of each of these is from before the change
 abbrev pub WereTreesOf : List Addr → Change → Nodes → Edges → List (Addr × Reached) → Type 0
-WereTreesOf rs change nodes edges trees = (r : Addr) (t : Reached) → is_among r rs ≡ true → lookup (is_at (addr_cmp r)) trees ≡ Some t → WasTreeOf change nodes edges r t
+WereTreesOf rs change nodes edges trees = (r : Addr) (t : Reached) → is_among r rs ≡ true →
+    lookup (is_at (addr_cmp r)) trees ≡ Some t → WasTreeOf change nodes edges r t

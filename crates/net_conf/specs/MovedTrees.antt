@@ -34,7 +34,9 @@ owners moved = map (λ x. source_of x.tree) moved
 pub record AreMoved (graph : Topology) (old : List (Addr × Reached)) (moved : List MovedTree) : Type 0 where
   pub graphs : All (λ x. x.graph ≡ graph) moved
   pub there : (r : Addr) → is_among r (owners moved) ≡ true → is_some (lookup (is_at (addr_cmp r)) old) ≡ true
-  pub others : (r : Addr) → is_among r (owners moved) ≡ false → lookup (is_at (addr_cmp r)) old ≡ option_map (λ t. tree_of graph.nodes graph.edges r) (lookup (is_at (addr_cmp r)) old)
+  pub others : (r : Addr) → is_among r (owners moved) ≡ false →
+      lookup (is_at (addr_cmp r)) old ≡ option_map (λ t. tree_of graph.nodes graph.edges r)
+      (lookup (is_at (addr_cmp r)) old)
 
 -- the trees, with this one
 abbrev pub with_tree : List (Addr × Reached) → Reached → List (Addr × Reached)

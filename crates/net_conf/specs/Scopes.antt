@@ -36,24 +36,32 @@ router_in (Route a p) = Some a
 
 -- all others keep their parts of the configuration
 abbrev pub SitesOfOthersStay : Type 0
-SitesOfOthersStay = (c : Configuration) (e : Edit) (a r : Addr) → router_in (scope e) ≡ Some a → same_addr r a ≡ false → router_site (edited c e) r ≡ router_site c r
+SitesOfOthersStay = (c : Configuration) (e : Edit) (a r : Addr) → router_in (scope e) ≡ Some a → same_addr r a ≡ false →
+    router_site (edited c e) r ≡ router_site c r
 
 -- no session comes up or goes down
 abbrev pub SessionsStay : Type 0
-SessionsStay = (c : Configuration) (e : Edit) (a r t : Addr) → router_in (scope e) ≡ Some a → is_up (edited c e) r t ≡ is_up c r t
+SessionsStay = (c : Configuration) (e : Edit) (a r t : Addr) → router_in (scope e) ≡ Some a →
+    is_up (edited c e) r t ≡ is_up c r t
 
 -- the one is a router before such an edit that is not refused
 abbrev pub AreRoutersBefore : Type 0
-AreRoutersBefore = (c : Configuration) (e : Edit) (a : Addr) → router_in (scope e) ≡ Some a → refusal_of c e ≡ None → is_some (router_site c a) ≡ true
+AreRoutersBefore = (c : Configuration) (e : Edit) (a : Addr) → router_in (scope e) ≡ Some a → refusal_of c e ≡ None →
+    is_some (router_site c a) ≡ true
 
 -- and after it
 abbrev pub AreRoutersAfter : Type 0
-AreRoutersAfter = (c : Configuration) (e : Edit) (a : Addr) → router_in (scope e) ≡ Some a → refusal_of c e ≡ None → is_some (router_site (edited c e) a) ≡ true
+AreRoutersAfter = (c : Configuration) (e : Edit) (a : Addr) → router_in (scope e) ≡ Some a → refusal_of c e ≡ None →
+    is_some (router_site (edited c e) a) ≡ true
 
 -- of the router whose origination changes all but its originated prefixes stays
 abbrev pub OriginsAloneChange : Type 0
-OriginsAloneChange = (c : Configuration) (e : Edit) (a : Addr) (p : Prefix) → scope e ≡ Route a p → router_site (edited c e) a ≡ option_map (λ (site : SiteConf). record site { origins = origins_of (edited c e) a }) (router_site c a)
+OriginsAloneChange = (c : Configuration) (e : Edit) (a : Addr) (p : Prefix) → scope e ≡ Route a p →
+    router_site (edited c e) a ≡ option_map (λ (site : SiteConf). record site { origins = origins_of (edited c e) a })
+    (router_site c a)
 
 -- and it originates the same other prefixes
 abbrev pub OtherOriginsStay : Type 0
-OtherOriginsStay = (c : Configuration) (e : Edit) (a : Addr) (p q : Prefix) → scope e ≡ Route a p → same_prefix q p ≡ false → list_any (same_prefix q) (origins_of (edited c e) a) ≡ list_any (same_prefix q) (origins_of c a)
+OtherOriginsStay = (c : Configuration) (e : Edit) (a : Addr) (p q : Prefix) → scope e ≡ Route a p →
+    same_prefix q p ≡ false → list_any (same_prefix q) (origins_of (edited c e) a)
+    ≡ list_any (same_prefix q) (origins_of c a)

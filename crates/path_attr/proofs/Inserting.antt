@@ -31,11 +31,13 @@ ascending_with_front n (m ∷ ms) over h = (over.0, h)
 
 none_below : (n : ℕ) (ns : List ℕ) → AreAbove n ns → filter (λ m. nat_lt m n) ns ≡ []
 none_below n [] h = refl
-none_below n (m ∷ ms) h = ap (λ b. cond b (m ∷ filter (λ k. nat_lt k n) ms) (filter (λ k. nat_lt k n) ms)) (le-ltb m n (omega (arith, h.0))) ∙ none_below n ms h.1
+none_below n (m ∷ ms) h = ap (λ b. cond b (m ∷ filter (λ k. nat_lt k n) ms) (filter (λ k. nat_lt k n) ms))
+    (le-ltb m n (omega (arith, h.0))) ∙ none_below n ms h.1
 
 all_above : (n : ℕ) (ns : List ℕ) → AreAbove n ns → filter (λ m. nat_lt n m) ns ≡ ns
 all_above n [] h = refl
-all_above n (m ∷ ms) h = ap (λ b. cond b (m ∷ filter (λ k. nat_lt n k) ms) (filter (λ k. nat_lt n k) ms)) (lt-ltb n m h.0) ∙ ap (λ ks. m ∷ ks) (all_above n ms h.1)
+all_above n (m ∷ ms) h = ap (λ b. cond b (m ∷ filter (λ k. nat_lt n k) ms) (filter (λ k. nat_lt n k) ms))
+    (lt-ltb n m h.0) ∙ ap (λ ks. m ∷ ks) (all_above n ms h.1)
 
 -- it stands in front of those that it is below
 with_front : (n : ℕ) (ns : List ℕ) → AreAbove n ns → with_community n ns ≡ n ∷ ns
@@ -49,8 +51,10 @@ with_later n m ms lt = λ i. cond (lt-ltb m n lt i) (m ∷ filter (λ k. nat_lt 
 -- one that is there stands there once
 with_same : (n m : ℕ) (ms : List ℕ) → n ≡ m → AreAbove m ms → with_community n (m ∷ ms) ≡ m ∷ ms
 with_same n m ms e over =
-    let below = ap (λ b. cond b (m ∷ filter (λ k. nat_lt k n) ms) (filter (λ k. nat_lt k n) ms)) (le-ltb m n (omega (arith, e))) in
-    let past = ap (λ b. cond b (m ∷ filter (λ k. nat_lt n k) ms) (filter (λ k. nat_lt n k) ms)) (le-ltb n m (omega (arith, e))) in
+    let below = ap (λ b. cond b (m ∷ filter (λ k. nat_lt k n) ms) (filter (λ k. nat_lt k n) ms))
+    (le-ltb m n (omega (arith, e))) in
+    let past = ap (λ b. cond b (m ∷ filter (λ k. nat_lt n k) ms) (filter (λ k. nat_lt n k) ms))
+    (le-ltb n m (omega (arith, e))) in
     let over' : AreAbove n ms = subst (λ k. AreAbove k ms) (sym e) over in
     (λ i. (below ∙ none_below n ms over') i ++ e i ∷ (past ∙ all_above n ms over') i)
 
@@ -58,7 +62,8 @@ with_same n m ms e over =
 
 absent_above : (n : ℕ) (ns : List ℕ) → AreAbove n ns → carries n ns ≡ false
 absent_above n [] h = refl
-absent_above n (m ∷ ms) h = ap (λ b. b || carries n ms) (ne_eqb n m (λ e. omega (arith, e, h.0))) ∙ absent_above n ms h.1
+absent_above n (m ∷ ms) h = ap (λ b. b || carries n ms) (ne_eqb n m (λ e. omega (arith, e, h.0)))
+    ∙ absent_above n ms h.1
 
 -- the community is there already: nothing changes
 pub with_present : (n : ℕ) (ns : List ℕ) → IsAscending ns → carries n ns ≡ true → with_community n ns ≡ ns
@@ -68,7 +73,8 @@ with_present n (m ∷ ms) asc there = ⊎_elim
     (λ o. ⊎_elim
     (λ lt. absurd (true≢false (sym there ∙ absent_above n (m ∷ ms) (lt, above_less n m ms lt (above m ms asc)))))
     (λ lt. with_later n m ms lt
-    ∙ ap (λ ks. m ∷ ks) (with_present n ms (ascending_after m ms asc) (sym (ap (λ b. b || carries n ms) (ne_eqb n m (λ e. omega (arith, e, lt)))) ∙ there)))
+    ∙ ap (λ ks. m ∷ ks) (with_present n ms (ascending_after m ms asc)
+    (sym (ap (λ b. b || carries n ms) (ne_eqb n m (λ e. omega (arith, e, lt)))) ∙ there)))
     o)
     (cases_order n m)
 
@@ -78,7 +84,10 @@ above_with k n (m ∷ ms) lt h asc = ⊎_elim
     (λ e. subst (AreAbove k) (sym (with_same n m ms e (above m ms asc))) h)
     (λ o. ⊎_elim
     (λ less. subst (AreAbove k) (sym (with_front n (m ∷ ms) (less, above_less n m ms less (above m ms asc)))) (lt, h))
-    (λ less. subst (AreAbove k) (sym (with_later n m ms less)) (h.0, above_with k n ms lt h.1 (ascending_after m ms asc)))
+    (λ less. subst (AreAbove k) (sym (with_later n m ms less)) (
+      h.0,
+      above_with k n ms lt h.1 (ascending_after m ms asc),
+    ))
     o)
     (cases_order n m)
 
@@ -88,9 +97,13 @@ ascending_with n [] asc = tt
 ascending_with n (m ∷ ms) asc = ⊎_elim
     (λ e. subst IsAscending (sym (with_same n m ms e (above m ms asc))) asc)
     (λ o. ⊎_elim
-    (λ less. subst IsAscending (sym (with_front n (m ∷ ms) (less, above_less n m ms less (above m ms asc)))) (less, asc))
+    (λ less. subst IsAscending (sym (with_front n (m ∷ ms) (less, above_less n m ms less (above m ms asc)))) (
+      less,
+      asc,
+    ))
     (λ less. subst IsAscending (sym (with_later n m ms less))
-    (ascending_with_front m (with_community n ms) (above_with m n ms less (above m ms asc) (ascending_after m ms asc)) (ascending_with n ms (ascending_after m ms asc))))
+    (ascending_with_front m (with_community n ms) (above_with m n ms less (above m ms asc) (ascending_after m ms asc))
+    (ascending_with n ms (ascending_after m ms asc))))
     o)
     (cases_order n m)
 
@@ -105,9 +118,14 @@ pub parted : (n : ℕ) (ns : List ℕ) → IsAscending ns → IsPartitionedBy (�
 parted n [] asc i j d le lt is = absurd (omega (arith, lt))
 parted n (m ∷ ms) asc zero zero d le lt is = is
 parted n (m ∷ ms) asc zero (suc j) d le lt is =
-    lt-ltb m n (omega (arith, above_at m ms j d (above m ms asc) (omega (arith, lt)), ltb-true (slice_index_or ms j d) n is))
+    lt-ltb m n (omega (
+      arith,
+      above_at m ms j d (above m ms asc) (omega (arith, lt)),
+      ltb-true (slice_index_or ms j d) n is,
+    ))
 parted n (m ∷ ms) asc (suc i) zero d le lt is = absurd (omega (arith, le))
-parted n (m ∷ ms) asc (suc i) (suc j) d le lt is = parted n ms (ascending_after m ms asc) i j d (omega (arith, le)) (omega (arith, lt)) is
+parted n (m ∷ ms) asc (suc i) (suc j) d le lt is = parted n ms (ascending_after m ms asc) i j d (omega (arith, le))
+    (omega (arith, lt)) is
 
 -- put in where those below it end, it stands at its place
 pub at_place : (n : ℕ) (ns : List ℕ) (at : ℕ) → IsAscending ns → carries n ns ≡ false → at ≤ length ns

@@ -16,7 +16,8 @@ no_export_subconfed = 4294967043
 abbrev pub carries : ℕ → List ℕ → Bool
 carries n cs = list_any (nat_eq n) cs
 
--- the communities with one more, which stands behind those below it and before those above it; one that is there stands there once
+-- the communities with one more, which stands behind those below it and before those above it; one that is there stands
+-- there once
 abbrev pub with_community : ℕ → List ℕ → List ℕ
 with_community n cs = filter (λ m. nat_lt m n) cs ++ n ∷ filter (λ m. nat_lt n m) cs
 

@@ -8,7 +8,8 @@ use Rattle.net_conf.specs.Configuration.{Configuration, has_node}
 use Rattle.sim_event.specs.declared.event.Ask.TheVariants.{Cost}
 use Rattle.reference_machine.specs.Machine.{ask_refusal}
 
-first_there : (there other : Bool) (later : Option Refusal) → (if not (there && other) then Some NoRouter else later) ≡ None → there ≡ true
+first_there : (there other : Bool) (later : Option Refusal) → (if not (there && other) then Some NoRouter else later)
+    ≡ None → there ≡ true
 first_there true other later is = refl
 first_there false other later is = absurd (none-some NoRouter (sym is))
 

@@ -19,11 +19,13 @@ unfolding best
 none_chosen s r p is = ap (option_and_then (λ site. best_of (standings site p s.received))) is
 
 -- where there is one, what is chosen there
-pub chosen_at : (s : Network) (r : Addr) (p : Prefix) (site : SiteConf) → site_of s.conf r ≡ Some site → best s r p ≡ best_of (standings site p s.received)
+pub chosen_at : (s : Network) (r : Addr) (p : Prefix) (site : SiteConf) → site_of s.conf r ≡ Some site →
+    best s r p ≡ best_of (standings site p s.received)
 unfolding best
 chosen_at s r p site is = ap (option_and_then (λ here. best_of (standings here p s.received))) is
 
-mapped_costs : (f : Node → SiteConf) (t : Reached) → ((n : Node) → (f n).costs ≡ t) → (n : Option Node) (site : SiteConf) → option_map f n ≡ Some site → site.costs ≡ t
+mapped_costs : (f : Node → SiteConf) (t : Reached) → ((n : Node) → (f n).costs ≡ t) →
+    (n : Option Node) (site : SiteConf) → option_map f n ≡ Some site → site.costs ≡ t
 mapped_costs f t all None site is = absurd (none-some site is)
 mapped_costs f t all (Some n) site is = ap (λ here. here.costs) (sym (same_Some _ _ is)) ∙ all n
 
@@ -31,5 +33,14 @@ mapped_costs f t all (Some n) site is = ap (λ here. here.costs) (sym (same_Some
 pub site_costs : (c : Configuration) (r : Addr) (site : SiteConf) → site_of c r ≡ Some site → site.costs ≡ costs_of c r
 unfolding site_of
 site_costs c r site is =
-    let f : Node → SiteConf = λ n. record { me = r; asn = n.asn; cluster = cluster_id c r; reflector = is_reflector c r; med_always = compares_all_meds c r; origins = origins_of c r; sessions = sessions_of c r; costs = costs_of c r } in
+    let f : Node → SiteConf = λ n. record {
+      me = r;
+      asn = n.asn;
+      cluster = cluster_id c r;
+      reflector = is_reflector c r;
+      med_always = compares_all_meds c r;
+      origins = origins_of c r;
+      sessions = sessions_of c r;
+      costs = costs_of c r;
+    } in
     mapped_costs f (costs_of c r) (λ n. refl) (node_at c r) site is

@@ -30,7 +30,8 @@ AreChoices s s' kept = IfSome kept (λ choices. choices ≡ router_choices s s' 
 
 -- the message that the choices for a prefix take, if they take one
 abbrev pub message_of : Bool → Bool → RouterChoices → Addr → PrefixChoices → Option Message
-message_of was is choices t choice = change_of choice.prefix (advert_of was choices.old_site t choice.prefix choice.old) (advert_of is choices.new_site t choice.prefix choice.new)
+message_of was is choices t choice = change_of choice.prefix (advert_of was choices.old_site t choice.prefix choice.old)
+    (advert_of is choices.new_site t choice.prefix choice.new)
 
 abbrev pub messages_of : Bool → Bool → RouterChoices → Addr → List Message
 messages_of was is choices t = filter_map (message_of was is choices t) choices.by_prefix

@@ -12,12 +12,18 @@ use Rattle.prefix_table.proofs.Lengths.{prefix_around_matches}
 back : (p q : Prefix) → Covers p q → q.len ≤ p.len → Covers q p
 back p q h le = comparable q p q (covers_itself q) h le
 
-module _ (ns : List Node) (t : IsTrie ns) (at : ℕ) (q : Prefix) (block : MakePrefix q.addr q.len) (near : IsClosest ns q at) (lt : (prefix_at ns at).len < q.len) where
+module _ (ns : List Node) (t : IsTrie ns) (at : ℕ) (q : Prefix) (block : MakePrefix q.addr q.len)
+    (near : IsClosest ns q at) (lt : (prefix_at ns at).len < q.len) where
   leaf_under : IsUnder (prefix_at ns at) (bit_at q.addr (prefix_at ns at).len) q
   leaf_under = record { longer = lt; covers = near.covers; half = refl }
 
-  pub gap_empty : child_at ns (bit_at q.addr (prefix_at ns at).len) at ≡ None → IsGap ns (prefix_at ns at) (bit_at q.addr (prefix_at ns at).len) q
-  gap_empty none = record { block = block; under = leaf_under; covers = λ j in_range h. absurd (t.empty at j _ near.in_range in_range none h) }
+  pub gap_empty : child_at ns (bit_at q.addr (prefix_at ns at).len) at ≡ None →
+      IsGap ns (prefix_at ns at) (bit_at q.addr (prefix_at ns at).len) q
+  gap_empty none = record {
+    block = block;
+    under = leaf_under;
+    covers = λ j in_range h. absurd (t.empty at j _ near.in_range in_range none h);
+  }
 
   module _ (k : NodeId) (is : child_at ns (bit_at q.addr (prefix_at ns at).len) at ≡ Some k) where
     not_over : Covers (prefix_at ns k.0) q → ⊥
@@ -31,7 +37,8 @@ module _ (ns : List Node) (t : IsTrie ns) (at : ℕ) (q : Prefix) (block : MakeP
     pub shares : Covers (prefix_around q.addr (prefix_at ns at).len) (prefix_at ns k.0)
     shares =
         let below = t.below at _ k near.in_range is in
-        prefix_around_covers q.addr (prefix_at ns at).len (prefix_at ns k.0) (omega (arith, below.under.longer)) (below.under.covers.1 ∙ sym near.covers.1)
+        prefix_around_covers q.addr (prefix_at ns at).len (prefix_at ns k.0) (omega (arith, below.under.longer))
+        (below.under.covers.1 ∙ sym near.covers.1)
 
     pub gap_over : Covers q (prefix_at ns k.0) → IsGap ns (prefix_at ns at) (bit_at q.addr (prefix_at ns at).len) q
     gap_over over = record {
@@ -39,7 +46,8 @@ module _ (ns : List Node) (t : IsTrie ns) (at : ℕ) (q : Prefix) (block : MakeP
       under = leaf_under;
       covers = λ j in_range h.
           let below = t.below at _ k near.in_range is in
-          let covers : Covers q (prefix_at ns j) = covers_trans q (prefix_at ns k.0) (prefix_at ns j) over (below.covers j in_range h) in (
+          let covers : Covers q (prefix_at ns j) = covers_trans q (prefix_at ns k.0) (prefix_at ns j) over
+          (below.covers j in_range h) in (
             covers,
             elim (cases_lt q.len (prefix_at ns j).len) as (λ _. q.len < (prefix_at ns j).len) [
               | inl less ↦ less
@@ -48,7 +56,8 @@ module _ (ns : List Node) (t : IsTrie ns) (at : ℕ) (q : Prefix) (block : MakeP
           );
     }
 
-    module _ (len : ℕ) (long : (prefix_at ns at).len ≤ len) (short : len < q.len) (both : Covers (prefix_around q.addr len) (prefix_at ns k.0))
+    module _ (len : ℕ) (long : (prefix_at ns at).len ≤ len) (short : len < q.len)
+        (both : Covers (prefix_around q.addr len) (prefix_at ns k.0))
         (differ : len < (prefix_at ns k.0).len → bit_at q.addr len ≢ bit_at (prefix_at ns k.0).addr len) where
       covers_leaf : Covers (prefix_around q.addr len) q
       covers_leaf = prefix_around_covers q.addr len q (omega arith) refl
@@ -56,7 +65,8 @@ module _ (ns : List Node) (t : IsTrie ns) (at : ℕ) (q : Prefix) (block : MakeP
       shorter : len < (prefix_at ns k.0).len
       shorter = elim (cases_lt len (prefix_at ns k.0).len) as (λ _. len < (prefix_at ns k.0).len) [
         | inl less ↦ less
-        | inr le ↦ absurd (not_over (covers_trans (prefix_at ns k.0) (prefix_around q.addr len) q (back (prefix_around q.addr len) (prefix_at ns k.0) both le) covers_leaf))
+        | inr le ↦ absurd (not_over (covers_trans (prefix_at ns k.0) (prefix_around q.addr len) q
+            (back (prefix_around q.addr len) (prefix_at ns k.0) both le) covers_leaf))
       ]
 
       further : (prefix_at ns at).len < len
@@ -65,7 +75,8 @@ module _ (ns : List Node) (t : IsTrie ns) (at : ℕ) (q : Prefix) (block : MakeP
         | inr le ↦
             let same : len ≡ (prefix_at ns at).len = omega arith in
             let below = t.below at _ k near.in_range is in
-            absurd (differ shorter (ap (bit_at q.addr) same ∙ sym below.under.half ∙ ap (bit_at (prefix_at ns k.0).addr) (sym same)))
+            absurd (differ shorter (ap (bit_at q.addr) same ∙ sym below.under.half
+            ∙ ap (bit_at (prefix_at ns k.0).addr) (sym same)))
       ]
 
       branch_under : IsUnder (prefix_at ns at) (bit_at q.addr (prefix_at ns at).len) (prefix_around q.addr len)
@@ -77,8 +88,10 @@ module _ (ns : List Node) (t : IsTrie ns) (at : ℕ) (q : Prefix) (block : MakeP
         under = branch_under;
         covers = λ j in_range h.
             let below = t.below at _ k near.in_range is in
-            let over = below.covers j in_range h in
-            (covers_trans (prefix_around q.addr len) (prefix_at ns k.0) (prefix_at ns j) both over, omega (arith, shorter, over.0));
+            let over = below.covers j in_range h in (
+              covers_trans (prefix_around q.addr len) (prefix_at ns k.0) (prefix_at ns j) both over,
+              omega (arith, shorter, over.0),
+            );
       }
 
       pub leaf_of : IsLeafOf ns (prefix_around q.addr len) q
@@ -87,6 +100,7 @@ module _ (ns : List Node) (t : IsTrie ns) (at : ℕ) (q : Prefix) (block : MakeP
         under = record { longer = short; covers = covers_leaf; half = refl };
         none = λ j in_range h.
             let below = t.below at _ k near.in_range is in
-            let over = below.covers j in_range (under_further (prefix_at ns at) _ (prefix_around q.addr len) (prefix_at ns j) branch_under h.covers) in
+            let over = below.covers j in_range (under_further (prefix_at ns at) _ (prefix_around q.addr len)
+            (prefix_at ns j) branch_under h.covers) in
             differ shorter (sym h.half ∙ same_bit (prefix_at ns k.0) (prefix_at ns j) len over shorter);
       }

@@ -13,8 +13,10 @@ pub record IsSpliced (ns new : List Node) (i : ℕ) (b : Bool) (c : Prefix) : Ty
   pub added : prefix_at new (length ns) ≡ c
   pub kept : (j : ℕ) (u : Bool) → j < length ns → (j ≡ i → u ≡ b → ⊥) → child_at new u j ≡ child_at ns u j
   pub child : child_at new b i ≡ Some (record { 0 = length ns })
-  pub side : (u : Bool) (k : NodeId) → child_at new u (length ns) ≡ Some k → (child_at ns b i ≡ Some k) × (bit_at (prefix_at ns k.0).addr c.len ≡ u)
-  pub no_side : (u : Bool) (k : NodeId) → child_at new u (length ns) ≡ None → child_at ns b i ≡ Some k → bit_at (prefix_at ns k.0).addr c.len ≡ u → ⊥
+  pub side : (u : Bool) (k : NodeId) → child_at new u (length ns) ≡ Some k → (child_at ns b i ≡ Some k)
+      × (bit_at (prefix_at ns k.0).addr c.len ≡ u)
+  pub no_side : (u : Bool) (k : NodeId) → child_at new u (length ns) ≡ None → child_at ns b i ≡ Some k →
+      bit_at (prefix_at ns k.0).addr c.len ≡ u → ⊥
 
 some_not_none : {X : Type 0} {x : X} → Some x ≡ None → ⊥
 some_not_none e = cc
@@ -25,37 +27,46 @@ bool_cases true false = inr (λ e. false≢true (sym e))
 bool_cases false true = inr (λ e. false≢true e)
 bool_cases false false = inl refl
 
-module _ (ns new : List Node) (i : ℕ) (b : Bool) (c : Prefix) (t : IsTrie ns) (here : i < length ns) (gap : IsGap ns (prefix_at ns i) b c) (s : IsSpliced ns new i b c) where
+module _ (ns new : List Node) (i : ℕ) (b : Bool) (c : Prefix) (t : IsTrie ns) (here : i < length ns)
+    (gap : IsGap ns (prefix_at ns i) b c) (s : IsSpliced ns new i b c) where
   -- another half that has c has the node of i
-  outer : (k : ℕ) (u : Bool) → k < length ns → (k ≡ i → u ≡ b → ⊥) → IsUnder (prefix_at ns k) u c → IsUnder (prefix_at ns k) u (prefix_at ns i)
+  outer : (k : ℕ) (u : Bool) → k < length ns → (k ≡ i → u ≡ b → ⊥) → IsUnder (prefix_at ns k) u c →
+      IsUnder (prefix_at ns k) u (prefix_at ns i)
   outer k u in_range other h =
       elim (cases_lt (prefix_at ns k).len (prefix_at ns i).len) as (λ _. IsUnder (prefix_at ns k) u (prefix_at ns i)) [
         | inl lt ↦ under_back (prefix_at ns k) u (prefix_at ns i) c h gap.under.covers lt
-        | inr le ↦ elim (cases_lt (prefix_at ns i).len (prefix_at ns k).len) as (λ _. IsUnder (prefix_at ns k) u (prefix_at ns i)) [
-          | inl lt ↦
-              let inside = under_back (prefix_at ns i) b (prefix_at ns k) c gap.under h.covers lt in
-              let shorter = (gap.covers k in_range inside).1 in
-              absurd (omega (arith, shorter, h.longer))
-          | inr ge ↦
-              let over : Covers (prefix_at ns k) (prefix_at ns i) = comparable (prefix_at ns k) (prefix_at ns i) c h.covers gap.under.covers (omega arith) in
-              let equal : prefix_at ns k ≡ prefix_at ns i = one_prefix (prefix_at ns k) (prefix_at ns i) (t.blocks k in_range) (t.blocks i here) over (omega arith) in
-              let same : k ≡ i = t.unique k i in_range here equal in
-              absurd (other same (sym h.half ∙ ap (λ p. bit_at c.addr p.len) equal ∙ gap.under.half))
-        ]
+        | inr le ↦ elim (cases_lt (prefix_at ns i).len (prefix_at ns k).len) as (λ _.
+            IsUnder (prefix_at ns k) u (prefix_at ns i)) [
+              | inl lt ↦
+                  let inside = under_back (prefix_at ns i) b (prefix_at ns k) c gap.under h.covers lt in
+                  let shorter = (gap.covers k in_range inside).1 in
+                  absurd (omega (arith, shorter, h.longer))
+              | inr ge ↦
+                  let over : Covers (prefix_at ns k) (prefix_at ns i) =
+                  comparable (prefix_at ns k) (prefix_at ns i) c h.covers gap.under.covers (omega arith) in
+                  let equal : prefix_at ns k ≡ prefix_at ns i =
+                  one_prefix (prefix_at ns k) (prefix_at ns i) (t.blocks k in_range)
+                  (t.blocks i here) over (omega arith) in
+                  let same : k ≡ i = t.unique k i in_range here equal in
+                  absurd (other same (sym h.half ∙ ap (λ p. bit_at c.addr p.len) equal ∙ gap.under.half))
+            ]
       ]
 
-  inside_gap : (u : Bool) (j : ℕ) → j < length ns → IsUnder c u (prefix_at ns j) → IsUnder (prefix_at ns i) b (prefix_at ns j)
+  inside_gap : (u : Bool) (j : ℕ) → j < length ns → IsUnder c u (prefix_at ns j) →
+      IsUnder (prefix_at ns i) b (prefix_at ns j)
   inside_gap u j in_range h = under_further (prefix_at ns i) b c (prefix_at ns j) gap.under h.covers
 
   not_itself : (u : Bool) → IsUnder c u c → ⊥
   not_itself u h = omega (arith, h.longer)
 
   -- an index of before, or the new one
-  cases_at : (j : ℕ) → j < length new → ((j < length ns) × (prefix_at new j ≡ prefix_at ns j)) ⊎ ((j ≡ length ns) × (prefix_at new j ≡ c))
-  cases_at j lt = elim (cases_lt j (length ns)) as (λ _. ((j < length ns) × (prefix_at new j ≡ prefix_at ns j)) ⊎ ((j ≡ length ns) × (prefix_at new j ≡ c))) [
-    | inl less ↦ inl (less, s.old j less)
-    | inr le ↦ let end : j ≡ length ns = omega (arith, s.long) in inr (end, ap (prefix_at new) end ∙ s.added)
-  ]
+  cases_at : (j : ℕ) → j < length new → ((j < length ns) × (prefix_at new j ≡ prefix_at ns j))
+      ⊎ ((j ≡ length ns) × (prefix_at new j ≡ c))
+  cases_at j lt = elim (cases_lt j (length ns)) as (λ _. ((j < length ns) × (prefix_at new j ≡ prefix_at ns j))
+      ⊎ ((j ≡ length ns) × (prefix_at new j ≡ c))) [
+        | inl less ↦ inl (less, s.old j less)
+        | inr le ↦ let end : j ≡ length ns = omega (arith, s.long) in inr (end, ap (prefix_at new) end ∙ s.added)
+      ]
 
   -- the link that changed, or another one
   cases_link : (k : ℕ) (u : Bool) → ((k ≡ i) × (u ≡ b)) ⊎ (k ≡ i → u ≡ b → ⊥)
@@ -92,7 +103,8 @@ module _ (ns new : List Node) (i : ℕ) (b : Bool) (c : Prefix) (t : IsTrie ns) 
   ]
 
   -- nothing lies in an empty half of the new node
-  empty_side : (j : ℕ) (u : Bool) (old : Option NodeId) → child_at ns b i ≡ old → child_at new u (length ns) ≡ None → j < length ns → IsUnder c u (prefix_at ns j) → ⊥
+  empty_side : (j : ℕ) (u : Bool) (old : Option NodeId) → child_at ns b i ≡ old → child_at new u (length ns) ≡ None →
+      j < length ns → IsUnder c u (prefix_at ns j) → ⊥
   empty_side j u None is none lt h = t.empty i j b here lt is (inside_gap u j lt h)
   empty_side j u (Some k) is none lt h =
       let below = t.below i b k here is in
@@ -100,16 +112,19 @@ module _ (ns new : List Node) (i : ℕ) (b : Bool) (c : Prefix) (t : IsTrie ns) 
       let longer = (gap.covers k.0 below.in_range below.under).1 in
       s.no_side u k none is (under_back c u (prefix_at ns k.0) (prefix_at ns j) h over longer).half
 
-  new_empty : (k j : ℕ) (u : Bool) → k < length new → j < length new → child_at new u k ≡ None → IsUnder (prefix_at new k) u (prefix_at new j) → ⊥
+  new_empty : (k j : ℕ) (u : Bool) → k < length new → j < length new → child_at new u k ≡ None →
+      IsUnder (prefix_at new k) u (prefix_at new j) → ⊥
   new_empty k j u lk lj none h = elim (cases_at k lk) as (λ _. ⊥) [
     | inl a ↦ elim (cases_link k u) as (λ _. ⊥) [
-      | inl link ↦ absurd (some_not_none (sym s.child ∙ ap (λ v. child_at new v i) (sym link.1) ∙ ap (child_at new u) (sym link.0) ∙ none))
+      | inl link ↦ absurd (some_not_none (sym s.child ∙ ap (λ v. child_at new v i) (sym link.1)
+          ∙ ap (child_at new u) (sym link.0) ∙ none))
       | inr other ↦
           let none_before : child_at ns u k ≡ None = sym (s.kept k u a.0 other) ∙ none in
           let from : IsUnder (prefix_at ns k) u (prefix_at new j) = subst (λ p. IsUnder p u (prefix_at new j)) a.1 h in
           elim (cases_at j lj) as (λ _. ⊥) [
             | inl d ↦ t.empty k j u a.0 d.0 none_before (subst (IsUnder (prefix_at ns k) u) d.1 from)
-            | inr d ↦ t.empty k i u a.0 here none_before (outer k u a.0 other (subst (IsUnder (prefix_at ns k) u) d.1 from))
+            | inr d ↦ t.empty k i u a.0 here none_before
+                (outer k u a.0 other (subst (IsUnder (prefix_at ns k) u) d.1 from))
           ]
     ]
     | inr a ↦
@@ -122,14 +137,19 @@ module _ (ns new : List Node) (i : ℕ) (b : Bool) (c : Prefix) (t : IsTrie ns) 
   ]
 
   -- what a child of before covers still
-  below_kept : (k : ℕ) (u : Bool) (m : NodeId) → k < length ns → (k ≡ i → u ≡ b → ⊥) → IsBelow ns (prefix_at ns k) u m.0 → IsBelow new (prefix_at ns k) u m.0
+  below_kept : (k : ℕ) (u : Bool) (m : NodeId) → k < length ns → (k ≡ i → u ≡ b → ⊥) →
+      IsBelow ns (prefix_at ns k) u m.0 → IsBelow new (prefix_at ns k) u m.0
   below_kept k u m lt other below = record {
     in_range = omega (arith, below.in_range, s.long);
     under = subst (IsUnder (prefix_at ns k) u) (sym (s.old m.0 below.in_range)) below.under;
-    covers = λ j lj h. subst (λ p. Covers p (prefix_at new j)) (sym (s.old m.0 below.in_range)) (elim (cases_at j lj) as (λ _. Covers (prefix_at ns m.0) (prefix_at new j)) [
-      | inl d ↦ subst (Covers (prefix_at ns m.0)) (sym d.1) (below.covers j d.0 (subst (IsUnder (prefix_at ns k) u) d.1 h))
-      | inr d ↦ subst (Covers (prefix_at ns m.0)) (sym d.1) (covers_trans (prefix_at ns m.0) (prefix_at ns i) c (below.covers i here (outer k u lt other (subst (IsUnder (prefix_at ns k) u) d.1 h))) gap.under.covers)
-    ]);
+    covers = λ j lj h. subst (λ p. Covers p (prefix_at new j)) (sym (s.old m.0 below.in_range))
+        (elim (cases_at j lj) as (λ _. Covers (prefix_at ns m.0) (prefix_at new j)) [
+          | inl d ↦ subst (Covers (prefix_at ns m.0)) (sym d.1)
+              (below.covers j d.0 (subst (IsUnder (prefix_at ns k) u) d.1 h))
+          | inr d ↦ subst (Covers (prefix_at ns m.0)) (sym d.1)
+              (covers_trans (prefix_at ns m.0) (prefix_at ns i) c
+              (below.covers i here (outer k u lt other (subst (IsUnder (prefix_at ns k) u) d.1 h))) gap.under.covers)
+        ]);
   }
 
   below_link : (m : NodeId) → Some (record { 0 = length ns }) ≡ Some m → IsBelow new (prefix_at ns i) b m.0
@@ -138,10 +158,11 @@ module _ (ns new : List Node) (i : ℕ) (b : Bool) (c : Prefix) (t : IsTrie ns) 
       subst (IsBelow new (prefix_at ns i) b) end (record {
         in_range = omega (arith, s.long);
         under = subst (IsUnder (prefix_at ns i) b) (sym s.added) gap.under;
-        covers = λ j lj h. subst (λ p. Covers p (prefix_at new j)) (sym s.added) (elim (cases_at j lj) as (λ _. Covers c (prefix_at new j)) [
-          | inl d ↦ subst (Covers c) (sym d.1) (gap.covers j d.0 (subst (IsUnder (prefix_at ns i) b) d.1 h)).0
-          | inr d ↦ subst (Covers c) (sym d.1) (covers_itself c)
-        ]);
+        covers = λ j lj h. subst (λ p. Covers p (prefix_at new j)) (sym s.added)
+            (elim (cases_at j lj) as (λ _. Covers c (prefix_at new j)) [
+              | inl d ↦ subst (Covers c) (sym d.1) (gap.covers j d.0 (subst (IsUnder (prefix_at ns i) b) d.1 h)).0
+              | inr d ↦ subst (Covers c) (sym d.1) (covers_itself c)
+            ]);
       })
 
   below_new : (u : Bool) (m : NodeId) → child_at new u (length ns) ≡ Some m → IsBelow new c u m.0
@@ -151,28 +172,37 @@ module _ (ns new : List Node) (i : ℕ) (b : Bool) (c : Prefix) (t : IsTrie ns) 
       let over = gap.covers m.0 below.in_range below.under in
       record {
         in_range = omega (arith, below.in_range, s.long);
-        under = subst (IsUnder c u) (sym (s.old m.0 below.in_range)) (record { longer = over.1; covers = over.0; half = side.1 });
-        covers = λ j lj h. subst (λ p. Covers p (prefix_at new j)) (sym (s.old m.0 below.in_range)) (elim (cases_at j lj) as (λ _. Covers (prefix_at ns m.0) (prefix_at new j)) [
-          | inl d ↦ subst (Covers (prefix_at ns m.0)) (sym d.1) (below.covers j d.0 (inside_gap u j d.0 (subst (IsUnder c u) d.1 h)))
-          | inr d ↦ absurd (not_itself u (subst (IsUnder c u) d.1 h))
-        ]);
+        under = subst (IsUnder c u) (sym (s.old m.0 below.in_range))
+            (record { longer = over.1; covers = over.0; half = side.1 });
+        covers = λ j lj h. subst (λ p. Covers p (prefix_at new j)) (sym (s.old m.0 below.in_range))
+            (elim (cases_at j lj) as (λ _. Covers (prefix_at ns m.0) (prefix_at new j)) [
+              | inl d ↦ subst (Covers (prefix_at ns m.0)) (sym d.1)
+                  (below.covers j d.0 (inside_gap u j d.0 (subst (IsUnder c u) d.1 h)))
+              | inr d ↦ absurd (not_itself u (subst (IsUnder c u) d.1 h))
+            ]);
       }
 
-  new_below : (k : ℕ) (u : Bool) (m : NodeId) → k < length new → child_at new u k ≡ Some m → IsBelow new (prefix_at new k) u m.0
+  new_below : (k : ℕ) (u : Bool) (m : NodeId) → k < length new → child_at new u k ≡ Some m →
+      IsBelow new (prefix_at new k) u m.0
   new_below k u m lk is = elim (cases_at k lk) as (λ _. IsBelow new (prefix_at new k) u m.0) [
-    | inl a ↦ subst (λ p. IsBelow new p u m.0) (sym a.1) (elim (cases_link k u) as (λ _. IsBelow new (prefix_at ns k) u m.0) [
-      | inl link ↦
-          let is_new : Some (record { 0 = length ns }) ≡ Some m = sym s.child ∙ ap (λ v. child_at new v i) (sym link.1) ∙ ap (child_at new u) (sym link.0) ∙ is in
-          subst (λ j. IsBelow new (prefix_at ns j) u m.0) (sym link.0) (subst (λ v. IsBelow new (prefix_at ns i) v m.0) (sym link.1) (below_link m is_new))
-      | inr other ↦ below_kept k u m a.0 other (t.below k u m a.0 (sym (s.kept k u a.0 other) ∙ is))
-    ])
+    | inl a ↦ subst (λ p. IsBelow new p u m.0) (sym a.1)
+        (elim (cases_link k u) as (λ _. IsBelow new (prefix_at ns k) u m.0) [
+          | inl link ↦
+              let is_new : Some (record { 0 = length ns }) ≡ Some m = sym s.child
+              ∙ ap (λ v. child_at new v i) (sym link.1)
+              ∙ ap (child_at new u) (sym link.0) ∙ is in
+              subst (λ j. IsBelow new (prefix_at ns j) u m.0) (sym link.0)
+              (subst (λ v. IsBelow new (prefix_at ns i) v m.0) (sym link.1) (below_link m is_new))
+          | inr other ↦ below_kept k u m a.0 other (t.below k u m a.0 (sym (s.kept k u a.0 other) ∙ is))
+        ])
     | inr a ↦ subst (λ p. IsBelow new p u m.0) (sym a.1) (below_new u m (ap (child_at new u) (sym a.0) ∙ is))
   ]
 
   new_covered : (j : ℕ) → j < length new → Covers whole (prefix_at new j)
   new_covered j lt = elim (cases_at j lt) as (λ _. Covers whole (prefix_at new j)) [
     | inl at ↦ subst (Covers whole) (sym at.1) (t.covered j at.0)
-    | inr at ↦ subst (Covers whole) (sym at.1) (covers_trans whole (prefix_at ns i) c (t.covered i here) gap.under.covers)
+    | inr at ↦ subst (Covers whole) (sym at.1)
+        (covers_trans whole (prefix_at ns i) c (t.covered i here) gap.under.covers)
   ]
 
   pub spliced_trie : IsTrie new

@@ -63,4 +63,5 @@ first_after t after = find (λ e. is_after after e.0) (fin.entries t)
 
 -- the pair of a prefix's numbers, from which the prover knows it again (the table's Model asks for it)
 abbrev pub coded_prefix : Coded Prefix
-coded_prefix = code_by (ℕ × ℕ) (coded× coded_ℕ coded_ℕ) (λ p. (p.addr.0, p.len)) (λ n. record { addr = record { 0 = n.0 }; len = n.1 }) (λ _. refl)
+coded_prefix = code_by (ℕ × ℕ) (coded× coded_ℕ coded_ℕ) (λ p. (p.addr.0, p.len))
+    (λ n. record { addr = record { 0 = n.0 }; len = n.1 }) (λ _. refl)

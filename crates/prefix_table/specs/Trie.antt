@@ -49,8 +49,10 @@ pub record IsTrie (ns : List Node) : Type 0 where
   pub unique : (i j : ℕ) → i < length ns → j < length ns → prefix_at ns i ≡ prefix_at ns j → i ≡ j
   pub root : prefix_at ns 0 ≡ whole
   pub covered : (i : ℕ) → i < length ns → Covers whole (prefix_at ns i)
-  pub empty : (i j : ℕ) (upper : Bool) → i < length ns → j < length ns → child_at ns upper i ≡ None → IsUnder (prefix_at ns i) upper (prefix_at ns j) → ⊥
-  pub below : (i : ℕ) (upper : Bool) (k : NodeId) → i < length ns → child_at ns upper i ≡ Some k → IsBelow ns (prefix_at ns i) upper k.0
+  pub empty : (i j : ℕ) (upper : Bool) → i < length ns → j < length ns → child_at ns upper i ≡ None →
+      IsUnder (prefix_at ns i) upper (prefix_at ns j) → ⊥
+  pub below : (i : ℕ) (upper : Bool) (k : NodeId) → i < length ns → child_at ns upper i ≡ Some k →
+      IsBelow ns (prefix_at ns i) upper k.0
 
 -- an entry in front, if there is a place
 abbrev pub entry_or_not : Prefix → Option ℕ → List (Prefix × ℕ) → List (Prefix × ℕ)
@@ -84,7 +86,8 @@ pub record IsNearer (ns : List Node) (q : Prefix) (from node : ℕ) : Type 0 whe
   pub in_range : node < length ns
   pub longer : (prefix_at ns from).len < (prefix_at ns node).len
   pub covers : Covers (prefix_at ns node) q
-  pub next : (j : ℕ) → j < length ns → Covers (prefix_at ns j) q → (prefix_at ns from).len < (prefix_at ns j).len → (prefix_at ns node).len ≤ (prefix_at ns j).len
+  pub next : (j : ℕ) → j < length ns → Covers (prefix_at ns j) q → (prefix_at ns from).len < (prefix_at ns j).len →
+      (prefix_at ns node).len ≤ (prefix_at ns j).len
 
 -- no node that covers q has a longer prefix than this one
 abbrev pub IsLast : List Node → Prefix → ℕ → Type 0
@@ -124,7 +127,8 @@ pub record IsFirstLater (ns : List Node) (p : Prefix) (after : Option Prefix) (n
 pub record IsGap (ns : List Node) (p : Prefix) (upper : Bool) (c : Prefix) : Type 0 where
   pub block : MakePrefix c.addr c.len
   pub under : IsUnder p upper c
-  pub covers : (j : ℕ) → j < length ns → IsUnder p upper (prefix_at ns j) → Covers c (prefix_at ns j) × (c.len < (prefix_at ns j).len)
+  pub covers : (j : ℕ) → j < length ns → IsUnder p upper (prefix_at ns j) → Covers c (prefix_at ns j)
+      × (c.len < (prefix_at ns j).len)
 
 -- q lies in a half of c in which no node lies
 pub record IsLeafOf (ns : List Node) (c q : Prefix) : Type 0 where

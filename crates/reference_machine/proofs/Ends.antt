@@ -30,24 +30,35 @@ module _ (c : Configuration) (configured : IsConfigured c) (a b : Addr) (up : is
   second_there = node_of_end c b configured.session_ends (session_ends c b a (session_turned c a b session_there))
 
 -- a delivery over a session that is up is not refused
-pub delivery_allowed : (c : Configuration) → IsConfigured c → (d : Direction) → is_up c d.from d.to ≡ true → delivery_refusal c d ≡ None
+pub delivery_allowed : (c : Configuration) → IsConfigured c → (d : Direction) → is_up c d.from d.to ≡ true →
+    delivery_refusal c d ≡ None
 unfolding delivery_refusal
 delivery_allowed c configured d up =
     let first = first_there c configured d.from d.to up in
     let second = second_there c configured d.from d.to up in
     let session = session_there c configured d.from d.to up in
-    (λ i. first_of ((not (first i && second i), NoRouter) ∷ (not (session i), NoSession) ∷ (not (up i), SessionDown) ∷ []))
+    (λ i. first_of ((not (first i && second i), NoRouter) ∷ (not (session i), NoSession) ∷ (
+      not (up i),
+      SessionDown,
+    ) ∷ []))
 
 -- of a feed over one, these tests are left
-pub feed_tests : (c : Configuration) → IsConfigured c → (f : Feed) → is_up c f.from f.to ≡ true → feed_refusal c f ≡ first_of ((not (is_virtual c f.from) || is_virtual c f.to, BadEnd) ∷ (has_foreign_first c f.from f.news, FirstAs) ∷ (is_too_long f.news || carries_too_many f.news, Limit) ∷ [])
+pub feed_tests : (c : Configuration) → IsConfigured c → (f : Feed) → is_up c f.from f.to ≡ true →
+    feed_refusal c f ≡ first_of ((not (is_virtual c f.from) || is_virtual c f.to, BadEnd)
+    ∷ (has_foreign_first c f.from f.news, FirstAs) ∷ (is_too_long f.news || carries_too_many f.news, Limit) ∷ [])
 unfolding feed_refusal
 feed_tests c configured f up =
     let first = first_there c configured f.from f.to up in
     let second = second_there c configured f.from f.to up in
     let session = session_there c configured f.from f.to up in
-    (λ i. first_of ((not (first i && second i), NoRouter) ∷ (not (is_virtual c f.from) || is_virtual c f.to, BadEnd) ∷ (not (session i), NoSession) ∷ (not (up i), SessionDown) ∷ (has_foreign_first c f.from f.news, FirstAs) ∷ (is_too_long f.news || carries_too_many f.news, Limit) ∷ []))
+    (λ i. first_of ((not (first i && second i), NoRouter) ∷ (not (is_virtual c f.from) || is_virtual c f.to, BadEnd)
+    ∷ (not (session i), NoSession) ∷ (not (up i), SessionDown) ∷ (has_foreign_first c f.from f.news, FirstAs)
+    ∷ (is_too_long f.news || carries_too_many f.news, Limit) ∷ []))
     ∙ by (not (is_virtual c f.from) || is_virtual c f.to)
   where
-    by : (t : Bool) → first_of ((t, BadEnd) ∷ (false, NoSession) ∷ (false, SessionDown) ∷ (has_foreign_first c f.from f.news, FirstAs) ∷ (is_too_long f.news || carries_too_many f.news, Limit) ∷ []) ≡ first_of ((t, BadEnd) ∷ (has_foreign_first c f.from f.news, FirstAs) ∷ (is_too_long f.news || carries_too_many f.news, Limit) ∷ [])
+    by : (t : Bool) → first_of ((t, BadEnd) ∷ (false, NoSession) ∷ (false, SessionDown)
+        ∷ (has_foreign_first c f.from f.news, FirstAs) ∷ (is_too_long f.news || carries_too_many f.news, Limit) ∷ [])
+        ≡ first_of ((t, BadEnd) ∷ (has_foreign_first c f.from f.news, FirstAs)
+        ∷ (is_too_long f.news || carries_too_many f.news, Limit) ∷ [])
     by true = refl
     by false = refl

@@ -23,7 +23,8 @@ nothing_sent s s' r t virtual =
     ap (λ v. if has_node s'.conf r && not v && is_up s'.conf r t then changes s s' r t else []) virtual
     ∙ ap (λ b. if b then changes s s' r t else []) (never (has_node s'.conf r) (is_up s'.conf r t))
 
-asked_peer : (c : Configuration) (q : Ask) (r : Addr) → decider_asked q ≡ Some r → is_virtual c r ≡ true → asks_peer c q ≡ true
+asked_peer : (c : Configuration) (q : Ask) (r : Addr) → decider_asked q ≡ Some r → is_virtual c r ≡ true →
+    asks_peer c q ≡ true
 asked_peer c (Routes x) r asked virtual = ap (is_virtual c) (same_Some x r asked) ∙ virtual
 asked_peer c (Best x p) r asked virtual = ap (is_virtual c) (same_Some x r asked) ∙ virtual
 asked_peer c (Why x p) r asked virtual = ap (is_virtual c) (same_Some x r asked) ∙ virtual
@@ -34,11 +35,13 @@ asked_peer c (In x u) r asked virtual = absurd (none-some r asked)
 asked_peer c (Queue a b) r asked virtual = absurd (none-some r asked)
 asked_peer c Quiet r asked virtual = absurd (none-some r asked)
 
-refused_by : (nobody peer : Bool) (later : Option Refusal) (s : Network) (o : Outcome) → peer ≡ true → is_refusal (unless_refused (if nobody then Some NoRouter else if peer then Some BadEnd else later) s o).reply ≡ true
+refused_by : (nobody peer : Bool) (later : Option Refusal) (s : Network) (o : Outcome) → peer ≡ true →
+    is_refusal (unless_refused (if nobody then Some NoRouter else if peer then Some BadEnd else later) s o).reply ≡ true
 refused_by true peer later s o is = refl
 refused_by false true later s o is = refl
 refused_by false false later s o is = absurd (true≢false (sym is))
 
 pub nothing_told : PeersTellNothing
 unfolding question_step ask_refusal
-nothing_told s q r asked virtual = refused_by (asks_nobody s.conf q) (asks_peer s.conf q) _ s _ (asked_peer s.conf q r asked virtual)
+nothing_told s q r asked virtual =
+    refused_by (asks_nobody s.conf q) (asks_peer s.conf q) _ s _ (asked_peer s.conf q r asked virtual)

@@ -20,7 +20,8 @@ use Rattle.reference_machine.specs.Decision.{best}
 -- what the router of the site advertises to the peer of the route that it chose, if it chose one: nothing while their
 -- session is down
 abbrev pub advert_of : Bool → Option SiteConf → Addr → Prefix → Option Candidate → Option Attr
-advert_of up site t p chosen = if up then option_and_then (λ b. option_and_then (λ here. advert here p b t) site) chosen else None
+advert_of up site t p chosen = if up then option_and_then (λ b. option_and_then (λ here. advert here p b t) site) chosen
+    else None
 
 -- the router's Adj-RIB-Out for the peer (RFC 4271, 3.2), decided afresh
 unfoldable pub advertised : Network → Addr → Addr → Prefix → Option Attr
@@ -47,12 +48,14 @@ sends c r t = has_node c r && not (is_virtual c r) && is_up c r t
 
 -- a message for each prefix at which what the router advertises to the peer changes, in order
 unfoldable pub changes : Network → Network → Addr → Addr → List Message
-changes s s' r t = filter_map (λ p. change_of p (advertised s r t p) (advertised s' r t p)) (in_order (prefixes_at s r ++ prefixes_at s' r))
+changes s s' r t = filter_map (λ p. change_of p (advertised s r t p) (advertised s' r t p))
+    (in_order (prefixes_at s r ++ prefixes_at s' r))
 
 -- what is sent in a direction when s becomes s'
 unfoldable pub sent : Network → Network → Addr → Addr → List Message
 sent s s' r t = if sends s'.conf r t then changes s s' r t else []
 
--- a virtual peer sends nothing by itself, whatever becomes of the state: no message depends on what is said above of one
+-- a virtual peer sends nothing by itself, whatever becomes of the state: no message depends on what is said above of
+-- one
 abbrev pub PeersSendNothing : Type 0
 PeersSendNothing = (s s' : Network) (r t : Addr) → is_virtual s'.conf r ≡ true → sent s s' r t ≡ []

@@ -35,13 +35,21 @@ default_preference = 100
 
 -- THE ROUTER'S OWN ROUTE
 
--- an empty path, ORIGIN IGP and the router as NEXT_HOP (RFC 4271, 5.1.1 to 5.1.3), with the default preference and no communities (own)
+-- an empty path, ORIGIN IGP and the router as NEXT_HOP (RFC 4271, 5.1.1 to 5.1.3), with the default preference and no
+-- communities (own)
 abbrev pub own_attr : Addr → Attr
 own_attr r = record (plain_attr r) { pref = Some default_preference }
 
 -- it counts with the external ones, its cost is 0, and its identifier is the router's (own)
 abbrev pub own_candidate : Addr → Candidate
-own_candidate r = record { source = Own; attr = own_attr r; pref = default_preference; external = true; cost = 0; ident = r }
+own_candidate r = record {
+  source = Own;
+  attr = own_attr r;
+  pref = default_preference;
+  external = true;
+  cost = 0;
+  ident = r;
+}
 
 abbrev pub is_originated : SiteConf → Prefix → Bool
 is_originated site p = list_any (same_prefix p) site.origins
@@ -59,9 +67,9 @@ abbrev pub is_denial : Action → Bool
 is_denial Deny = true
 is_denial (Permit s) = false
 
--- why the router may not choose a peer's route: the first test that holds. A route with the router itself as NEXT_HOP needs no
--- test (RFC 4271, 5.1.3): the router put itself there in a route that it advertised inside its AS, which comes back only by
--- reflection, and so with the router as ORIGINATOR_ID
+-- why the router may not choose a peer's route: the first test that holds. A route with the router itself as NEXT_HOP
+-- needs no test (RFC 4271, 5.1.3): the router put itself there in a route that it advertised inside its AS, which comes
+-- back only by reflection, and so with the router as ORIGINATOR_ID
 abbrev pub exclusion : SiteConf → Action → Attr → Option Reason
 exclusion site action attr =
     -- its AS_PATH holds the router's AS (RFC 4271, 9.1.2)
@@ -104,7 +112,8 @@ imported external action attr = record attr {
   comms = set_communities action attr.comms;
 }
 
--- a peer's route as a candidate; its identifier is the peer's address (own), and its ORIGINATOR_ID counts as that where it has one
+-- a peer's route as a candidate; its identifier is the peer's address (own), and its ORIGINATOR_ID counts as that where
+-- it has one
 abbrev pub peer_candidate : SiteConf → SiteSession → Action → Attr → Candidate
 peer_candidate site from action attr = record {
   source = FromPeer from.peer;
@@ -133,7 +142,8 @@ route_from es r p u = lookup (is_at (route_cmp (record { to = r; prefix = p; fro
 -- a route counts while the session that it came over is up
 abbrev pub standing_over : SiteConf → Prefix → SiteSession → Option Attr → Option (Source × Standing)
 standing_over site p from None = None
-standing_over site p from (Some attr) = if from.up then Some (FromPeer from.peer, peer_standing site p from attr) else None
+standing_over site p from (Some attr) = if from.up then Some (FromPeer from.peer, peer_standing site p from attr)
+    else None
 
 abbrev pub standing_from : SiteConf → Prefix → List (RouteKey × Attr) → SiteSession → Option (Source × Standing)
 standing_from site p es from = standing_over site p from (route_from es site.me p from.peer)

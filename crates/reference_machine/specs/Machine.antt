@@ -60,7 +60,8 @@ with_sent s s' = record s' { queues = map (λ q. with_more q (sent s s' q.of.fro
 
 -- a new session has a queue each way
 abbrev pub with_queues : Edit → List Queue → List Queue
-with_queues (Join a b) qs = with_direction (record { from = a; to = b }) (with_direction (record { from = b; to = a }) qs)
+with_queues (Join a b) qs =
+    with_direction (record { from = a; to = b }) (with_direction (record { from = b; to = a }) qs)
 with_queues _ qs = qs
 
 -- the queue, without its messages where the session is down
@@ -73,7 +74,11 @@ is_kept c e = is_up c e.0.from e.0.to
 -- the state with this configuration: nothing received, and nothing on its way, over a session that is down in it
 -- (RFC 4271, 6 and 8)
 unfoldable pub reconfigured : Configuration → List (RouteKey × Attr) → List Queue → Network
-reconfigured c received queues = record { conf = c; received = filter (is_kept c) received; queues = map (emptied c) queues }
+reconfigured c received queues = record {
+  conf = c;
+  received = filter (is_kept c) received;
+  queues = map (emptied c) queues;
+}
 
 -- the state after the edit, before anything is sent
 abbrev pub after_edit : Network → Edit → Network
@@ -129,7 +134,10 @@ fed_message v (Withdraw p) = AWithdrawal p
 
 -- the state with what is fed on its way
 abbrev pub after_feed : Network → Feed → Network
-after_feed s f = record s { queues = with_message (record { from = f.from; to = f.to }) (fed_message f.from f.news) s.queues }
+after_feed s f = record s {
+  queues = with_message (record { from = f.from; to = f.to })
+      (fed_message f.from f.news) s.queues;
+}
 
 unfoldable pub feed_step : Network → Feed → Outcome
 feed_step s f = unless_refused (feed_refusal s.conf f) s (record { reply = Done; next = after_feed s f })
@@ -242,7 +250,8 @@ is_refusal (Refused r) = true
 
 -- such a question about a virtual peer is refused: no report depends on what the definitions of reports say of one
 abbrev pub PeersTellNothing : Type 0
-PeersTellNothing = (s : Network) (q : Ask) (r : Addr) → decider_asked q ≡ Some r → is_virtual s.conf r ≡ true → is_refusal (step s (AnAsk q)).reply ≡ true
+PeersTellNothing = (s : Network) (q : Ask) (r : Addr) → decider_asked q ≡ Some r → is_virtual s.conf r ≡ true →
+    is_refusal (step s (AnAsk q)).reply ≡ true
 
 -- the outcome was tried: it came about, or, where it is no refusal, nothing did for want of memory
 abbrev pub Tries : {E : Type 0} → Outcome → Network → Result Reply E → Network → Type 0

@@ -26,7 +26,8 @@ pub record Network : Type 0 where
 
 -- by receiver, then by prefix, then by sender
 abbrev pub route_cmp : RouteKey → RouteKey → Ordering
-route_cmp k l = ordering_then (addr_cmp k.to l.to) (ordering_then (prefix_cmp k.prefix l.prefix) (addr_cmp k.from l.from))
+route_cmp k l = ordering_then (addr_cmp k.to l.to)
+    (ordering_then (prefix_cmp k.prefix l.prefix) (addr_cmp k.from l.from))
 
 -- what was received, with this route in place of any of its key
 abbrev pub with_route : RouteKey → Attr → List (RouteKey × Attr) → List (RouteKey × Attr)
@@ -58,7 +59,8 @@ messages_in qs d = option_map (λ q. q.messages) (find (is_of d) qs)
 
 -- the queues and an empty one for the direction, in order
 abbrev pub with_direction : Direction → List Queue → List Queue
-with_direction d qs = filter (λ q. is_gt (direction_cmp d q.of)) qs ++ (record { of = d; messages = [] } ∷ filter (λ q. is_lt (direction_cmp d q.of)) qs)
+with_direction d qs = filter (λ q. is_gt (direction_cmp d q.of)) qs
+    ++ (record { of = d; messages = [] } ∷ filter (λ q. is_lt (direction_cmp d q.of)) qs)
 
 -- the queue with more messages at its end
 abbrev pub with_more : Queue → List Message → Queue

@@ -78,4 +78,5 @@ is_quiet s = list_all (λ q. is_empty q.messages) s.queues
 
 -- the router's cost to the address, and the address to which it forwards what is for it
 unfoldable pub cost_and_hop : Configuration → Addr → Addr → Option (ℕ × Addr)
-cost_and_hop c r x = option_and_then (λ n. option_map (λ hop. (n, hop)) (first_hop_in (costs_of c r) x)) (cost_in (costs_of c r) x)
+cost_and_hop c r x = option_and_then (λ n. option_map (λ hop. (n, hop)) (first_hop_in (costs_of c r) x))
+    (cost_in (costs_of c r) x)

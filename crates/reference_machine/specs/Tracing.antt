@@ -68,23 +68,26 @@ abbrev pub by_prefix : Network → Addr → Option Prefix → Look
 by_prefix s r None = Ends (NoRoute r)
 by_prefix s r (Some p) = by_route (costs_of s.conf r) r p (best s r p)
 
--- what becomes of it at r, where it came over the hops: a router that has forwarded it before is a loop, a virtual peer is
--- reached (both own), and another router looks up the address
+-- what becomes of it at r, where it came over the hops: a router that has forwarded it before is a loop, a virtual peer
+-- is reached (both own), and another router looks up the address
 unfoldable pub look : Network → Addr → List (Addr × Prefix) → Addr → Look
 look s d hops r =
     if has_passed r hops then Ends (Loop r)
     else if is_virtual s.conf r then Ends (Reached r)
     else by_prefix s r (longest_match s r d)
 
--- a route that a router has chosen, and that is not its own, has a first hop towards its NEXT_HOP: what has none is excluded
+-- a route that a router has chosen, and that is not its own, has a first hop towards its NEXT_HOP: what has none is
+-- excluded
 abbrev pub OnwardLaw : Type 0
-OnwardLaw = (s : Network) (r : Addr) (p : Prefix) (b : Candidate) → best s r p ≡ Some b → is_own b.source ≡ false → is_some (first_hop_in (costs_of s.conf r) b.attr.next) ≡ true
+OnwardLaw = (s : Network) (r : Addr) (p : Prefix) (b : Candidate) → best s r p ≡ Some b → is_own b.source ≡ false →
+    is_some (first_hop_in (costs_of s.conf r) b.attr.next) ≡ true
 
--- the hops from r on, where it came over those passed, and how they end: each router forwards by the prefix to the next one,
--- and where it comes to after the last, it ends
+-- the hops from r on, where it came over those passed, and how they end: each router forwards by the prefix to the next
+-- one, and where it comes to after the last, it ends
 abbrev pub IsTrace : Network → Addr → List (Addr × Prefix) → Addr → List (Addr × Prefix) → TraceEnd → Type 0
 IsTrace s d passed r [] ending = look s d passed r ≡ Ends ending
-IsTrace s d passed r ((q, p) ∷ hops) ending = (q ≡ r) × (next : Addr) × (look s d passed r ≡ Forwards p next) × IsTrace s d (passed ++ (q, p) ∷ []) next hops ending
+IsTrace s d passed r ((q, p) ∷ hops) ending = (q ≡ r) × (next : Addr) × (look s d passed r ≡ Forwards p next)
+    × IsTrace s d (passed ++ (q, p) ∷ []) next hops ending
 
 abbrev pub ended : List (Addr × Prefix) → TraceEnd → Traced
 ended hops ending = record { hops = hops; ending = ending }
@@ -93,8 +96,8 @@ abbrev pub after_look : (List (Addr × Prefix) → Addr → Traced) → List (Ad
 after_look next hops r (Ends ending) = ended hops ending
 after_look next hops r (Forwards p h) = next (hops ++ (r, p) ∷ []) h
 
--- from r on, where it came over the hops, with at most n looks; a trace ends within its looks, so its first case is never
--- reached
+-- from r on, where it came over the hops, with at most n looks; a trace ends within its looks, so its first case is
+-- never reached
 unfoldable pub trace_from : ℕ → Network → Addr → List (Addr × Prefix) → Addr → Traced
 trace_from zero s d hops r = ended hops (Loop r)
 trace_from (suc n) s d hops r = after_look (trace_from n s d) hops r (look s d hops r)
@@ -110,4 +113,5 @@ TraceLaw = (s : Network) (r d : Addr) → IsTrace s d [] r (trace s r d).hops (t
 
 -- and the only one
 abbrev pub OneTraceLaw : Type 0
-OneTraceLaw = (s : Network) (r d : Addr) (hops : List (Addr × Prefix)) (ending : TraceEnd) → IsTrace s d [] r hops ending → ended hops ending ≡ trace s r d
+OneTraceLaw = (s : Network) (r d : Addr) (hops : List (Addr × Prefix)) (ending : TraceEnd) →
+    IsTrace s d [] r hops ending → ended hops ending ≡ trace s r d

@@ -46,7 +46,10 @@ word : (text : List ℕ) → is_plain text ≡ true → Plain text
 word [] e = record { lacks = All-nil (λ b. b ≢ 10) }
 word (b ∷ bs) e = ⊎_elim
     (λ t. absurd (true≢false (sym e ∙ ap (λ x. cond x false (is_plain bs)) t)))
-    (λ f. record { lacks = All-cons (λ b. b ≢ 10) b bs (λ same. eqb-false b 10 f same) (word bs (sym (ap (λ x. cond x false (is_plain bs)) f) ∙ e)).lacks })
+    (λ f. record {
+      lacks = All-cons (λ b. b ≢ 10) b bs (λ same. eqb-false b 10 f same)
+          (word bs (sym (ap (λ x. cond x false (is_plain bs)) f) ∙ e)).lacks;
+    })
     (cases_Bool (b == 10))
 
 both : (a b : List ℕ) → Plain a → Plain b → Plain (a ++ b)
@@ -57,12 +60,14 @@ value : (text : List ℕ) → AreVisible text → Plain text
 value text h = record { lacks = visible_lacks 10 (λ over. omega arith) text h }
 
 -- a value after a word, and both after a text
-named : (before name text : List ℕ) → is_plain name ≡ true → Plain before → AreVisible text → Plain (before ++ name ++ text)
+named : (before name text : List ℕ) → is_plain name ≡ true → Plain before → AreVisible text →
+    Plain (before ++ name ++ text)
 named before name text e h g = both (before ++ name) text (both before name h (word name e)) (value text g)
 
 communities_plain : (cs : List ℕ) → Plain (communities_text cs)
 communities_plain [] = word [] refl
-communities_plain (c ∷ cs) = both (codes " comms=") (numbers_text (c ∷ cs)) (word (codes " comms=") refl) (value (numbers_text (c ∷ cs)) (visible_numbers (c ∷ cs)))
+communities_plain (c ∷ cs) = both (codes " comms=") (numbers_text (c ∷ cs)) (word (codes " comms=") refl)
+    (value (numbers_text (c ∷ cs)) (visible_numbers (c ∷ cs)))
 
 attr_plain : (a : Attr) → Plain (attr_text a)
 unfolding attr_text
@@ -74,7 +79,8 @@ attr_plain a =
     (named _ (codes " med=") _ refl
     (named _ (codes " next=") _ refl
     (named _ (codes " origin=") _ refl
-    (both (codes "path=") (path_text a.path) (word (codes "path=") refl) (value (path_text a.path) (visible_path a.path)))
+    (both (codes "path=") (path_text a.path) (word (codes "path=") refl)
+    (value (path_text a.path) (visible_path a.path)))
     (visible_origin a.origin))
     (visible_addr a.next))
     (visible_maybe_number a.med))
@@ -136,26 +142,30 @@ line_of : (front : List ℕ) → Plain front → IsLine (front ++ 10 ∷ [])
 line_of front h = (front, h.lacks, refl)
 
 end_is_line : (n : ℕ) → IsLine (end_line n)
-end_is_line n = line_of (codes "end " ++ decimal n) (both (codes "end ") (decimal n) (word (codes "end ") refl) (value (decimal n) (visible_decimal n)))
+end_is_line n = line_of (codes "end " ++ decimal n) (both (codes "end ") (decimal n) (word (codes "end ") refl)
+    (value (decimal n) (visible_decimal n)))
 
 held_is_line : (h : Held) → IsLine (held_line h)
 unfolding held_line
 held_is_line h = line_of _
     (both _ (attr_text h.attr)
     (both _ (codes " ") (both _ (source_text h.source)
-    (both (prefix_text h.prefix) (codes " from ") (value (prefix_text h.prefix) (visible_prefix h.prefix)) (word (codes " from ") refl))
+    (both (prefix_text h.prefix) (codes " from ") (value (prefix_text h.prefix) (visible_prefix h.prefix))
+    (word (codes " from ") refl))
     (source_plain h.source)) (word (codes " ") refl))
     (attr_plain h.attr))
 
 reason_is_line : (e : Source × Reason) → IsLine (reason_line e)
 unfolding reason_line
 reason_is_line e = line_of _
-    (both _ (reason_text e.1) (both (source_text e.0) (codes " ") (source_plain e.0) (word (codes " ") refl)) (reason_plain e.1))
+    (both _ (reason_text e.1) (both (source_text e.0) (codes " ") (source_plain e.0) (word (codes " ") refl))
+    (reason_plain e.1))
 
 route_is_line : (e : Prefix × Attr) → IsLine (route_line e)
 unfolding route_line
 route_is_line e = line_of _
-    (both _ (attr_text e.1) (both (prefix_text e.0) (codes " ") (value (prefix_text e.0) (visible_prefix e.0)) (word (codes " ") refl)) (attr_plain e.1))
+    (both _ (attr_text e.1) (both (prefix_text e.0) (codes " ") (value (prefix_text e.0) (visible_prefix e.0))
+    (word (codes " ") refl)) (attr_plain e.1))
 
 message_is_line : (m : Message) → IsLine (message_line m)
 unfolding message_line
@@ -163,17 +173,25 @@ message_is_line (AnUpdate p attr) = line_of _
     (both _ (attr_text attr) (both _ (codes " ")
     (both (codes "update ") (prefix_text p) (word (codes "update ") refl) (value (prefix_text p) (visible_prefix p)))
     (word (codes " ") refl)) (attr_plain attr))
-message_is_line (AWithdrawal p) = line_of _ (both (codes "withdraw ") (prefix_text p) (word (codes "withdraw ") refl) (value (prefix_text p) (visible_prefix p)))
+message_is_line (AWithdrawal p) =
+    line_of _ (both (codes "withdraw ") (prefix_text p) (word (codes "withdraw ") refl)
+    (value (prefix_text p) (visible_prefix p)))
 
 hop_is_line : (e : Addr × Prefix) → IsLine (hop_line e)
 unfolding hop_line
-hop_is_line e = line_of _ (named (addr_text e.0) (codes " ") (prefix_text e.1) refl (value (addr_text e.0) (visible_addr e.0)) (visible_prefix e.1))
+hop_is_line e = line_of _ (named (addr_text e.0) (codes " ") (prefix_text e.1) refl
+    (value (addr_text e.0) (visible_addr e.0)) (visible_prefix e.1))
 
 trace_end_is_line : (t : TraceEnd) → IsLine (trace_end_line t)
 unfolding trace_end_line
-trace_end_is_line (Reached a) = line_of _ (both (codes "reached ") (addr_text a) (word (codes "reached ") refl) (value (addr_text a) (visible_addr a)))
-trace_end_is_line (NoRoute a) = line_of _ (both (codes "noroute ") (addr_text a) (word (codes "noroute ") refl) (value (addr_text a) (visible_addr a)))
-trace_end_is_line (Round a) = line_of _ (both (codes "loop ") (addr_text a) (word (codes "loop ") refl) (value (addr_text a) (visible_addr a)))
+trace_end_is_line (Reached a) =
+    line_of _ (both (codes "reached ") (addr_text a) (word (codes "reached ") refl)
+    (value (addr_text a) (visible_addr a)))
+trace_end_is_line (NoRoute a) =
+    line_of _ (both (codes "noroute ") (addr_text a) (word (codes "noroute ") refl)
+    (value (addr_text a) (visible_addr a)))
+trace_end_is_line (Round a) =
+    line_of _ (both (codes "loop ") (addr_text a) (word (codes "loop ") refl) (value (addr_text a) (visible_addr a)))
 
 best_is_line : (b : Option Held) → IsLine (best_text b)
 best_is_line None = line_of (codes "none") (word (codes "none") refl)
@@ -185,12 +203,14 @@ quiet_is_line false = line_of (codes "no") (word (codes "no") refl)
 
 way_is_line : (w : Option (ℕ × Addr)) → IsLine (way_text w)
 way_is_line None = line_of (codes "none") (word (codes "none") refl)
-way_is_line (Some w) = line_of _ (named (decimal w.0) (codes " via ") (addr_text w.1) refl (value (decimal w.0) (visible_decimal w.0)) (visible_addr w.1))
+way_is_line (Some w) = line_of _ (named (decimal w.0) (codes " via ") (addr_text w.1) refl
+    (value (decimal w.0) (visible_decimal w.0)) (visible_addr w.1))
 
 refusal_is_line : (r : Refusal) → IsLine (refusal_text r)
 refusal_is_line r = line_of _
     (both _ (name_of r) (both _ (codes " ")
-    (both (codes "refused ") (decimal (number_of r)) (word (codes "refused ") refl) (value (decimal (number_of r)) (visible_decimal (number_of r))))
+    (both (codes "refused ") (decimal (number_of r)) (word (codes "refused ") refl)
+    (value (decimal (number_of r)) (visible_decimal (number_of r))))
     (word (codes " ") refl)) (name_plain r))
 
 took_is_line : (p : Prefix) (k : MessageKind) → IsLine (reply_text (Took p k))
@@ -206,7 +226,8 @@ module _ {X : Type 0} (f : X → List ℕ) where
   each_then [] ts = refl
   each_then (x ∷ xs) ts = append_assoc (f x) (flat_map f xs) (concat ts) ∙ ap (λ t. f x ++ t) (each_then xs ts)
 
-  each_line : ((x : X) → IsLine (f x)) → (xs : List X) (ts : List (List ℕ)) → AllByRecursion IsLine ts → AllByRecursion IsLine (map f xs ++ ts)
+  each_line : ((x : X) → IsLine (f x)) → (xs : List X) (ts : List (List ℕ)) → AllByRecursion IsLine ts →
+      AllByRecursion IsLine (map f xs ++ ts)
   each_line h [] ts all = all
   each_line h (x ∷ xs) ts all = (h x, each_line h xs ts all)
 
@@ -217,11 +238,23 @@ one : (text : List ℕ) → IsLine text → (text ≡ concat (text ∷ [])) × A
 one text h = (sym (append-nil text), (h, tt))
 
 lines_of_report : (r : Report) → (report_text r ≡ concat (report_lines r)) × AllByRecursion IsLine (report_lines r)
-lines_of_report (Routes routes) = (counted held_line routes (end_line (length routes)), each_line held_line held_is_line routes _ (end_is_line (length routes), tt))
+lines_of_report (Routes routes) = (
+  counted held_line routes (end_line (length routes)),
+  each_line held_line held_is_line routes _ (end_is_line (length routes), tt),
+)
 lines_of_report (TheBest held) = one (best_text held) (best_is_line held)
-lines_of_report (Why reasons) = (counted reason_line reasons (end_line (length reasons)), each_line reason_line reason_is_line reasons _ (end_is_line (length reasons), tt))
-lines_of_report (Rib routes) = (counted route_line routes (end_line (length routes)), each_line route_line route_is_line routes _ (end_is_line (length routes), tt))
-lines_of_report (Queue messages) = (counted message_line messages (end_line (length messages)), each_line message_line message_is_line messages _ (end_is_line (length messages), tt))
+lines_of_report (Why reasons) = (
+  counted reason_line reasons (end_line (length reasons)),
+  each_line reason_line reason_is_line reasons _ (end_is_line (length reasons), tt),
+)
+lines_of_report (Rib routes) = (
+  counted route_line routes (end_line (length routes)),
+  each_line route_line route_is_line routes _ (end_is_line (length routes), tt),
+)
+lines_of_report (Queue messages) = (
+  counted message_line messages (end_line (length messages)),
+  each_line message_line message_is_line messages _ (end_is_line (length messages), tt),
+)
 lines_of_report (Quiet quiet) = one (quiet_text quiet) (quiet_is_line quiet)
 lines_of_report (Way way) = one (way_text way) (way_is_line way)
 lines_of_report (Trace hops end) =
@@ -230,7 +263,10 @@ lines_of_report (Trace hops end) =
       append_assoc (flat_map hop_line hops) ending last
           ∙ ap (λ t. flat_map hop_line hops ++ (ending ++ t)) (sym (append-nil last))
           ∙ each_then hop_line hops (ending ∷ last ∷ []),
-      each_line hop_line hop_is_line hops (ending ∷ last ∷ []) (trace_end_is_line end, (end_is_line (length hops + 1), tt)),
+      each_line hop_line hop_is_line hops (ending ∷ last ∷ []) (
+        trace_end_is_line end,
+        (end_is_line (length hops + 1), tt),
+      ),
     )
 
 pub replies_are_lines : RepliesAreLines

@@ -57,11 +57,13 @@ fault_text BookDiffers = codes "the book differs" ++ line_end
 
 -- all of the text was written, or the writer failed, after a front of it
 abbrev pub IsTold : Writing → List ℕ → Writing → Type 0
-IsTold old text new = Appends old.written new.written text ⊎ ((new.failed ≡ true) × AppendsFront old.written new.written text)
+IsTold old text new = Appends old.written new.written text
+    ⊎ ((new.failed ≡ true) × AppendsFront old.written new.written text)
 
 -- there was no memory to begin: nothing was written, and that alone was told
 abbrev pub IsWithoutMemory : Writing → Writing → ℕ → Writing → Writing → Type 0
-IsWithoutMemory o errors status o' errors' = (status ≡ no_memory) × (o' ≡ o) × IsTold errors (fault_text NoMemory) errors'
+IsWithoutMemory o errors status o' errors' = (status ≡ no_memory) × (o' ≡ o)
+    × IsTold errors (fault_text NoMemory) errors'
 
 -- want of memory, as `?` makes it
 abbrev pub memory_fault : RunFault

@@ -35,9 +35,11 @@ communities_text (c ∷ cs) = codes " comms=" ++ numbers_text (c ∷ cs)
 
 -- the eight attributes, each with its name
 unfoldable pub attr_text : Attr → List ℕ
-attr_text a = codes "path=" ++ path_text a.path ++ codes " origin=" ++ origin_text a.origin ++ codes " next=" ++ addr_text a.next
+attr_text a = codes "path=" ++ path_text a.path ++ codes " origin=" ++ origin_text a.origin ++ codes " next="
+    ++ addr_text a.next
     ++ codes " med=" ++ maybe_number_text a.med ++ codes " pref=" ++ maybe_number_text a.pref
-    ++ codes " oid=" ++ maybe_addr_text a.oid ++ codes " clusters=" ++ clusters_text a.clusters ++ communities_text a.comms
+    ++ codes " oid=" ++ maybe_addr_text a.oid ++ codes " clusters=" ++ clusters_text a.clusters
+    ++ communities_text a.comms
 
 abbrev pub source_text : Source → List ℕ
 source_text Own = codes "self"
@@ -45,7 +47,8 @@ source_text (Peer a) = addr_text a
 
 -- a chosen route, on a line
 unfoldable pub held_line : Held → List ℕ
-held_line h = prefix_text h.prefix ++ codes " from " ++ source_text h.source ++ codes " " ++ attr_text h.attr ++ line_end
+held_line h = prefix_text h.prefix ++ codes " from " ++ source_text h.source ++ codes " "
+    ++ attr_text h.attr ++ line_end
 
 -- how many lines there were
 abbrev pub end_line : ℕ → List ℕ

@@ -34,7 +34,8 @@ are_visible (b ∷ bs) = cond (nat_lt 32 b) (are_visible bs) false
 pub visible_word : (text : List ℕ) → are_visible text ≡ true → AreVisible text
 visible_word [] e = All-nil IsVisible
 visible_word (b ∷ bs) e = ⊎_elim
-    (λ t. All-cons IsVisible b bs (ltb-true 32 b t) (visible_word bs (sym (ap (λ x. cond x (are_visible bs) false) t) ∙ e)))
+    (λ t. All-cons IsVisible b bs (ltb-true 32 b t)
+    (visible_word bs (sym (ap (λ x. cond x (are_visible bs) false) t) ∙ e)))
     (λ f. absurd (true≢false (sym e ∙ ap (λ x. cond x (are_visible bs) false) f)))
     (cases_Bool (nat_lt 32 b))
 
@@ -50,13 +51,16 @@ pub visible_decimal : (n : ℕ) → AreVisible (decimal n)
 visible_decimal n = All-weaker IsDigit IsVisible (λ b digit. omega arith) (decimal n) (decimal_digits n)
 
 pub visible_addr : (a : Addr) → AreVisible (addr_text a)
-visible_addr a = All-weaker IsAddressByte IsVisible (λ b byte. omega (arith, byte.0.0)) (addr_text a) (addr_text_bytes a)
+visible_addr a = All-weaker IsAddressByte IsVisible (λ b byte. omega (arith, byte.0.0)) (addr_text a)
+    (addr_text_bytes a)
 
 pub visible_prefix : (p : Prefix) → AreVisible (prefix_text p)
-visible_prefix p = All-weaker IsPrefixByte IsVisible (λ b byte. omega (arith, byte.0)) (prefix_text p) (prefix_text_bytes p)
+visible_prefix p = All-weaker IsPrefixByte IsVisible (λ b byte. omega (arith, byte.0)) (prefix_text p)
+    (prefix_text_bytes p)
 
 -- texts joined by a visible byte
-pub visible_joined : {X : Type 0} (c : ℕ) (f : X → List ℕ) → 32 < c → ((x : X) → AreVisible (f x)) → (xs : List X) → AreVisible (join_with_byte c (map f xs))
+pub visible_joined : {X : Type 0} (c : ℕ) (f : X → List ℕ) → 32 < c → ((x : X) → AreVisible (f x)) → (xs : List X) →
+    AreVisible (join_with_byte c (map f xs))
 visible_joined c f over each [] = All-nil IsVisible
 visible_joined c f over each (x ∷ []) = each x
 visible_joined c f over each (x ∷ y ∷ more) =
@@ -70,7 +74,8 @@ pub visible_segment : (s : Segment) → AreVisible (segment_text s)
 visible_segment (Sequence ns) = visible_numbers ns
 visible_segment (Set ns) =
     All-cons IsVisible 123 (numbers_text ns ++ (125 ∷ [])) (omega arith)
-    (visible_both (numbers_text ns) (125 ∷ []) (visible_numbers ns) (All-cons IsVisible 125 [] (omega arith) (All-nil IsVisible)))
+    (visible_both (numbers_text ns) (125 ∷ []) (visible_numbers ns)
+    (All-cons IsVisible 125 [] (omega arith) (All-nil IsVisible)))
 
 pub visible_path : (p : List Segment) → AreVisible (path_text p)
 unfolding path_text

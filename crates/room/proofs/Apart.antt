@@ -13,6 +13,7 @@ apart_push (x ∷ xs) y apart none = (
 )
 
 -- pushed, where there was memory
-pub apart_pushed : (is : Bool) (xs ys : List Job) (y : Job) → ys ≡ (if is then xs ++ y ∷ [] else xs) → AreApart xs → All (λ x. cell_of x ≢ cell_of y) xs → AreApart ys
+pub apart_pushed : (is : Bool) (xs ys : List Job) (y : Job) → ys ≡ (if is then xs ++ y ∷ [] else xs) → AreApart xs →
+    All (λ x. cell_of x ≢ cell_of y) xs → AreApart ys
 apart_pushed true xs ys y e apart none = subst AreApart (sym e) (apart_push xs y apart none)
 apart_pushed false xs ys y e apart none = subst AreApart (sym e) apart

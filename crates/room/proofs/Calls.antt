@@ -13,6 +13,8 @@ pub reads_all : (n i next : ℕ) (es : List Entry) (notes : List Call) → lengt
     → IsTrue (nat_eq next (length notes)) ↔ (calls_of n es ≡ notes)
 reads_all n i next es notes end below both =
     let rest : calls_of n (drop i es) ≡ [] = ap (calls_of n) (drop_all i es end) in (
-      (λ is. both.1 (rest ∙ sym (drop_all next notes (let e : next ≡ length notes = grind (arith, nat_tests) in omega arith)))),
-      (λ is. let d : drop next notes ≡ [] = sym (both.0 is) ∙ rest in let e : next ≡ length notes = omega (arith, ap length d, length-drop next notes) in grind (arith, nat_tests)),
+      (λ is. both.1 (rest ∙ sym (drop_all next notes (let e : next ≡ length notes = grind (arith, nat_tests) in
+          omega arith)))),
+      (λ is. let d : drop next notes ≡ [] = sym (both.0 is) ∙ rest in let e : next ≡ length notes =
+          omega (arith, ap length d, length-drop next notes) in grind (arith, nat_tests)),
     )

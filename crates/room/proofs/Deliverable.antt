@@ -28,7 +28,8 @@ tidy_after h = (told_after nothing told_nothing h).tidy
 not_empty : (m : Message) (ms : List Message) → m ∷ ms ≡ [] → ⊥
 not_empty m ms e = cc
 
-module _ (e : State) (sound : IsConsistent e) (tidy : IsTidy (network e)) (d : Direction) (m : Message) (ms : List Message) (waits : queue_at e.queues d.from d.to ≡ m ∷ ms) where
+module _ (e : State) (sound : IsConsistent e) (tidy : IsTidy (network e)) (d : Direction) (m : Message)
+    (ms : List Message) (waits : queue_at e.queues d.from d.to ≡ m ∷ ms) where
   session_by : (b : Bool) → has_session e.conf d.from d.to ≡ b → has_session e.conf d.from d.to ≡ true
   session_by true is = is
   session_by false is = absurd (not_empty m ms (sym waits ∙ sound.silent d.from d.to is))
@@ -40,7 +41,8 @@ module _ (e : State) (sound : IsConsistent e) (tidy : IsTidy (network e)) (d : D
   unfolding network
   up_by true is = is
   up_by false is =
-      absurd (not_empty m ms (ap (λ (o : Option (List Message)). unwrap_or o []) (sym (messages_on_session e sound d session ∙ ap Some waits)) ∙ tidy.no_message d.from d.to is))
+      absurd (not_empty m ms (ap (λ (o : Option (List Message)). unwrap_or o [])
+      (sym (messages_on_session e sound d session ∙ ap Some waits)) ∙ tidy.no_message d.from d.to is))
 
   up : is_up e.conf d.from d.to ≡ true
   up = up_by (is_up e.conf d.from d.to) refl

@@ -11,11 +11,18 @@ pub goes_on_further : (r s t : SeatBook) → GoesOn r s → GoesOn s t → GoesO
 goes_on_further r s t p q =
     record {
       same = q.same ∙ p.same;
-      goes_on = (p.goes_on.0 ++ q.goes_on.0, sym (append_assoc r.notes p.goes_on.0 q.goes_on.0) ∙ (ap (λ w. w ++ q.goes_on.0) p.goes_on.1 ∙ q.goes_on.1));
+      goes_on = (
+        p.goes_on.0 ++ q.goes_on.0,
+        sym (append_assoc r.notes p.goes_on.0 q.goes_on.0)
+            ∙ (ap (λ w. w ++ q.goes_on.0) p.goes_on.1 ∙ q.goes_on.1),
+      );
     }
 
-pub with_call_goes_on : (s : SeatBook) (event : Event) (reply : Reply) (t : SeatBook) → t ≡ with_call s event reply → GoesOn s t
-with_call_goes_on s event reply t is = subst (λ (u : SeatBook). GoesOn s u) (sym is) (record { same = refl; goes_on = (record { event = event; reply = reply } ∷ [], refl) })
+pub with_call_goes_on : (s : SeatBook) (event : Event) (reply : Reply) (t : SeatBook) →
+    t ≡ with_call s event reply → GoesOn s t
+with_call_goes_on s event reply t is =
+    subst (λ (u : SeatBook). GoesOn s u) (sym is)
+    (record { same = refl; goes_on = (record { event = event; reply = reply } ∷ [], refl) })
 
 pub goes_on_same : (s t : SeatBook) → t ≡ s → GoesOn s t
 goes_on_same s t is = subst (λ (u : SeatBook). GoesOn s u) (sym is) (goes_on_itself s)

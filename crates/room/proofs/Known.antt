@@ -20,10 +20,12 @@ IsKnown room now known = (r : Addr) → known ≡ Some r → router_site room.en
 pub none_known : (room now : RoomBook) → IsKnown room now None
 none_known room now r is = absurd (none-some r is)
 
-pub known_site : (room now : RoomBook) (known : Option Addr) (x : Job) → IsKnown room now known → IsSeenIn room x → known ≡ Some x.direction.to → x.site ≡ site_in now x.direction
+pub known_site : (room now : RoomBook) (known : Option Addr) (x : Job) → IsKnown room now known → IsSeenIn room x →
+    known ≡ Some x.direction.to → x.site ≡ site_in now x.direction
 known_site room now known x is seen at = seen.site ∙ is x.direction.to at
 
-pub site_known : (room now : RoomBook) (x : Job) → IsSeenIn room x → x.site ≡ site_in now x.direction → IsKnown room now (Some x.direction.to)
+pub site_known : (room now : RoomBook) (x : Job) → IsSeenIn room x → x.site ≡ site_in now x.direction →
+    IsKnown room now (Some x.direction.to)
 site_known room now x seen site r is =
     let to : x.direction.to ≡ r = same_Some x.direction.to r is in
     ap (router_site room.engine.conf) (sym to) ∙ sym seen.site ∙ site ∙ ap (router_site now.engine.conf) to
@@ -39,7 +41,8 @@ conf_delivered s d = by (delivery_refusal s.conf d) (messages_in s.queues d)
     by None (Some []) = refl
     by None (Some (m ∷ ms)) = refl
 
-pub conf_after_delivery : (e e' : State) (x : Job) → network e' ≡ (step (network e) (delivery_of x)).next → e'.conf ≡ e.conf
+pub conf_after_delivery : (e e' : State) (x : Job) → network e' ≡ (step (network e) (delivery_of x)).next →
+    e'.conf ≡ e.conf
 unfolding network
 conf_after_delivery e e' x is = ap (λ n. n.conf) is ∙ conf_delivered (network e) x.direction
 

@@ -6,7 +6,8 @@ use Rattle.room.specs.Books.{SeatBook}
 use Rattle.room.specs.Closing.{times}
 
 -- each number up to n is there once
-pub once_more : (n : ℕ) (seats : List SeatBook) → ((k : ℕ) → k < n → times k seats ≡ 1) → times n seats ≡ 1 → (k : ℕ) → k < n + 1 → times k seats ≡ 1
+pub once_more : (n : ℕ) (seats : List SeatBook) → ((k : ℕ) → k < n → times k seats ≡ 1) → times n seats ≡ 1 → (k : ℕ) →
+    k < n + 1 → times k seats ≡ 1
 once_more n seats before here k below = by (nat_lt k n) refl
   where
     by : (b : Bool) → nat_lt k n ≡ b → times k seats ≡ 1

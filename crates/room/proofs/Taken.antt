@@ -28,15 +28,20 @@ use Rattle.room.specs.Jobs.{Job, IsSeenIn, CanDecide, ArePeersInOrder, outcome_o
 use Rattle.room.specs.Commits.{delivery_of}
 use Rattle.room.proofs.Deliverable.{tidy_after, not_refused}
 
-peers_by : (c : Configuration) → IsConfigured c → (r : Addr) (x : Option SiteConf) → router_site c r ≡ x → ArePeersInOrder x
+peers_by : (c : Configuration) → IsConfigured c → (r : Addr) (x : Option SiteConf) →
+    router_site c r ≡ x → ArePeersInOrder x
 peers_by c configured r None at = tt
 peers_by c configured r (Some site) at = site_sessions_in_order c r site configured (site_of_router c r site at)
 
 -- what is in the room can be decided
-pub can_decide : (e : State) → IsConsistent e → IsConfigured e.conf → (x : Job) → x.site ≡ router_site e.conf x.direction.to → x.cell ≡ cell_at x.direction.to (prefix_of x.head) e.tables → CanDecide x
+pub can_decide : (e : State) → IsConsistent e → IsConfigured e.conf → (x : Job) →
+    x.site ≡ router_site e.conf x.direction.to → x.cell ≡ cell_at x.direction.to (prefix_of x.head) e.tables →
+    CanDecide x
 can_decide e sound configured x site cell = record {
-  decided = cell ∙ cell_decided e sound x.direction.to (prefix_of x.head) ∙ (λ i. decided (sym site i) (prefix_of x.head) (sym cell i).received);
-  peers = subst ArePeersInOrder (sym site) (peers_by e.conf configured x.direction.to (router_site e.conf x.direction.to) refl);
+  decided = cell ∙ cell_decided e sound x.direction.to (prefix_of x.head)
+      ∙ (λ i. decided (sym site i) (prefix_of x.head) (sym cell i).received);
+  peers = subst ArePeersInOrder (sym site)
+      (peers_by e.conf configured x.direction.to (router_site e.conf x.direction.to) refl);
 }
 
 -- where nothing is configured nobody has a site
@@ -45,14 +50,18 @@ unfolding site_of
 no_site r = refl
 
 -- the route that the network has is that of the cell
-pub route_in_network : (e : State) → IsConsistent e → (r : Addr) (p : Prefix) (u : Addr) → route_from (network e).received r p u ≡ route_of (cell_at r p e.tables).received u
+pub route_in_network : (e : State) → IsConsistent e → (r : Addr) (p : Prefix) (u : Addr) →
+    route_from (network e).received r p u ≡ route_of (cell_at r p e.tables).received u
 unfolding network
 route_in_network e sound r p u = route_in_cell e.tables sound.by_address r p u
 
 -- cells that were decided by one site from the same routes are one
-pub same_cell : (e : State) → IsConsistent e → (x : Job) → CanDecide x → x.site ≡ router_site e.conf x.direction.to → x.cell.received ≡ (cell_at x.direction.to (prefix_of x.head) e.tables).received → x.cell ≡ cell_at x.direction.to (prefix_of x.head) e.tables
+pub same_cell : (e : State) → IsConsistent e → (x : Job) → CanDecide x → x.site ≡ router_site e.conf x.direction.to →
+    x.cell.received ≡ (cell_at x.direction.to (prefix_of x.head) e.tables).received →
+    x.cell ≡ cell_at x.direction.to (prefix_of x.head) e.tables
 same_cell e sound x can site received =
-    can.decided ∙ (λ i. decided (site i) (prefix_of x.head) (received i)) ∙ sym (cell_decided e sound x.direction.to (prefix_of x.head))
+    can.decided ∙ (λ i. decided (site i) (prefix_of x.head) (received i))
+    ∙ sym (cell_decided e sound x.direction.to (prefix_of x.head))
 
 -- A DELIVERY
 
@@ -60,7 +69,8 @@ waits_by : (ms : List Message) (m : Message) → slice_get ms 0 ≡ Some m → (
 waits_by [] m is = absurd (none-some m is)
 waits_by (w ∷ ws) m is = (ws, ap (λ x. x ∷ ws) (same_Some w m is))
 
-module _ (room : RoomBook) (kept : IsKept room) (sound : IsConsistent room.engine) (x : Job) (seen : IsSeenIn room x) where
+module _ (room : RoomBook) (kept : IsKept room) (sound : IsConsistent room.engine) (x : Job)
+    (seen : IsSeenIn room x) where
   tidy : IsTidy (network room.engine)
   tidy = subst IsTidy (sym kept.state) (tidy_after room.history)
 
@@ -78,4 +88,10 @@ module _ (room : RoomBook) (kept : IsKept room) (sound : IsConsistent room.engin
   pub seen_outcome : (o : Outcome) → o ≡ outcome_of x → IsOutcomeOfHead room.engine x.direction o
   seen_outcome o is =
       let waits = waits_by (queue_at room.engine.queues x.direction.from x.direction.to) x.head seen.head in
-      record { message = x.head; rest = waits.0; waits = waits.1; outcome = is ∙ (λ i. outcome_by (seen.site i) (seen.cell i) x.direction.from x.head) }
+      record {
+        message = x.head;
+        rest = waits.0;
+        waits = waits.1;
+        outcome = is
+            ∙ (λ i. outcome_by (seen.site i) (seen.cell i) x.direction.from x.head);
+      }

@@ -14,8 +14,8 @@ use Rattle.reference_machine.specs.Histories.{IsLegal, state_after}
 use Rattle.cell_engine.specs.State.{State, network}
 use Rattle.sim_core.specs.Counting.{Counts}
 
--- history: the calls that were made, the first first; engine: the machine, as it stands; decided: how many routes it has decided anew;
--- seats: how many there are
+-- history: the calls that were made, the first first; engine: the machine, as it stands; decided: how many routes it
+-- has decided anew; seats: how many there are
 pub record RoomBook : Type 0 where
   pub history : List Entry
   pub engine : State
@@ -28,7 +28,8 @@ pub record SeatBook : Type 0 where
   pub count : ℕ
   pub notes : List Call
 
--- the calls take the count from n to m: at each it rises by the number of routes that the event decides anew, by none where it is refused
+-- the calls take the count from n to m: at each it rises by the number of routes that the event decides anew, by none
+-- where it is refused
 abbrev pub AreCounted : Network → ℕ → List Entry → ℕ → Type 0
 AreCounted s n [] m = m ≡ n
 AreCounted s n (e ∷ es) m = (k : ℕ) × Counts s e.event e.reply n k × AreCounted (step s e.event).next k es m
@@ -67,11 +68,19 @@ stepped s event reply = if is_memory reply then s else (step s event).next
 
 -- the history after a call from the seat of this number that got this reply
 abbrev pub recorded : List Entry → ℕ → Event → Reply → List Entry
-recorded h number event reply = if is_memory reply then h else h ++ record { seat = number; event = event; reply = reply } ∷ []
+recorded h number event reply = if is_memory reply then h else h ++ record {
+  seat = number;
+  event = event;
+  reply = reply;
+} ∷ []
 
 -- the seat with one call more
 abbrev pub with_call : SeatBook → Event → Reply → SeatBook
-with_call seat event reply = record { number = seat.number; count = seat.count + 1; notes = seat.notes ++ record { event = event; reply = reply } ∷ [] }
+with_call seat event reply = record {
+  number = seat.number;
+  count = seat.count + 1;
+  notes = seat.notes ++ record { event = event; reply = reply } ∷ [];
+}
 
 -- the seat after a call that got this reply
 abbrev pub noted : SeatBook → Event → Reply → SeatBook

@@ -42,8 +42,8 @@ route_now room x peer = route_from (network room.engine).received x.direction.to
 abbrev pub AreSameBelow : Addr → (Addr → Option Attr) → (Addr → Option Attr) → Type 0
 AreSameBelow peer had now = (lower : Addr) → lower.0 < peer.0 → had lower ≡ now lower
 
--- what has moved, the first of these: the configuration, the receiver's site, the head of the queue, what the receiver has received, from the first
--- peer, by address, from which it is another route
+-- what has moved, the first of these: the configuration, the receiver's site, the head of the queue, what the receiver
+-- has received, from the first peer, by address, from which it is another route
 abbrev pub IsNewer : RoomBook → Job → Newer → Type 0
 IsNewer room x (ConfMoved had now) = (had ≡ x.version) × (now ≡ version_of room.history) × (had ≢ now)
 IsNewer room x (SiteMoved had now) = HasVersion room x × (had ≡ x.site) × (now ≡ site_in room x.direction) × (had ≢ now)
@@ -51,7 +51,8 @@ IsNewer room x (HeadMoved had now) =
     HasVersion room x × HasSite room x × (had ≡ head_seen x) × (now ≡ head_in room x.direction) × (had ≢ now)
 IsNewer room x (CellMoved peer had now) =
     HasVersion room x × HasSite room x × HasHead room x
-    × (had ≡ route_had x peer) × (now ≡ route_now room x peer) × (had ≢ now) × AreSameBelow peer (route_had x) (route_now room x)
+    × (had ≡ route_had x peer) × (now ≡ route_now room x peer) × (had ≢ now)
+    × AreSameBelow peer (route_had x) (route_now room x)
 
 -- nothing changes
 pub record IsUnchanged (room : RoomBook) (seat : SeatBook) (room' : RoomBook) (seat' : SeatBook) : Type 0 where
@@ -62,7 +63,8 @@ pub record IsUnchanged (room : RoomBook) (seat : SeatBook) (room' : RoomBook) (s
   pub notes : seat' ≡ seat
 
 -- the delivery is the machine's own step, counted as that is, the last of the history, and of the seat's notes
-pub record IsDelivered (room : RoomBook) (seat : SeatBook) (event : Event) (reply : Reply) (room' : RoomBook) (seat' : SeatBook) : Type 0 where
+pub record IsDelivered (room : RoomBook) (seat : SeatBook) (event : Event) (reply : Reply) (room' : RoomBook)
+    (seat' : SeatBook) : Type 0 where
   pub replies : reply ≡ (step (network room.engine) event).reply
   pub state : network room'.engine ≡ (step (network room.engine) event).next
   pub counted : Counts (network room.engine) event reply room.decided room'.decided
@@ -83,10 +85,12 @@ IsCommitted room seat x (Stale newer) room' seat' = IsNewer room x newer × (roo
 abbrev pub AreCommitted : RoomBook → SeatBook → List Job → RoomBook → SeatBook → Type 0
 AreCommitted room seat [] room' seat' = (room' ≡ room) × (seat' ≡ seat)
 AreCommitted room seat (x ∷ xs) room' seat' =
-    (next : RoomBook) × (after : SeatBook) × (told : Committed) × IsCommitted room seat x told next after × AreCommitted next after xs room' seat'
+    (next : RoomBook) × (after : SeatBook) × (told : Committed) × IsCommitted room seat x told next after
+    × AreCommitted next after xs room' seat'
 
 -- so are the first of them; for the next, whose version is the room's, there is no memory: it and the others are let go
-pub record IsBrokenOff (room : RoomBook) (seat : SeatBook) (xs : List Job) (room' : RoomBook) (seat' : SeatBook) : Type 0 where
+pub record IsBrokenOff (room : RoomBook) (seat : SeatBook) (xs : List Job) (room' : RoomBook)
+    (seat' : SeatBook) : Type 0 where
   pub first : List Job
   pub wanting : Job
   pub others : List Job

@@ -6,7 +6,8 @@ use Rattle.sim_event.specs.declared.entry.Entry.{Entry}
 use Rattle.sim_event.specs.declared.reply.Reply.{Reply}
 use Rattle.sim_event.specs.declared.reply.Reply.TheVariants.{Took}
 
--- a history as it is written; entries: the calls that were made, the first first; space: for how many more there is some
+-- a history as it is written; entries: the calls that were made, the first first; space: for how many more there is
+-- some
 pub record HistoryBook : Type 0 where
   pub entries : List Entry
   pub space : ℕ

@@ -1,5 +1,5 @@
--- Policies: ordered lists of rules, of which the first that matches decides. What a rule can ask, and what it can set, is
--- this project's choice (own): RFC 4271, 9.1.1 and 9.1.3, leave policies to the router.
+-- Policies: ordered lists of rules, of which the first that matches decides. What a rule can ask, and what it can set,
+-- is this project's choice (own): RFC 4271, 9.1.1 and 9.1.3, leave policies to the router.
 use Rattle.std.specs.Prelude.{◌≡◌, Bool, true, List, find, Some, None, option_map, unwrap_or, IsTrue}
 use Rattle.net_prefix.specs.Prefix.{Prefix, Covers, same_prefix}
 use Rattle.net_prefix.specs.Tests.{covers}

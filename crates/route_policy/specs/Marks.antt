@@ -1,4 +1,5 @@
--- No public contract cites this file. Marks of AS numbers, 8,192 of them in words of 64. Each number has two, which it may share with others.
+-- No public contract cites this file. Marks of AS numbers, 8,192 of them in words of 64. Each number has two, which it
+-- may share with others.
 use Rattle.std.specs.Prelude.{◌≡◌, ℕ, ◌*◌, ◌/◌, ◌%◌, ◌^◌, Bool, true, ◌&&◌, nat_eq, ◌≤◌, List, length, get_or, slice_set, bit_or}
 use Rattle.std.specs.Int.{bit_at}
 use Rattle.std.specs.List.{fold, list_any}

@@ -1,4 +1,5 @@
--- No public contract cites this file. The rules of a policy in two: the AS numbers that its rules by path are about, and its other rules.
+-- No public contract cites this file. The rules of a policy in two: the AS numbers that its rules by path are about,
+-- and its other rules.
 use Rattle.std.specs.Prelude.{◌≡◌, ℕ, ◌-◌, min, ◌++◌, [], ◌∷◌, Bool, nat_eq, List, length, take, unwrap_or, Option, Some, None, is_some, IfSome, if◌then◌else◌}
 use Rattle.std.specs.List.{filter_map, fold, position}
 use Rattle.std.specs.Option.{option_to_list}
@@ -42,7 +43,10 @@ split_of rules = record { numbers = path_numbers rules; others = other_rules rul
 
 -- that of the rules with one more at the end
 abbrev pub split_with : Split → Rule → Split
-split_with s r = record { numbers = s.numbers ++ option_to_list (path_number r.cond); others = s.others ++ option_to_list (other_rule r) }
+split_with s r = record {
+  numbers = s.numbers ++ option_to_list (path_number r.cond);
+  others = s.others ++ option_to_list (other_rule r);
+}
 
 -- the place of the number, where that comes before this place; else this place
 abbrev pub first_with : List ℕ → ℕ → ℕ → ℕ
@@ -56,7 +60,8 @@ first_among ns first ms = fold (first_with ns) first ms
 abbrev pub first_held : List ℕ → List Segment → ℕ
 first_held ns path = fold (λ first s. first_among ns first (numbers_of s)) (length ns) path
 
--- the first rule that matches a route to prefix p with attributes a, where so many rules by path come before the first of them that matches
+-- the first rule that matches a route to prefix p with attributes a, where so many rules by path come before the first
+-- of them that matches
 abbrev pub by_place : Prefix → Attr → ℕ → List Rule → Option Rule
 by_place p a left [] = None
 by_place p a left (r ∷ rs) =

@@ -1,4 +1,5 @@
--- The test of sameness tells exactly whether two policies are equal. No public contract cites this file; the laws of == do.
+-- The test of sameness tells exactly whether two policies are equal. No public contract cites this file; the laws of ==
+-- do.
 use Rattle.std.specs.Prelude.{◌≡◌, ℕ, Bool, true, ◌&&◌, ◌==◌, Option, Some, None, refl}
 use Rattle.std.proofs.Common.{ap, sym, subst}
 use Rattle.std.proofs.lemmas.Bool.{true≢false}
@@ -58,18 +59,25 @@ match_itself (Comm n) = number_itself n
 
 settings_true : (s t : Settings) → same_settings s t ≡ true → s ≡ t
 settings_true s t h =
-    let three = second_so (same_number s.pref t.pref) (same_number s.med t.med && (same_number s.prepend t.prepend && same_number s.add t.add)) h in
+    let three = second_so (same_number s.pref t.pref)
+    (same_number s.med t.med && (same_number s.prepend t.prepend && same_number s.add t.add)) h in
     let two = second_so (same_number s.med t.med) (same_number s.prepend t.prepend && same_number s.add t.add) three in
-    let prefs = maybe_number_true s.pref t.pref (first_so (same_number s.pref t.pref) (same_number s.med t.med && (same_number s.prepend t.prepend && same_number s.add t.add)) h) in
-    let meds = maybe_number_true s.med t.med (first_so (same_number s.med t.med) (same_number s.prepend t.prepend && same_number s.add t.add) three) in
-    let prepends = maybe_number_true s.prepend t.prepend (first_so (same_number s.prepend t.prepend) (same_number s.add t.add) two) in
-    let adds = maybe_number_true s.add t.add (second_so (same_number s.prepend t.prepend) (same_number s.add t.add) two) in
+    let prefs = maybe_number_true s.pref t.pref
+    (first_so (same_number s.pref t.pref)
+    (same_number s.med t.med && (same_number s.prepend t.prepend && same_number s.add t.add)) h) in
+    let meds = maybe_number_true s.med t.med
+    (first_so (same_number s.med t.med) (same_number s.prepend t.prepend && same_number s.add t.add) three) in
+    let prepends = maybe_number_true s.prepend t.prepend
+    (first_so (same_number s.prepend t.prepend) (same_number s.add t.add) two) in
+    let adds = maybe_number_true s.add t.add
+    (second_so (same_number s.prepend t.prepend) (same_number s.add t.add) two) in
     λ i. record { pref = prefs i; med = meds i; prepend = prepends i; add = adds i }
 
 settings_itself : (s : Settings) → same_settings s s ≡ true
 settings_itself s =
     both_true _ _ (maybe_number_itself s.pref)
-    (both_true _ _ (maybe_number_itself s.med) (both_true _ _ (maybe_number_itself s.prepend) (maybe_number_itself s.add)))
+    (both_true _ _ (maybe_number_itself s.med)
+    (both_true _ _ (maybe_number_itself s.prepend) (maybe_number_itself s.add)))
 
 action_true : (a b : Action) → same_action a b ≡ true → a ≡ b
 action_true Deny Deny h = refl

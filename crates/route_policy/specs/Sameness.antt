@@ -20,7 +20,8 @@ same_match (Comm m) (Comm n) = m == n
 same_match _ _ = false
 
 abbrev pub same_settings : Settings → Settings → Bool
-same_settings s t = same_number s.pref t.pref && (same_number s.med t.med && (same_number s.prepend t.prepend && same_number s.add t.add))
+same_settings s t = same_number s.pref t.pref
+    && (same_number s.med t.med && (same_number s.prepend t.prepend && same_number s.add t.add))
 
 abbrev pub same_action : Action → Action → Bool
 same_action Deny Deny = true

@@ -21,8 +21,10 @@ use Rattle.route_select.proofs.EntryLemmas.{Entries, map_of, map_of_none, entrie
 use Rattle.route_select.proofs.GroupMap.{shadowed, get_from}
 
 -- the vector's entries after a slice of them was written
-pub written_back : (v : Vec (Source × Standing)) (lent new : Entries) (k : ℕ) → length lent ≡ v.len → lent ≡ v.items → length new ≡ length lent → new ≡ lone_entries_at k lent → (with_items v new).items ≡ lone_entries_at k v.items
-written_back v lent new k whole same long new_is = with_items_is v new (long ∙ whole) ∙ new_is ∙ ap (lone_entries_at k) same
+pub written_back : (v : Vec (Source × Standing)) (lent new : Entries) (k : ℕ) → length lent ≡ v.len → lent ≡ v.items →
+    length new ≡ length lent → new ≡ lone_entries_at k lent → (with_items v new).items ≡ lone_entries_at k v.items
+written_back v lent new k whole same long new_is = with_items_is v new (long ∙ whole) ∙ new_is
+    ∙ ap (lone_entries_at k) same
 
 -- the route stays its source's own
 from_at : (k : ℕ) (s : Source) (v : Standing) → IsFrom s v → IsFrom s (with_cost k v)
@@ -45,7 +47,8 @@ put_alone : (e : Source × Standing) (v : Standing) → put source_cmp e.0 v (e 
 put_alone e v = rw (tied e.0) refl
 
 -- what the map of these entries becomes
-pub map_at : (k : ℕ) (es : Entries) → AreEntries es → map_of (lone_entries_at k es) ≡ lone_at_cost k (map_of es) (map.entries (map_of es))
+pub map_at : (k : ℕ) (es : Entries) → AreEntries es →
+    map_of (lone_entries_at k es) ≡ lone_at_cost k (map_of es) (map.entries (map_of es))
 map_at k es are = go es are ∙ ap (lone_at_cost k (map_of es)) (sym (entries_of es are))
   where
     go : (es : Entries) → AreEntries es → map_of (lone_entries_at k es) ≡ lone_at_cost k (map_of es) es
@@ -62,7 +65,9 @@ count_of : (es : Entries) → AreDistinct es → map.len (known_of es) ≡ lengt
 count_of [] d = map.len-empty source_cmp Standing
 count_of (e ∷ es) d =
     let new : map.contains_key (known_of es) e.0 ≡ false = absent _ (get_from es e.0 ∙ d.0) in
-    let more : map.len (known_of (e ∷ es)) ≡ map.len (known_of es) + 1 = map.len-insert source_total (known_of es) e.0 e.1 ∙ ap (λ b. cond b (map.len (known_of es)) (map.len (known_of es) + 1)) new in
+    let more : map.len (known_of (e ∷ es)) ≡ map.len (known_of es) + 1 =
+    map.len-insert source_total (known_of es) e.0 e.1
+    ∙ ap (λ b. cond b (map.len (known_of es)) (map.len (known_of es) + 1)) new in
     let so = count_of es d.1 in
     omega arith
 
@@ -73,10 +78,13 @@ not_alone k m (x ∷ []) apart = absurd (apart refl)
 not_alone k m (x ∷ y ∷ xs) apart = refl
 
 -- what is put in last counts
-put_again : (m : map.FinMap source_cmp Standing) (s : Source) (v w : Standing) → map.insert m s w ≡ map.insert (map.insert m s v) s w
+put_again : (m : map.FinMap source_cmp Standing) (s : Source) (v w : Standing) →
+    map.insert m s w ≡ map.insert (map.insert m s v) s w
 put_again m s v w = map.same_map source_total same_source _ _ (λ q.
     map.get-insert source_total m s w q
-    ∙ sym (map.get-insert source_total (map.insert m s v) s w q ∙ ap (cond (eq_by_cmp source_cmp q s) (Some w)) (map.get-insert source_total m s v q) ∙ shadowed (eq_by_cmp source_cmp q s) (Some w) (Some v) (map.get m q)))
+    ∙ sym (map.get-insert source_total (map.insert m s v) s w q
+    ∙ ap (cond (eq_by_cmp source_cmp q s) (Some w)) (map.get-insert source_total m s v q)
+    ∙ shadowed (eq_by_cmp source_cmp q s) (Some w) (Some v) (map.get m q)))
 
 entries_of_none : map.entries (known_of []) ≡ []
 entries_of_none = ap map.entries (sym map_of_none) ∙ map.entries-from_sorted source_cmp [] tt
@@ -85,12 +93,15 @@ entries_of_one : (e : Source × Standing) → map.entries (known_of (e ∷ [])) 
 entries_of_one e = map.entries-insert source_total (known_of []) e.0 e.1 ∙ ap (put source_cmp e.0 e.1) entries_of_none
 
 -- what the map of these entries becomes
-pub known_at : (k : ℕ) (es : Entries) → AreDistinct es → known_of (lone_entries_at k es) ≡ lone_at_cost k (known_of es) (map.entries (known_of es))
+pub known_at : (k : ℕ) (es : Entries) → AreDistinct es →
+    known_of (lone_entries_at k es) ≡ lone_at_cost k (known_of es) (map.entries (known_of es))
 known_at k [] d = sym (ap (lone_at_cost k (known_of [])) entries_of_none)
-known_at k (e ∷ []) d = put_again (known_of []) e.0 e.1 (with_cost k e.1) ∙ sym (ap (lone_at_cost k (known_of (e ∷ []))) (entries_of_one e))
+known_at k (e ∷ []) d = put_again (known_of []) e.0 e.1 (with_cost k e.1)
+    ∙ sym (ap (lone_at_cost k (known_of (e ∷ []))) (entries_of_one e))
 known_at k (e ∷ f ∷ es) d = sym (not_alone k (known_of (e ∷ f ∷ es)) _ (λ one.
     let count : map.len (known_of (e ∷ f ∷ es)) ≡ length (e ∷ f ∷ es) = count_of (e ∷ f ∷ es) d in
-    let same : map.len (known_of (e ∷ f ∷ es)) ≡ length (map.entries (known_of (e ∷ f ∷ es))) = map.len-entries (known_of (e ∷ f ∷ es)) in
+    let same : map.len (known_of (e ∷ f ∷ es)) ≡ length (map.entries (known_of (e ∷ f ∷ es))) =
+    map.len-entries (known_of (e ∷ f ∷ es)) in
     absurd (omega arith)))
 
 -- a lone route is the best
@@ -107,18 +118,26 @@ alone_is_best : (always : Bool) (c : Candidate) → IsBest always (c ∷ []) (So
 alone_is_best always c = (
   alone_leads always c,
   λ n i. elim i [
-    | inl e ↦ record { leader = c; leads = alone_leads always c; same = subst (λ z. same_group always z c ≡ true) e (same_itself always c); least = never_ahead always unmed c }
+    | inl e ↦ record {
+      leader = c;
+      leads = alone_leads always c;
+      same = subst (λ z. same_group always z c ≡ true) e (same_itself always c);
+      least = never_ahead always unmed c;
+    }
     | inr never ↦ absurd never
   ],
 )
 
-best_alone : (always : Bool) (k : ℕ) (s : Source) (v : Standing) (at : ℕ) → IsBest always (considered_in ((s, v) ∷ [])) (candidate_at ((s, v) ∷ []) at) → IsBest always (considered_in ((s, with_cost k v) ∷ [])) (candidate_at ((s, with_cost k v) ∷ []) at)
+best_alone : (always : Bool) (k : ℕ) (s : Source) (v : Standing) (at : ℕ) →
+    IsBest always (considered_in ((s, v) ∷ [])) (candidate_at ((s, v) ∷ []) at) →
+    IsBest always (considered_in ((s, with_cost k v) ∷ [])) (candidate_at ((s, with_cost k v) ∷ []) at)
 best_alone always k s (Excluded r) at is = is
 best_alone always k s (Considered c) zero is = alone_is_best always (record c { cost = k })
 best_alone always k s (Considered c) (suc at) is = absurd (is c (inl refl))
 
 -- in groups as before
-pub grouped_at : (always : Bool) (k : ℕ) (es : Entries) (at : ℕ) → AreGrouped always es at → AreGrouped always (lone_entries_at k es) at
+pub grouped_at : (always : Bool) (k : ℕ) (es : Entries) (at : ℕ) → AreGrouped always es at →
+    AreGrouped always (lone_entries_at k es) at
 grouped_at always k [] at is = is
 grouped_at always k (e ∷ []) at is = record {
   ranked = (λ f never. absurd never, tt);

@@ -8,4 +8,6 @@ use Rattle.route_select.specs.contracts.candidate.Standing as standing
 use Rattle.route_select.specs.Selection.{Standings, source_cmp}
 
 abbrev pub coded_standings : Coded Standings
-coded_standings = code_by (map.FinMap source_cmp Standing × Bool) (coded× (map.code source.the_row.coded standing.the_row.coded) coded_bool) (λ s. (s.known, s.med_always)) (λ p. record { known = p.0; med_always = p.1 }) (λ _. refl)
+coded_standings = code_by (map.FinMap source_cmp Standing × Bool)
+    (coded× (map.code source.the_row.coded standing.the_row.coded) coded_bool) (λ s. (s.known, s.med_always))
+    (λ p. record { known = p.0; med_always = p.1 }) (λ _. refl)

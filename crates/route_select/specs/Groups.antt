@@ -1,6 +1,6 @@
--- No public contract cites this file. Standings in a vector, in groups: the routes of one neighbouring AS stand together, or where
--- MULTI_EXIT_DISC is compared whatever the neighbouring AS all routes, each group in the order of all filters. Behind the groups
--- stands what is excluded, in order of source.
+-- No public contract cites this file. Standings in a vector, in groups: the routes of one neighbouring AS stand
+-- together, or where MULTI_EXIT_DISC is compared whatever the neighbouring AS all routes, each group in the order of
+-- all filters. Behind the groups stands what is excluded, in order of source.
 use Rattle.std.specs.Prelude.{◌≡◌, ℕ, ◌+◌, ◌<◌, ◌≤◌, Bool, true, false, not, ◌&&◌, ◌||◌, ◌==◌, nat_lt, if◌then◌else◌, List, [], ◌∷◌, length, slice_index_or, Option, Some, None, ⊤}
 use Rattle.std.specs.declared.cmp.Ordering.TheVariants.{Equal}
 use Rattle.std.specs.Ordering.{is_lt, eq_by_cmp}
@@ -29,7 +29,8 @@ group_rank always c = if always then 0 else number_rank (neighbour c.attr.path)
 
 -- whether a stands before b: in an earlier group, or in the same one and ahead
 abbrev pub stands_before : Bool → Candidate → Candidate → Bool
-stands_before always a b = nat_lt (group_rank always a) (group_rank always b) || (group_rank always a == group_rank always b && ahead always filters a b)
+stands_before always a b = nat_lt (group_rank always a) (group_rank always b)
+    || (group_rank always a == group_rank always b && ahead always filters a b)
 
 -- the same of the entries of two sources: what is excluded comes last, in order of source
 abbrev pub before_by : Bool → Source → Source → Standing → Standing → Bool
@@ -116,7 +117,8 @@ is_better always (Some c) (Some b) = ahead always unmed c b
 is_better always (Some c) None = false
 is_better always None o = false
 
--- whether b, the best of some routes, stays the best beside c: c is not ahead of it in the order without MED, and does not lead its group
+-- whether b, the best of some routes, stays the best beside c: c is not ahead of it in the order without MED, and does
+-- not lead its group
 abbrev pub stays_beside : Bool → Candidate → Option Candidate → Bool
 stays_beside always b None = true
 stays_beside always b (Some c) = not (ahead always unmed c b) && not (same_group always c b && ahead always filters c b)

@@ -8,15 +8,18 @@ use Rattle.route_select.specs.Selection.{Standings, standing_from, IsFrom, consi
 
 -- each route that is considered is its source's own
 abbrev pub AreFromTheirSources : Standings → Type 0
-AreFromTheirSources standings = (source : Source) (standing : Standing) → standing_from standings source ≡ Some standing → IsFrom source standing
+AreFromTheirSources standings = (source : Source) (standing : Standing) →
+    standing_from standings source ≡ Some standing → IsFrom source standing
 
 -- then the best is the only route that the nine filters leave
 abbrev pub OneIsLeft : Type 0
-OneIsLeft = (standings : Standings) → AreFromTheirSources standings → (best : Candidate) → best_of standings ≡ Some best → left_by_all standings.med_always filters (considered standings) ≡ best ∷ []
+OneIsLeft = (standings : Standings) → AreFromTheirSources standings → (best : Candidate) →
+    best_of standings ≡ Some best → left_by_all standings.med_always filters (considered standings) ≡ best ∷ []
 
 -- there is no best just where no route is considered
 abbrev pub NoneIsLeft : Type 0
-NoneIsLeft = (standings : Standings) → (best_of standings ≡ None → considered standings ≡ []) × (considered standings ≡ [] → best_of standings ≡ None)
+NoneIsLeft = (standings : Standings) → (best_of standings ≡ None → considered standings ≡ [])
+    × (considered standings ≡ [] → best_of standings ≡ None)
 
 -- each filter is one of those that are applied
 abbrev pub EachIsApplied : Type 0

@@ -40,13 +40,16 @@ not_itself : (y : Prefix) → is_after (Some y) y ≡ false
 not_itself y = ap is_lt (tied_itself prefix_total y)
 
 module _ {V : Type 0} where
-  all_after : (o : Option Prefix) (y : Prefix) (es : List (Prefix × V)) → Reaches o y → T (below_all prefix_cmp y es) → filter (λ e. is_after o e.0) es ≡ es
+  all_after : (o : Option Prefix) (y : Prefix) (es : List (Prefix × V)) → Reaches o y → T (below_all prefix_cmp y es) →
+      filter (λ e. is_after o e.0) es ≡ es
   all_after o y [] r h = refl
   all_after o y (e ∷ es) r h =
-      ap (λ b. cond b (e ∷ filter (λ e. is_after o e.0) es) (filter (λ e. is_after o e.0) es)) (r e.0 (less_of _ (first _ _ h)))
+      ap (λ b. cond b (e ∷ filter (λ e. is_after o e.0) es) (filter (λ e. is_after o e.0) es))
+      (r e.0 (less_of _ (first _ _ h)))
       ∙ ap (λ l. e ∷ l) (all_after o y es r (second (is_lt (prefix_cmp y e.0)) (below_all prefix_cmp y es) h))
 
-  found_above : (p : Prefix × V → Bool) (y : Prefix) (es : List (Prefix × V)) (f : Prefix × V) → T (below_all prefix_cmp y es) → find p es ≡ Some f → prefix_cmp y f.0 ≡ Less
+  found_above : (p : Prefix × V → Bool) (y : Prefix) (es : List (Prefix × V)) (f : Prefix × V) →
+      T (below_all prefix_cmp y es) → find p es ≡ Some f → prefix_cmp y f.0 ≡ Less
   found_above p y [] f h is = cc
   found_above p y (e ∷ es) f h is =
       elim (p e) as (λ b. cond b (Some e) (find p es) ≡ Some f → prefix_cmp y f.0 ≡ Less) [
@@ -57,10 +60,12 @@ module _ {V : Type 0} where
   abbrev after : Option Prefix → List (Prefix × V) → List (Prefix × V)
   after o es = filter (λ e. is_after o e.0) es
 
-  pub step : (o : Option Prefix) (es : List (Prefix × V)) (f : Prefix × V) → T (is_sorted prefix_cmp es) → find (λ e. is_after o e.0) es ≡ Some f → after o es ≡ f ∷ after (Some f.0) es
+  pub step : (o : Option Prefix) (es : List (Prefix × V)) (f : Prefix × V) → T (is_sorted prefix_cmp es) →
+      find (λ e. is_after o e.0) es ≡ Some f → after o es ≡ f ∷ after (Some f.0) es
   step o [] f h is = cc
   step o (e ∷ es) f h is =
-      elim (is_after o e.0) as (λ b. is_after o e.0 ≡ b → cond b (Some e) (find (λ e. is_after o e.0) es) ≡ Some f → cond b (e ∷ after o es) (after o es) ≡ f ∷ after (Some f.0) (e ∷ es)) [
+      elim (is_after o e.0) as (λ b. is_after o e.0 ≡ b → cond b (Some e) (find (λ e. is_after o e.0) es) ≡ Some f →
+      cond b (e ∷ after o es) (after o es) ≡ f ∷ after (Some f.0) (e ∷ es)) [
         | true ↦ λ p k.
             let same : e ≡ f = ap (λ o. unwrap_or o e) k in
             let below = first (below_all prefix_cmp e.0 es) (is_sorted prefix_cmp es) h in
@@ -71,13 +76,15 @@ module _ {V : Type 0} where
         | false ↦ λ p k.
             let below = first (below_all prefix_cmp e.0 es) (is_sorted prefix_cmp es) h in
             step o es f (second (below_all prefix_cmp e.0 es) (is_sorted prefix_cmp es) h) k
-            ∙ ap (λ b. f ∷ cond b (e ∷ after (Some f.0) es) (after (Some f.0) es)) (sym (not_after e.0 f.0 (found_above (λ e. is_after o e.0) e.0 es f below k)))
+            ∙ ap (λ b. f ∷ cond b (e ∷ after (Some f.0) es) (after (Some f.0) es))
+            (sym (not_after e.0 f.0 (found_above (λ e. is_after o e.0) e.0 es f below k)))
       ] refl is
 
   pub none_after : (o : Option Prefix) (es : List (Prefix × V)) → find (λ e. is_after o e.0) es ≡ None → after o es ≡ []
   none_after o [] is = refl
   none_after o (e ∷ es) is =
-      elim (is_after o e.0) as (λ b. cond b (Some e) (find (λ e. is_after o e.0) es) ≡ None → cond b (e ∷ after o es) (after o es) ≡ []) [
+      elim (is_after o e.0) as (λ b. cond b (Some e) (find (λ e. is_after o e.0) es) ≡ None →
+      cond b (e ∷ after o es) (after o es) ≡ []) [
         | true ↦ λ k. cc
         | false ↦ λ k. none_after o es k
       ] is
@@ -86,5 +93,6 @@ module _ {V : Type 0} where
   all_first [] = refl
   all_first (e ∷ es) = ap (λ l. e ∷ l) (all_first es)
 
-  pub walk_step : (t : Table V) (o : Option Prefix) (f : Prefix × V) → first_after t o ≡ Some f → rest_after t o ≡ f ∷ rest_after t (Some f.0)
+  pub walk_step : (t : Table V) (o : Option Prefix) (f : Prefix × V) → first_after t o ≡ Some f →
+      rest_after t o ≡ f ∷ rest_after t (Some f.0)
   walk_step t o f is = step o (fin.entries t) f (fin.entries_sorted t) is

@@ -1,4 +1,5 @@
--- What is advertised: how its path, NEXT_HOP and ORIGINATOR_ID come from the router's own or from a route that it has received.
+-- What is advertised: how its path, NEXT_HOP and ORIGINATOR_ID come from the router's own or from a route that it has
+-- received.
 use Rattle.std.proofs.Common.{◌≡◌, ◌⊎◌, inl, inr, ⊎_elim, ℕ, Bool, true, false, cond, ◌||◌, ◌==◌, List, [], ◌∷◌, map, find, Option, Some, None, option_map, option_and_then, unwrap_or, nat_lt, length, if◌then◌else◌, refl, sym, ap, ◌∙◌}
 use Rattle.std.proofs.lemmas.Option.{none-some, same_Some, cond_some, option_and_then_some}
 use Rattle.net_prefix.specs.declared.addr.Addr.{Addr}
@@ -42,17 +43,21 @@ module _ (site : SiteConf) (to : SiteSession) (b : Candidate) (attr : Attr) wher
 
   -- towards another AS, or inside the own
   abbrev IsAdvert : Type 0
-  IsAdvert = ((to.external ≡ true) × ((s : Settings) × (attr ≡ to_other_as site s b.attr))) ⊎ ((to.external ≡ false) × Inside)
+  IsAdvert = ((to.external ≡ true) × ((s : Settings) × (attr ≡ to_other_as site s b.attr)))
+      ⊎ ((to.external ≡ false) × Inside)
 
   reflected_is : (q : Source) → b.source ≡ q → reflected_to site to b q ≡ Some attr → Reflects
   reflected_is Own from is = absurd (none-some attr is)
-  reflected_is (FromPeer u) from is = (u, from, sym (cond_some (is_client_of site u || to.client) (reflected site u b.attr) attr is).1)
+  reflected_is (FromPeer u) from is =
+      (u, from, sym (cond_some (is_client_of site u || to.client) (reflected site u b.attr) attr is).1)
 
-  inside_is : (e : Bool) → b.external ≡ e → (if e then Some (to_own_as site to b) else reflected_to site to b b.source) ≡ Some attr → Inside
+  inside_is : (e : Bool) → b.external ≡ e → (if e then Some (to_own_as site to b) else reflected_to site to b b.source)
+      ≡ Some attr → Inside
   inside_is true ext is = inl (ext, sym (same_Some (to_own_as site to b) attr is))
   inside_is false ext is = inr (ext, reflected_is b.source refl is)
 
-  advert_by : (e : Bool) (s : Settings) → to.external ≡ e → (if e then Some (to_other_as site s b.attr) else inside site to b) ≡ Some attr → IsAdvert
+  advert_by : (e : Bool) (s : Settings) → to.external ≡ e →
+      (if e then Some (to_other_as site s b.attr) else inside site to b) ≡ Some attr → IsAdvert
   advert_by true s ext is = inl (ext, (s, sym (same_Some (to_other_as site s b.attr) attr is)))
   advert_by false s ext is = inr (ext, inside_is b.external refl is)
 
@@ -68,26 +73,35 @@ when : (b : Bool) (o : Option Attr) (attr : Attr) → (if b then o else None) �
 when true o attr is = is
 when false o attr is = absurd (none-some attr is)
 
-found_by : (b : Bool) (c : Configuration) (r t u : Addr) (x : SiteSession) (later : Option SiteSession) → (u.0 == t.0) ≡ b → (later ≡ Some x → x ≡ session_of c r t) → cond b (Some (session_of c r u)) later ≡ Some x → x ≡ session_of c r t
-found_by true c r t u x later same there is = sym (same_Some (session_of c r u) x is) ∙ ap (session_of c r) (same_addr_true u t same)
+found_by : (b : Bool) (c : Configuration) (r t u : Addr) (x : SiteSession) (later : Option SiteSession) →
+    (u.0 == t.0) ≡ b → (later ≡ Some x → x ≡ session_of c r t) → cond b (Some (session_of c r u)) later ≡ Some x →
+    x ≡ session_of c r t
+found_by true c r t u x later same there is = sym (same_Some (session_of c r u) x is)
+    ∙ ap (session_of c r) (same_addr_true u t same)
 found_by false c r t u x later same there is = there is
 
 -- a router's session with a peer, in its list
-found_session : (c : Configuration) (r t : Addr) (us : List Addr) (x : SiteSession) → find (λ y. y.peer.0 == t.0) (map (session_of c r) us) ≡ Some x → x ≡ session_of c r t
+found_session : (c : Configuration) (r t : Addr) (us : List Addr) (x : SiteSession) →
+    find (λ y. y.peer.0 == t.0) (map (session_of c r) us) ≡ Some x → x ≡ session_of c r t
 found_session c r t [] x is = absurd (none-some x is)
-found_session c r t (u ∷ us) x is = found_by (u.0 == t.0) c r t u x (find (λ y. y.peer.0 == t.0) (map (session_of c r) us)) refl (found_session c r t us x) is
+found_session c r t (u ∷ us) x is =
+    found_by (u.0 == t.0) c r t u x (find (λ y. y.peer.0 == t.0) (map (session_of c r) us)) refl
+    (found_session c r t us x) is
 
 -- what is advertised is an advert of the router's choice
-advert_is : (c : Configuration) (r t : Addr) (n : Node) (p : Prefix) (b : Candidate) (attr : Attr) → advert (site_at c r n) p b t ≡ Some attr → IsAdvert (site_at c r n) (session_of c r t) b attr
+advert_is : (c : Configuration) (r t : Addr) (n : Node) (p : Prefix) (b : Candidate) (attr : Attr) →
+    advert (site_at c r n) p b t ≡ Some attr → IsAdvert (site_at c r n) (session_of c r t) b attr
 unfolding advert
 advert_is c r t n p b attr is =
     let site = site_at c r n in
     let over = unless (is_from t b.source) (option_and_then (advertised_over site p b) (session_with site t)) attr is in
     option_and_then_some (advertised_over site p b) (session_with site t) attr over (λ x found sent.
     let it = found_session c r t (peers_of c r) x found in
-    let sent_there : advertised_over site p b (session_of c r t) ≡ Some attr = ap (advertised_over site p b) (sym it) ∙ sent in
+    let sent_there : advertised_over site p b (session_of c r t) ≡ Some attr = ap (advertised_over site p b) (sym it)
+    ∙ sent in
     let to = session_of c r t in
-    let may = unless (is_kept_back to.external b.attr.comms) (permitted site to b (judged to.policy_out p b.attr)) attr sent_there in
+    let may = unless (is_kept_back to.external b.attr.comms)
+    (permitted site to b (judged to.policy_out p b.attr)) attr sent_there in
     permitted_is site to b attr (judged to.policy_out p b.attr) may)
 
 -- HOW IT COMES ABOUT
@@ -126,7 +140,8 @@ pub record IsReflected (c : Configuration) (r t u : Addr) (old attr : Attr) : Ty
 module _ (c : Configuration) (r t : Addr) (n : Node) (p : Prefix) (es : List (RouteKey × Attr)) (attr : Attr) where
   -- of a route that the router has received from a peer
   abbrev pub IsOfReceived : Type 0
-  IsOfReceived = (u : Addr) × (old : Attr) × (route_from es r p u ≡ Some old) × (ComesIn c r t u old attr ⊎ IsReflected c r t u old attr)
+  IsOfReceived = (u : Addr) × (old : Attr) × (route_from es r p u ≡ Some old)
+      × (ComesIn c r t u old attr ⊎ IsReflected c r t u old attr)
 
   -- the four ways
   abbrev pub ComesAbout : Type 0
@@ -134,7 +149,9 @@ module _ (c : Configuration) (r t : Addr) (n : Node) (p : Prefix) (es : List (Ro
 
 begins : (n : ℕ) (ss : List Segment) → neighbour (prepended n ss) ≡ Some n
 begins n [] = refl
-begins n (Sequence ns ∷ ss) = elim (nat_lt (length ns) FULL_SEQUENCE) as (λ b. neighbour (if b then Sequence (n ∷ ns) ∷ ss else Sequence (n ∷ []) ∷ (Sequence ns ∷ ss)) ≡ Some n) [ true ↦ refl | false ↦ refl ]
+begins n (Sequence ns ∷ ss) =
+    elim (nat_lt (length ns) FULL_SEQUENCE) as (λ b. neighbour (if b then Sequence (n ∷ ns) ∷ ss
+    else Sequence (n ∷ []) ∷ (Sequence ns ∷ ss)) ≡ Some n) [ true ↦ refl | false ↦ refl ]
 begins n (Set ns ∷ ss) = refl
 
 either_hop : (b : Bool) (r x : Addr) → ((if b then r else x) ≡ r) ⊎ ((if b then r else x) ≡ x)
@@ -158,7 +175,8 @@ module _ (c : Configuration) (r t : Addr) (n : Node) (p : Prefix) (es : List (Ro
   abbrev to : SiteSession
   to = session_of c r t
 
-  goes_out : (s : Settings) (old : Attr) → is_external c r t ≡ true → attr ≡ to_other_as site s old → GoesOut c r t n attr
+  goes_out : (s : Settings) (old : Attr) → is_external c r t ≡ true → attr ≡ to_other_as site s old →
+      GoesOut c r t n attr
   goes_out s old outside is = record {
     outside = outside;
     path = ap (λ a. neighbour a.path) is ∙ begins n.asn (prepended_times (unwrap_or s.prepend 0) n.asn old.path);
@@ -166,12 +184,19 @@ module _ (c : Configuration) (r t : Addr) (n : Node) (p : Prefix) (es : List (Ro
     oid = ap (λ a. a.oid) is;
   }
 
-  own_inside : (b : Candidate) → is_external c r t ≡ false → b ≡ own_candidate r → attr ≡ to_own_as site to b → IsOwn c r t attr
+  own_inside : (b : Candidate) → is_external c r t ≡ false → b ≡ own_candidate r →
+      attr ≡ to_own_as site to b → IsOwn c r t attr
   own_inside b inside own is =
       let it : attr ≡ to_own_as site to (own_candidate r) = is ∙ ap (to_own_as site to) own in
-      record { inside = inside; path = ap (λ a. a.path) it; next = ap (λ a. a.next) it ∙ one_hop to.own_next r; oid = ap (λ a. a.oid) it }
+      record {
+        inside = inside;
+        path = ap (λ a. a.path) it;
+        next = ap (λ a. a.next) it ∙ one_hop to.own_next r;
+        oid = ap (λ a. a.oid) it;
+      }
 
-  module _ (here : node_at c r ≡ Some n) (b : Candidate) (inside : is_external c r t ≡ false) (got : IsReceived c r n p es b) where
+  module _ (here : node_at c r ≡ Some n) (b : Candidate) (inside : is_external c r t ≡ false)
+      (got : IsReceived c r n p es b) where
     abbrev from : Candidate
     from = peer_candidate site (session_of c r got.peer) got.action got.attr
 
@@ -198,7 +223,8 @@ module _ (c : Configuration) (r t : Addr) (n : Node) (p : Prefix) (es : List (Ro
           }),
         )
 
-    passes_on : (u : Addr) → b.external ≡ false → b.source ≡ FromPeer u → attr ≡ reflected site u b.attr → IsOfReceived c r t n p es attr
+    passes_on : (u : Addr) → b.external ≡ false → b.source ≡ FromPeer u → attr ≡ reflected site u b.attr →
+        IsOfReceived c r t n p es attr
     passes_on u internal from_u is =
         let peer : got.peer ≡ u = same_peer got.peer u (ap (λ x. x.source) (sym got.is) ∙ from_u) in
         let it : attr ≡ reflected site got.peer from.attr = is ∙ (λ i. reflected site (sym peer i) (got.is i).attr) in (
@@ -222,21 +248,27 @@ module _ (c : Configuration) (r t : Addr) (n : Node) (p : Prefix) (es : List (Ro
   of_own b inside own (inl is) = own_inside b inside own is.1
   of_own b inside own (inr other) = absurd (own_source other.1.0 (ap (λ x. x.source) (sym own) ∙ other.1.1))
 
-  of_choice : (b : Candidate) → node_at c r ≡ Some n → is_external c r t ≡ false → Inside site to b attr → OwnOrReceived c r n p es b → ComesAbout c r t n p es attr
+  of_choice : (b : Candidate) → node_at c r ≡ Some n → is_external c r t ≡ false → Inside site to b attr →
+      OwnOrReceived c r n p es b → ComesAbout c r t n p es attr
   of_choice b here inside is (inl own) = inr (inl (of_own b inside own is))
   of_choice b here inside is (inr got) = inr (inr (of_received here b inside got is))
 
-  comes_by : (b : Candidate) → node_at c r ≡ Some n → OwnOrReceived c r n p es b → IsAdvert site to b attr → ComesAbout c r t n p es attr
+  comes_by : (b : Candidate) → node_at c r ≡ Some n → OwnOrReceived c r n p es b → IsAdvert site to b attr →
+      ComesAbout c r t n p es attr
   comes_by b here choice (inl out) = inl (goes_out out.1.0 b.attr out.0 out.1.1)
   comes_by b here choice (inr within) = of_choice b here within.0 within.1 choice
 
 -- what a router advertises comes about in one of the four ways
-pub comes_about : (s : Network) (r t : Addr) (p : Prefix) (n : Node) (attr : Attr) → node_at s.conf r ≡ Some n → advertised s r t p ≡ Some attr → ComesAbout s.conf r t n p s.received attr
+pub comes_about : (s : Network) (r t : Addr) (p : Prefix) (n : Node) (attr : Attr) → node_at s.conf r ≡ Some n →
+    advertised s r t p ≡ Some attr → ComesAbout s.conf r t n p s.received attr
 unfolding advertised site_of
 comes_about s r t p n attr here is =
     let site = site_at s.conf r n in
-    let chosen = when (is_up s.conf r t) (option_and_then (λ b. option_and_then (λ x. advert x p b t) (site_of s.conf r)) (best s r p)) attr is in
-    option_and_then_some (λ b. option_and_then (λ x. advert x p b t) (site_of s.conf r)) (best s r p) attr chosen (λ b best_is sent.
+    let chosen = when (is_up s.conf r t)
+    (option_and_then (λ b. option_and_then (λ x. advert x p b t) (site_of s.conf r)) (best s r p)) attr is in
+    option_and_then_some (λ b. option_and_then (λ x. advert x p b t) (site_of s.conf r))
+    (best s r p) attr chosen (λ b best_is sent.
     let there : site_of s.conf r ≡ Some site = ap (option_map (λ x. site_at s.conf r x)) here in
     let sent_there : advert site p b t ≡ Some attr = ap (option_and_then (λ x. advert x p b t)) (sym there) ∙ sent in
-    comes_by s.conf r t n p s.received attr b here (choice_known s r p n b here best_is) (advert_is s.conf r t n p b attr sent_there))
+    comes_by s.conf r t n p s.received attr b here (choice_known s r p n b here best_is)
+    (advert_is s.conf r t n p b attr sent_there))

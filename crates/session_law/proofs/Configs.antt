@@ -29,7 +29,8 @@ use Rattle.session_law.proofs.Keys.{same_addr_true, same_addr_itself}
 some_none : (r : Refusal) → Some r ≡ None → ⊥
 some_none r e = cc
 
-passed : (b : Bool) (r : Refusal) (ts : List (Bool × Refusal)) → first_of ((b, r) ∷ ts) ≡ None → (b ≡ false) × (first_of ts ≡ None)
+passed : (b : Bool) (r : Refusal) (ts : List (Bool × Refusal)) → first_of ((b, r) ∷ ts) ≡ None → (b ≡ false)
+    × (first_of ts ≡ None)
 passed false r ts none = (refl, none)
 passed true r ts none = absurd (some_none r none)
 
@@ -51,7 +52,14 @@ pub passes : (c : Configuration) (e : Edit) → refusal_of c e ≡ None → Pass
 unfolding refusal_of
 passes c e none =
     let t = all_fail (tests_of c e) none in
-    record { nodes = t.0; fresh = t.1.0; two = t.1.1.0; outside = t.1.1.1.1.0; session = t.1.1.1.1.1.1.1.1.0; apart = t.1.1.1.1.1.1.1.1.1.0 }
+    record {
+      nodes = t.0;
+      fresh = t.1.0;
+      two = t.1.1.0;
+      outside = t.1.1.1.1.0;
+      session = t.1.1.1.1.1.1.1.1.0;
+      apart = t.1.1.1.1.1.1.1.1.1.0;
+    }
 
 -- THE TWO ENDS OF A SESSION
 
@@ -94,7 +102,8 @@ addr_total = on_total (λ a. a.0) nat_cmp_total
 
 ends_exact : (x y : Ends) → is_at (ends_cmp x) y ≡ true → x ≡ y
 ends_exact x y h =
-    let tied : (x.low.0 == y.low.0 && x.high.0 == y.high.0) ≡ is_at (ends_cmp x) y = both_tied _ _ _ _ (unsigned_ties x.low.0 y.low.0) (unsigned_ties x.high.0 y.high.0) in
+    let tied : (x.low.0 == y.low.0 && x.high.0 == y.high.0) ≡ is_at (ends_cmp x) y =
+    both_tied _ _ _ _ (unsigned_ties x.low.0 y.low.0) (unsigned_ties x.high.0 y.high.0) in
     let parts = and_parts (x.low.0 == y.low.0) (x.high.0 == y.high.0) (tied ∙ h) in
     let low = same_addr_true x.low y.low parts.0 in
     let high = same_addr_true x.high y.high parts.1 in
@@ -121,17 +130,23 @@ session_if_up c a b up = some_if_up (session_between c a b) (λ enabled. enabled
 -- NODES THAT STAY
 
 -- an address that is there is none that is new
-old_is_not_new : (c : Configuration) (a x : Addr) → has_node c a ≡ true → has_node c x ≡ false → is_at (addr_cmp a) x ≡ false
-old_is_not_new c a x there fresh = false_from_ne_true (is_at (addr_cmp a) x) (λ h. true≢false (sym there ∙ ap (has_node c) (addr_exact a x h) ∙ fresh))
+old_is_not_new : (c : Configuration) (a x : Addr) → has_node c a ≡ true → has_node c x ≡ false →
+    is_at (addr_cmp a) x ≡ false
+old_is_not_new c a x there fresh =
+    false_from_ne_true (is_at (addr_cmp a) x) (λ h. true≢false (sym there ∙ ap (has_node c) (addr_exact a x h) ∙ fresh))
 
-node_added : (c : Configuration) (a x : Addr) (n : Node) → has_node c a ≡ true → has_node c x ≡ false → lookup (is_at (addr_cmp a)) (insert_entry addr_cmp c.nodes x n) ≡ node_at c a
-node_added c a x n there fresh = lookup_inserted addr_total a x n c.nodes ∙ ap (λ b. cond b (Some n) (node_at c a)) (old_is_not_new c a x there fresh)
+node_added : (c : Configuration) (a x : Addr) (n : Node) → has_node c a ≡ true → has_node c x ≡ false →
+    lookup (is_at (addr_cmp a)) (insert_entry addr_cmp c.nodes x n) ≡ node_at c a
+node_added c a x n there fresh = lookup_inserted addr_total a x n c.nodes
+    ∙ ap (λ b. cond b (Some n) (node_at c a)) (old_is_not_new c a x there fresh)
 
-link_keeps_nodes : (c : Configuration) (x y : Addr) (change : TheLink → TheLink) (o : Option TheLink) → (with_link_changed c x y change o).nodes ≡ c.nodes
+link_keeps_nodes : (c : Configuration) (x y : Addr) (change : TheLink → TheLink) (o : Option TheLink) →
+    (with_link_changed c x y change o).nodes ≡ c.nodes
 link_keeps_nodes c x y change None = refl
 link_keeps_nodes c x y change (Some l) = refl
 
-rule_keeps_nodes : (c : Configuration) (x y : Addr) (side : PolicySide) (rule : Rule) → (with_rule_of c x y side rule).nodes ≡ c.nodes
+rule_keeps_nodes : (c : Configuration) (x y : Addr) (side : PolicySide) (rule : Rule) →
+    (with_rule_of c x y side rule).nodes ≡ c.nodes
 rule_keeps_nodes c x y Import rule = refl
 rule_keeps_nodes c x y Export rule = refl
 
@@ -140,7 +155,8 @@ clear_keeps_nodes c x y Import = refl
 clear_keeps_nodes c x y Export = refl
 
 -- a node that is there stays as it is
-pub node_kept : (c : Configuration) (e : Edit) → Passes c e → (a : Addr) → has_node c a ≡ true → node_at (edited c e) a ≡ node_at c a
+pub node_kept : (c : Configuration) (e : Edit) → Passes c e → (a : Addr) → has_node c a ≡ true →
+    node_at (edited c e) a ≡ node_at c a
 node_kept c (Router x n) ok a there = node_added c a x _ there ok.fresh
 node_kept c (Virtual x n) ok a there = node_added c a x _ there ok.fresh
 node_kept c (Metric x y m) ok a there = ap (lookup (is_at (addr_cmp a))) (link_keeps_nodes c x y _ (link_between c x y))
@@ -152,36 +168,45 @@ node_kept c e ok a there = refl
 
 -- SESSIONS THAT STAY
 
-link_keeps_sessions : (c : Configuration) (x y : Addr) (change : TheLink → TheLink) (o : Option TheLink) → (with_link_changed c x y change o).sessions ≡ c.sessions
+link_keeps_sessions : (c : Configuration) (x y : Addr) (change : TheLink → TheLink) (o : Option TheLink) →
+    (with_link_changed c x y change o).sessions ≡ c.sessions
 link_keeps_sessions c x y change None = refl
 link_keeps_sessions c x y change (Some l) = refl
 
-rule_keeps_sessions : (c : Configuration) (x y : Addr) (side : PolicySide) (rule : Rule) → (with_rule_of c x y side rule).sessions ≡ c.sessions
+rule_keeps_sessions : (c : Configuration) (x y : Addr) (side : PolicySide) (rule : Rule) →
+    (with_rule_of c x y side rule).sessions ≡ c.sessions
 rule_keeps_sessions c x y Import rule = refl
 rule_keeps_sessions c x y Export rule = refl
 
-clear_keeps_sessions : (c : Configuration) (x y : Addr) (side : PolicySide) → (without_rules_of c x y side).sessions ≡ c.sessions
+clear_keeps_sessions : (c : Configuration) (x y : Addr) (side : PolicySide) →
+    (without_rules_of c x y side).sessions ≡ c.sessions
 clear_keeps_sessions c x y Import = refl
 clear_keeps_sessions c x y Export = refl
 
-either_session : (b here : Bool) (o : Option Bool) → is_some (cond here (Some b) o) ≡ true → (here ≡ true) ⊎ (is_some o ≡ true)
+either_session : (b here : Bool) (o : Option Bool) → is_some (cond here (Some b) o) ≡ true → (here ≡ true)
+    ⊎ (is_some o ≡ true)
 either_session b true o h = inl refl
 either_session b false o h = inr h
 
 -- a session that is set is the one, or was there
-session_set : (c : Configuration) (x y a b : Addr) (enabled : Bool) → has_session (with_session c x y enabled) a b ≡ true → (ends_of a b ≡ ends_of x y) ⊎ (has_session c a b ≡ true)
+session_set : (c : Configuration) (x y a b : Addr) (enabled : Bool) → has_session (with_session c x y enabled) a b
+    ≡ true → (ends_of a b ≡ ends_of x y) ⊎ (has_session c a b ≡ true)
 session_set c x y a b enabled h =
-    let set : is_some (cond (is_at (ends_cmp (ends_of a b)) (ends_of x y)) (Some enabled) (session_between c a b)) ≡ true =
+    let set : is_some (cond (is_at (ends_cmp (ends_of a b)) (ends_of x y)) (Some enabled) (session_between c a b))
+    ≡ true =
     ap is_some (sym (lookup_inserted ends_total (ends_of a b) (ends_of x y) enabled c.sessions)) ∙ h in
-    ⊎_elim (λ is. inl (ends_exact (ends_of a b) (ends_of x y) is)) (λ was. inr was) (either_session enabled (is_at (ends_cmp (ends_of a b)) (ends_of x y)) (session_between c a b) set)
+    ⊎_elim (λ is. inl (ends_exact (ends_of a b) (ends_of x y) is)) (λ was. inr was)
+    (either_session enabled (is_at (ends_cmp (ends_of a b)) (ends_of x y)) (session_between c a b) set)
 
 not_not : (b : Bool) → not b ≡ false → b ≡ true
 not_not true h = refl
 not_not false h = absurd (true≢false h)
 
-session_stays : (c : Configuration) (x y a b : Addr) (enabled : Bool) → not (has_session c x y) ≡ false → has_session (with_session c x y enabled) a b ≡ true → has_session c a b ≡ true
+session_stays : (c : Configuration) (x y a b : Addr) (enabled : Bool) → not (has_session c x y) ≡ false →
+    has_session (with_session c x y enabled) a b ≡ true → has_session c a b ≡ true
 session_stays c x y a b enabled ok h =
-    ⊎_elim (λ is. ap (λ z. is_some (lookup (is_at (ends_cmp z)) c.sessions)) is ∙ not_not (has_session c x y) ok) (λ was. was) (session_set c x y a b enabled h)
+    ⊎_elim (λ is. ap (λ z. is_some (lookup (is_at (ends_cmp z)) c.sessions)) is ∙ not_not (has_session c x y) ok)
+    (λ was. was) (session_set c x y a b enabled h)
 
 -- the edit joins the two
 abbrev pub Joins : Edit → Addr → Addr → Type 0
@@ -190,18 +215,25 @@ Joins e a b = (x : Addr) × (y : Addr) × (e ≡ Join x y) × ArePair a b x y
 abbrev OldOrNew : Configuration → Edit → Addr → Addr → Type 0
 OldOrNew c e a b = (has_session c a b ≡ true) ⊎ Joins e a b
 
-kept_sessions : (c : Configuration) (es : List (Ends × Bool)) (a b : Addr) → es ≡ c.sessions → is_some (lookup (is_at (ends_cmp (ends_of a b))) es) ≡ true → has_session c a b ≡ true
+kept_sessions : (c : Configuration) (es : List (Ends × Bool)) (a b : Addr) → es ≡ c.sessions →
+    is_some (lookup (is_at (ends_cmp (ends_of a b))) es) ≡ true → has_session c a b ≡ true
 kept_sessions c es a b same h = ap (λ fs. is_some (lookup (is_at (ends_cmp (ends_of a b))) fs)) (sym same) ∙ h
 
 -- each session was there, or is what the edit joins
-pub session_old_or_new : (c : Configuration) (e : Edit) → Passes c e → (a b : Addr) → has_session (edited c e) a b ≡ true → OldOrNew c e a b
-session_old_or_new c (Metric x y m) ok a b h = inl (kept_sessions c _ a b (link_keeps_sessions c x y _ (link_between c x y)) h)
-session_old_or_new c (Fail x y) ok a b h = inl (kept_sessions c _ a b (link_keeps_sessions c x y _ (link_between c x y)) h)
-session_old_or_new c (Mend x y) ok a b h = inl (kept_sessions c _ a b (link_keeps_sessions c x y _ (link_between c x y)) h)
-session_old_or_new c (Join x y) ok a b h = ⊎_elim (λ is. inr (x, y, refl, pair_from_ends a b x y is)) (λ was. inl was) (session_set c x y a b true h)
+pub session_old_or_new : (c : Configuration) (e : Edit) → Passes c e → (a b : Addr) →
+    has_session (edited c e) a b ≡ true → OldOrNew c e a b
+session_old_or_new c (Metric x y m) ok a b h =
+    inl (kept_sessions c _ a b (link_keeps_sessions c x y _ (link_between c x y)) h)
+session_old_or_new c (Fail x y) ok a b h =
+    inl (kept_sessions c _ a b (link_keeps_sessions c x y _ (link_between c x y)) h)
+session_old_or_new c (Mend x y) ok a b h =
+    inl (kept_sessions c _ a b (link_keeps_sessions c x y _ (link_between c x y)) h)
+session_old_or_new c (Join x y) ok a b h = ⊎_elim (λ is. inr (x, y, refl, pair_from_ends a b x y is)) (λ was. inl was)
+    (session_set c x y a b true h)
 session_old_or_new c (Stop x y) ok a b h = inl (session_stays c x y a b false ok.session h)
 session_old_or_new c (Start x y) ok a b h = inl (session_stays c x y a b true ok.session h)
-session_old_or_new c (AddRule x y side rule) ok a b h = inl (kept_sessions c _ a b (rule_keeps_sessions c x y side rule) h)
+session_old_or_new c (AddRule x y side rule) ok a b h =
+    inl (kept_sessions c _ a b (rule_keeps_sessions c x y side rule) h)
 session_old_or_new c (Clear x y side) ok a b h = inl (kept_sessions c _ a b (clear_keeps_sessions c x y side) h)
 session_old_or_new c e ok a b h = inl h
 
@@ -211,15 +243,19 @@ still_some : (b here : Bool) (o : Option Bool) → is_some o ≡ true → is_som
 still_some b true o h = refl
 still_some b false o h = h
 
-session_put : (c : Configuration) (x y a b : Addr) (enabled : Bool) → has_session c a b ≡ true → has_session (with_session c x y enabled) a b ≡ true
+session_put : (c : Configuration) (x y a b : Addr) (enabled : Bool) → has_session c a b ≡ true →
+    has_session (with_session c x y enabled) a b ≡ true
 session_put c x y a b enabled h =
-    ap is_some (lookup_inserted ends_total (ends_of a b) (ends_of x y) enabled c.sessions) ∙ still_some enabled (is_at (ends_cmp (ends_of a b)) (ends_of x y)) (session_between c a b) h
+    ap is_some (lookup_inserted ends_total (ends_of a b) (ends_of x y) enabled c.sessions)
+    ∙ still_some enabled (is_at (ends_cmp (ends_of a b)) (ends_of x y)) (session_between c a b) h
 
-same_sessions : (c : Configuration) (es : List (Ends × Bool)) (a b : Addr) → es ≡ c.sessions → has_session c a b ≡ true → is_some (lookup (is_at (ends_cmp (ends_of a b))) es) ≡ true
+same_sessions : (c : Configuration) (es : List (Ends × Bool)) (a b : Addr) → es ≡ c.sessions →
+    has_session c a b ≡ true → is_some (lookup (is_at (ends_cmp (ends_of a b))) es) ≡ true
 same_sessions c es a b same h = ap (λ fs. is_some (lookup (is_at (ends_cmp (ends_of a b))) fs)) same ∙ h
 
 -- no session is removed
-pub session_kept : (c : Configuration) (e : Edit) (a b : Addr) → has_session c a b ≡ true → has_session (edited c e) a b ≡ true
+pub session_kept : (c : Configuration) (e : Edit) (a b : Addr) → has_session c a b ≡ true →
+    has_session (edited c e) a b ≡ true
 session_kept c (Metric x y m) a b h = same_sessions c _ a b (link_keeps_sessions c x y _ (link_between c x y)) h
 session_kept c (Fail x y) a b h = same_sessions c _ a b (link_keeps_sessions c x y _ (link_between c x y)) h
 session_kept c (Mend x y) a b h = same_sessions c _ a b (link_keeps_sessions c x y _ (link_between c x y)) h
@@ -240,9 +276,11 @@ not_one : (e : Edit) (a : Addr) → has_one_end e ≡ false → Joins e a a → 
 not_one e a two (x, y, is, pair) = true≢false (sym (one_end a x y pair) ∙ ap has_one_end (sym is) ∙ two)
 
 -- no router has a session with itself
-pub none_alone : (c : Configuration) (e : Edit) → Passes c e → ((a : Addr) → has_session c a a ≡ false) → (a : Addr) → has_session (edited c e) a a ≡ false
+pub none_alone : (c : Configuration) (e : Edit) → Passes c e → ((a : Addr) → has_session c a a ≡ false) → (a : Addr) →
+    has_session (edited c e) a a ≡ false
 none_alone c e ok none a =
-    false_from_ne_true (has_session (edited c e) a a) (λ h. ⊎_elim (λ was. true≢false (sym was ∙ none a)) (not_one e a ok.two) (session_old_or_new c e ok a a h))
+    false_from_ne_true (has_session (edited c e) a a)
+    (λ h. ⊎_elim (λ was. true≢false (sym was ∙ none a)) (not_one e a ok.two) (session_old_or_new c e ok a a h))
 
 -- THE AS OF A NODE
 
@@ -266,11 +304,14 @@ same_numbers (Some m) None h = absurd (true≢false (sym h))
 pub one_as : (c : Configuration) (a b : Addr) → is_external c a b ≡ false → as_of c a ≡ as_of c b
 one_as c a b internal = same_numbers (as_of c a) (as_of c b) (not-false (same_number (as_of c a) (as_of c b)) internal)
 
-pub as_kept : (c : Configuration) (e : Edit) → Passes c e → (a : Addr) → has_node c a ≡ true → as_of (edited c e) a ≡ as_of c a
+pub as_kept : (c : Configuration) (e : Edit) → Passes c e → (a : Addr) → has_node c a ≡ true →
+    as_of (edited c e) a ≡ as_of c a
 as_kept c e ok a here = ap (option_map (λ n. n.asn)) (node_kept c e ok a here)
 
-pub external_kept : (c : Configuration) (e : Edit) → Passes c e → (a b : Addr) → has_node c a ≡ true → has_node c b ≡ true → is_external (edited c e) a b ≡ is_external c a b
+pub external_kept : (c : Configuration) (e : Edit) → Passes c e → (a b : Addr) → has_node c a ≡ true →
+    has_node c b ≡ true → is_external (edited c e) a b ≡ is_external c a b
 external_kept c e ok a b here there = λ i. not (same_number (as_kept c e ok a here i) (as_kept c e ok b there i))
 
-pub there_still : (c : Configuration) (e : Edit) → Passes c e → (a : Addr) → has_node c a ≡ true → has_node (edited c e) a ≡ true
+pub there_still : (c : Configuration) (e : Edit) → Passes c e → (a : Addr) → has_node c a ≡ true →
+    has_node (edited c e) a ≡ true
 there_still c e ok a here = ap is_some (node_kept c e ok a here) ∙ here

@@ -28,7 +28,8 @@ same_prefix_true p q h =
     λ i. record { addr = addr i; len = len i }
 
 pub same_prefix_itself : (p : Prefix) → same_prefix p p ≡ true
-same_prefix_itself p = and_from (p.addr.0 == p.addr.0) (p.len == p.len) (same_addr_itself p.addr) ((unsigned_Decides p.len p.len).1 refl)
+same_prefix_itself p = and_from (p.addr.0 == p.addr.0) (p.len == p.len) (same_addr_itself p.addr)
+    ((unsigned_Decides p.len p.len).1 refl)
 
 prefix_tied : (p q : Prefix) → same_prefix p q ≡ is_eq (prefix_cmp p q)
 prefix_tied p q = both_tied _ _ _ _ (unsigned_ties p.addr.0 q.addr.0) (unsigned_ties p.len q.len)
@@ -49,24 +50,29 @@ same_ends_true d e h =
     λ i. record { from = from i; to = to i }
 
 pub same_ends_itself : (d : Direction) → same_ends d d ≡ true
-same_ends_itself d = and_from (same_addr d.from d.from) (same_addr d.to d.to) (same_addr_itself d.from) (same_addr_itself d.to)
+same_ends_itself d = and_from (same_addr d.from d.from) (same_addr d.to d.to) (same_addr_itself d.from)
+    (same_addr_itself d.to)
 
 pub direction_tied : (d e : Direction) → same_ends d e ≡ is_eq (direction_cmp d e)
 direction_tied d e = both_tied _ _ _ _ (unsigned_ties d.from.0 e.from.0) (unsigned_ties d.to.0 e.to.0)
 
-pub route_tied : (k l : RouteKey) → (same_addr k.to l.to && (same_prefix k.prefix l.prefix && same_addr k.from l.from)) ≡ is_at (route_cmp k) l
-route_tied k l = both_tied _ _ _ _ (unsigned_ties k.to.0 l.to.0) (both_tied _ _ _ _ (prefix_tied k.prefix l.prefix) (unsigned_ties k.from.0 l.from.0))
+pub route_tied : (k l : RouteKey) → (same_addr k.to l.to && (same_prefix k.prefix l.prefix && same_addr k.from l.from))
+    ≡ is_at (route_cmp k) l
+route_tied k l = both_tied _ _ _ _ (unsigned_ties k.to.0 l.to.0)
+    (both_tied _ _ _ _ (prefix_tied k.prefix l.prefix) (unsigned_ties k.from.0 l.from.0))
 
 pub route_total : IsTotalOrder route_cmp
 route_total =
     then_total (on_total (λ k. k.to.0) nat_cmp_total)
-    (then_total (then_total (on_total (λ k. k.prefix.addr.0) nat_cmp_total) (on_total (λ k. k.prefix.len) nat_cmp_total))
+    (then_total (then_total (on_total (λ k. k.prefix.addr.0) nat_cmp_total)
+    (on_total (λ k. k.prefix.len) nat_cmp_total))
     (on_total (λ k. k.from.0) nat_cmp_total))
 
 -- keys that compare alike are one
 pub route_exact : (k l : RouteKey) → route_cmp k l ≡ Equal → k ≡ l
 route_exact k l e =
-    let parts = and_parts (same_addr k.to l.to) (same_prefix k.prefix l.prefix && same_addr k.from l.from) (route_tied k l ∙ ap is_eq e) in
+    let parts = and_parts (same_addr k.to l.to) (same_prefix k.prefix l.prefix && same_addr k.from l.from)
+    (route_tied k l ∙ ap is_eq e) in
     let others = and_parts (same_prefix k.prefix l.prefix) (same_addr k.from l.from) parts.1 in
     let to = same_addr_true k.to l.to parts.0 in
     let prefix = same_prefix_true k.prefix l.prefix others.0 in

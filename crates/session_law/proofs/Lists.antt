@@ -20,7 +20,8 @@ some_mapped f None = refl
 some_mapped f (Some x) = refl
 
 module _ {X : Type 0} (p q : X → Bool) where
-  kept_step : (b c : Bool) (x : X) (xs : List X) → p x ≡ b → q x ≡ c → (b ≡ true → c ≡ true) → find p (filter q xs) ≡ find p xs → find p (filter q (x ∷ xs)) ≡ find p (x ∷ xs)
+  kept_step : (b c : Bool) (x : X) (xs : List X) → p x ≡ b → q x ≡ c → (b ≡ true → c ≡ true) →
+      find p (filter q xs) ≡ find p xs → find p (filter q (x ∷ xs)) ≡ find p (x ∷ xs)
   kept_step true true x xs is is' all rest = rw is' (rw is refl)
   kept_step true false x xs is is' all rest = absurd (true≢false (sym (all refl)))
   kept_step false true x xs is is' all rest = rw is' (rw is rest)
@@ -31,7 +32,8 @@ module _ {X : Type 0} (p q : X → Bool) where
   find_kept all [] = refl
   find_kept all (x ∷ xs) = kept_step (p x) (q x) x xs refl refl (all x) (find_kept all xs)
 
-  dropped_step : (b c : Bool) (x : X) (xs : List X) → p x ≡ b → q x ≡ c → (b ≡ true → c ≡ false) → find p (filter q xs) ≡ None → find p (filter q (x ∷ xs)) ≡ None
+  dropped_step : (b c : Bool) (x : X) (xs : List X) → p x ≡ b → q x ≡ c → (b ≡ true → c ≡ false) →
+      find p (filter q xs) ≡ None → find p (filter q (x ∷ xs)) ≡ None
   dropped_step b false x xs is is' all rest = rw is' rest
   dropped_step false true x xs is is' all rest = rw is' (rw is rest)
   dropped_step true true x xs is is' all rest = absurd (true≢false (all refl))
@@ -42,24 +44,30 @@ module _ {X : Type 0} (p q : X → Bool) where
   find_dropped all (x ∷ xs) = dropped_step (p x) (q x) x xs refl refl (all x) (find_dropped all xs)
 
 module _ {X Y : Type 0} (view : X → Y) (p : X → Bool) (f : X → X) (g : Y → Y) where
-  mapped_step : (b : Bool) (x : X) (xs : List X) → p x ≡ b → p (f x) ≡ b → (b ≡ true → view (f x) ≡ g (view x)) → option_map view (find p (map f xs)) ≡ option_map g (option_map view (find p xs)) → option_map view (find p (map f (x ∷ xs))) ≡ option_map g (option_map view (find p (x ∷ xs)))
+  mapped_step : (b : Bool) (x : X) (xs : List X) → p x ≡ b → p (f x) ≡ b → (b ≡ true → view (f x) ≡ g (view x)) →
+      option_map view (find p (map f xs)) ≡ option_map g (option_map view (find p xs)) →
+      option_map view (find p (map f (x ∷ xs))) ≡ option_map g (option_map view (find p (x ∷ xs)))
   mapped_step true x xs is is' here rest = rw is' (rw is (ap Some (here refl)))
   mapped_step false x xs is is' here rest = rw is' (rw is rest)
 
   -- what is found after a change of each that leaves what the test asks
-  pub find_mapped : ((x : X) → p (f x) ≡ p x) → ((x : X) → p x ≡ true → view (f x) ≡ g (view x)) → (xs : List X) → option_map view (find p (map f xs)) ≡ option_map g (option_map view (find p xs))
+  pub find_mapped : ((x : X) → p (f x) ≡ p x) → ((x : X) → p x ≡ true → view (f x) ≡ g (view x)) → (xs : List X) →
+      option_map view (find p (map f xs)) ≡ option_map g (option_map view (find p xs))
   find_mapped same here [] = refl
   find_mapped same here (x ∷ xs) = mapped_step (p x) x xs refl (same x) (here x) (find_mapped same here xs)
 
 -- ANY
 
 module _ {X : Type 0} (p : X → Bool) where
-  any_step : (b : Bool) (xs ys : List X) → ((list_any p (xs ++ ys)) ≡ false → (list_any p xs ≡ false) × (list_any p ys ≡ false)) → (b || list_any p (xs ++ ys)) ≡ false → ((b || list_any p xs) ≡ false) × (list_any p ys ≡ false)
+  any_step : (b : Bool) (xs ys : List X) → ((list_any p (xs ++ ys)) ≡ false → (list_any p xs ≡ false)
+      × (list_any p ys ≡ false)) → (b || list_any p (xs ++ ys)) ≡ false → ((b || list_any p xs) ≡ false)
+      × (list_any p ys ≡ false)
   any_step true xs ys rest h = absurd (true≢false h)
   any_step false xs ys rest h = rest h
 
   -- none of a whole list is none of its parts
-  pub none_of_both : (xs ys : List X) → list_any p (xs ++ ys) ≡ false → (list_any p xs ≡ false) × (list_any p ys ≡ false)
+  pub none_of_both : (xs ys : List X) → list_any p (xs ++ ys) ≡ false → (list_any p xs ≡ false)
+      × (list_any p ys ≡ false)
   none_of_both [] ys h = (refl, h)
   none_of_both (x ∷ xs) ys h = any_step (p x) xs ys (none_of_both xs ys) h
 
@@ -68,7 +76,8 @@ or_true true c h = refl
 or_true false c h = h
 
 module _ {K : Type 0} (cmp : K → K → Ordering) (test : K → Bool) (exact : (k x : K) → cmp k x ≡ Equal → k ≡ x) where
-  kept_by_order : (r : Ordering) (k x : K) (xs more : List K) → (list_any test xs ≡ true → list_any test more ≡ true) → (test x || list_any test xs) ≡ true → list_any test (match_ordering r (k ∷ x ∷ xs) (x ∷ xs) (x ∷ more)) ≡ true
+  kept_by_order : (r : Ordering) (k x : K) (xs more : List K) → (list_any test xs ≡ true → list_any test more ≡ true) →
+      (test x || list_any test xs) ≡ true → list_any test (match_ordering r (k ∷ x ∷ xs) (x ∷ xs) (x ∷ more)) ≡ true
   kept_by_order Less k x xs more still h = or_true (test k) _ h
   kept_by_order Equal k x xs more still h = h
   kept_by_order Greater k x xs more still h = in_either (test x) h where
@@ -81,7 +90,8 @@ module _ {K : Type 0} (cmp : K → K → Ordering) (test : K → Bool) (exact : 
   any_kept k [] h = absurd (true≢false (sym h))
   any_kept k (x ∷ xs) h = kept_by_order (cmp k x) k x xs (insert_key cmp xs k) (any_kept k xs) h
 
-  new_by_order : (r : Ordering) (k x : K) (xs more : List K) → cmp k x ≡ r → test k ≡ true → list_any test more ≡ true → list_any test (match_ordering r (k ∷ x ∷ xs) (x ∷ xs) (x ∷ more)) ≡ true
+  new_by_order : (r : Ordering) (k x : K) (xs more : List K) → cmp k x ≡ r → test k ≡ true → list_any test more ≡ true →
+      list_any test (match_ordering r (k ∷ x ∷ xs) (x ∷ xs) (x ∷ more)) ≡ true
   new_by_order Less k x xs more is h there = rw h refl
   new_by_order Equal k x xs more is h there = rw (ap test (sym (exact k x is)) ∙ h) refl
   new_by_order Greater k x xs more is h there = or_true (test x) _ there
@@ -98,7 +108,9 @@ module _ {K : Type 0} (cmp : K → K → Ordering) (test : K → Bool) (exact : 
   any_folded [] xs h = h
   any_folded (k ∷ ks) xs h = any_folded ks (insert_key cmp xs k) (any_kept k xs h)
 
-  gathered_step : (b : Bool) (k : K) (ks xs : List K) → test k ≡ b → (list_any test ks ≡ true → list_any test (gathered (insert_key cmp xs k) ks) ≡ true) → (b || list_any test ks) ≡ true → list_any test (gathered (insert_key cmp xs k) ks) ≡ true
+  gathered_step : (b : Bool) (k : K) (ks xs : List K) → test k ≡ b →
+      (list_any test ks ≡ true → list_any test (gathered (insert_key cmp xs k) ks) ≡ true) →
+      (b || list_any test ks) ≡ true → list_any test (gathered (insert_key cmp xs k) ks) ≡ true
   gathered_step true k ks xs is rest h = any_folded ks (insert_key cmp xs k) (any_new k xs is)
   gathered_step false k ks xs is rest h = rest h
 
@@ -110,29 +122,46 @@ module _ {K : Type 0} (cmp : K → K → Ordering) (test : K → Bool) (exact : 
 -- ENTRIES IN ORDER
 
 module _ {K X : Type 0} (P : K → Type 0) where
-  all_by_order : (r : Ordering) (k : K) (v : X) (e : K × X) (es more : List (K × X)) → P k → P e.0 → AllByRecursion P (keys_of es) → AllByRecursion P (keys_of more) → AllByRecursion P (keys_of (match_ordering r ((k, v) ∷ e ∷ es) ((e.0, v) ∷ es) (e ∷ more)))
+  all_by_order : (r : Ordering) (k : K) (v : X) (e : K × X) (es more : List (K × X)) → P k → P e.0 →
+      AllByRecursion P (keys_of es) → AllByRecursion P (keys_of more) →
+      AllByRecursion P (keys_of (match_ordering r ((k, v) ∷ e ∷ es) ((e.0, v) ∷ es) (e ∷ more)))
   all_by_order Less k v e es more pk pe pes pm = (pk, (pe, pes))
   all_by_order Equal k v e es more pk pe pes pm = (pe, pes)
   all_by_order Greater k v e es more pk pe pes pm = (pe, pm)
 
-  all_inserted : (cmp : K → K → Ordering) (k : K) (v : X) (es : List (K × X)) → P k → AllByRecursion P (keys_of es) → AllByRecursion P (keys_of (insert_entry cmp es k v))
+  all_inserted : (cmp : K → K → Ordering) (k : K) (v : X) (es : List (K × X)) → P k → AllByRecursion P (keys_of es) →
+      AllByRecursion P (keys_of (insert_entry cmp es k v))
   all_inserted cmp k v [] pk h = (pk, tt)
-  all_inserted cmp k v (e ∷ es) pk h = all_by_order (cmp k e.0) k v e es (insert_entry cmp es k v) pk h.0 h.1 (all_inserted cmp k v es pk h.1)
+  all_inserted cmp k v (e ∷ es) pk h = all_by_order (cmp k e.0) k v e es (insert_entry cmp es k v) pk h.0 h.1
+      (all_inserted cmp k v es pk h.1)
 
-  all_removed : (test : K → Bool) (es : List (K × X)) → AllByRecursion P (keys_of es) → AllByRecursion P (keys_of (remove_entry test es))
+  all_removed : (test : K → Bool) (es : List (K × X)) → AllByRecursion P (keys_of es) →
+      AllByRecursion P (keys_of (remove_entry test es))
   all_removed test [] h = h
-  all_removed test (e ∷ es) h = elim (test e.0) as (λ b. AllByRecursion P (keys_of (cond b es (e ∷ remove_entry test es)))) [ true ↦ h.1 | false ↦ (h.0, all_removed test es h.1) ]
+  all_removed test (e ∷ es) h =
+      elim (test e.0) as (λ b. AllByRecursion P (keys_of (cond b es (e ∷ remove_entry test es)))) [
+        | true ↦ h.1
+        | false ↦
+            (h.0, all_removed test es h.1)
+      ]
 
-  all_filtered : (p : K × X → Bool) (es : List (K × X)) → AllByRecursion P (keys_of es) → AllByRecursion P (keys_of (filter p es))
+  all_filtered : (p : K × X → Bool) (es : List (K × X)) → AllByRecursion P (keys_of es) →
+      AllByRecursion P (keys_of (filter p es))
   all_filtered p [] h = h
-  all_filtered p (e ∷ es) h = elim (p e) as (λ b. AllByRecursion P (keys_of (cond b (e ∷ filter p es) (filter p es)))) [ true ↦ (h.0, all_filtered p es h.1) | false ↦ all_filtered p es h.1 ]
+  all_filtered p (e ∷ es) h =
+      elim (p e) as (λ b. AllByRecursion P (keys_of (cond b (e ∷ filter p es) (filter p es)))) [
+        | true ↦
+            (h.0, all_filtered p es h.1)
+        | false ↦ all_filtered p es h.1
+      ]
 
 pub equal_from : (r : Ordering) → is_eq r ≡ true → r ≡ Equal
 equal_from Less h = absurd (true≢false (sym h))
 equal_from Equal h = refl
 equal_from Greater h = absurd (true≢false (sym h))
 
-all_past : {K : Type 0} {cmp : K → K → Ordering} → IsTotalOrder cmp → (k j : K) (ks : List K) → cmp k j ≡ Less → AllByRecursion (λ y. cmp j y ≡ Less) ks → AllByRecursion (λ y. cmp k y ≡ Less) ks
+all_past : {K : Type 0} {cmp : K → K → Ordering} → IsTotalOrder cmp → (k j : K) (ks : List K) → cmp k j ≡ Less →
+    AllByRecursion (λ y. cmp j y ≡ Less) ks → AllByRecursion (λ y. cmp k y ≡ Less) ks
 all_past o k j [] is h = tt
 all_past o k j (x ∷ ks) is h = (o.trans k j x is h.0, all_past o k j ks is h.1)
 
@@ -140,47 +169,67 @@ module _ {K X : Type 0} {cmp : K → K → Ordering} (o : IsTotalOrder cmp) wher
   abbrev Ordered : List (K × X) → Type 0
   Ordered es = IsStrictlySortedBy cmp (keys_of es)
 
-  ordered_by_order : (r : Ordering) (k : K) (v : X) (e : K × X) (es more : List (K × X)) → cmp k e.0 ≡ r → Ordered (e ∷ es) → (cmp e.0 k ≡ Less → AllByRecursion (λ y. cmp e.0 y ≡ Less) (keys_of more)) → Ordered more → Ordered (match_ordering r ((k, v) ∷ e ∷ es) ((e.0, v) ∷ es) (e ∷ more))
+  ordered_by_order : (r : Ordering) (k : K) (v : X) (e : K × X) (es more : List (K × X)) → cmp k e.0 ≡ r →
+      Ordered (e ∷ es) → (cmp e.0 k ≡ Less → AllByRecursion (λ y. cmp e.0 y ≡ Less) (keys_of more)) → Ordered more →
+      Ordered (match_ordering r ((k, v) ∷ e ∷ es) ((e.0, v) ∷ es) (e ∷ more))
   unfolding IsStrictlySortedBy
   ordered_by_order Less k v e es more is h past more_ordered = ((is, all_past o k e.0 (keys_of es) is h.0), h)
   ordered_by_order Equal k v e es more is h past more_ordered = h
-  ordered_by_order Greater k v e es more is h past more_ordered = (past (o.antisymm e.0 k ∙ ap ordering_reverse is), more_ordered)
+  ordered_by_order Greater k v e es more is h past more_ordered =
+      (past (o.antisymm e.0 k ∙ ap ordering_reverse is), more_ordered)
 
   -- an entry put in keeps the order
   pub ordered_inserted : (k : K) (v : X) (es : List (K × X)) → Ordered es → Ordered (insert_entry cmp es k v)
   unfolding IsStrictlySortedBy
   ordered_inserted k v [] h = (tt, tt)
-  ordered_inserted k v (e ∷ es) h = ordered_by_order (cmp k e.0) k v e es (insert_entry cmp es k v) refl h (λ past. all_inserted (λ y. cmp e.0 y ≡ Less) cmp k v es past h.0) (ordered_inserted k v es h.1)
+  ordered_inserted k v (e ∷ es) h = ordered_by_order (cmp k e.0) k v e es (insert_entry cmp es k v) refl h
+      (λ past. all_inserted (λ y. cmp e.0 y ≡ Less) cmp k v es past h.0) (ordered_inserted k v es h.1)
 
   -- an entry taken out keeps the order
   pub ordered_removed : (test : K → Bool) (es : List (K × X)) → Ordered es → Ordered (remove_entry test es)
   unfolding IsStrictlySortedBy
   ordered_removed test [] h = h
-  ordered_removed test (e ∷ es) h = elim (test e.0) as (λ b. Ordered (cond b es (e ∷ remove_entry test es))) [ true ↦ h.1 | false ↦ (all_removed (λ y. cmp e.0 y ≡ Less) test es h.0, ordered_removed test es h.1) ]
+  ordered_removed test (e ∷ es) h = elim (test e.0) as (λ b. Ordered (cond b es (e ∷ remove_entry test es))) [
+    | true ↦
+        h.1
+    | false ↦ (all_removed (λ y. cmp e.0 y ≡ Less) test es h.0, ordered_removed test es h.1)
+  ]
 
   -- a filter keeps the order
   pub ordered_filtered : (p : K × X → Bool) (es : List (K × X)) → Ordered es → Ordered (filter p es)
   unfolding IsStrictlySortedBy
   ordered_filtered p [] h = h
-  ordered_filtered p (e ∷ es) h = elim (p e) as (λ b. Ordered (cond b (e ∷ filter p es) (filter p es))) [ true ↦ (all_filtered (λ y. cmp e.0 y ≡ Less) p es h.0, ordered_filtered p es h.1) | false ↦ ordered_filtered p es h.1 ]
+  ordered_filtered p (e ∷ es) h = elim (p e) as (λ b. Ordered (cond b (e ∷ filter p es) (filter p es))) [
+    | true ↦
+        (all_filtered (λ y. cmp e.0 y ≡ Less) p es h.0, ordered_filtered p es h.1)
+    | false ↦ ordered_filtered p es h.1
+  ]
 
-  swapped : (s t : Bool) (v w : Option X) (l : Option X) → (t ≡ true → s ≡ false) → cond s w (cond t v l) ≡ cond t v (cond s w l)
+  swapped : (s t : Bool) (v w : Option X) (l : Option X) → (t ≡ true → s ≡ false) →
+      cond s w (cond t v l) ≡ cond t v (cond s w l)
   swapped s true v w l apart = rw (apart refl) refl
   swapped s false v w l apart = refl
 
-  looked_by_order : (r : Ordering) (q k : K) (v : X) (e : K × X) (es more : List (K × X)) → cmp k e.0 ≡ r → lookup (is_at (cmp q)) more ≡ cond (is_at (cmp q) k) (Some v) (lookup (is_at (cmp q)) es) → lookup (is_at (cmp q)) (match_ordering r ((k, v) ∷ e ∷ es) ((e.0, v) ∷ es) (e ∷ more)) ≡ cond (is_at (cmp q) k) (Some v) (lookup (is_at (cmp q)) (e ∷ es))
+  looked_by_order : (r : Ordering) (q k : K) (v : X) (e : K × X) (es more : List (K × X)) → cmp k e.0 ≡ r →
+      lookup (is_at (cmp q)) more ≡ cond (is_at (cmp q) k) (Some v) (lookup (is_at (cmp q)) es) →
+      lookup (is_at (cmp q)) (match_ordering r ((k, v) ∷ e ∷ es) ((e.0, v) ∷ es) (e ∷ more))
+      ≡ cond (is_at (cmp q) k) (Some v) (lookup (is_at (cmp q)) (e ∷ es))
   looked_by_order Less q k v e es more is rest = refl
   looked_by_order Equal q k v e es more is rest =
       let same : is_eq (cmp q k) ≡ is_eq (cmp q e.0) = ap is_eq (alike_right o k e.0 q is) in
-      rw same (elim (is_eq (cmp q e.0)) as (λ b. cond b (Some v) (lookup (is_at (cmp q)) es) ≡ cond b (Some v) (cond b (Some e.1) (lookup (is_at (cmp q)) es))) [ true ↦ refl | false ↦ refl ])
+      rw same (elim (is_eq (cmp q e.0)) as (λ b. cond b (Some v) (lookup (is_at (cmp q)) es)
+      ≡ cond b (Some v) (cond b (Some e.1) (lookup (is_at (cmp q)) es))) [ true ↦ refl | false ↦ refl ])
   looked_by_order Greater q k v e es more is rest =
       ap (cond (is_eq (cmp q e.0)) (Some e.1)) rest
-      ∙ swapped (is_eq (cmp q e.0)) (is_eq (cmp q k)) (Some v) (Some e.1) (lookup (is_at (cmp q)) es) (λ h. ap is_eq (o.congr q k e.0 (equal_from (cmp q k) h) ∙ is))
+      ∙ swapped (is_eq (cmp q e.0)) (is_eq (cmp q k)) (Some v) (Some e.1) (lookup (is_at (cmp q)) es)
+      (λ h. ap is_eq (o.congr q k e.0 (equal_from (cmp q k) h) ∙ is))
 
   -- what stands at a key once an entry is put in
-  pub lookup_inserted : (q k : K) (v : X) (es : List (K × X)) → lookup (is_at (cmp q)) (insert_entry cmp es k v) ≡ cond (is_at (cmp q) k) (Some v) (lookup (is_at (cmp q)) es)
+  pub lookup_inserted : (q k : K) (v : X) (es : List (K × X)) → lookup (is_at (cmp q)) (insert_entry cmp es k v)
+      ≡ cond (is_at (cmp q) k) (Some v) (lookup (is_at (cmp q)) es)
   lookup_inserted q k v [] = refl
-  lookup_inserted q k v (e ∷ es) = looked_by_order (cmp k e.0) q k v e es (insert_entry cmp es k v) refl (lookup_inserted q k v es)
+  lookup_inserted q k v (e ∷ es) = looked_by_order (cmp k e.0) q k v e es (insert_entry cmp es k v) refl
+      (lookup_inserted q k v es)
 
 -- EACH
 
@@ -195,26 +244,42 @@ module _ {X : Type 0} (P : X → Type 0) where
 
   pub each_filtered : (p : X → Bool) (xs : List X) → AllByRecursion P xs → AllByRecursion P (filter p xs)
   each_filtered p [] h = tt
-  each_filtered p (x ∷ xs) h = elim (p x) as (λ b. AllByRecursion P (cond b (x ∷ filter p xs) (filter p xs))) [ true ↦ (h.0, each_filtered p xs h.1) | false ↦ each_filtered p xs h.1 ]
+  each_filtered p (x ∷ xs) h = elim (p x) as (λ b. AllByRecursion P (cond b (x ∷ filter p xs) (filter p xs))) [
+    | true ↦
+        (h.0, each_filtered p xs h.1)
+    | false ↦ each_filtered p xs h.1
+  ]
 
-pub each_mapped : {X Y : Type 0} (P : X → Type 0) (Q : Y → Type 0) (f : X → Y) → ((x : X) → P x → Q (f x)) → (xs : List X) → AllByRecursion P xs → AllByRecursion Q (map f xs)
+pub each_mapped : {X Y : Type 0} (P : X → Type 0) (Q : Y → Type 0) (f : X → Y) → ((x : X) → P x → Q (f x)) →
+    (xs : List X) → AllByRecursion P xs → AllByRecursion Q (map f xs)
 each_mapped P Q f so [] h = tt
 each_mapped P Q f so (x ∷ xs) h = (so x h.0, each_mapped P Q f so xs h.1)
 
-pub each_so : {X : Type 0} (P Q : X → Type 0) → ((x : X) → P x → Q x) → (xs : List X) → AllByRecursion P xs → AllByRecursion Q xs
+pub each_so : {X : Type 0} (P Q : X → Type 0) → ((x : X) → P x → Q x) → (xs : List X) → AllByRecursion P xs →
+    AllByRecursion Q xs
 each_so P Q so [] h = tt
 each_so P Q so (x ∷ xs) h = (so x h.0, each_so P Q so xs h.1)
 
 module _ {K X : Type 0} (P : K × X → Type 0) where
-  each_by_order : (r : Ordering) (k : K) (v : X) (e : K × X) (es more : List (K × X)) → (r ≡ Equal → k ≡ e.0) → P (k, v) → P e → AllByRecursion P es → AllByRecursion P more → AllByRecursion P (match_ordering r ((k, v) ∷ e ∷ es) ((e.0, v) ∷ es) (e ∷ more))
+  each_by_order : (r : Ordering) (k : K) (v : X) (e : K × X) (es more : List (K × X)) → (r ≡ Equal → k ≡ e.0) →
+      P (k, v) → P e → AllByRecursion P es → AllByRecursion P more →
+      AllByRecursion P (match_ordering r ((k, v) ∷ e ∷ es) ((e.0, v) ∷ es) (e ∷ more))
   each_by_order Less k v e es more same pk pe pes pm = (pk, (pe, pes))
   each_by_order Equal k v e es more same pk pe pes pm = (subst (λ x. P (x, v)) (same refl) pk, pes)
   each_by_order Greater k v e es more same pk pe pes pm = (pe, pm)
 
-  pub each_inserted : (cmp : K → K → Ordering) → ((k x : K) → cmp k x ≡ Equal → k ≡ x) → (k : K) (v : X) (es : List (K × X)) → P (k, v) → AllByRecursion P es → AllByRecursion P (insert_entry cmp es k v)
+  pub each_inserted : (cmp : K → K → Ordering) → ((k x : K) → cmp k x ≡ Equal → k ≡ x) →
+      (k : K) (v : X) (es : List (K × X)) → P (k, v) → AllByRecursion P es → AllByRecursion P (insert_entry cmp es k v)
   each_inserted cmp exact k v [] pk h = (pk, tt)
-  each_inserted cmp exact k v (e ∷ es) pk h = each_by_order (cmp k e.0) k v e es (insert_entry cmp es k v) (exact k e.0) pk h.0 h.1 (each_inserted cmp exact k v es pk h.1)
+  each_inserted cmp exact k v (e ∷ es) pk h = each_by_order (cmp k e.0) k v e es (insert_entry cmp es k v)
+      (exact k e.0) pk h.0 h.1 (each_inserted cmp exact k v es pk h.1)
 
-  pub each_removed : (test : K → Bool) (es : List (K × X)) → AllByRecursion P es → AllByRecursion P (remove_entry test es)
+  pub each_removed : (test : K → Bool) (es : List (K × X)) → AllByRecursion P es →
+      AllByRecursion P (remove_entry test es)
   each_removed test [] h = h
-  each_removed test (e ∷ es) h = elim (test e.0) as (λ b. AllByRecursion P (cond b es (e ∷ remove_entry test es))) [ true ↦ h.1 | false ↦ (h.0, each_removed test es h.1) ]
+  each_removed test (e ∷ es) h =
+      elim (test e.0) as (λ b. AllByRecursion P (cond b es (e ∷ remove_entry test es))) [
+        | true ↦ h.1
+        | false ↦
+            (h.0, each_removed test es h.1)
+      ]

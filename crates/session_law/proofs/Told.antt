@@ -64,10 +64,12 @@ last_false true false z h = refl
 last_false false y z h = refl
 
 -- who sends is no virtual peer, and its session is up
-pub sends_parts : (c : Configuration) (r t : Addr) → sends c r t ≡ true → (has_node c r ≡ true) × (not (is_virtual c r) ≡ true) × (is_up c r t ≡ true)
+pub sends_parts : (c : Configuration) (r t : Addr) → sends c r t ≡ true → (has_node c r ≡ true)
+    × (not (is_virtual c r) ≡ true) × (is_up c r t ≡ true)
 sends_parts c r t h = three_parts (has_node c r) (not (is_virtual c r)) (is_up c r t) h
 
-pub sends_from : (c : Configuration) (r t : Addr) → has_node c r ≡ true → not (is_virtual c r) ≡ true → is_up c r t ≡ true → sends c r t ≡ true
+pub sends_from : (c : Configuration) (r t : Addr) → has_node c r ≡ true → not (is_virtual c r) ≡ true →
+    is_up c r t ≡ true → sends c r t ≡ true
 sends_from c r t here router up = λ i. here i && router i && up i
 
 -- nobody sends over a session that is down
@@ -88,24 +90,29 @@ unfolding queue
 queue_up s a b up = ap (λ x. if x then waiting s a b else []) up
 
 -- what is received, with what is on its way put over it, where the session is up
-pub applied_up : (s : Network) (r t : Addr) (p : Prefix) → is_up s.conf r t ≡ true → applied s r t p ≡ after_messages p (route_from s.received t p r) (waiting s r t)
+pub applied_up : (s : Network) (r t : Addr) (p : Prefix) → is_up s.conf r t ≡ true →
+    applied s r t p ≡ after_messages p (route_from s.received t p r) (waiting s r t)
 unfolding applied
 applied_up s r t p up = ap (after_messages p (route_from s.received t p r)) (queue_up s r t up)
 
-more_waiting : (o : Option (List Message)) (ms : List Message) → is_some o ≡ true → unwrap_or (option_map (λ xs. xs ++ ms) o) [] ≡ unwrap_or o [] ++ ms
+more_waiting : (o : Option (List Message)) (ms : List Message) → is_some o ≡ true →
+    unwrap_or (option_map (λ xs. xs ++ ms) o) [] ≡ unwrap_or o [] ++ ms
 more_waiting None ms h = absurd (true≢false (sym h))
 more_waiting (Some xs) ms h = refl
 
-none_waiting : (o : Option (List Message)) (ms : List Message) → ms ≡ [] → unwrap_or o [] ≡ [] → unwrap_or (option_map (λ xs. xs ++ ms) o) [] ≡ []
+none_waiting : (o : Option (List Message)) (ms : List Message) → ms ≡ [] → unwrap_or o [] ≡ [] →
+    unwrap_or (option_map (λ xs. xs ++ ms) o) [] ≡ []
 none_waiting None ms none h = refl
 none_waiting (Some xs) ms none h = (λ i. h i ++ none i)
 
 module _ (s s' : Network) (turned : IsTurned s s') where
-  waiting_sent : (r t : Addr) → is_up s'.conf r t ≡ true → waiting (with_sent s s') r t ≡ waiting s' r t ++ sent s s' r t
+  waiting_sent : (r t : Addr) → is_up s'.conf r t ≡ true →
+      waiting (with_sent s s') r t ≡ waiting s' r t ++ sent s s' r t
   unfolding with_sent
   waiting_sent r t up =
       ap (λ o. unwrap_or o []) (messages_sent s s' (direction r t) s'.queues)
-      ∙ more_waiting (messages_in s'.queues (direction r t)) (sent s s' r t) (turned.tidy.there r t (session_if_up s'.conf r t up))
+      ∙ more_waiting (messages_in s'.queues (direction r t)) (sent s s' r t)
+      (turned.tidy.there r t (session_if_up s'.conf r t up))
 
   conf_sent : (with_sent s s').conf ≡ s'.conf
   unfolding with_sent
@@ -115,7 +122,8 @@ module _ (s s' : Network) (turned : IsTurned s s') where
   unfolding with_sent
   received_sent = refl
 
-  applied_sent : (r t : Addr) (p : Prefix) → is_up s'.conf r t ≡ true → applied (with_sent s s') r t p ≡ after_messages p (route_from s'.received t p r) (waiting (with_sent s s') r t)
+  applied_sent : (r t : Addr) (p : Prefix) → is_up s'.conf r t ≡ true →
+      applied (with_sent s s') r t p ≡ after_messages p (route_from s'.received t p r) (waiting (with_sent s s') r t)
   unfolding with_sent
   applied_sent r t p up = applied_up (with_sent s s') r t p up
 
@@ -124,7 +132,8 @@ module _ (s s' : Network) (turned : IsTurned s s') where
   advertised_sent r t p = refl
 
   -- what is sent brings it about
-  law_sent : (r t : Addr) (p : Prefix) → sends s'.conf r t ≡ true → applied (with_sent s s') r t p ≡ advertised (with_sent s s') r t p
+  law_sent : (r t : Addr) (p : Prefix) → sends s'.conf r t ≡ true →
+      applied (with_sent s s') r t p ≡ advertised (with_sent s s') r t p
   law_sent r t p is =
       let up = (sends_parts s'.conf r t is).2 in
       let route = route_from s'.received t p r in
@@ -139,8 +148,11 @@ module _ (s s' : Network) (turned : IsTurned s s') where
   unfolding with_sent
   tidy_sent = record {
     no_route = turned.tidy.no_route;
-    no_message = λ a b down. ap (λ o. unwrap_or o []) (messages_sent s s' (direction a b) s'.queues) ∙ none_waiting (messages_in s'.queues (direction a b)) (sent s s' a b) (sent_none s s' a b down) (turned.tidy.no_message a b down);
-    there = λ a b is. ap is_some (messages_sent s s' (direction a b) s'.queues) ∙ some_mapped (λ ms. ms ++ sent s s' a b) (messages_in s'.queues (direction a b)) ∙ turned.tidy.there a b is;
+    no_message = λ a b down. ap (λ o. unwrap_or o []) (messages_sent s s' (direction a b) s'.queues)
+        ∙ none_waiting (messages_in s'.queues (direction a b)) (sent s s' a b) (sent_none s s' a b down)
+        (turned.tidy.no_message a b down);
+    there = λ a b is. ap is_some (messages_sent s s' (direction a b) s'.queues)
+        ∙ some_mapped (λ ms. ms ++ sent s s' a b) (messages_in s'.queues (direction a b)) ∙ turned.tidy.there a b is;
     ordered = turned.tidy.ordered;
     placed = turned.tidy.placed;
   }
@@ -159,5 +171,11 @@ pub told_nothing : IsTold nothing
 unfolding IsStrictlySortedBy
 told_nothing = record {
   law = λ r t p is. false_true is;
-  tidy = record { no_route = λ a b down p. refl; no_message = λ a b down. refl; there = λ a b is. false_true is; ordered = tt; placed = λ a b is. false_true is };
+  tidy = record {
+    no_route = λ a b down p. refl;
+    no_message = λ a b down. refl;
+    there = λ a b is. false_true is;
+    ordered = tt;
+    placed = λ a b is. false_true is;
+  };
 }

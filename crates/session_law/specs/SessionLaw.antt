@@ -27,11 +27,13 @@ after_messages p held ms = fold (after_message p) held ms
 unfoldable pub applied : Network → Addr → Addr → Prefix → Option Attr
 applied s r t p = after_messages p (route_from s.received t p r) (queue s (record { from = r; to = t }))
 
--- after any run, over every session of a router that is up: what the peer has received, with what is on its way put over
--- it, is what the router advertises to it now
+-- after any run, over every session of a router that is up: what the peer has received, with what is on its way put
+-- over it, is what the router advertises to it now
 abbrev pub SessionLaw : Type 0
-SessionLaw = (es : List Event) (rs : List Reply) (s : Network) → IsRun nothing es rs s → (r t : Addr) (p : Prefix) → sends s.conf r t ≡ true → applied s r t p ≡ advertised s r t p
+SessionLaw = (es : List Event) (rs : List Reply) (s : Network) → IsRun nothing es rs s → (r t : Addr) (p : Prefix) →
+    sends s.conf r t ≡ true → applied s r t p ≡ advertised s r t p
 
 -- so, where no message is on its way, what each peer has received is what the router advertises to it now
 abbrev pub QuietLaw : Type 0
-QuietLaw = (es : List Event) (rs : List Reply) (s : Network) → IsRun nothing es rs s → is_quiet s ≡ true → (r t : Addr) (p : Prefix) → sends s.conf r t ≡ true → route_from s.received t p r ≡ advertised s r t p
+QuietLaw = (es : List Event) (rs : List Reply) (s : Network) → IsRun nothing es rs s → is_quiet s ≡ true →
+    (r t : Addr) (p : Prefix) → sends s.conf r t ≡ true → route_from s.received t p r ≡ advertised s r t p

@@ -24,7 +24,8 @@ no_spare : (x : Option (Waiting Numbered)) → IfSome x IsBlank → spare_of x �
 no_spare None blank = refl
 no_spare (Some w) blank = omega (arith, blank)
 
-no_count : (x : Option (Waiting Numbered)) → IfSome x IsBlank → unwrap_or (option_map (λ (u : Waiting Numbered). one_if_any u.messages) x) 0 ≡ 0
+no_count : (x : Option (Waiting Numbered)) → IfSome x IsBlank →
+    unwrap_or (option_map (λ (u : Waiting Numbered). one_if_any u.messages) x) 0 ≡ 0
 no_count None blank = refl
 no_count (Some w) blank = none_left w.messages (omega (arith, blank))
 
@@ -34,22 +35,28 @@ is_or_not (Some d) e = by (is_at (direction_cmp d) e) refl
   where
     by : (b : Bool) → is_at (direction_cmp d) e ≡ b → (Some d ≡ Some e) ⊎ (Some d ≡ Some e → ⊥)
     by true h = inl (ap Some (same d e h))
-    by false h = inr (λ is. false≢true (sym h ∙ subst (λ k. is_at (direction_cmp k) e ≡ true) (sym (ap (λ o. unwrap_or o d) is)) (direction_laws.refl e)))
+    by false h = inr (λ is. false≢true (sym h
+        ∙ subst (λ k. is_at (direction_cmp k) e ≡ true) (sym (ap (λ o. unwrap_or o d) is)) (direction_laws.refl e)))
 
 not_true : (b : Bool) → (b ≡ true → ⊥) → b ≡ false
 not_true true h = absurd (h refl)
 not_true false h = refl
 
 -- the blank line of d has left q
-module _ (q r : Lines Numbered) (d : Direction) (blank : IfSome (waiting_at q d.from d.to) IsBlank) (h : Changes d.from d.to q r None) where
+module _ (q r : Lines Numbered) (d : Direction) (blank : IfSome (waiting_at q d.from d.to) IsBlank)
+    (h : Changes d.from d.to q r None) where
   -- what shows no blank line
-  unseen : {A : Type 0} (f : Option (Waiting Numbered) → A) → ((x : Option (Waiting Numbered)) → IfSome x IsBlank → f x ≡ f None) → (from to : Addr) → f (waiting_at r from to) ≡ f (waiting_at q from to)
+  unseen : {A : Type 0} (f : Option (Waiting Numbered) → A) →
+      ((x : Option (Waiting Numbered)) → IfSome x IsBlank → f x ≡ f None) → (from to : Addr) →
+      f (waiting_at r from to) ≡ f (waiting_at q from to)
   unseen f none from to = by (at d.from d.to (key from to)) refl
     where
       by : (b : Bool) → at d.from d.to (key from to) ≡ b → f (waiting_at r from to) ≡ f (waiting_at q from to)
       by true is =
-          let there : IfSome (waiting_at q from to) IsBlank = subst (λ (e : Direction). IfSome (waiting_at q e.from e.to) IsBlank) (same d (key from to) is) blank in
-          ap f (h.holds from to ∙ ap (λ b. cond b None (waiting_at q from to)) is) ∙ sym (none (waiting_at q from to) there)
+          let there : IfSome (waiting_at q from to) IsBlank =
+          subst (λ (e : Direction). IfSome (waiting_at q e.from e.to) IsBlank) (same d (key from to) is) blank in
+          ap f (h.holds from to ∙ ap (λ b. cond b None (waiting_at q from to)) is)
+          ∙ sym (none (waiting_at q from to) there)
       by false is = ap f (h.holds from to ∙ ap (λ b. cond b None (waiting_at q from to)) is)
 
 module _ (q r : Lines Numbered) (ordered : IsStrictlySortedBy direction_cmp (keys_of q)) where
@@ -61,7 +68,8 @@ module _ (q r : Lines Numbered) (ordered : IsStrictlySortedBy direction_cmp (key
   messages_same (Some d) lost f t =
       ⊎_elim
       (λ h. ap (λ ls. messages_at ls f t) h.1)
-      (λ h. queue_held f t r r refl _ refl ∙ unseen q r d h.0 (left d h.1) messages_of no_messages f t ∙ sym (queue_held f t q q refl _ refl))
+      (λ h. queue_held f t r r refl _ refl ∙ unseen q r d h.0 (left d h.1) messages_of no_messages f t
+      ∙ sym (queue_held f t q q refl _ refl))
       lost
 
   spare_same : (x : Option Direction) → LosesBlank x q r → (f t : Addr) → spare_in r f t ≡ spare_in q f t
@@ -69,7 +77,8 @@ module _ (q r : Lines Numbered) (ordered : IsStrictlySortedBy direction_cmp (key
   spare_same (Some d) lost f t =
       ⊎_elim
       (λ h. ap (λ ls. spare_in ls f t) h.1)
-      (λ h. spare_held f t r r refl _ refl ∙ unseen q r d h.0 (left d h.1) spare_of no_spare f t ∙ sym (spare_held f t q q refl _ refl))
+      (λ h. spare_held f t r r refl _ refl ∙ unseen q r d h.0 (left d h.1) spare_of no_spare f t
+      ∙ sym (spare_held f t q q refl _ refl))
       lost
 
   pub count_same : (x : Option Direction) → LosesBlank x q r → full_count r ≡ full_count q
@@ -83,7 +92,8 @@ module _ (q r : Lines Numbered) (ordered : IsStrictlySortedBy direction_cmp (key
       ap full_count h.1 ∙ omega (arith, sums, none))
       lost
 
-  kept_there : (x : Option Direction) → LosesBlank x q r → (f t : Addr) → x ≡ Some (key f t) → IfSome (waiting_at r f t) IsKept
+  kept_there : (x : Option Direction) → LosesBlank x q r → (f t : Addr) → x ≡ Some (key f t) →
+      IfSome (waiting_at r f t) IsKept
   kept_there None is f t h = absurd (none-some (key f t) h)
   kept_there (Some d) lost f t h =
       let one : d ≡ key f t = ap (λ o. unwrap_or o d) h in
@@ -93,7 +103,8 @@ module _ (q r : Lines Numbered) (ordered : IsStrictlySortedBy direction_cmp (key
       (λ g. subst (λ o. IfSome o IsKept) (sym (here d.from d.to q r None (left d g.1))) tt)
       lost)
 
-  same_elsewhere : (x : Option Direction) → LosesBlank x q r → (f t : Addr) → (x ≡ Some (key f t) → ⊥) → waiting_at r f t ≡ waiting_at q f t
+  same_elsewhere : (x : Option Direction) → LosesBlank x q r → (f t : Addr) → (x ≡ Some (key f t) → ⊥) →
+      waiting_at r f t ≡ waiting_at q f t
   same_elsewhere None is f t other = ap (λ ls. waiting_at ls f t) is
   same_elsewhere (Some d) lost f t other =
       let apart : at d.from d.to (key f t) ≡ false = not_true _ (λ is. other (ap Some (same d (key f t) is))) in
@@ -102,7 +113,8 @@ module _ (q r : Lines Numbered) (ordered : IsStrictlySortedBy direction_cmp (key
       (λ h. (left d h.1).holds f t ∙ ap (λ b. cond b None (waiting_at q f t)) apart)
       lost
 
-  pub still_becomes : (from to : Addr) (p : Lines Numbered) (w : Waiting Numbered) (x : Option Direction) → LosesBlank x q r → Becomes from to p q w → Becomes from to p r w
+  pub still_becomes : (from to : Addr) (p : Lines Numbered) (w : Waiting Numbered) (x : Option Direction) →
+      LosesBlank x q r → Becomes from to p q w → Becomes from to p r w
   still_becomes from to p w x lost b = record {
     queue = messages_same x lost from to ∙ b.queue;
     spare = spare_same x lost from to ∙ b.spare;
@@ -113,8 +125,10 @@ module _ (q r : Lines Numbered) (ordered : IsStrictlySortedBy direction_cmp (key
   }
 
   -- p has become q at the direction, and then r; old rested, and new does
-  pub rested : (from to : Addr) (p : Lines Numbered) (w : Waiting Numbered) (x old new : Option Direction) → AreKept old p → Changes from to p q (Some w) → LosesBlank x q r →
-      (new ≡ Some (key from to)) ⊎ (x ≡ Some (key from to)) → IfSome old (λ before. (new ≡ Some before) ⊎ (x ≡ Some before)) → AreKept new r
+  pub rested : (from to : Addr) (p : Lines Numbered) (w : Waiting Numbered) (x old new : Option Direction) →
+      AreKept old p → Changes from to p q (Some w) → LosesBlank x q r →
+      (new ≡ Some (key from to)) ⊎ (x ≡ Some (key from to)) →
+      IfSome old (λ before. (new ≡ Some before) ⊎ (x ≡ Some before)) → AreKept new r
   rested from to p w x old new all h lost served before f t awake =
       ⊎_elim
       (λ is. kept_there x lost f t is)
@@ -122,7 +136,10 @@ module _ (q r : Lines Numbered) (ordered : IsStrictlySortedBy direction_cmp (key
       let apart : at from to (key f t) ≡ false = not_true _ (λ is.
       let one = ap Some (same (key from to) (key f t) is) in
       ⊎_elim (λ n. awake (n ∙ one)) (λ y. other (y ∙ one)) served) in
-      let as_before = same_elsewhere x lost f t other ∙ h.holds f t ∙ ap (λ b. cond b (Some w) (waiting_at p f t)) apart in
-      let was : IfSome (waiting_at p f t) IsKept = all f t (λ rests. ⊎_elim awake other (subst (λ o. IfSome o (λ before. (new ≡ Some before) ⊎ (x ≡ Some before))) rests before)) in
+      let as_before = same_elsewhere x lost f t other ∙ h.holds f t
+      ∙ ap (λ b. cond b (Some w) (waiting_at p f t)) apart in
+      let was : IfSome (waiting_at p f t) IsKept =
+      all f t (λ rests. ⊎_elim awake other
+      (subst (λ o. IfSome o (λ before. (new ≡ Some before) ⊎ (x ≡ Some before))) rests before)) in
       subst (λ o. IfSome o IsKept) (sym as_before) was)
       (is_or_not x (key f t))

@@ -26,7 +26,8 @@ use Rattle.session_queue.proofs.Places.{key}
 -- WHAT IS SHOWN
 
 module _ (pool : List Attr) where
-  messages_by : (x : Option (Waiting Numbered)) → messages_of (option_map (waiting_by pool) x) ≡ map (message_by pool) (messages_of x)
+  messages_by : (x : Option (Waiting Numbered)) → messages_of (option_map (waiting_by pool) x)
+      ≡ map (message_by pool) (messages_of x)
   messages_by None = refl
   messages_by (Some w) = refl
 
@@ -35,15 +36,19 @@ module _ (pool : List Attr) where
   spare_by (Some w) = refl
 
   -- the queue shows the line's messages
-  pub queue_shown : (ls : Lines Numbered) (f t : Addr) → queue_at (shown pool ls) f t ≡ map (message_by pool) (messages_at ls f t)
+  pub queue_shown : (ls : Lines Numbered) (f t : Addr) →
+      queue_at (shown pool ls) f t ≡ map (message_by pool) (messages_at ls f t)
   unfolding queue_at messages_at
-  queue_shown ls f t = ap messages_of (lookup-map_values (waiting_by pool) (is_at (direction_cmp (key f t))) ls) ∙ messages_by (waiting_at ls f t)
+  queue_shown ls f t = ap messages_of (lookup-map_values (waiting_by pool) (is_at (direction_cmp (key f t))) ls)
+      ∙ messages_by (waiting_at ls f t)
 
   pub spare_shown : (ls : Lines Numbered) (f t : Addr) → spare_at (shown pool ls) f t ≡ spare_in ls f t
   unfolding spare_at spare_in
-  spare_shown ls f t = ap spare_of (lookup-map_values (waiting_by pool) (is_at (direction_cmp (key f t))) ls) ∙ spare_by (waiting_at ls f t)
+  spare_shown ls f t = ap spare_of (lookup-map_values (waiting_by pool) (is_at (direction_cmp (key f t))) ls)
+      ∙ spare_by (waiting_at ls f t)
 
-  pub queue_shown_empty : (ls : Lines Numbered) (f t : Addr) → messages_at ls f t ≡ [] → queue_at (shown pool ls) f t ≡ []
+  pub queue_shown_empty : (ls : Lines Numbered) (f t : Addr) → messages_at ls f t ≡ [] →
+      queue_at (shown pool ls) f t ≡ []
   queue_shown_empty ls f t none = queue_shown ls f t ∙ ap (map (message_by pool)) none
 
 -- no message is there where none is shown
@@ -61,17 +66,20 @@ module _ (pool : List Attr) (ls ms : Lines Numbered) (q : Queues) (seen : shown 
   pub spare_was : (f t : Addr) → spare_at q f t ≡ spare_in ls f t
   spare_was f t = ap (λ w. spare_at w f t) (sym seen) ∙ spare_shown pool ls f t
 
-  pub queue_stays : (f t : Addr) → messages_at ms f t ≡ messages_at ls f t → queue_at (shown pool ms) f t ≡ queue_at q f t
+  pub queue_stays : (f t : Addr) → messages_at ms f t ≡ messages_at ls f t →
+      queue_at (shown pool ms) f t ≡ queue_at q f t
   queue_stays f t is = queue_shown pool ms f t ∙ ap (map (message_by pool)) is ∙ sym (queue_was f t)
 
-  pub queue_longer : (f t : Addr) (n : Numbered) (m : Message) → message_by pool n ≡ m → messages_at ms f t ≡ messages_at ls f t ++ n ∷ [] → queue_at (shown pool ms) f t ≡ queue_at q f t ++ m ∷ []
+  pub queue_longer : (f t : Addr) (n : Numbered) (m : Message) → message_by pool n ≡ m →
+      messages_at ms f t ≡ messages_at ls f t ++ n ∷ [] → queue_at (shown pool ms) f t ≡ queue_at q f t ++ m ∷ []
   queue_longer f t n m by is =
       queue_shown pool ms f t
       ∙ ap (map (message_by pool)) is
       ∙ map-append (message_by pool) (messages_at ls f t) (n ∷ [])
       ∙ (λ i. sym (queue_was f t) i ++ by i ∷ [])
 
-  pub queue_shorter : (f t : Addr) → messages_at ms f t ≡ drop 1 (messages_at ls f t) → queue_at (shown pool ms) f t ≡ drop 1 (queue_at q f t)
+  pub queue_shorter : (f t : Addr) → messages_at ms f t ≡ drop 1 (messages_at ls f t) →
+      queue_at (shown pool ms) f t ≡ drop 1 (queue_at q f t)
   queue_shorter f t is =
       queue_shown pool ms f t
       ∙ ap (map (message_by pool)) is
@@ -81,7 +89,8 @@ module _ (pool : List Attr) (ls ms : Lines Numbered) (q : Queues) (seen : shown 
   pub length_was : (f t : Addr) → length (queue_at q f t) ≡ length (messages_at ls f t)
   length_was f t = ap length (queue_was f t) ∙ length-map (messages_at ls f t) (message_by pool)
 
-  pub message_was : (f t : Addr) (n : ℕ) → slice_get (queue_at q f t) n ≡ option_map (message_by pool) (slice_get (messages_at ls f t) n)
+  pub message_was : (f t : Addr) (n : ℕ) →
+      slice_get (queue_at q f t) n ≡ option_map (message_by pool) (slice_get (messages_at ls f t) n)
   message_was f t n = ap (λ l. slice_get l n) (queue_was f t) ∙ slice_get-map (message_by pool) (messages_at ls f t) n
 
   pub empty_seen : (f t : Addr) → messages_at ls f t ≡ [] → queue_at q f t ≡ []
@@ -101,29 +110,40 @@ module _ (pool : List Attr) (ls ms : Lines Numbered) (q : Queues) (seen : shown 
   spare_stays f t is = spare_shown pool ms f t ∙ is ∙ sym (spare_was f t)
 
   pub others_stay : (from to : Addr) → KeepsOtherLines from to ls ms → KeepsOthers from to q (shown pool ms)
-  others_stay from to others = record { queue = λ f t h. queue_stays f t (others.messages f t h); spare = λ f t h. spare_stays f t (others.spare f t h) }
+  others_stay from to others = record {
+    queue = λ f t h. queue_stays f t (others.messages f t h);
+    spare = λ f t h. spare_stays f t (others.spare f t h);
+  }
 
 -- NUMBERS THAT WERE GIVEN
 
-both_by : (from to f t : Addr) (a b : Bool) → same_addr f from ≡ a → same_addr t to ≡ b → ((f ≡ from) × (t ≡ to)) ⊎ ((a && b) ≡ false)
-both_by from to f t true true p q = inl (ap (λ n. record { 0 = n }) ((unsigned_Decides f.0 from.0).0 p), ap (λ n. record { 0 = n }) ((unsigned_Decides t.0 to.0).0 q))
+both_by : (from to f t : Addr) (a b : Bool) → same_addr f from ≡ a → same_addr t to ≡ b → ((f ≡ from) × (t ≡ to))
+    ⊎ ((a && b) ≡ false)
+both_by from to f t true true p q = inl (
+  ap (λ n. record { 0 = n }) ((unsigned_Decides f.0 from.0).0 p),
+  ap (λ n. record { 0 = n }) ((unsigned_Decides t.0 to.0).0 q),
+)
 both_by from to f t true false p q = inr refl
 both_by from to f t false b p q = inr refl
 
 -- what holds of the messages of the direction and of all before the change holds of all after it
-pub given_everywhere : (pool : List Attr) (ls ms : Lines Numbered) (from to : Addr) → KeepsOtherLines from to ls ms → AreGiven pool ls → All (IsGiven pool) (messages_at ms from to) → AreGiven pool ms
+pub given_everywhere : (pool : List Attr) (ls ms : Lines Numbered) (from to : Addr) → KeepsOtherLines from to ls ms →
+    AreGiven pool ls → All (IsGiven pool) (messages_at ms from to) → AreGiven pool ms
 given_everywhere pool ls ms from to others all here = record {
   given = λ f t.
       ⊎_elim
-      (λ h. subst (λ x. All (IsGiven pool) (messages_at ms x t)) (sym h.0) (subst (λ x. All (IsGiven pool) (messages_at ms from x)) (sym h.1) here))
+      (λ h. subst (λ x. All (IsGiven pool) (messages_at ms x t)) (sym h.0)
+      (subst (λ x. All (IsGiven pool) (messages_at ms from x)) (sym h.1) here))
       (λ h. subst (All (IsGiven pool)) (sym (others.messages f t h)) (all.given f t))
       (both_by from to f t (same_addr f from) (same_addr t to) refl refl);
 }
 
-pub given_at : (pool : List Attr) (ls : Lines Numbered) → AreGiven pool ls → (f t : Addr) (k : ℕ) (n : Numbered) → slice_get (messages_at ls f t) k ≡ Some n → IsGiven pool n
+pub given_at : (pool : List Attr) (ls : Lines Numbered) → AreGiven pool ls → (f t : Addr) (k : ℕ) (n : Numbered) →
+    slice_get (messages_at ls f t) k ≡ Some n → IsGiven pool n
 given_at pool ls all f t k n found =
     subst (IsGiven pool) (get_or_from_slice_get (messages_at ls f t) k n n found)
-    (All-get_or (IsGiven pool) (messages_at ls f t) k n (slice_get_within (messages_at ls f t) k n found) (all.given f t))
+    (All-get_or (IsGiven pool) (messages_at ls f t) k n (slice_get_within (messages_at ls f t) k n found)
+    (all.given f t))
 
 -- A POOL THAT GROWS
 
@@ -150,16 +170,25 @@ module _ (pool : List Attr) (attr : Attr) where
   same_message false (NumberedUpdate p n) h = ap (Update p) (get_or_append_left pool (attr ∷ []) no_attr n h)
   same_message false (NumberedWithdrawal p) h = refl
 
-  same_messages : (b : Bool) (ns : List Numbered) → All (IsGiven pool) ns → map (message_by (grown b)) ns ≡ map (message_by pool) ns
+  same_messages : (b : Bool) (ns : List Numbered) → All (IsGiven pool) ns →
+      map (message_by (grown b)) ns ≡ map (message_by pool) ns
   same_messages b [] all = refl
-  same_messages b (n ∷ ns) all = λ i. same_message b n (All-head (IsGiven pool) n ns all) i ∷ same_messages b ns (All-tail (IsGiven pool) n ns all) i
+  same_messages b (n ∷ ns) all = λ i. same_message b n (All-head (IsGiven pool) n ns all) i
+      ∷ same_messages b ns (All-tail (IsGiven pool) n ns all) i
 
   -- the queues stay as they are
-  pub queue_kept : (ls : Lines Numbered) (f t : Addr) → AreGiven pool ls → queue_at (shown (with_attr pool attr) ls) f t ≡ queue_at (shown pool ls) f t
-  queue_kept ls f t all = queue_shown (with_attr pool attr) ls f t ∙ same_messages (has_attr pool attr) (messages_at ls f t) (all.given f t) ∙ sym (queue_shown pool ls f t)
+  pub queue_kept : (ls : Lines Numbered) (f t : Addr) → AreGiven pool ls → queue_at (shown (with_attr pool attr) ls) f t
+      ≡ queue_at (shown pool ls) f t
+  queue_kept ls f t all = queue_shown (with_attr pool attr) ls f t
+      ∙ same_messages (has_attr pool attr) (messages_at ls f t) (all.given f t) ∙ sym (queue_shown pool ls f t)
 
-  pub spare_kept : (ls : Lines Numbered) (f t : Addr) → spare_at (shown (with_attr pool attr) ls) f t ≡ spare_at (shown pool ls) f t
+  pub spare_kept : (ls : Lines Numbered) (f t : Addr) → spare_at (shown (with_attr pool attr) ls) f t
+      ≡ spare_at (shown pool ls) f t
   spare_kept ls f t = spare_shown (with_attr pool attr) ls f t ∙ sym (spare_shown pool ls f t)
 
   pub all_still_given : (ls : Lines Numbered) → AreGiven pool ls → AreGiven (with_attr pool attr) ls
-  all_still_given ls all = record { given = λ f t. All-weaker (IsGiven pool) (IsGiven (with_attr pool attr)) (still_given (has_attr pool attr)) (messages_at ls f t) (all.given f t) }
+  all_still_given ls all =
+      record {
+        given = λ f t. All-weaker (IsGiven pool) (IsGiven (with_attr pool attr))
+            (still_given (has_attr pool attr)) (messages_at ls f t) (all.given f t);
+      }

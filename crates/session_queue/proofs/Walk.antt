@@ -50,10 +50,12 @@ same d e h =
     λ i. record { from = record { 0 = first i }; to = record { 0 = second i } }
 
 -- the first entry is that of the direction, or the direction is sought behind it
-by_head : (d : Direction) (x : Direction × Waiting Numbered) (xs : Lines Numbered) → ((d ≡ x.0) × (held (x ∷ xs) d ≡ Some x.1)) ⊎ (held (x ∷ xs) d ≡ held xs d)
+by_head : (d : Direction) (x : Direction × Waiting Numbered) (xs : Lines Numbered) →
+    ((d ≡ x.0) × (held (x ∷ xs) d ≡ Some x.1)) ⊎ (held (x ∷ xs) d ≡ held xs d)
 by_head d x xs = go (is_at (direction_cmp d) x.0) refl
   where
-    go : (b : Bool) → is_at (direction_cmp d) x.0 ≡ b → ((d ≡ x.0) × (held (x ∷ xs) d ≡ Some x.1)) ⊎ (held (x ∷ xs) d ≡ held xs d)
+    go : (b : Bool) → is_at (direction_cmp d) x.0 ≡ b → ((d ≡ x.0) × (held (x ∷ xs) d ≡ Some x.1))
+        ⊎ (held (x ∷ xs) d ≡ held xs d)
     go true h = inl (same d x.0 h, lookup_head (is_at (direction_cmp d)) x xs h)
     go false h = inr (lookup_tail (is_at (direction_cmp d)) x xs h)
 
@@ -68,10 +70,13 @@ abbrev pub Finds : (Direction → Bool) → Lines Numbered → Option (Direction
 Finds past es None = (d : Direction) → past d ≡ true → messages_of (held es d) ≡ []
 Finds past es (Some e) = IsFirst past es e
 
-module _ (past : Direction → Bool) (x : Direction × Waiting Numbered) (xs : Lines Numbered) (ordered : IsStrictlySortedBy direction_cmp (keys_of (x ∷ xs))) where
+module _ (past : Direction → Bool) (x : Direction × Waiting Numbered) (xs : Lines Numbered)
+    (ordered : IsStrictlySortedBy direction_cmp (keys_of (x ∷ xs))) where
   -- x does not count
-  skipped : (past x.0 ≡ true → x.1.messages ≡ []) → (d : Direction) → past d ≡ true → (messages_of (held xs d) ≡ []) → messages_of (held (x ∷ xs) d) ≡ []
-  skipped blank d passes none = ⊎_elim (λ h. ap messages_of h.1 ∙ blank (sym (ap past h.0) ∙ passes)) (λ h. ap messages_of h ∙ none) (by_head d x xs)
+  skipped : (past x.0 ≡ true → x.1.messages ≡ []) → (d : Direction) → past d ≡ true → (messages_of (held xs d) ≡ []) →
+      messages_of (held (x ∷ xs) d) ≡ []
+  skipped blank d passes none = ⊎_elim (λ h. ap messages_of h.1 ∙ blank (sym (ap past h.0) ∙ passes))
+      (λ h. ap messages_of h ∙ none) (by_head d x xs)
 
   behind : (e : Direction × Waiting Numbered) → held xs e.0 ≡ Some e.1 → held (x ∷ xs) e.0 ≡ Some e.1
   behind e found = go (is_at (direction_cmp e.0) x.0) refl
@@ -83,7 +88,8 @@ module _ (past : Direction → Bool) (x : Direction × Waiting Numbered) (xs : L
           absurd (none-some e.1 (sym none ∙ found))
       go false h = lookup_tail (is_at (direction_cmp e.0)) x xs h ∙ found
 
-  skip : (past x.0 ≡ true → x.1.messages ≡ []) → (r : Option (Direction × Waiting Numbered)) → Finds past xs r → Finds past (x ∷ xs) r
+  skip : (past x.0 ≡ true → x.1.messages ≡ []) → (r : Option (Direction × Waiting Numbered)) → Finds past xs r →
+      Finds past (x ∷ xs) r
   skip blank None finds = λ d passes. skipped blank d passes (finds d passes)
   skip blank (Some e) finds = record {
     holds = behind e finds.holds;
@@ -97,7 +103,9 @@ module _ (past : Direction → Bool) (x : Direction × Waiting Numbered) (xs : L
     holds = lookup_head (is_at (direction_cmp x.0)) x xs (ap is_eq (tied_itself direction_total x.0));
     passes = passes;
     full = full;
-    none_before = λ d p less. ap messages_of (lookup-none (is_at (direction_cmp d)) (x ∷ xs) (none_below_head direction_total d x xs ordered less));
+    none_before = λ d p less.
+        ap messages_of (lookup-none (is_at (direction_cmp d)) (x ∷ xs)
+        (none_below_head direction_total d x xs ordered less));
   }
 
 no_message : (ms : List Numbered) → not (length ms == 0) ≡ false → ms ≡ []
@@ -112,14 +120,20 @@ some_message (m ∷ ms) h = grind arith
 abbrev pub first_of : (Direction → Bool) → Lines Numbered → Option (Direction × Waiting Numbered)
 first_of past es = find (λ e. has_message e.1) (filter (λ e. past e.0) es)
 
-with_head : (past : Direction → Bool) (x : Direction × Waiting Numbered) (xs : Lines Numbered) → IsStrictlySortedBy direction_cmp (keys_of (x ∷ xs)) → (b f : Bool) → past x.0 ≡ b → has_message x.1 ≡ f → Finds past xs (first_of past xs) → Finds past (x ∷ xs) (first_of past (x ∷ xs))
+with_head : (past : Direction → Bool) (x : Direction × Waiting Numbered) (xs : Lines Numbered) →
+    IsStrictlySortedBy direction_cmp (keys_of (x ∷ xs)) → (b f : Bool) → past x.0 ≡ b → has_message x.1 ≡ f →
+    Finds past xs (first_of past xs) → Finds past (x ∷ xs) (first_of past (x ∷ xs))
 with_head past x xs ordered true true passes full rest = rw passes (rw full (take past x xs ordered passes full))
-with_head past x xs ordered true false passes full rest = rw passes (rw full (skip past x xs ordered (λ p. no_message x.1.messages full) _ rest))
-with_head past x xs ordered false f passes full rest = rw passes (skip past x xs ordered (λ p. absurd (false≢true (sym passes ∙ p))) _ rest)
+with_head past x xs ordered true false passes full rest =
+    rw passes (rw full (skip past x xs ordered (λ p. no_message x.1.messages full) _ rest))
+with_head past x xs ordered false f passes full rest =
+    rw passes (skip past x xs ordered (λ p. absurd (false≢true (sym passes ∙ p))) _ rest)
 
-finds : (past : Direction → Bool) (es : Lines Numbered) → IsStrictlySortedBy direction_cmp (keys_of es) → Finds past es (first_of past es)
+finds : (past : Direction → Bool) (es : Lines Numbered) → IsStrictlySortedBy direction_cmp (keys_of es) →
+    Finds past es (first_of past es)
 finds past [] ordered = λ d passes. refl
-finds past (x ∷ xs) ordered = with_head past x xs ordered (past x.0) (has_message x.1) refl refl (finds past xs (sorted_tail direction_cmp x.0 (keys_of xs) ordered))
+finds past (x ∷ xs) ordered = with_head past x xs ordered (past x.0) (has_message x.1) refl refl
+    (finds past xs (sorted_tail direction_cmp x.0 (keys_of xs) ordered))
 
 -- past the direction that is given
 abbrev pub past_test : Option (Addr × Addr) → Direction → Bool
@@ -142,19 +156,26 @@ abbrev pub pair_of : Direction → Addr × Addr
 pair_of d = (d.from, d.to)
 
 module _ (q : Lines Numbered) (start : Option (Addr × Addr)) where
-  full_at : (x : Option (Direction × Waiting Numbered)) → Finds (past_test start) q x → IfSome (option_map pair_of (option_map (λ e. e.0) x)) (λ found. 0 < length (messages_at q found.0 found.1))
+  full_at : (x : Option (Direction × Waiting Numbered)) → Finds (past_test start) q x →
+      IfSome (option_map pair_of (option_map (λ e. e.0) x)) (λ found. 0 < length (messages_at q found.0 found.1))
   full_at None finds = tt
-  full_at (Some e) finds = rw (queue_held e.0.from e.0.to q q refl (Some e.1) (sym finds.holds)) (some_message e.1.messages finds.full)
+  full_at (Some e) finds = rw (queue_held e.0.from e.0.to q q refl (Some e.1) (sym finds.holds))
+      (some_message e.1.messages finds.full)
 
-  past_at : (x : Option (Direction × Waiting Numbered)) → Finds (past_test start) q x → IfSome (option_map pair_of (option_map (λ e. e.0) x)) (IsPast start)
+  past_at : (x : Option (Direction × Waiting Numbered)) → Finds (past_test start) q x →
+      IfSome (option_map pair_of (option_map (λ e. e.0) x)) (IsPast start)
   past_at None finds = tt
   past_at (Some e) finds = past_from_test start e.0 finds.passes
 
-  none_at : (x : Option (Direction × Waiting Numbered)) → Finds (past_test start) q x → PassNone q start (option_map pair_of (option_map (λ e. e.0) x))
-  none_at None finds = λ from to past. queue_held from to q q refl _ refl ∙ finds (key from to) (test_from_past start (key from to) past)
-  none_at (Some e) finds = λ from to past less. queue_held from to q q refl _ refl ∙ finds.none_before (key from to) (test_from_past start (key from to) past) less
+  none_at : (x : Option (Direction × Waiting Numbered)) → Finds (past_test start) q x →
+      PassNone q start (option_map pair_of (option_map (λ e. e.0) x))
+  none_at None finds = λ from to past. queue_held from to q q refl _ refl
+      ∙ finds (key from to) (test_from_past start (key from to) past)
+  none_at (Some e) finds = λ from to past less. queue_held from to q q refl _ refl
+      ∙ finds.none_before (key from to) (test_from_past start (key from to) past) less
 
-  module _ (ordered : IsStrictlySortedBy direction_cmp (keys_of q)) (found : Option (Addr × Addr)) (is : found ≡ option_map pair_of (option_map (λ e. e.0) (first_of (past_test start) q))) where
+  module _ (ordered : IsStrictlySortedBy direction_cmp (keys_of q)) (found : Option (Addr × Addr))
+      (is : found ≡ option_map pair_of (option_map (λ e. e.0) (first_of (past_test start) q))) where
     pub found_full : IfSome found (λ d. 0 < length (messages_at q d.0 d.1))
     found_full = rw is (full_at _ (finds (past_test start) q ordered))
 
@@ -173,19 +194,25 @@ module _ (q : Lines Numbered) (shard shards : ℕ) where
   to_shard : (d : Direction) → shard_of d.to shards ≡ shard → is_in_shard shard shards d ≡ true
   to_shard d h = (unsigned_Decides (shard_of d.to shards) shard).1 h
 
-  shard_full_at : (x : Option (Direction × Waiting Numbered)) → Finds (is_in_shard shard shards) q x → IfSome (option_map (λ e. e.0) x) (λ d. 0 < length (messages_at q d.from d.to))
+  shard_full_at : (x : Option (Direction × Waiting Numbered)) → Finds (is_in_shard shard shards) q x →
+      IfSome (option_map (λ e. e.0) x) (λ d. 0 < length (messages_at q d.from d.to))
   shard_full_at None finds = tt
-  shard_full_at (Some e) finds = rw (queue_held e.0.from e.0.to q q refl (Some e.1) (sym finds.holds)) (some_message e.1.messages finds.full)
+  shard_full_at (Some e) finds = rw (queue_held e.0.from e.0.to q q refl (Some e.1) (sym finds.holds))
+      (some_message e.1.messages finds.full)
 
-  shard_is_at : (x : Option (Direction × Waiting Numbered)) → Finds (is_in_shard shard shards) q x → IfSome (option_map (λ e. e.0) x) (λ d. shard_of d.to shards ≡ shard)
+  shard_is_at : (x : Option (Direction × Waiting Numbered)) → Finds (is_in_shard shard shards) q x →
+      IfSome (option_map (λ e. e.0) x) (λ d. shard_of d.to shards ≡ shard)
   shard_is_at None finds = tt
   shard_is_at (Some e) finds = in_shard e.0 finds.passes
 
-  shard_none_at : (x : Option (Direction × Waiting Numbered)) → Finds (is_in_shard shard shards) q x → IfNone (option_map (λ e. e.0) x) ((from to : Addr) → shard_of to shards ≡ shard → messages_at q from to ≡ [])
-  shard_none_at None finds = λ from to is. queue_held from to q q refl _ refl ∙ finds (key from to) (to_shard (key from to) is)
+  shard_none_at : (x : Option (Direction × Waiting Numbered)) → Finds (is_in_shard shard shards) q x →
+      IfNone (option_map (λ e. e.0) x) ((from to : Addr) → shard_of to shards ≡ shard → messages_at q from to ≡ [])
+  shard_none_at None finds = λ from to is. queue_held from to q q refl _ refl
+      ∙ finds (key from to) (to_shard (key from to) is)
   shard_none_at (Some e) finds = tt
 
-  module _ (ordered : IsStrictlySortedBy direction_cmp (keys_of q)) (found : Option Direction) (is : found ≡ option_map (λ e. e.0) (first_of (is_in_shard shard shards) q)) where
+  module _ (ordered : IsStrictlySortedBy direction_cmp (keys_of q)) (found : Option Direction)
+      (is : found ≡ option_map (λ e. e.0) (first_of (is_in_shard shard shards) q)) where
     pub shard_full : IfSome found (λ d. 0 < length (messages_at q d.from d.to))
     shard_full = rw is (shard_full_at _ (finds (is_in_shard shard shards) q ordered))
 

@@ -1,4 +1,5 @@
--- Lines of messages: in each direction of a session the messages on their way, the head first, and how many more it can take (own).
+-- Lines of messages: in each direction of a session the messages on their way, the head first, and how many more it can
+-- take (own).
 use Rattle.std.specs.Prelude.{◌≡◌, ℕ, Bool, false, ◌&&◌, List, [], Option, Some, None}
 use Rattle.std.specs.Map.{lookup}
 use Rattle.std.specs.BTreeMap.{is_at}
@@ -18,7 +19,8 @@ pub record Waiting (M : Type 0) : Type 0 where
 abbrev pub direction_cmp : Direction → Direction → Ordering
 direction_cmp d e = ordering_then (addr_cmp d.from e.from) (addr_cmp d.to e.to)
 
--- what each direction holds, by sender and receiver: a direction that is not here has neither a message nor spare memory
+-- what each direction holds, by sender and receiver: a direction that is not here has neither a message nor spare
+-- memory
 abbrev pub Lines : Type 0 → Type 0
 Lines M = List (Direction × Waiting M)
 
@@ -69,4 +71,5 @@ module _ {M : Type 0} where
   -- none past the start
   abbrev pub PassNone : Lines M → Option (Addr × Addr) → Option (Addr × Addr) → Type 0
   PassNone ls start None = (from to : Addr) → IsPast start (from, to) → messages_at ls from to ≡ []
-  PassNone ls start (Some found) = (from to : Addr) → IsPast start (from, to) → IsBefore (from, to) found → messages_at ls from to ≡ []
+  PassNone ls start (Some found) = (from to : Addr) → IsPast start (from, to) → IsBefore (from, to) found →
+      messages_at ls from to ≡ []

@@ -1,5 +1,6 @@
--- The queues of sessions: in each direction the messages on their way, the head first, and how many more it can take (own).
--- Messages are received in the order in which they were sent (RFC 4271, 3), and none is merged with another (own).
+-- The queues of sessions: in each direction the messages on their way, the head first, and how many more it can take
+-- (own). Messages are received in the order in which they were sent (RFC 4271, 3), and none is merged with another
+-- (own).
 use Rattle.std.specs.Prelude.{◌≡◌, ℕ, true, false, List, [], Option, Some, None}
 use Rattle.net_prefix.specs.declared.addr.Addr.{Addr}
 use Rattle.path_attr.specs.declared.attr.Attr.{Attr}
@@ -9,7 +10,8 @@ use Rattle.session_queue.specs.declared.message.Message.TheVariants.{Update, Wit
 use Rattle.session_queue.specs.Lines.{Lines, messages_at, spare_in, same_direction, IsBefore, IsPast}
 pub use Rattle.session_queue.specs.Lines.{direction_cmp, same_direction, IsBefore, IsPast}
 
--- lines: the messages of each direction, and how many more it can take; admitted: the attributes that an update may have, each once (own)
+-- lines: the messages of each direction, and how many more it can take; admitted: the attributes that an update may
+-- have, each once (own)
 pub record Queues : Type 0 where
   pub lines : Lines Message
   pub admitted : List Attr
@@ -57,4 +59,5 @@ IsQuiet q = (from to : Addr) → queue_at q from to ≡ []
 -- none past the start
 abbrev pub SkipsNone : Queues → Option (Addr × Addr) → Option (Addr × Addr) → Type 0
 SkipsNone q start None = (from to : Addr) → IsPast start (from, to) → queue_at q from to ≡ []
-SkipsNone q start (Some found) = (from to : Addr) → IsPast start (from, to) → IsBefore (from, to) found → queue_at q from to ≡ []
+SkipsNone q start (Some found) = (from to : Addr) → IsPast start (from, to) → IsBefore (from, to) found →
+    queue_at q from to ≡ []

@@ -27,7 +27,8 @@ module _ {K : Type 0} where
     starts_by q (k ∷ ks) = is_ge (cmp q k)
 
     -- the keys of the chunks are those before, this chunk's, and those after: the key can stand in this chunk alone
-    pub record IsSplit (chunks : List (List K)) (q : K) (before : List (List K)) (chunk : List K) (after : List (List K)) : Type 0 where
+    pub record IsSplit (chunks : List (List K)) (q : K) (before : List (List K)) (chunk : List K)
+        (after : List (List K)) : Type 0 where
       pub whole : keys_in chunks ≡ keys_in before ++ chunk ++ keys_in after
       pub full_before : list_all has_key before ≡ true
       pub full_after : list_all has_key after ≡ true

@@ -20,6 +20,10 @@ module _ {K V : Type 0} where
     -- the chunk at this position is the one in which the key can stand
     pub record IsPlace (chunks : List (List (K × V))) (q : K) (at : ℕ) : Type 0 where
       pub in_range : at < length chunks
-      pub value : (es : List (K × V)) → slice_get chunks at ≡ Some es → lookup (is_at (cmp q)) es ≡ lookup (is_at (cmp q)) (entries_in chunks)
-      pub put : (v : V) (es : List (K × V)) → slice_get chunks at ≡ Some es → entries_in (set chunks at (insert_entry cmp es q v)) ≡ insert_entry cmp (entries_in chunks) q v
-      pub taken : (es : List (K × V)) → slice_get chunks at ≡ Some es → entries_in (set chunks at (remove_entry (is_at (cmp q)) es)) ≡ remove_entry (is_at (cmp q)) (entries_in chunks)
+      pub value : (es : List (K × V)) → slice_get chunks at ≡ Some es →
+          lookup (is_at (cmp q)) es ≡ lookup (is_at (cmp q)) (entries_in chunks)
+      pub put : (v : V) (es : List (K × V)) → slice_get chunks at ≡ Some es →
+          entries_in (set chunks at (insert_entry cmp es q v)) ≡ insert_entry cmp (entries_in chunks) q v
+      pub taken : (es : List (K × V)) → slice_get chunks at ≡ Some es →
+          entries_in (set chunks at (remove_entry (is_at (cmp q)) es)) ≡ remove_entry (is_at (cmp q))
+          (entries_in chunks)

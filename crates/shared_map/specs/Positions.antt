@@ -13,7 +13,8 @@ module _ {K : Type 0} (cmp : K → K → Ordering) where
   -- the key's entry stands at this position
   pub record IsAt {V : Type 0} (es : List (K × V)) (k : K) (position : ℕ) : Type 0 where
     pub in_range : position < length es
-    pub written : (v : V) (e : K × V) → slice_get es position ≡ Some e → set es position (e.0, v) ≡ insert_entry cmp es k v
+    pub written : (v : V) (e : K × V) → slice_get es position ≡ Some e →
+        set es position (e.0, v) ≡ insert_entry cmp es k v
     pub removed : remove es position ≡ remove_entry (is_at (cmp k)) es
     pub value : (e : K × V) → slice_get es position ≡ Some e → lookup (is_at (cmp k)) es ≡ Some e.1
 

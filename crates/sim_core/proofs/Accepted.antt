@@ -23,11 +23,13 @@ use Rattle.reference_machine.specs.Machine.{Outcome, unless_refused, refused, is
 use Rattle.cell_engine.specs.State.{State, IsConsistent, network}
 use Rattle.cell_engine.proofs.Queues.{messages_on_session}
 
-passes : (test : Bool) (refusal : Refusal) (later : Option Refusal) → (if test then Some refusal else later) ≡ None → test ≡ false
+passes : (test : Bool) (refusal : Refusal) (later : Option Refusal) → (if test then Some refusal else later) ≡ None →
+    test ≡ false
 passes true refusal later is = absurd (none-some refusal (sym is))
 passes false refusal later is = refl
 
-later_passes : (test : Bool) (refusal : Refusal) (later : Option Refusal) → (if test then Some refusal else later) ≡ None → later ≡ None
+later_passes : (test : Bool) (refusal : Refusal) (later : Option Refusal) →
+    (if test then Some refusal else later) ≡ None → later ≡ None
 later_passes true refusal later is = absurd (none-some refusal (sym is))
 later_passes false refusal later is = is
 
@@ -36,23 +38,29 @@ not_false true h = refl
 not_false false h = absurd (true≢false h)
 
 -- what is not refused passes the tests
-pub allowed : (r : Option Refusal) (s : Network) (o : Outcome) → is_refusal (unless_refused r s o).reply ≡ false → r ≡ None
+pub allowed : (r : Option Refusal) (s : Network) (o : Outcome) → is_refusal (unless_refused r s o).reply ≡ false →
+    r ≡ None
 allowed None s o h = refl
 allowed (Some r) s o h = absurd (true≢false h)
 
 -- EDITS
 
-pub edit_accepted : (s : Network) (edit : Edit) → is_refusal (edit_step s edit).reply ≡ false → refusal_of s.conf edit ≡ None
+pub edit_accepted : (s : Network) (edit : Edit) → is_refusal (edit_step s edit).reply ≡ false →
+    refusal_of s.conf edit ≡ None
 unfolding edit_step
 edit_accepted s edit h = allowed (refusal_of s.conf edit) s _ h
 
-pub edit_done : (s : Network) (edit : Edit) → refusal_of s.conf edit ≡ None → edit_step s edit ≡ record { reply = Done; next = with_sent s (after_edit s edit) }
+pub edit_done : (s : Network) (edit : Edit) → refusal_of s.conf edit ≡ None →
+    edit_step s edit ≡ record { reply = Done; next = with_sent s (after_edit s edit) }
 unfolding edit_step
-edit_done s edit none = ap (λ r. unless_refused r s (record { reply = Done; next = with_sent s (after_edit s edit) })) none
+edit_done s edit none = ap (λ r. unless_refused r s (record { reply = Done; next = with_sent s (after_edit s edit) }))
+    none
 
-pub edit_refused : (s : Network) (edit : Edit) (r : Refusal) → refusal_of s.conf edit ≡ Some r → edit_step s edit ≡ refused r s
+pub edit_refused : (s : Network) (edit : Edit) (r : Refusal) → refusal_of s.conf edit ≡ Some r →
+    edit_step s edit ≡ refused r s
 unfolding edit_step
-edit_refused s edit r is = ap (λ o. unless_refused o s (record { reply = Done; next = with_sent s (after_edit s edit) })) is
+edit_refused s edit r is =
+    ap (λ o. unless_refused o s (record { reply = Done; next = with_sent s (after_edit s edit) })) is
 
 -- FEEDS
 
@@ -60,7 +68,8 @@ pub feed_accepted : (s : Network) (f : Feed) → is_refusal (feed_step s f).repl
 unfolding feed_step
 feed_accepted s f h = allowed (feed_refusal s.conf f) s _ h
 
-pub feed_done : (s : Network) (f : Feed) → feed_refusal s.conf f ≡ None → feed_step s f ≡ record { reply = Done; next = after_feed s f }
+pub feed_done : (s : Network) (f : Feed) → feed_refusal s.conf f ≡ None →
+    feed_step s f ≡ record { reply = Done; next = after_feed s f }
 unfolding feed_step
 feed_done s f none = ap (λ r. unless_refused r s (record { reply = Done; next = after_feed s f })) none
 
@@ -72,33 +81,41 @@ feed_refused s f r is = ap (λ o. unless_refused o s (record { reply = Done; nex
 pub feed_session : (c : Configuration) (f : Feed) → feed_refusal c f ≡ None → has_session c f.from f.to ≡ true
 unfolding feed_refusal
 feed_session c f none =
-    not_false (has_session c f.from f.to) (passes (not (has_session c f.from f.to)) NoSession _ (later_passes _ BadEnd _ (later_passes _ NoRouter _ none)))
+    not_false (has_session c f.from f.to)
+    (passes (not (has_session c f.from f.to)) NoSession
+    _ (later_passes _ BadEnd _ (later_passes _ NoRouter _ none)))
 
 -- DELIVERIES
 
-pub delivery_accepted : (s : Network) (d : Direction) → is_refusal (delivery_step s d).reply ≡ false → delivery_refusal s.conf d ≡ None
+pub delivery_accepted : (s : Network) (d : Direction) → is_refusal (delivery_step s d).reply ≡ false →
+    delivery_refusal s.conf d ≡ None
 unfolding delivery_step
 delivery_accepted s d h = allowed (delivery_refusal s.conf d) s _ h
 
-pub delivery_is : (s : Network) (d : Direction) → delivery_refusal s.conf d ≡ None → delivery_step s d ≡ head_step s d (messages_in s.queues d)
+pub delivery_is : (s : Network) (d : Direction) → delivery_refusal s.conf d ≡ None →
+    delivery_step s d ≡ head_step s d (messages_in s.queues d)
 unfolding delivery_step
 delivery_is s d none = ap (λ r. unless_refused r s (head_step s d (messages_in s.queues d))) none
 
-pub delivery_refused : (s : Network) (d : Direction) (r : Refusal) → delivery_refusal s.conf d ≡ Some r → delivery_step s d ≡ refused r s
+pub delivery_refused : (s : Network) (d : Direction) (r : Refusal) → delivery_refusal s.conf d ≡ Some r →
+    delivery_step s d ≡ refused r s
 unfolding delivery_step
 delivery_refused s d r is = ap (λ o. unless_refused o s (head_step s d (messages_in s.queues d))) is
 
 -- a delivery goes over a session
-pub delivery_session : (c : Configuration) (d : Direction) → delivery_refusal c d ≡ None → has_session c d.from d.to ≡ true
+pub delivery_session : (c : Configuration) (d : Direction) → delivery_refusal c d ≡ None →
+    has_session c d.from d.to ≡ true
 unfolding delivery_refusal
 delivery_session c d none =
-    not_false (has_session c d.from d.to) (passes (not (has_session c d.from d.to)) NoSession _ (later_passes _ NoRouter _ none))
+    not_false (has_session c d.from d.to)
+    (passes (not (has_session c d.from d.to)) NoSession _ (later_passes _ NoRouter _ none))
 
 -- which is up
 pub delivery_up : (c : Configuration) (d : Direction) → delivery_refusal c d ≡ None → is_up c d.from d.to ≡ true
 unfolding delivery_refusal
 delivery_up c d none =
-    not_false (is_up c d.from d.to) (passes (not (is_up c d.from d.to)) SessionDown _ (later_passes _ NoSession _ (later_passes _ NoRouter _ none)))
+    not_false (is_up c d.from d.to)
+    (passes (not (is_up c d.from d.to)) SessionDown _ (later_passes _ NoSession _ (later_passes _ NoRouter _ none)))
 
 took_prefix : Prefix → Reply → Prefix
 took_prefix p (Took q k) = q
@@ -110,34 +127,45 @@ module _ (e : State) (sound : IsConsistent e) (d : Direction) (none : delivery_r
   refusal_of_network = none
 
   -- the head is taken
-  pub delivery_takes : (m : Message) → slice_get (queue_at e.queues d.from d.to) 0 ≡ Some m → (delivery_step (network e) d).reply ≡ Took (prefix_of m) (kind_of m)
+  pub delivery_takes : (m : Message) → slice_get (queue_at e.queues d.from d.to) 0 ≡ Some m →
+      (delivery_step (network e) d).reply ≡ Took (prefix_of m) (kind_of m)
   delivery_takes m first = by (queue_at e.queues d.from d.to) refl first
     where
-      by : (ms : List Message) → queue_at e.queues d.from d.to ≡ ms → slice_get ms 0 ≡ Some m → (delivery_step (network e) d).reply ≡ Took (prefix_of m) (kind_of m)
+      by : (ms : List Message) → queue_at e.queues d.from d.to ≡ ms → slice_get ms 0 ≡ Some m →
+          (delivery_step (network e) d).reply ≡ Took (prefix_of m) (kind_of m)
       by [] waits is = absurd (none-some m is)
       by (w ∷ ws) waits is =
-          ap (λ o. o.reply) (delivery_is (network e) d refusal_of_network ∙ ap (head_step (network e) d) (messages_on_session e sound d (delivery_session e.conf d none) ∙ ap Some waits))
+          ap (λ o. o.reply) (delivery_is (network e) d refusal_of_network
+          ∙ ap (head_step (network e) d) (messages_on_session e sound d (delivery_session e.conf d none)
+          ∙ ap Some waits))
           ∙ ap (λ x. Took (prefix_of x) (kind_of x)) (same_Some w m is)
 
   -- and its prefix is told
-  pub prefix_taken : (m : Message) → slice_get (queue_at e.queues d.from d.to) 0 ≡ Some m → (q : Prefix) (k : MessageKind) → (delivery_step (network e) d).reply ≡ Took q k → prefix_of m ≡ q
+  pub prefix_taken : (m : Message) → slice_get (queue_at e.queues d.from d.to) 0 ≡ Some m →
+      (q : Prefix) (k : MessageKind) → (delivery_step (network e) d).reply ≡ Took q k → prefix_of m ≡ q
   unfolding took_prefix
   prefix_taken m first q k took = ap (took_prefix (prefix_of m)) (sym (delivery_takes m first) ∙ took)
 
   -- or there is none
-  pub delivery_of_nothing : slice_get (queue_at e.queues d.from d.to) 0 ≡ None → delivery_step (network e) d ≡ refused QueueEmpty (network e)
+  pub delivery_of_nothing : slice_get (queue_at e.queues d.from d.to) 0 ≡ None →
+      delivery_step (network e) d ≡ refused QueueEmpty (network e)
   delivery_of_nothing first = by (queue_at e.queues d.from d.to) refl first
     where
-      by : (ms : List Message) → queue_at e.queues d.from d.to ≡ ms → slice_get ms 0 ≡ None → delivery_step (network e) d ≡ refused QueueEmpty (network e)
-      by [] waits is = delivery_is (network e) d refusal_of_network ∙ ap (head_step (network e) d) (messages_on_session e sound d (delivery_session e.conf d none) ∙ ap Some waits)
+      by : (ms : List Message) → queue_at e.queues d.from d.to ≡ ms → slice_get ms 0 ≡ None →
+          delivery_step (network e) d ≡ refused QueueEmpty (network e)
+      by [] waits is = delivery_is (network e) d refusal_of_network
+          ∙ ap (head_step (network e) d) (messages_on_session e sound d (delivery_session e.conf d none)
+          ∙ ap Some waits)
       by (w ∷ ws) waits is = absurd (none-some w (sym is))
 
 -- QUESTIONS
 
-pub question_answered : (s : Network) (q : Ask) → ask_refusal s.conf q ≡ None → question_step s q ≡ record { reply = AReport (report_of s q); next = s }
+pub question_answered : (s : Network) (q : Ask) → ask_refusal s.conf q ≡ None →
+    question_step s q ≡ record { reply = AReport (report_of s q); next = s }
 unfolding question_step
 question_answered s q none = ap (λ r. unless_refused r s (record { reply = AReport (report_of s q); next = s })) none
 
-pub question_refused : (s : Network) (q : Ask) (r : Refusal) → ask_refusal s.conf q ≡ Some r → question_step s q ≡ refused r s
+pub question_refused : (s : Network) (q : Ask) (r : Refusal) → ask_refusal s.conf q ≡ Some r →
+    question_step s q ≡ refused r s
 unfolding question_step
 question_refused s q r is = ap (λ o. unless_refused o s (record { reply = AReport (report_of s q); next = s })) is

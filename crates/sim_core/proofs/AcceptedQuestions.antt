@@ -9,11 +9,13 @@ use Rattle.sim_event.specs.declared.event.Ask.TheVariants.{Routes, Best, Why, In
 use Rattle.sim_event.specs.declared.event.Event.TheVariants.{Ask as AnAsk}
 use Rattle.reference_machine.specs.Machine.{ask_refusal, asks_nobody, asks_peer, asks_quiet}
 
-passes : (test : Bool) (refusal : Refusal) (later : Option Refusal) → (if test then Some refusal else later) ≡ None → test ≡ false
+passes : (test : Bool) (refusal : Refusal) (later : Option Refusal) → (if test then Some refusal else later) ≡ None →
+    test ≡ false
 passes true refusal later is = absurd (none-some refusal (sym is))
 passes false refusal later is = refl
 
-later_passes : (test : Bool) (refusal : Refusal) (later : Option Refusal) → (if test then Some refusal else later) ≡ None → later ≡ None
+later_passes : (test : Bool) (refusal : Refusal) (later : Option Refusal) →
+    (if test then Some refusal else later) ≡ None → later ≡ None
 later_passes true refusal later is = absurd (none-some refusal (sym is))
 later_passes false refusal later is = is
 
@@ -33,7 +35,8 @@ first_there true other h = refl
 first_there false other h = sym h
 
 -- whether all queues are empty is never refused
-pub quiet_is_answered : (c : Configuration) (q : Ask) (r : Refusal) → ask_refusal c q ≡ Some r → asks_quiet (AnAsk q) ≡ false
+pub quiet_is_answered : (c : Configuration) (q : Ask) (r : Refusal) → ask_refusal c q ≡ Some r →
+    asks_quiet (AnAsk q) ≡ false
 unfolding ask_refusal
 quiet_is_answered c (Routes a) r is = refl
 quiet_is_answered c (Best a p) r is = refl

@@ -28,13 +28,22 @@ pub record IsEditing (e : State) (event : Event) (x : Edited) : Type 0 where
   pub room : HasPlaces e x
   pub next : (step (network e) event).next ≡ with_sent (network e) (after_edit (network e) edit)
 
-edit_next : (e : State) (edit : Edit) (p : Plan) → IsPrepared e (AnEdit edit) p → (edit_step (network e) edit).next ≡ with_sent (network e) (after_edit (network e) edit)
-edit_next e edit p is = ap (λ o. o.next) (edit_done (network e) edit (edit_accepted (network e) edit (sym (ap is_refusal is.reply) ∙ is.accepted)))
+edit_next : (e : State) (edit : Edit) (p : Plan) → IsPrepared e (AnEdit edit) p →
+    (edit_step (network e) edit).next ≡ with_sent (network e) (after_edit (network e) edit)
+edit_next e edit p is = ap (λ o. o.next)
+    (edit_done (network e) edit (edit_accepted (network e) edit (sym (ap is_refusal is.reply) ∙ is.accepted)))
 
-pub editing : (e : State) (event : Event) (p : Plan) → IsPrepared e event p → (x : Edited) → p.edited ≡ Some x → IsEditing e event x
+pub editing : (e : State) (event : Event) (p : Plan) → IsPrepared e event p → (x : Edited) → p.edited ≡ Some x →
+    IsEditing e event x
 editing e (AnEdit edit) p is x has =
     let same = same_Some is.does.plan x (sym is.does.edited ∙ has) in
-    record { edit = edit; named = refl; is = subst (IsPlanned e edit) same is.does.is; room = subst (HasPlaces e) same is.does.room; next = edit_next e edit p is }
+    record {
+      edit = edit;
+      named = refl;
+      is = subst (IsPlanned e edit) same is.does.is;
+      room = subst (HasPlaces e) same is.does.room;
+      next = edit_next e edit p is;
+    }
 editing e (AFeed f) p is x has = absurd (none-some x (sym is.does.edited ∙ has))
 editing e (Deliver a b) p is x has = absurd (none-some x (sym is.does.edited ∙ has))
 editing e (AnAsk q) p is x has = absurd (none-some x (sym is.does.edited ∙ has))
@@ -45,12 +54,15 @@ pub record IsTaking (e : State) (event : Event) (t : Taken) : Type 0 where
   pub up : is_up e.conf t.direction.from t.direction.to ≡ true
   pub head : IsOfHead e t.direction t.prefix t.outcome
   pub room : HasRoom e t.direction.to t.prefix t.outcome.sends
-  pub next : (step (network e) event).next ≡ (head_step (network e) t.direction (messages_in (network e).queues t.direction)).next
+  pub next : (step (network e) event).next
+      ≡ (head_step (network e) t.direction (messages_in (network e).queues t.direction)).next
 
-pub taking_delivery : (e : State) (d : Direction) (p : Plan) (is : IsPrepared e (Deliver d.from d.to) p) → IsTaking e (Deliver d.from d.to) (record { direction = d; prefix = is.does.prefix; outcome = is.does.outcome })
+pub taking_delivery : (e : State) (d : Direction) (p : Plan) (is : IsPrepared e (Deliver d.from d.to) p) →
+    IsTaking e (Deliver d.from d.to) (record { direction = d; prefix = is.does.prefix; outcome = is.does.outcome })
 unfolding network
 taking_delivery e d p is =
-    let none : delivery_refusal e.conf d ≡ None = delivery_accepted (network e) d (sym (ap is_refusal is.reply) ∙ is.accepted) in
+    let none : delivery_refusal e.conf d ≡ None =
+    delivery_accepted (network e) d (sym (ap is_refusal is.reply) ∙ is.accepted) in
     record {
       up = delivery_up e.conf d none;
       head = is.does.head;
@@ -58,10 +70,12 @@ taking_delivery e d p is =
       next = ap (λ o. o.next) (delivery_is (network e) d none);
     }
 
-pub taking : (e : State) (event : Event) (p : Plan) → IsPrepared e event p → (t : Taken) → p.taken ≡ Some t → IsTaking e event t
+pub taking : (e : State) (event : Event) (p : Plan) → IsPrepared e event p → (t : Taken) →
+    p.taken ≡ Some t → IsTaking e event t
 taking e (AnEdit edit) p is t has = absurd (none-some t (sym is.does.taken ∙ has))
 taking e (AFeed f) p is t has = absurd (none-some t (sym is.does.taken ∙ has))
-taking e (Deliver a b) p is t has = subst (IsTaking e (Deliver a b)) (same_Some _ t (sym is.does.taken ∙ has)) (taking_delivery e (record { from = a; to = b }) p is)
+taking e (Deliver a b) p is t has = subst (IsTaking e (Deliver a b)) (same_Some _ t (sym is.does.taken ∙ has))
+    (taking_delivery e (record { from = a; to = b }) p is)
 taking e (AnAsk q) p is t has = absurd (none-some t (sym is.does.taken ∙ has))
 
 -- FEEDS
@@ -72,11 +86,13 @@ pub record IsPushing (e : State) (event : Event) (d : Direction) (m : Message) :
   pub admitted : IsAdmitted e.queues m
   pub next : (step (network e) event).next ≡ record (network e) { queues = with_message d m (network e).queues }
 
-pub pushing : (e : State) (event : Event) (p : Plan) → IsPrepared e event p → (x : Direction × Message) → p.pushed ≡ Some x → IsPushing e event x.0 x.1
+pub pushing : (e : State) (event : Event) (p : Plan) → IsPrepared e event p → (x : Direction × Message) →
+    p.pushed ≡ Some x → IsPushing e event x.0 x.1
 unfolding network
 pushing e (AnEdit edit) p is x has = absurd (none-some x (sym is.does.pushed ∙ has))
 pushing e (AFeed f) p is x has =
-    let none : feed_refusal e.conf f ≡ None = feed_accepted (network e) f (sym (ap is_refusal is.reply) ∙ is.accepted) in
+    let none : feed_refusal e.conf f ≡ None =
+    feed_accepted (network e) f (sym (ap is_refusal is.reply) ∙ is.accepted) in
     subst (λ y. IsPushing e (AFeed f) y.0 y.1) (same_Some _ x (sym is.does.pushed ∙ has)) (record {
       session = feed_session e.conf f none;
       room = is.does.room;
@@ -93,7 +109,8 @@ unfolding question_step
 asked s q h = ap (λ o. o.next) (question_answered s q (allowed (ask_refusal s.conf q) s _ h))
 
 -- a plan that does nothing is that of a question
-pub nothing_done : (e : State) (event : Event) (p : Plan) → IsPrepared e event p → p.pushed ≡ None → p.taken ≡ None → p.edited ≡ None → (step (network e) event).next ≡ network e
+pub nothing_done : (e : State) (event : Event) (p : Plan) → IsPrepared e event p → p.pushed ≡ None → p.taken ≡ None →
+    p.edited ≡ None → (step (network e) event).next ≡ network e
 nothing_done e (AnEdit edit) p is pushed taken edited = absurd (none-some is.does.plan (sym edited ∙ is.does.edited))
 nothing_done e (AFeed f) p is pushed taken edited = absurd (none-some _ (sym pushed ∙ is.does.pushed))
 nothing_done e (Deliver a b) p is pushed taken edited = absurd (none-some _ (sym taken ∙ is.does.taken))

@@ -21,16 +21,19 @@ use Rattle.sim_core.proofs.Answered.{denied_by}
 use Rattle.sim_core.proofs.Refusals.{delivery_wants}
 
 -- a router decides one route, a virtual peer none
-pub one_decided : (c : Configuration) (a : Addr) (p : Prefix) (decides : Bool) → decides ≡ is_some (router_site c a) → (if decides then 1 else 0) ≡ length (decided_at c a p)
+pub one_decided : (c : Configuration) (a : Addr) (p : Prefix) (decides : Bool) → decides ≡ is_some (router_site c a) →
+    (if decides then 1 else 0) ≡ length (decided_at c a p)
 one_decided c a p decides is = ap (λ b. if b then 1 else 0) is ∙ by (is_some (router_site c a))
   where
     by : (b : Bool) → (if b then 1 else 0) ≡ length {A = Addr × Prefix} (if b then (a, p) ∷ [] else [])
     by true = refl
     by false = refl
 
-module _ (e : State) (sound : IsConsistent e) (d : Direction) (none : delivery_refusal e.conf d ≡ None) (m : Message) (first : slice_get (queue_at e.queues d.from d.to) 0 ≡ Some m) where
+module _ (e : State) (sound : IsConsistent e) (d : Direction) (none : delivery_refusal e.conf d ≡ None) (m : Message)
+    (first : slice_get (queue_at e.queues d.from d.to) 0 ≡ Some m) where
   -- it is counted as one decision of a router
-  pub counts : (n more : ℕ) → ((p : Prefix) → more ≡ length (decided_at e.conf d.to p)) → Counts (network e) (Deliver d.from d.to) (Took (prefix_of m) (kind_of m)) n (raised n more)
+  pub counts : (n more : ℕ) → ((p : Prefix) → more ≡ length (decided_at e.conf d.to p)) →
+      Counts (network e) (Deliver d.from d.to) (Took (prefix_of m) (kind_of m)) n (raised n more)
   unfolding network
   counts n more many =
       let p = prefix_of m in
@@ -45,7 +48,8 @@ module _ (e : State) (sound : IsConsistent e) (d : Direction) (none : delivery_r
   up_here = delivery_up e.conf d none
 
   -- the head taken is the machine's step
-  pub takes : (s : Network) → s ≡ (head_step (network e) d (messages_in (network e).queues d)).next → IsStep (network e) (Deliver d.from d.to) (Took (prefix_of m) (kind_of m)) s
+  pub takes : (s : Network) → s ≡ (head_step (network e) d (messages_in (network e).queues d)).next →
+      IsStep (network e) (Deliver d.from d.to) (Took (prefix_of m) (kind_of m)) s
   unfolding network
   takes s next = inl (
     sym (delivery_takes e sound d none m first),
@@ -53,5 +57,7 @@ module _ (e : State) (sound : IsConsistent e) (d : Direction) (none : delivery_r
   )
 
   -- so it is for want of memory to stay
-  pub wants : (e' : State) → network e' ≡ network e → IsStep (network e) (Deliver d.from d.to) (Refused Memory) (network e')
-  wants e' same = subst (λ n. IsStep n (Deliver d.from d.to) (Refused Memory) (network e')) same (denied_by e' (Deliver d.from d.to) Memory (delivery_wants e e' same sound d m none first))
+  pub wants : (e' : State) → network e' ≡ network e →
+      IsStep (network e) (Deliver d.from d.to) (Refused Memory) (network e')
+  wants e' same = subst (λ n. IsStep n (Deliver d.from d.to) (Refused Memory) (network e')) same
+      (denied_by e' (Deliver d.from d.to) Memory (delivery_wants e e' same sound d m none first))

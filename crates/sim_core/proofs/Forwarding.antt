@@ -18,17 +18,24 @@ use Rattle.cell_engine.specs.State.{State, network, all_entries}
 
 module _ (e : State) (r d : Addr) where
   -- it ends without a match
-  pub ends_without_match : longest_match (network e) r d ≡ None → by_prefix (network e) r (longest_match (network e) r d) ≡ Ends (NoRoute r)
+  pub ends_without_match : longest_match (network e) r d ≡ None →
+      by_prefix (network e) r (longest_match (network e) r d) ≡ Ends (NoRoute r)
   ends_without_match none = ap (by_prefix (network e) r) none
 
   -- and where no router stands
-  pub ends_without_site : (p : Prefix) → is_virtual e.conf r ≡ false → router_site e.conf r ≡ None → longest_match (network e) r d ≡ Some p → by_prefix (network e) r (longest_match (network e) r d) ≡ Ends (NoRoute r)
+  pub ends_without_site : (p : Prefix) → is_virtual e.conf r ≡ false → router_site e.conf r ≡ None →
+      longest_match (network e) r d ≡ Some p →
+      by_prefix (network e) r (longest_match (network e) r d) ≡ Ends (NoRoute r)
   unfolding best network
   ends_without_site p router none is =
       ap (by_prefix (network e) r) is
-      ∙ ap (by_route (costs_of e.conf r) r p) (ap (option_and_then (λ site. best_of (standings site p (all_entries e.tables)))) (ap (λ b. cond b None (site_of e.conf r)) (sym router) ∙ none))
+      ∙ ap (by_route (costs_of e.conf r) r p)
+      (ap (option_and_then (λ site. best_of (standings site p (all_entries e.tables))))
+      (ap (λ b. cond b None (site_of e.conf r)) (sym router) ∙ none))
 
   -- by the route that is chosen, over the router's costs
-  pub goes_by_best : (p : Prefix) (b : Candidate) (costs : Costs) → costs ≡ costs_of e.conf r → longest_match (network e) r d ≡ Some p → best (network e) r p ≡ Some b → by_prefix (network e) r (longest_match (network e) r d) ≡ by_route costs r p (Some b)
+  pub goes_by_best : (p : Prefix) (b : Candidate) (costs : Costs) → costs ≡ costs_of e.conf r →
+      longest_match (network e) r d ≡ Some p → best (network e) r p ≡ Some b →
+      by_prefix (network e) r (longest_match (network e) r d) ≡ by_route costs r p (Some b)
   unfolding network
   goes_by_best p b costs same is chosen = ap (by_prefix (network e) r) is ∙ (λ i. by_route (sym same i) r p (chosen i))

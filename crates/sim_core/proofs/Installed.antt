@@ -15,12 +15,14 @@ use Rattle.cell_engine.proofs.Growth.{head_of}
 use Rattle.sim_core.specs.Installing.{IsOutcomeOfHead}
 use Rattle.sim_core.proofs.Accepted.{delivery_is}
 
-pub of_head : (e : State) (d : Direction) (o : Outcome) → IsOutcomeOfHead e d o → (m : Message) → slice_get (queue_at e.queues d.from d.to) 0 ≡ Some m → IsOfHead e d (prefix_of m) o
+pub of_head : (e : State) (d : Direction) (o : Outcome) → IsOutcomeOfHead e d o → (m : Message) →
+    slice_get (queue_at e.queues d.from d.to) 0 ≡ Some m → IsOfHead e d (prefix_of m) o
 of_head e d o head m is =
     let same : head.message ≡ m = same_Some head.message m (sym (ap (λ ms. slice_get ms 0) head.waits) ∙ is) in
     head_of e d m o is (head.outcome ∙ ap (outcome_at e d) same)
 
 -- the machine's own step takes the head
-pub next_is : (e : State) (d : Direction) → delivery_refusal e.conf d ≡ None → (step (network e) (Deliver d.from d.to)).next ≡ (head_step (network e) d (messages_in (network e).queues d)).next
+pub next_is : (e : State) (d : Direction) → delivery_refusal e.conf d ≡ None →
+    (step (network e) (Deliver d.from d.to)).next ≡ (head_step (network e) d (messages_in (network e).queues d)).next
 unfolding network
 next_is e d none = ap (λ x. x.next) (delivery_is (network e) d none)

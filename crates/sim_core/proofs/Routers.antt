@@ -19,7 +19,8 @@ module _ (c : Configuration) (r : Addr) where
   -- a router has a site
   pub has_site : has_node c r ≡ true → is_virtual c r ≡ false → router_site c r ≡ None → ⊥
   unfolding site_of
-  has_site there router none = without_site (node_at c r) there (ap (λ b. cond b None (site_of c r)) (sym router) ∙ none)
+  has_site there router none = without_site (node_at c r) there (ap (λ b. cond b None (site_of c r)) (sym router)
+      ∙ none)
 
   costs_at : (n : Option Node) (site : SiteConf) → option_map (site_at c r) n ≡ Some site → site.costs ≡ costs_of c r
   costs_at None site is = absurd (none-some site is)

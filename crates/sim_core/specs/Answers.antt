@@ -8,8 +8,8 @@ use Rattle.sim_event.specs.declared.reply.Report.{Report}
 use Rattle.reference_machine.specs.Network.{Network}
 use Rattle.reference_machine.specs.Machine.{asks_quiet, ask_refusal, report_of}
 
--- the machine's own report where no test holds; refused by the first test that holds, or for want of memory where none does:
--- never that where it is asked whether all queues are empty
+-- the machine's own report where no test holds; refused by the first test that holds, or for want of memory where none
+-- does: never that where it is asked whether all queues are empty
 abbrev pub IsAnswer : Network → Ask → Result Report Refusal → Type 0
 IsAnswer s q (Ok report) = (ask_refusal s.conf q ≡ None) × (report ≡ report_of s q)
 IsAnswer s q (Err r) = (refusal_or_memory (ask_refusal s.conf q) ≡ r) × (asks_quiet (AnAsk q) ≡ false)

@@ -10,4 +10,7 @@ use Rattle.cell_engine.specs.CellCoding.{coded_outcome}
 use Rattle.sim_core.specs.Plans.{Taken}
 
 abbrev pub coded_taken : Coded Taken
-coded_taken = code_by ((Direction × Prefix) × Outcome) (coded× (coded× direction.the_row.coded coded_prefix) coded_outcome) (λ t. ((t.direction, t.prefix), t.outcome)) (λ p. record { direction = p.0.0; prefix = p.0.1; outcome = p.1 }) (λ _. refl)
+coded_taken = code_by ((Direction × Prefix) × Outcome)
+    (coded× (coded× direction.the_row.coded coded_prefix) coded_outcome)
+    (λ t. ((t.direction, t.prefix), t.outcome)) (λ p. record { direction = p.0.0; prefix = p.0.1; outcome = p.1 })
+    (λ _. refl)

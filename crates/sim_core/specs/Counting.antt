@@ -23,10 +23,12 @@ pub record Counted : Type 0 where
 abbrev pub decided_at : Configuration → Addr → Prefix → List (Addr × Prefix)
 decided_at c r p = if is_some (router_site c r) then (r, p) ∷ [] else []
 
--- the routes that an event which is not refused decides anew: an edit those that it touches, a delivery the receiver's one
+-- the routes that an event which is not refused decides anew: an edit those that it touches, a delivery the receiver's
+-- one
 abbrev pub Refreshes : Network → Event → List (Addr × Prefix) → Type 0
 Refreshes s (AnEdit edit) cells = IsRefreshed s (step s (AnEdit edit)).next cells
-Refreshes s (Deliver a b) cells = (p : Prefix) (k : MessageKind) → (step s (Deliver a b)).reply ≡ Took p k → cells ≡ decided_at s.conf b p
+Refreshes s (Deliver a b) cells = (p : Prefix) (k : MessageKind) → (step s (Deliver a b)).reply ≡ Took p k →
+    cells ≡ decided_at s.conf b p
 Refreshes s (AFeed f) cells = cells ≡ []
 Refreshes s (AnAsk q) cells = cells ≡ []
 
@@ -54,6 +56,7 @@ Counts s event reply n m = CountsIf (is_refusal reply) s event n m
 -- a run of the machine that takes the count from n to m, event by event
 abbrev pub IsCountedRun : Network → ℕ → List Event → List Reply → Network → ℕ → Type 0
 IsCountedRun s n [] [] s' m = (s' ≡ s) × (m ≡ n)
-IsCountedRun s n (e ∷ es) (r ∷ rs) s' m = (mid : Network) × (k : ℕ) × IsStep s e r mid × Counts s e r n k × IsCountedRun mid k es rs s' m
+IsCountedRun s n (e ∷ es) (r ∷ rs) s' m = (mid : Network) × (k : ℕ) × IsStep s e r mid × Counts s e r n k
+    × IsCountedRun mid k es rs s' m
 IsCountedRun s n [] (r ∷ rs) s' m = ⊥
 IsCountedRun s n (e ∷ es) [] s' m = ⊥

@@ -1,4 +1,5 @@
--- What an event will do: what is planned before anything changes, and what has to be there before it can be done without memory.
+-- What an event will do: what is planned before anything changes, and what has to be there before it can be done
+-- without memory.
 use Rattle.std.specs.Prelude.{◌≡◌, ◌<◌, ◌⊎◌, false, List, Option, Some, None, Result, Ok, Err}
 use Rattle.net_prefix.specs.declared.addr.Addr.{Addr}
 use Rattle.net_prefix.specs.Prefix.{Prefix}
@@ -25,8 +26,8 @@ pub record Taken : Type 0 where
   pub prefix : Prefix
   pub outcome : Outcome
 
--- what will be answered; the cells to be decided; and what will be done: a message is put on its way, or one is taken, or the
--- configuration is edited, or nothing
+-- what will be answered; the cells to be decided; and what will be done: a message is put on its way, or one is taken,
+-- or the configuration is edited, or nothing
 pub record Plan : Type 0 where
   pub reply : Reply
   pub refreshed : List (Addr × Prefix)
@@ -76,8 +77,8 @@ Does e (AnAsk q) x = DoesNothing x
 
 -- PREPARED
 
--- the machine does not refuse the event; the plan is what it does, with the machine's reply and the cells that it decides anew; and all
--- that takes memory is there
+-- the machine does not refuse the event; the plan is what it does, with the machine's reply and the cells that it
+-- decides anew; and all that takes memory is there
 pub record IsPrepared (e : State) (event : Event) (x : Plan) : Type 0 where
   pub reply : x.reply ≡ (step (network e) event).reply
   pub accepted : is_refusal x.reply ≡ false
@@ -91,7 +92,8 @@ pub record IsOfEvent (e : State) (x : Plan) : Type 0 where
 
 -- the machine itself refuses the event for this reason; or, where it refuses nothing, there was no memory
 abbrev pub IsRefused : State → Event → Refusal → Type 0
-IsRefused e event r = (step (network e) event ≡ refused r (network e)) ⊎ ((r ≡ Memory) × (is_refusal (step (network e) event).reply ≡ false) × (asks_quiet event ≡ false))
+IsRefused e event r = (step (network e) event ≡ refused r (network e))
+    ⊎ ((r ≡ Memory) × (is_refusal (step (network e) event).reply ≡ false) × (asks_quiet event ≡ false))
 
 abbrev pub Prepares : State → Event → Result Plan Refusal → Type 0
 Prepares e event (Ok x) = IsPrepared e event x

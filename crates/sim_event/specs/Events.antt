@@ -44,7 +44,8 @@ IsMatch (First n) = IsAsNumber n
 IsMatch (Comm n) = n < 2 ^ 32
 
 abbrev pub AreSettings : Settings → Type 0
-AreSettings s = IfSome s.pref (λ n. n < 2 ^ 32) × IfSome s.med (λ n. n < 2 ^ 32) × IfSome s.prepend IsRepeat × IfSome s.add (λ n. n < 2 ^ 32)
+AreSettings s = IfSome s.pref (λ n. n < 2 ^ 32) × IfSome s.med (λ n. n < 2 ^ 32) × IfSome s.prepend IsRepeat
+    × IfSome s.add (λ n. n < 2 ^ 32)
 
 abbrev pub IsAction : Action → Type 0
 IsAction Deny = Unit {0}
@@ -74,7 +75,8 @@ abbrev pub AreCommunities : List ℕ → Type 0
 AreCommunities cs = IsAscending cs × All (λ n. n < 2 ^ 32) cs
 
 abbrev pub IsFedRoute : FedRoute → Type 0
-IsFedRoute r = IsPrefix r.prefix × IsPath r.path × HasAsNumbers r.path × IfSome r.med (λ m. m < 2 ^ 32) × AreCommunities r.comms
+IsFedRoute r = IsPrefix r.prefix × IsPath r.path × HasAsNumbers r.path × IfSome r.med (λ m. m < 2 ^ 32)
+    × AreCommunities r.comms
 
 abbrev pub IsNews : News → Type 0
 IsNews (Update r) = IsFedRoute r

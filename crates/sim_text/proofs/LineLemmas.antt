@@ -9,12 +9,14 @@ use Rattle.std.proofs.lemmas.List.{length-take-le, length-append}
 use Rattle.std.proofs.lemmas.List.Elements.{All-append, All-tail, filter-append}
 use Rattle.std.proofs.lemmas.List.Splits.{slice_split_none, slice_split_at, length-slice_split}
 
-lines_of_parts-cons : (x : List ℕ) (parts : List (List ℕ)) → 0 < length parts → lines_of_parts (x ∷ parts) ≡ strip_carriage_return x ∷ lines_of_parts parts
+lines_of_parts-cons : (x : List ℕ) (parts : List (List ℕ)) → 0 < length parts →
+    lines_of_parts (x ∷ parts) ≡ strip_carriage_return x ∷ lines_of_parts parts
 lines_of_parts-cons x [] l = absurd (omega arith)
 lines_of_parts-cons x (y ∷ more) l = refl
 
 -- a text with no line feed, a line feed, and more
-pub lines_cut : (front rest : List ℕ) → Whole front → lines (front ++ 10 ∷ rest) ≡ strip_carriage_return front ∷ lines rest
+pub lines_cut : (front rest : List ℕ) → Whole front →
+    lines (front ++ 10 ∷ rest) ≡ strip_carriage_return front ∷ lines rest
 lines_cut front rest whole =
     ap lines_of_parts (slice_split_at is_line_feed front 10 rest whole refl)
     ∙ lines_of_parts-cons front (slice_split is_line_feed rest) (omega (arith, length-slice_split is_line_feed rest))
@@ -22,12 +24,15 @@ lines_cut front rest whole =
 -- a text with no line feed
 pub lines_whole : (bytes : List ℕ) → Whole bytes → 0 < length bytes → lines bytes ≡ bytes ∷ []
 lines_whole bytes whole some =
-    ap lines_of_parts (slice_split_none is_line_feed bytes whole) ∙ cond-false (eqb (length bytes) 0) [] (bytes ∷ []) (ne_eqb (length bytes) 0 (λ z. omega arith))
+    ap lines_of_parts (slice_split_none is_line_feed bytes whole)
+    ∙ cond-false (eqb (length bytes) 0) [] (bytes ∷ []) (ne_eqb (length bytes) 0 (λ z. omega arith))
 
-pub lines_first : (bytes rest : List ℕ) (n : ℕ) → position is_line_feed bytes ≡ Some n → lines (bytes ++ rest) ≡ strip_carriage_return (take n bytes) ∷ lines (drop (n + 1) bytes ++ rest)
+pub lines_first : (bytes rest : List ℕ) (n : ℕ) → position is_line_feed bytes ≡ Some n →
+    lines (bytes ++ rest) ≡ strip_carriage_return (take n bytes) ∷ lines (drop (n + 1) bytes ++ rest)
 lines_first bytes rest n is =
     let cut = cut_at bytes n is in
-    ap (λ t. lines (t ++ rest)) cut.2 ∙ ap lines (append_assoc (take n bytes) (10 ∷ drop (n + 1) bytes) rest) ∙ lines_cut (take n bytes) (drop (n + 1) bytes ++ rest) cut.1
+    ap (λ t. lines (t ++ rest)) cut.2 ∙ ap lines (append_assoc (take n bytes) (10 ∷ drop (n + 1) bytes) rest)
+    ∙ lines_cut (take n bytes) (drop (n + 1) bytes ++ rest) cut.1
 
 -- a line loses one byte at most
 pub strip_length : (line : List ℕ) → length line ≤ length (strip_carriage_return line) + 1
@@ -41,25 +46,35 @@ pub cases_cut : (bytes : List ℕ) → Whole bytes ⊎ ((front rest : List ℕ) 
 cases_cut bytes =
     let p = position_or_len is_line_feed bytes in
     ⊎_elim
-    (λ t. let cut = cut_at bytes p (ap (λ b. cond b (Some p) None) t) in inr (take p bytes, drop (p + 1) bytes, cut.1, cut.2))
+    (λ t. let cut = cut_at bytes p (ap (λ b. cond b (Some p) None) t) in
+    inr (take p bytes, drop (p + 1) bytes, cut.1, cut.2))
     (λ f. inl (no_cut bytes (ap (λ b. cond b (Some p) None) f)))
     (cases_Bool (ltb p (length bytes)))
 
 -- bytes begin a line
-pub lines_begin : (bytes : List ℕ) → 0 < length bytes → (line : List ℕ) × (more : List (List ℕ)) × (lines bytes ≡ line ∷ more)
+pub lines_begin : (bytes : List ℕ) → 0 < length bytes → (line : List ℕ) × (more : List (List ℕ))
+    × (lines bytes ≡ line ∷ more)
 lines_begin bytes some = ⊎_elim
     (λ whole. (bytes, [], lines_whole bytes whole some))
     (λ cut. (strip_carriage_return cut.0, lines cut.1, ap lines cut.3 ∙ lines_cut cut.0 cut.1 cut.2))
     (cases_cut bytes)
 
 -- n and two more bytes with no line feed begin a line of more than n bytes
-pub lines_long : (bytes rest : List ℕ) (n : ℕ) → Whole bytes → n + 2 ≤ length bytes → (line : List ℕ) × (more : List (List ℕ)) × (lines (bytes ++ rest) ≡ line ∷ more) × (n < length line)
+pub lines_long : (bytes rest : List ℕ) (n : ℕ) → Whole bytes → n + 2 ≤ length bytes → (line : List ℕ)
+    × (more : List (List ℕ)) × (lines (bytes ++ rest) ≡ line ∷ more) × (n < length line)
 lines_long bytes rest n whole long = ⊎_elim
-    (λ last. (bytes ++ rest, [], lines_whole (bytes ++ rest) (All-append (λ b. eqb b 10 ≡ false) bytes rest whole last) (omega (arith, length-append bytes rest)), omega (arith, length-append bytes rest)))
+    (λ last. (
+      bytes ++ rest,
+      [],
+      lines_whole (bytes ++ rest) (All-append (λ b. eqb b 10 ≡ false) bytes rest whole last)
+          (omega (arith, length-append bytes rest)),
+      omega (arith, length-append bytes rest),
+    ))
     (λ cut. let front = bytes ++ cut.0 in (
       strip_carriage_return front,
       lines cut.1,
-      ap (λ t. lines (bytes ++ t)) cut.3 ∙ ap lines (sym (append_assoc bytes cut.0 (10 ∷ cut.1))) ∙ lines_cut front cut.1 (All-append (λ b. eqb b 10 ≡ false) bytes cut.0 whole cut.2),
+      ap (λ t. lines (bytes ++ t)) cut.3 ∙ ap lines (sym (append_assoc bytes cut.0 (10 ∷ cut.1)))
+          ∙ lines_cut front cut.1 (All-append (λ b. eqb b 10 ≡ false) bytes cut.0 whole cut.2),
       omega (arith, strip_length front, length-append bytes cut.0),
     ))
     (cases_cut rest)
@@ -69,15 +84,18 @@ lines_long bytes rest n whole long = ⊎_elim
 no_line_feeds : (bytes : List ℕ) → Whole bytes → filter is_line_feed bytes ≡ []
 no_line_feeds [] whole = refl
 no_line_feeds (b ∷ more) whole =
-    ap (λ t. cond t (b ∷ filter is_line_feed more) (filter is_line_feed more)) (whole 0 0 (omega arith)) ∙ no_line_feeds more (All-tail (λ x. eqb x 10 ≡ false) b more whole)
+    ap (λ t. cond t (b ∷ filter is_line_feed more) (filter is_line_feed more)) (whole 0 0 (omega arith))
+    ∙ no_line_feeds more (All-tail (λ x. eqb x 10 ≡ false) b more whole)
 
 -- bytes with no line feed make no more lines
 pub line_feeds_none : (given bytes : List ℕ) → Whole bytes → line_feeds (given ++ bytes) ≡ line_feeds given
 line_feeds_none given bytes whole =
-    ap length (filter-append is_line_feed given bytes ∙ ap (λ t. filter is_line_feed given ++ t) (no_line_feeds bytes whole) ∙ append-nil (filter is_line_feed given))
+    ap length (filter-append is_line_feed given bytes
+    ∙ ap (λ t. filter is_line_feed given ++ t) (no_line_feeds bytes whole) ∙ append-nil (filter is_line_feed given))
 
 -- a line feed behind them makes one
-pub line_feeds_line : (given front : List ℕ) → Whole front → line_feeds (given ++ (front ++ 10 ∷ [])) ≡ line_feeds given + 1
+pub line_feeds_line : (given front : List ℕ) → Whole front →
+    line_feeds (given ++ (front ++ 10 ∷ [])) ≡ line_feeds given + 1
 line_feeds_line given front whole =
     ap line_feeds (sym (append_assoc given front (10 ∷ [])))
     ∙ ap length (filter-append is_line_feed (given ++ front) (10 ∷ []))

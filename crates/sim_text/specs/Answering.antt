@@ -7,7 +7,8 @@ use Rattle.reference_machine.specs.Network.{Network}
 use Rattle.reference_machine.specs.Machine.{IsStep}
 use Rattle.reply_text.specs.Replies.{reply_text, refusal_text}
 
--- nothing where nothing is asked; the machine's reply to an event; and a refusal, which changes nothing, where the line was refused
+-- nothing where nothing is asked; the machine's reply to an event; and a refusal, which changes nothing, where the line
+-- was refused
 abbrev pub IsAnswerTo : Result (Option Event) Refusal → Network → List ℕ → Network → Type 0
 IsAnswerTo (Ok None) s text s' = (text ≡ []) × (s' ≡ s)
 IsAnswerTo (Ok (Some event)) s text s' = (reply : Reply) × IsStep s event reply s' × (text ≡ reply_text reply)

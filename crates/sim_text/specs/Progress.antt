@@ -19,7 +19,8 @@ pub record SoFar (bytes left : List ℕ) (k : ℕ) (s : Network) (o : Writing) (
   pub written : Appends o.written o'.written text
 
 -- the same, and before the bytes that are left stand k whole lines
-pub record Reached (bytes left : List ℕ) (k : ℕ) (s : Network) (o : Writing) (s' : Network) (o' : Writing) : Type 0 where
+pub record Reached (bytes left : List ℕ) (k : ℕ) (s : Network) (o : Writing) (s' : Network)
+    (o' : Writing) : Type 0 where
   pub so_far : SoFar bytes left k s o s' o'
   pub given : List ℕ
   pub cut : bytes ≡ given ++ left
@@ -27,22 +28,26 @@ pub record Reached (bytes left : List ℕ) (k : ℕ) (s : Network) (o : Writing)
 
 -- whatever was served before: where it had come to the first place, it comes to the second
 abbrev pub Advances : List ℕ → ℕ → Network → Writing → List ℕ → ℕ → Network → Writing → Type 0
-Advances left k s o left' k' s' o' = (bytes : List ℕ) (s0 : Network) (o0 : Writing) → Reached bytes left k s0 o0 s o → Reached bytes left' k' s0 o0 s' o'
+Advances left k s o left' k' s' o' = (bytes : List ℕ) (s0 : Network) (o0 : Writing) → Reached bytes left k s0 o0 s o →
+    Reached bytes left' k' s0 o0 s' o'
 
 -- whatever was served before: where it had come to the place, all lines are answered, so many
 abbrev pub Finishes : List ℕ → ℕ → Network → Writing → ℕ → Network → Writing → Type 0
-Finishes left k s o k' s' o' = (bytes : List ℕ) (s0 : Network) (o0 : Writing) → Reached bytes left k s0 o0 s o → SoFar bytes [] k' s0 o0 s' o'
+Finishes left k s o k' s' o' = (bytes : List ℕ) (s0 : Network) (o0 : Writing) → Reached bytes left k s0 o0 s o →
+    SoFar bytes [] k' s0 o0 s' o'
 
 -- whatever was served before: where it had come to this place, it ends with the fault
 abbrev pub Ends : List ℕ → ℕ → Network → Writing → ServeFault → Network → Writing → Reading → Type 0
-Ends left k s o fault s' o' i' = (bytes : List ℕ) (s0 : Network) (o0 : Writing) → Reached bytes left k s0 o0 s o → IsServing bytes s0 o0 (Err fault) s' o' i'
+Ends left k s o fault s' o' i' = (bytes : List ℕ) (s0 : Network) (o0 : Writing) → Reached bytes left k s0 o0 s o →
+    IsServing bytes s0 o0 (Err fault) s' o' i'
 
 -- at most how many more lines may be answered and reads made, as a number that falls
 abbrev pub work_left : List ℕ → ℕ → ℕ
 work_left pending k = (most_lines - k) * 65539 + (65538 - length pending)
 
 -- one step: it comes further; or, at `false`, all is served; or serving ends with a fault
-abbrev pub IsAdvance : List ℕ → ℕ → Network → Writing → Result Bool ServeFault → List ℕ → ℕ → Network → Writing → Reading → Type 0
+abbrev pub IsAdvance : List ℕ → ℕ → Network → Writing → Result Bool ServeFault → List ℕ → ℕ → Network →
+    Writing → Reading → Type 0
 IsAdvance left k s o (Ok more) pending' k' s' o' i' = (rest' : List ℕ) × (i'.remaining ≡ Some rest')
     × (more ≡ true → Advances left k s o (pending' ++ rest') k' s' o')
     × (more ≡ false → (rest' ≡ []) × Finishes left k s o k' s' o')

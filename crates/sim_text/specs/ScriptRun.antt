@@ -25,8 +25,9 @@ abbrev pub told : Result ℕ ServeFault → List ℕ
 told (Ok lines) = []
 told (Err fault) = fault_text (run_fault fault)
 
--- it was served, from the empty network to this one, as far as its bytes are known; the status tells how serving ended; the writer
--- failed just where that was a fault of writing, and the reader only where it was one of reading; and a fault was told
+-- it was served, from the empty network to this one, as far as its bytes are known; the status tells how serving ended;
+-- the writer failed just where that was a fault of writing, and the reader only where it was one of reading; and a
+-- fault was told
 abbrev pub IsServedRun : Option (List ℕ) → Writing → Writing → ℕ → Network → Reading → Writing → Writing → Type 0
 IsServedRun bytes o errors status end i' o' errors' = (served : Result ℕ ServeFault) × (status ≡ status_of served)
     × IfSome bytes (λ known. IsServing known nothing o served end o' i')
@@ -35,8 +36,10 @@ IsServedRun bytes o errors status end i' o' errors' = (served : Result ℕ Serve
 
 -- there was no memory to read a line: nothing was read, and the network is empty
 abbrev pub IsUnserved : Option (List ℕ) → Writing → Writing → ℕ → Network → Reading → Writing → Writing → Type 0
-IsUnserved bytes o errors status end i' o' errors' = (end ≡ nothing) × (i'.remaining ≡ bytes) × (i'.failed ≡ false) × IsWithoutMemory o errors status o' errors'
+IsUnserved bytes o errors status end i' o' errors' = (end ≡ nothing) × (i'.remaining ≡ bytes) × (i'.failed ≡ false)
+    × IsWithoutMemory o errors status o' errors'
 
 -- a script was run, or there was no memory to begin
 abbrev pub IsScriptRun : Option (List ℕ) → Writing → Writing → ℕ → Network → Reading → Writing → Writing → Type 0
-IsScriptRun bytes o errors status end i' o' errors' = IsServedRun bytes o errors status end i' o' errors' ⊎ IsUnserved bytes o errors status end i' o' errors'
+IsScriptRun bytes o errors status end i' o' errors' = IsServedRun bytes o errors status end i' o' errors'
+    ⊎ IsUnserved bytes o errors status end i' o' errors'

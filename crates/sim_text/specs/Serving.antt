@@ -13,9 +13,9 @@ use Rattle.reply_text.specs.Replies.{reply_text, refusal_text}
 use Rattle.sim_text.specs.declared.fault.ServeFault.{ServeFault}
 use Rattle.sim_text.specs.declared.fault.ServeFault.TheVariants.{Read, Write}
 
--- what a line is answered, and the state after it: nothing for a blank line or a comment; a refusal of syntax for a line
--- that spells no event; the machine's reply to the event that the line means; or, where memory was wanted for the route
--- that the line feeds, a refusal that changes nothing
+-- what a line is answered, and the state after it: nothing for a blank line or a comment; a refusal of syntax for a
+-- line that spells no event; the machine's reply to the event that the line means; or, where memory was wanted for the
+-- route that the line feeds, a refusal that changes nothing
 abbrev pub IsAnswer : Network → List ℕ → List ℕ → Network → Type 0
 IsAnswer s line text s' =
     (IsSilent line × (text ≡ []) × (s' ≡ s))
@@ -26,7 +26,8 @@ IsAnswer s line text s' =
 -- the lines were answered one after another
 abbrev pub AreAnswers : Network → List (List ℕ) → List ℕ → Network → Type 0
 AreAnswers s [] text s' = (text ≡ []) × (s' ≡ s)
-AreAnswers s (line ∷ more) text s' = (mid : Network) × (first : List ℕ) × (rest : List ℕ) × IsAnswer s line first mid × AreAnswers mid more rest s' × (text ≡ first ++ rest)
+AreAnswers s (line ∷ more) text s' = (mid : Network) × (first : List ℕ) × (rest : List ℕ) × IsAnswer s line first mid
+    × AreAnswers mid more rest s' × (text ≡ first ++ rest)
 
 -- the most bytes that a line may have, its end not counted, and the most lines (own)
 abbrev pub most_bytes : ℕ
@@ -44,26 +45,30 @@ AreFit ls = (length ls ≤ most_lines) × All (λ line. length line ≤ most_byt
 
 -- the first k lines are within the limits, they were answered, and their answers were written in full
 abbrev pub Served : List ℕ → ℕ → Network → Writing → Network → Writing → Type 0
-Served bytes k s o s' o' = (text : List ℕ) × AreFit (take k (lines bytes)) × AreAnswers s (take k (lines bytes)) text s' × Appends o.written o'.written text
+Served bytes k s o s' o' = (text : List ℕ) × AreFit (take k (lines bytes)) × AreAnswers s (take k (lines bytes)) text s'
+    × Appends o.written o'.written text
 
 -- how many lines were read whole, of these bytes
 abbrev pub line_feeds : List ℕ → ℕ
 line_feeds bytes = length (filter (λ b. b == 10) bytes)
 
--- why reading ends in a fault after k lines: the reader failed, and what it had given by then has k whole lines; the next
--- line is too long; or there are too many lines
+-- why reading ends in a fault after k lines: the reader failed, and what it had given by then has k whole lines; the
+-- next line is too long; or there are too many lines
 abbrev pub IsReadFault : List ℕ → ℕ → Reading → Type 0
 IsReadFault bytes k i' =
-    ((i'.failed ≡ true) × (given : List ℕ) × (left : List ℕ) × (i'.remaining ≡ Some left) × (bytes ≡ given ++ left) × (k ≡ line_feeds given))
+    ((i'.failed ≡ true) × (given : List ℕ) × (left : List ℕ) × (i'.remaining ≡ Some left) × (bytes ≡ given ++ left)
+    × (k ≡ line_feeds given))
     ⊎ (((k < length (lines bytes)) × (most_bytes < length (line_at bytes k)))
     ⊎ ((k ≡ most_lines) × (most_lines < length (lines bytes))))
 
--- the first k lines were answered in full; the next one is within the limits, its event was taken too, and a front of its
--- answer was written
+-- the first k lines were answered in full; the next one is within the limits, its event was taken too, and a front of
+-- its answer was written
 abbrev pub IsWriteFault : List ℕ → ℕ → Network → Writing → Network → Writing → Type 0
-IsWriteFault bytes k s o s' o' = (k < length (lines bytes)) × (k < most_lines) × (length (line_at bytes k) ≤ most_bytes) × (o'.failed ≡ true)
+IsWriteFault bytes k s o s' o' = (k < length (lines bytes)) × (k < most_lines) × (length (line_at bytes k) ≤ most_bytes)
+    × (o'.failed ≡ true)
     × (mid : Network) × (text : List ℕ) × (answer : List ℕ) × (n : ℕ)
-    × AreFit (take k (lines bytes)) × AreAnswers s (take k (lines bytes)) text mid × IsAnswer mid (line_at bytes k) answer s'
+    × AreFit (take k (lines bytes)) × AreAnswers s (take k (lines bytes)) text mid
+    × IsAnswer mid (line_at bytes k) answer s'
     × (n ≤ length answer) × Appends o.written o'.written (text ++ take n answer)
 
 -- the writer failed
@@ -81,5 +86,6 @@ is_read_fault (Err (Write line)) = false
 -- serving the bytes: all lines were answered, or a fault came at the line that it names, counted from 1
 abbrev pub IsServing : List ℕ → Network → Writing → Result ℕ ServeFault → Network → Writing → Reading → Type 0
 IsServing bytes s o (Ok n) s' o' i' = (n ≡ length (lines bytes)) × (i'.remaining ≡ Some []) × Served bytes n s o s' o'
-IsServing bytes s o (Err (Read line)) s' o' i' = (k : ℕ) × (line ≡ k + 1) × IsReadFault bytes k i' × Served bytes k s o s' o'
+IsServing bytes s o (Err (Read line)) s' o' i' = (k : ℕ) × (line ≡ k + 1) × IsReadFault bytes k i'
+    × Served bytes k s o s' o'
 IsServing bytes s o (Err (Write line)) s' o' i' = (k : ℕ) × (line ≡ k + 1) × IsWriteFault bytes k s o s' o'

@@ -22,25 +22,32 @@ memory_test _ true h = let e = h.0 refl in absurd (cc)
 memory_test _ false h = refl
 
 -- there was no memory for the event
-pub called_without_memory : (seat new : SeatBook) (line : List ℕ) (event : Event) (reply : Reply) → Means line event → is_memory reply ≡ true → new ≡ noted seat event reply → IsCalled seat line (Some Memory) new
+pub called_without_memory : (seat new : SeatBook) (line : List ℕ) (event : Event) (reply : Reply) → Means line event →
+    is_memory reply ≡ true → new ≡ noted seat event reply → IsCalled seat line (Some Memory) new
 called_without_memory seat new line event reply means memory is =
     inr (inr (inr (event, means, refl, is ∙ ap (λ b. cond b seat (with_call seat event reply)) memory)))
 
 -- the event was called
-pub called_event : (seat new : SeatBook) (line : List ℕ) (event : Event) (reply : Reply) → Means line event → is_memory reply ≡ false → new ≡ noted seat event reply → IsCalled seat line None new
+pub called_event : (seat new : SeatBook) (line : List ℕ) (event : Event) (reply : Reply) → Means line event →
+    is_memory reply ≡ false → new ≡ noted seat event reply → IsCalled seat line None new
 called_event seat new line event reply means memory is =
     inr (inl (event, reply, means, memory, refl, is ∙ ap (λ b. cond b seat (with_call seat event reply)) memory))
 
 -- it was, or there was none, which is told
-pub called_or_not : (seat new : SeatBook) (line : List ℕ) (event : Event) (reply : Reply) (told : Option Refusal) → Means line event → told ≡ cond (is_memory reply) (Some Memory) None → new ≡ noted seat event reply → IsCalled seat line told new
+pub called_or_not : (seat new : SeatBook) (line : List ℕ) (event : Event) (reply : Reply) (told : Option Refusal) →
+    Means line event → told ≡ cond (is_memory reply) (Some Memory) None → new ≡ noted seat event reply →
+    IsCalled seat line told new
 called_or_not seat new line event reply told means tells is = by (is_memory reply) refl
   where
     by : (b : Bool) → is_memory reply ≡ b → IsCalled seat line told new
-    by true memory = subst (λ t. IsCalled seat line t new) (sym (tells ∙ ap (λ b. cond b (Some Memory) None) memory)) (called_without_memory seat new line event reply means memory is)
-    by false memory = subst (λ t. IsCalled seat line t new) (sym (tells ∙ ap (λ b. cond b (Some Memory) None) memory)) (called_event seat new line event reply means memory is)
+    by true memory = subst (λ t. IsCalled seat line t new) (sym (tells ∙ ap (λ b. cond b (Some Memory) None) memory))
+        (called_without_memory seat new line event reply means memory is)
+    by false memory = subst (λ t. IsCalled seat line t new) (sym (tells ∙ ap (λ b. cond b (Some Memory) None) memory))
+        (called_event seat new line event reply means memory is)
 
 -- the line was refused before
-pub called_refused : (seat new : SeatBook) (line : List ℕ) (r : Refusal) → IsReading line (Err r) → new ≡ seat → IsCalled seat line (Some r) new
+pub called_refused : (seat new : SeatBook) (line : List ℕ) (r : Refusal) → IsReading line (Err r) → new ≡ seat →
+    IsCalled seat line (Some r) new
 called_refused seat new line Syntax h is = inr (inr (inl (h, refl, is)))
 called_refused seat new line Memory h is = inr (inr (inr (h.0, h.1, refl, is)))
 called_refused seat new line _ h is = absurd h
@@ -52,7 +59,8 @@ pub none_called : (seat : SeatBook) → AreCalledFrom [] seat seat
 none_called seat = record { same = refl; calls = []; noted = sym (append-nil seat.notes); called = refl }
 
 -- a line that made no call
-skipped : (line : List ℕ) (more : List (List ℕ)) (old mid new : SeatBook) → MakesNoCall line → mid ≡ old → AreCalledFrom more mid new → AreCalledFrom (line ∷ more) old new
+skipped : (line : List ℕ) (more : List (List ℕ)) (old mid new : SeatBook) → MakesNoCall line → mid ≡ old →
+    AreCalledFrom more mid new → AreCalledFrom (line ∷ more) old new
 skipped line more old mid new none is rest = record {
   same = rest.same ∙ ap (λ (s : SeatBook). s.number) is;
   calls = rest.calls;
@@ -62,16 +70,19 @@ skipped line more old mid new none is rest = record {
 
 -- a line that made one
 made : (line : List ℕ) (more : List (List ℕ)) (old mid new : SeatBook) (event : Event) (reply : Reply)
-    → Means line event → mid ≡ with_call old event reply → AreCalledFrom more mid new → AreCalledFrom (line ∷ more) old new
+    → Means line event → mid ≡ with_call old event reply → AreCalledFrom more mid new →
+    AreCalledFrom (line ∷ more) old new
 made line more old mid new event reply means is rest =
     let call : Call = record { event = event; reply = reply } in record {
       same = rest.same ∙ ap (λ (s : SeatBook). s.number) is;
       calls = call ∷ rest.calls;
-      noted = rest.noted ∙ ap (λ (s : SeatBook). s.notes ++ rest.calls) is ∙ append_assoc old.notes (call ∷ []) rest.calls;
+      noted = rest.noted ∙ ap (λ (s : SeatBook). s.notes ++ rest.calls) is
+          ∙ append_assoc old.notes (call ∷ []) rest.calls;
       called = inr (call, rest.calls, refl, means, rest.called);
     }
 
-pub called_more : (line : List ℕ) (more : List (List ℕ)) (told : Option Refusal) (old mid new : SeatBook) → IsCalled old line told mid → AreCalledFrom more mid new → AreCalledFrom (line ∷ more) old new
+pub called_more : (line : List ℕ) (more : List (List ℕ)) (told : Option Refusal) (old mid new : SeatBook) →
+    IsCalled old line told mid → AreCalledFrom more mid new → AreCalledFrom (line ∷ more) old new
 called_more line more told old mid new first rest = ⊎_elim
     (λ silent. skipped line more old mid new (inl silent.0) silent.2 rest)
     (λ other. ⊎_elim

@@ -7,7 +7,8 @@ use Rattle.team_run.specs.Sources.{Source, AreRead, IsRead}
 use Rattle.team_run.specs.Scripts.{IsFaultOf, IsFileFault, IsReadingFault}
 
 -- one file more was read
-pub read_push : (files : List Source) (scripts : List (List ℕ)) (file : Source) (script : List ℕ) → AreRead files scripts → IsRead file script → AreRead (files ++ file ∷ []) (scripts ++ script ∷ [])
+pub read_push : (files : List Source) (scripts : List (List ℕ)) (file : Source) (script : List ℕ) →
+    AreRead files scripts → IsRead file script → AreRead (files ++ file ∷ []) (scripts ++ script ∷ [])
 read_push [] [] file script all one = (one, tt)
 read_push (f ∷ files) (s ∷ scripts) file script all one = (all.0, read_push files scripts file script all.1 one)
 read_push [] (s ∷ scripts) file script all one = absurd all
@@ -31,7 +32,8 @@ unread_next files before after scripts file Unwritten order read is = absurd is
 unread_next files before after scripts file BookDiffers order read is = absurd is
 
 -- an opened file was not read
-pub unread_opened : (file : Source) (bytes : Option (List ℕ)) (name : List ℕ) (failed : Bool) (fault : RunFault) → file.name ≡ name → IsFaultOf name bytes failed fault → IsFileFault file fault
+pub unread_opened : (file : Source) (bytes : Option (List ℕ)) (name : List ℕ) (failed : Bool) (fault : RunFault) →
+    file.name ≡ name → IsFaultOf name bytes failed fault → IsFileFault file fault
 unread_opened file bytes name failed (FileUnread other) named is = is.0 ∙ sym named
 unread_opened file bytes name failed NoMemory named is = tt
 unread_opened file bytes name failed (LineUnread line) named is = absurd is

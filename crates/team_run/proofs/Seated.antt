@@ -5,7 +5,8 @@ use Rattle.room.specs.Books.{SeatBook}
 use Rattle.team_run.specs.Playing.{Engineering, engineers_of}
 
 -- one engineer more
-pub seated_more : (all engineers : List Engineering) (script : List ℕ) (scripts : List (List ℕ)) (seat : SeatBook) (seats : List SeatBook) (engineer : Engineering)
+pub seated_more : (all engineers : List Engineering) (script : List ℕ) (scripts : List (List ℕ)) (seat : SeatBook)
+    (seats : List SeatBook) (engineer : Engineering)
     → engineer ≡ record { file = length engineers + 1; script = script; seat = seat }
     → all ≡ engineers ++ engineers_of (length engineers + 1) (script ∷ scripts) (seat ∷ seats)
     → all ≡ (engineers ++ engineer ∷ []) ++ engineers_of (length (engineers ++ engineer ∷ []) + 1) scripts seats
@@ -14,4 +15,5 @@ seated_more all engineers script scripts seat seats engineer is so =
     so
     ∙ ap (λ (e : Engineering). engineers ++ (e ∷ later)) (sym is)
     ∙ sym (append_assoc engineers (engineer ∷ []) later)
-    ∙ ap (λ n. (engineers ++ engineer ∷ []) ++ engineers_of (n + 1) scripts seats) (sym (length_push engineers engineer))
+    ∙ ap (λ n. (engineers ++ engineer ∷ []) ++ engineers_of (n + 1) scripts seats)
+    (sym (length_push engineers engineer))

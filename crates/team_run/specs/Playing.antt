@@ -24,13 +24,16 @@ pub record Engineering : Type 0 where
 abbrev pub engineers_of : ℕ → List (List ℕ) → List SeatBook → List Engineering
 engineers_of file [] seats = []
 engineers_of file (script ∷ scripts) [] = []
-engineers_of file (script ∷ scripts) (seat ∷ seats) = record { file = file; script = script; seat = seat } ∷ engineers_of (file + 1) scripts seats
+engineers_of file (script ∷ scripts) (seat ∷ seats) = record { file = file; script = script; seat = seat }
+    ∷ engineers_of (file + 1) scripts seats
 
--- a line was called from the seat, and this was told of it: nothing of one that is blank or a comment, nor where the event that it means was called; that it spells no event; or that there was no memory
+-- a line was called from the seat, and this was told of it: nothing of one that is blank or a comment, nor where the
+-- event that it means was called; that it spells no event; or that there was no memory
 abbrev pub IsCalled : SeatBook → List ℕ → Option Refusal → SeatBook → Type 0
 IsCalled seat line told seat' =
     (IsSilent line × (told ≡ None) × (seat' ≡ seat))
-    ⊎ (((event : Event) × (reply : Reply) × Means line event × (is_memory reply ≡ false) × (told ≡ None) × (seat' ≡ with_call seat event reply))
+    ⊎ (((event : Event) × (reply : Reply) × Means line event × (is_memory reply ≡ false) × (told ≡ None)
+    × (seat' ≡ with_call seat event reply))
     ⊎ ((IsFault line × (told ≡ Some Syntax) × (seat' ≡ seat))
     ⊎ ((event : Event) × Means line event × (told ≡ Some Memory) × (seat' ≡ seat))))
 

@@ -23,7 +23,8 @@ no_memory = Memory
 abbrev pub is_returned : List ℕ → Bool
 is_returned line = slice_index line (length line - 1) == 13
 
--- what was read begins with whole lines, which a script may have, and then has a part of a line, to which one byte may belong that is of its end
+-- what was read begins with whole lines, which a script may have, and then has a part of a line, to which one byte may
+-- belong that is of its end
 pub record IsMeasured (bytes : List ℕ) (measure : Measure) : Type 0 where
   pub whole : List (List ℕ)
   pub part : List ℕ

@@ -1,4 +1,5 @@
--- What it means to run a team: whose calls its log holds, its exit status, and what is told where no thread is started (own).
+-- What it means to run a team: whose calls its log holds, its exit status, and what is told where no thread is started
+-- (own).
 use Rattle.std.specs.Prelude.{◌≡◌, ◌⊎◌, ℕ, ◌+◌, true, false, List, [], ◌∷◌}
 use Rattle.std.specs.Str.Lines.{lines}
 use Rattle.std.specs.Io.KnownBytes.{Appends}
@@ -16,7 +17,8 @@ use Rattle.team_run.specs.Sources.{Source, AreRead, IsFirstUnread}
 
 -- ---- whose calls the log holds
 
--- a line that makes no call: it is blank or a comment; or it spells no event; or there was no memory for the event that it means
+-- a line that makes no call: it is blank or a comment; or it spells no event; or there was no memory for the event that
+-- it means
 abbrev pub MakesNoCall : List ℕ → Type 0
 MakesNoCall line = IsSilent line ⊎ (IsFault line ⊎ ((event : Event) × Means line event))
 
@@ -29,7 +31,8 @@ AreCalled (line ∷ more) calls = (MakesNoCall line × AreCalled more calls)
 -- the calls of the seats, from the one of this number on, are those of the scripts' lines
 abbrev pub AreOfScripts : ℕ → List (List ℕ) → List Entry → Type 0
 AreOfScripts seat [] history = Unit {0}
-AreOfScripts seat (script ∷ more) history = AreCalled (lines script) (calls_of seat history) × AreOfScripts (seat + 1) more history
+AreOfScripts seat (script ∷ more) history = AreCalled (lines script) (calls_of seat history)
+    × AreOfScripts (seat + 1) more history
 
 -- a legal history, in which the seats from 0 on call the scripts
 abbrev pub IsTeamHistory : List (List ℕ) → List Entry → Type 0
@@ -63,9 +66,11 @@ IsToldLast text errors' = (errors : Writing) × IsTold errors text errors'
 
 -- there was no memory, or the notes of a seat are not its calls: nothing was written, and this was told last
 abbrev pub IsBroken : Writing → Writing → Writing → Type 0
-IsBroken o o' errors' = (o' ≡ o) × (IsToldLast (fault_text NoMemory) errors' ⊎ IsToldLast (fault_text BookDiffers) errors')
+IsBroken o o' errors' = (o' ≡ o)
+    × (IsToldLast (fault_text NoMemory) errors' ⊎ IsToldLast (fault_text BookDiffers) errors')
 
--- scripts that were read were played: the log was written; or it was cut off, which was told last; or nothing was written
+-- scripts that were read were played: the log was written; or it was cut off, which was told last; or nothing was
+-- written
 abbrev pub IsPlayed : List (List ℕ) → Writing → ℕ → Writing → Writing → Type 0
 IsPlayed scripts o status o' errors' =
     ((status ≡ success) × IsLogged scripts o o')
@@ -74,7 +79,8 @@ IsPlayed scripts o status o' errors' =
 
 -- nothing was written, since a file was not read, the first such, and that alone was told
 abbrev pub IsUnread : List Source → Writing → Writing → ℕ → Writing → Writing → Type 0
-IsUnread files o errors status o' errors' = (status ≡ read_fault) × (o' ≡ o) × (name : List ℕ) × IsFirstUnread files name × IsTold errors (unread_text name) errors'
+IsUnread files o errors status o' errors' = (status ≡ read_fault) × (o' ≡ o) × (name : List ℕ)
+    × IsFirstUnread files name × IsTold errors (unread_text name) errors'
 
 -- a team was run: its scripts were read and played, or not all were read, or there was no memory for them
 abbrev pub IsTeamRun : List Source → Writing → Writing → ℕ → Writing → Writing → Type 0

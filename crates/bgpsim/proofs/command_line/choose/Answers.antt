@@ -8,27 +8,33 @@ use Rattle.bgpsim.proofs.command_line.choose.Goals as goal
 pub chosen-requires : goal.chosen-requires
 chosen-requires c =
     let is = c.in_ok-command.ensures in
-    met_one (app_of c.in_ok-command.command) is (map string_bytes c.args.words.now) c.in_ok-matches.matches c.in_ok-matches.ensures.matches
+    met_one (app_of c.in_ok-command.command) is (map string_bytes c.args.words.now) c.in_ok-matches.matches
+    c.in_ok-matches.ensures.matches
     (c.in_ok-matches.ensures.kinds (ap is_simple_and_free is))
 
 pub returns-clause-faults : goal.returns-clause-faults
 returns-clause-faults c =
     let is = c.in_ok-command.ensures in
-    ap (λ a. fault_of a (map string_bytes c.args.words.now)) (sym is) ∙ c.in_ok-matches.ensures.kinds (ap is_simple_and_free is)
+    ap (λ a. fault_of a (map string_bytes c.args.words.now)) (sym is)
+    ∙ c.in_ok-matches.ensures.kinds (ap is_simple_and_free is)
 
 pub returns-clause-script : goal.returns-clause-script
 returns-clause-script c = λ name are.
     let is = c.in_ok-command.ensures in
-    let found = met (app_of c.in_ok-command.command) is (map string_bytes c.args.words.now) c.in_ok-matches.matches c.in_ok-matches.ensures.matches in
+    let found = met (app_of c.in_ok-command.command) is (map string_bytes c.args.words.now) c.in_ok-matches.matches
+    c.in_ok-matches.ensures.matches in
     let known = found ∙ ap (subcommand_of commands) are ∙ script_is_met name in
-    is_script c.in_ok-choice.choice _ (subst (λ met. IsSomeAnd met (IsChoice c.in_ok-choice.choice)) known c.in_ok-choice.ensures.choice)
+    is_script c.in_ok-choice.choice _ (subst (λ met. IsSomeAnd met (IsChoice c.in_ok-choice.choice)) known
+    c.in_ok-choice.ensures.choice)
 
 pub returns-clause-replay : goal.returns-clause-replay
 returns-clause-replay c = λ name are.
     let is = c.in_ok-command.ensures in
-    let found = met (app_of c.in_ok-command.command) is (map string_bytes c.args.words.now) c.in_ok-matches.matches c.in_ok-matches.ensures.matches in
+    let found = met (app_of c.in_ok-command.command) is (map string_bytes c.args.words.now) c.in_ok-matches.matches
+    c.in_ok-matches.ensures.matches in
     let known = found ∙ ap (subcommand_of commands) are ∙ replay_is_met name in
-    is_replay c.in_ok-choice.choice _ (subst (λ met. IsSomeAnd met (IsChoice c.in_ok-choice.choice)) known c.in_ok-choice.ensures.choice)
+    is_replay c.in_ok-choice.choice _ (subst (λ met. IsSomeAnd met (IsChoice c.in_ok-choice.choice)) known
+    c.in_ok-choice.ensures.choice)
 
 pub returns-in_err-matches-clause-script : goal.returns-in_err-matches-clause-script
 returns-in_err-matches-clause-script c = λ name are.

@@ -11,4 +11,5 @@ returns c =
     let replay : shape_of c.about-replay.result ≡ (new_app (codes "replay")).top = search rules in
     let one = c.in_ok-subcommand.ensures.shape (search rules) ∙ ap₂ with_subcommand top script in
     let two = c.in_ok-subcommand-2.ensures.shape (search rules) ∙ ap₂ with_subcommand one replay in
-    IfOk-weaker c.subcommand-3.result _ _ (λ r adds. adds.shape (search rules) ∙ ap₂ with_subcommand two (ap (λ (a : App). a.top) c.in_ok-team.ensures.app)) c.subcommand-3.ensures
+    IfOk-weaker c.subcommand-3.result _ _ (λ r adds. adds.shape (search rules)
+    ∙ ap₂ with_subcommand two (ap (λ (a : App). a.top) c.in_ok-team.ensures.app)) c.subcommand-3.ensures

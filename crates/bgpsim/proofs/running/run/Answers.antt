@@ -6,5 +6,6 @@ pub returns : goal.returns
 returns g c =
     let old = c.args.streams.now in
     let new = c.run_words.new.streams in
-    let P : ℕ → Type 0 = λ status. IsProgramRun (map string_bytes c.args.words.now) (g.R.Read.remaining c.args.reader) old.output old.errors status new.output new.errors in
+    let P : ℕ → Type 0 = λ status. IsProgramRun (map string_bytes c.args.words.now)
+    (g.R.Read.remaining c.args.reader) old.output old.errors status new.output new.errors in
     subst P (sym c.from.ensures) c.run_words.ensures

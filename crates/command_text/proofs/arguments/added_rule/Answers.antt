@@ -8,4 +8,5 @@ use Rattle.command_text.proofs.arguments.added_rule.Goals as goal
 pub returns-in_err-second : goal.returns-in_err-second
 returns-in_err-second c =
     unspelled IsAddedRule added_words _ _ c.from_residual-in_err-second.ensures
-    (λ v h s. c.in_err-second.ensures.none v.1 (side_word v.2 ∷ rule_words v.3) h.1 (cc (c.in_ok-first.ensures.found, s)))
+    (λ v h s. c.in_err-second.ensures.none v.1 (side_word v.2 ∷ rule_words v.3) h.1
+    (cc (c.in_ok-first.ensures.found, s)))

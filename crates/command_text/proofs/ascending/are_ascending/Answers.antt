@@ -6,7 +6,8 @@ use Rattle.command_text.proofs.ascending.are_ascending.Goals as goal
 pub returns-in_default-number_from : goal.returns-in_default-number_from
 returns-in_default-number_from c = (
   λ e. absurd (false≢true e),
-  λ has. let next = ascending_first c.loop-first.low _ _ _ c.in-Some.ensures.whole c.in-Some.ensures.first (c.loop-first.invariant.down has) in
+  λ has. let next = ascending_first c.loop-first.low _ _ _ c.in-Some.ensures.whole c.in-Some.ensures.first
+      (c.loop-first.invariant.down has) in
       absurd (c.in_default-number_from.ensures next.0 next.1 next.2),
 )
 
@@ -18,12 +19,15 @@ loop-first-preserved c =
     let is : next ≡ number + 1 = omega arith in
     let read = c.in-Some-number_from.ensures in
     record {
-      up = λ has. c.loop-first.invariant.up (ascending_more low number next _ _ _ is c.in-Some.ensures.whole read.0 read.1 has);
-      down = λ has. ascending_after low number next _ _ _ is c.in-Some.ensures.whole c.in-Some.ensures.first read.0 read.1 (c.loop-first.invariant.down has);
+      up = λ has. c.loop-first.invariant.up
+          (ascending_more low number next _ _ _ is c.in-Some.ensures.whole read.0 read.1 has);
+      down = λ has. ascending_after low number next _ _ _ is c.in-Some.ensures.whole c.in-Some.ensures.first read.0
+          read.1 (c.loop-first.invariant.down has);
     }
 
 pub returns : goal.returns
 returns c = (
   λ e. c.loop-first.invariant.up (ascending_one c.loop-first.low _ (c.is_from.ensures.0 e)),
-  λ has. c.is_from.ensures.1 (ascending_last c.loop-first.low _ c.in_default.ensures.none (c.loop-first.invariant.down has)),
+  λ has. c.is_from.ensures.1 (ascending_last c.loop-first.low _ c.in_default.ensures.none
+      (c.loop-first.invariant.down has)),
 )

@@ -6,4 +6,5 @@ use Rattle.command_text.proofs.Readings.{unread}
 use Rattle.command_text.proofs.command.read_clear.Goals as goal
 
 pub returns-in_err-first : goal.returns-in_err-first
-returns-in_err-first c = unread IsEvent words_of _ AreEnds side_words _ _ c.from_residual.ensures c.in_err-first.ensures (clear_follows _)
+returns-in_err-first c = unread IsEvent words_of _ AreEnds side_words _ _ c.from_residual.ensures c.in_err-first.ensures
+    (clear_follows _)

@@ -6,4 +6,5 @@ use Rattle.command_text.proofs.Readings.{unread}
 use Rattle.command_text.proofs.command.read_prefix.Goals as goal
 
 pub returns-in_err-addr : goal.returns-in_err-addr
-returns-in_err-addr c = unread IsEvent words_of _ IsAddressAndPrefix prefix_words _ _ c.from_residual.ensures c.in_err-addr.ensures (prefix_follows c.args.verb _)
+returns-in_err-addr c = unread IsEvent words_of _ IsAddressAndPrefix prefix_words _ _ c.from_residual.ensures
+    c.in_err-addr.ensures (prefix_follows c.args.verb _)

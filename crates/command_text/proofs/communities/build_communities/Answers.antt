@@ -12,7 +12,8 @@ use Rattle.command_text.proofs.communities.build_communities.Goals as goal
 
 pub returns-in_default : goal.returns-in_default
 returns-in_default c =
-    subst (λ cs. AreCommunities cs × (tokens c.args.words.now ≡ communities_words cs)) (sym c.none.ensures) (none_of _ (unnamed_none _ c.in_default.ensures.none c.requires))
+    subst (λ cs. AreCommunities cs × (tokens c.args.words.now ≡ communities_words cs)) (sym c.none.ensures)
+    (none_of _ (unnamed_none _ c.in_default.ensures.none c.requires))
 
 pub build_numbers-requires : goal.build_numbers-requires
 build_numbers-requires c = ascending_numbers 0 _ (named_ascending _ _ c.in-Some.ensures.found c.requires)
@@ -28,4 +29,5 @@ returns c =
     let are = subst (λ ns. AreFrom 0 ns c.in-Some.text.now) (sym c.in_ok-shared.ensures) c.in_ok-numbers.ensures in
     let up = ascending_of 0 shared _ are (named_ascending _ _ c.in-Some.ensures.found c.requires) in
     let is = subst (λ r. SomeIff r (IsAscending shared) shared) c.unwrap.ensures c.new.ensures in
-    subst (λ cs. AreCommunities cs × (tokens c.args.words.now ≡ communities_words cs)) (sym is.1) (communities_of _ _ shared c.in-Some.ensures.found are up)
+    subst (λ cs. AreCommunities cs × (tokens c.args.words.now ≡ communities_words cs)) (sym is.1)
+    (communities_of _ _ shared c.in-Some.ensures.found are up)

@@ -19,5 +19,6 @@ news_kind (Withdraw p) = (kind.Withdraw, prefix_text p ∷ _, λ i. news_words (
 pub returns-in_err-kind : goal.returns-in_err-kind
 returns-in_err-kind c =
     let none = at_none _ _ c.in_err-kind.ensures.ok_part c.next_kind.ensures.none in
-    refused_so IsNews is_route news_words _ _ _ _ c.in_err-kind.ensures.ok_part c.in_err-kind.ensures.value c.from_residual.ensures.1
+    refused_so IsNews is_route news_words _ _ _ _ c.in_err-kind.ensures.ok_part c.in_err-kind.ensures.value
+    c.from_residual.ensures.1
     (λ n h s. let first = news_kind n in none first.0 first.1 (s ∙ first.2))

@@ -5,5 +5,6 @@ use Rattle.command_text.proofs.front.address_before.Goals as goal
 pub returns-clause-found : goal.returns-clause-found
 returns-clause-found c =
     let octets = c.in_ok-first.ensures.octets in
-    addr_text_before _ c.in_ok-first.rest.now _ c.in_ok-first.first c.in_ok-first.second c.in_ok-first.third c.in_ok-fourth.fourth _ octets.0 octets.1 octets.2 c.in_ok-fourth.ensures.octet (omega arith)
+    addr_text_before _ c.in_ok-first.rest.now _ c.in_ok-first.first c.in_ok-first.second c.in_ok-first.third
+    c.in_ok-fourth.fourth _ octets.0 octets.1 octets.2 c.in_ok-fourth.ensures.octet (omega arith)
     c.in_ok-first.ensures.found c.in_ok-fourth.ensures.found

@@ -6,12 +6,14 @@ use Rattle.command_text.proofs.path.are_numbers.Goals as goal
 pub returns-then-not-is_number : goal.returns-then-not-is_number
 returns-then-not-is_number c = (
   λ e. absurd (false≢true e),
-  λ has. c.if-not-is_number.ensures.1 (numbers_first 1 _ _ _ c.in-Some.ensures.whole c.in-Some.ensures.first (c.loop-first.invariant.down has)),
+  λ has. c.if-not-is_number.ensures.1 (numbers_first 1 _ _ _ c.in-Some.ensures.whole c.in-Some.ensures.first
+      (c.loop-first.invariant.down has)),
 )
 
 pub loop-first-preserved : goal.loop-first-preserved
 loop-first-preserved c = record {
-  up = λ has. c.loop-first.invariant.up (numbers_more 1 _ _ _ c.in-Some.ensures.whole (c.if-not-is_number.ensures.0 refl) has);
+  up = λ has. c.loop-first.invariant.up
+      (numbers_more 1 _ _ _ c.in-Some.ensures.whole (c.if-not-is_number.ensures.0 refl) has);
   down = λ has. numbers_after 1 _ _ _ c.in-Some.ensures.whole c.in-Some.ensures.first (c.loop-first.invariant.down has);
 }
 

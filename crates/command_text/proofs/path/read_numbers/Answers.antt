@@ -10,9 +10,11 @@ returns-in_default-asn_of-clause-none c has =
 pub loop-first-preserved : goal.loop-first-preserved
 loop-first-preserved c =
     let read = c.in-Some-asn_of.ensures in
-    let on = numbers_go_more 1 c.loop-first.numbers c.in-Some-asn_of.number _ _ _ _ c.in-Some.ensures.whole read.0 read.1 c.loop-first.invariant.on in
+    let on = numbers_go_more 1 c.loop-first.numbers c.in-Some-asn_of.number _ _ _ _ c.in-Some.ensures.whole read.0
+    read.1 c.loop-first.invariant.on in
     record {
-      down = λ has. numbers_after 1 _ _ _ c.in-Some.ensures.whole c.in-Some.ensures.first (c.loop-first.invariant.down has);
+      down = λ has. numbers_after 1 _ _ _ c.in-Some.ensures.whole c.in-Some.ensures.first
+          (c.loop-first.invariant.down has);
       on = subst (λ ns. NumbersGoOn 1 ns c.in-Some.after.now c.args.text.now) (sym c.in_ok-push.ensures.ok) on;
     }
 

@@ -14,10 +14,13 @@ returns-in_default-2-clause-none c has =
 pub loop-first-preserved : goal.loop-first-preserved
 loop-first-preserved c =
     let made = reads_at IsPart segment_text _ _ _ c.in-Some-2.is c.in_ok-segment.ensures in
-    let on = segments_go_more c.loop-first.segments.items c.in-Some-2.segment _ _ _ _ c.in-Some.ensures.whole made.0 made.1 c.loop-first.invariant.on in
+    let on = segments_go_more c.loop-first.segments.items c.in-Some-2.segment _ _ _ _ c.in-Some.ensures.whole made.0
+    made.1 c.loop-first.invariant.on in
     record {
-      down = λ has. segments_after _ _ _ c.in-Some.ensures.whole c.in-Some.ensures.first (c.loop-first.invariant.down has);
-      on = subst (λ ss. SegmentsGoOn ss c.in-Some.after.now c.args.text.now) (sym {A = List Segment} c.in_ok-push.ensures.items) on;
+      down = λ has. segments_after _ _ _ c.in-Some.ensures.whole c.in-Some.ensures.first
+          (c.loop-first.invariant.down has);
+      on = subst (λ ss. SegmentsGoOn ss c.in-Some.after.now c.args.text.now)
+          (sym {A = List Segment} c.in_ok-push.ensures.items) on;
     }
 
 pub returns-in_default-3-clause-none : goal.returns-in_default-3-clause-none

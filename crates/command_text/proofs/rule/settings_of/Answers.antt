@@ -25,4 +25,5 @@ returns-in_err-prepend-2 c =
     unspelled AreSettings settings_words _ _ c.from_residual-in_err-prepend-2.ensures (λ s h e.
     let prepend = left_of_med _ _ _ s c.in_ok-pref.ensures.after c.in_ok-med.ensures.after e in
     let add = left_of_prepend _ _ s c.in_ok-prepend.ensures.after prepend in
-    c.in_err-prepend-2.ensures s.prepend h.2 (prepend_read _ _ _ s c.in_ok-prepend.ensures.range h.2 c.in_ok-prepend.ensures.found prepend add))
+    c.in_err-prepend-2.ensures s.prepend h.2
+    (prepend_read _ _ _ s c.in_ok-prepend.ensures.range h.2 c.in_ok-prepend.ensures.found prepend add))

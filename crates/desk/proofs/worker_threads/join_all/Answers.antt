@@ -14,10 +14,18 @@ loop-worker-preserved g c =
     let pushed : c.push_reserved.new.self.items ≡ back ++ seat ∷ [] = search rules in (
       tt,
       tt,
-      omega (arith, c.loop-worker.invariant.2, c.push_reserved.ensures.capacity, ap length pushed, length_push back seat, ap length step),
+      omega (
+        arith,
+        c.loop-worker.invariant.2,
+        c.push_reserved.ensures.capacity,
+        ap length pushed,
+        length_push back seat,
+        ap length step,
+      ),
       λ shards turns seats all.
           subst (λ ss. Coming shards turns seats rest ss) (sym pushed)
-          (coming_next shards turns seats worker rest back seat (subst (λ ws. Coming shards turns seats ws back) step (c.loop-worker.invariant.3 shards turns seats all))
+          (coming_next shards turns seats worker rest back seat
+          (subst (λ ws. Coming shards turns seats ws back) step (c.loop-worker.invariant.3 shards turns seats all))
           (λ place x to_work. c.join.ensures place shards turns x to_work)),
     )
 
@@ -25,4 +33,6 @@ pub returns : goal.returns
 returns g c = λ shards turns seats all.
     let rest = c.loop-worker.worker-iterator.rest in
     let none : rest.items ≡ [] = nil_from_length rest.items (sym rest.ok.0 ∙ c.in-None.ensures.steps.0) in
-    coming_none shards turns seats c.loop-worker.back.items (subst (λ ws. Coming shards turns seats ws c.loop-worker.back.items) none (c.loop-worker.invariant.3 shards turns seats all))
+    coming_none shards turns seats c.loop-worker.back.items
+    (subst (λ ws. Coming shards turns seats ws c.loop-worker.back.items) none
+    (c.loop-worker.invariant.3 shards turns seats all))

@@ -10,4 +10,5 @@ invariant-loop-worker g l =
     (goal.iterator-loop-worker g).can_next l.worker-iterator ×
     (goal.iterator-loop-worker g).is_finite l.worker-iterator ×
     (length l.back.items + length l.worker-iterator.rest.items ≤ vec_capacity l.back)
-    × ((shards turns : ℕ) (seats : List SeatBook) → AllToWork 0 shards turns seats l.fn.workers.items → Coming shards turns seats l.worker-iterator.rest.items l.back.items)
+    × ((shards turns : ℕ) (seats : List SeatBook) → AllToWork 0 shards turns seats l.fn.workers.items →
+    Coming shards turns seats l.worker-iterator.rest.items l.back.items)

@@ -5,7 +5,8 @@ use Rattle.log_replay.proofs.Versions.{formed, formless, no_call, call_unread}
 use Rattle.log_replay.proofs.call.read_call.Goals as goal
 
 pub returns-in_err-event : goal.returns-in_err-event
-returns-in_err-event c = call_unread c.from_residual.result c.args.version c.args.line.now c.from_residual.ensures.0 c.in_err-event.ensures
+returns-in_err-event c = call_unread c.from_residual.result c.args.version c.args.line.now c.from_residual.ensures.0
+    c.in_err-event.ensures
 
 pub returns-in-None : goal.returns-in-None
 returns-in-None c =
@@ -15,9 +16,11 @@ returns-in-None c =
 pub returns-then-has_form : goal.returns-then-has_form
 returns-then-has_form c =
     let some : c.in_ok-event.field-0 ≡ Some c.in-Some.event = cc in
-    formed c.args.version c.args.line.now c.in-Some.event (subst (Calls Two c.args.line.now) some c.in_ok-event.ensures) (sym c.has_form.ensures ∙ c.if-has_form.true)
+    formed c.args.version c.args.line.now c.in-Some.event (subst (Calls Two c.args.line.now) some c.in_ok-event.ensures)
+    (sym c.has_form.ensures ∙ c.if-has_form.true)
 
 pub returns : goal.returns
 returns c =
     let some : c.in_ok-event.field-0 ≡ Some c.in-Some.event = cc in
-    formless c.one_meaning.ensures.line c.args.version c.args.line.now c.in-Some.event (subst (Calls Two c.args.line.now) some c.in_ok-event.ensures) (sym c.has_form.ensures ∙ c.if-has_form.false)
+    formless c.one_meaning.ensures.line c.args.version c.args.line.now c.in-Some.event
+    (subst (Calls Two c.args.line.now) some c.in_ok-event.ensures) (sym c.has_form.ensures ∙ c.if-has_form.false)

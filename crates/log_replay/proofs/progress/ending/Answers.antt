@@ -12,8 +12,10 @@ returns c = λ bytes i s read comes.
     let pending = c.args.progress.now.pending in
     let checker = c.args.progress.now.checker in
     let len = ap length c.as_slice.ensures in
-    let more : (p : Place) → IsAt checker s p → is_finished p ≡ true → 0 < length pending = λ p at finished. elim c.else-is_empty.branch [
-      | else-is_empty-via-then-is_empty+else-has_ended w ↦ absurd (true≢false (sym finished ∙ sym (w.has_ended.ensures s p at) ∙ w.if-has_ended.false))
+    let more : (p : Place) → IsAt checker s p → is_finished p ≡ true →
+    0 < length pending = λ p at finished. elim c.else-is_empty.branch [
+      | else-is_empty-via-then-is_empty+else-has_ended w ↦
+          absurd (true≢false (sym finished ∙ sym (w.has_ended.ensures s p at) ∙ w.if-has_ended.false))
       | else-is_empty-via-else-is_empty w ↦ grind (arith, nat_tests)
     ] in
     end_bad bytes pending c.args.progress.now.lines checker s i c.requires.next more comes

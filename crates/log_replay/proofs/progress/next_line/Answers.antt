@@ -13,7 +13,11 @@ returns-in_default c =
     let end = c.in-Some.end in
     let at = cut_at pending end (sym c.line_feed_at.ensures ∙ c.in-Some.is) in
     let len = ap length c.as_slice-bytes.ensures in
-    let long : most_bytes < length (take end pending) = omega (arith, length-take-le end pending (omega (arith, at.0)), c.is_short.ensures.long c.if-is_short.false) in
+    let long : most_bytes < length (take end pending) = omega (
+      arith,
+      length-take-le end pending (omega (arith, at.0)),
+      c.is_short.ensures.long c.if-is_short.false,
+    ) in
     let few : c.args.lines < most_lines = elim c.else-lines-ge-MOST_LINES.branch [
       | else-lines-ge-MOST_LINES-via-then-lines-ge-MOST_LINES+else-not-is_empty w ↦ grind (arith, nat_tests)
       | else-lines-ge-MOST_LINES-via-else-lines-ge-MOST_LINES w ↦ grind (arith, nat_tests)
@@ -28,5 +32,13 @@ returns-in_default-2 c =
     let few : c.args.lines < most_lines = elim c.else-lines-ge-MOST_LINES.branch [
       | else-lines-ge-MOST_LINES-via-then-lines-ge-MOST_LINES+else-not-is_empty w ↦ grind (arith, nat_tests)
       | else-lines-ge-MOST_LINES-via-else-lines-ge-MOST_LINES w ↦ grind (arith, nat_tests)
-    ] in
-    ((pending, [], sym (append-nil pending), lacks_whole pending (no_cut pending (sym c.line_feed_at.ensures ∙ c.in-None.is)), long), few)
+    ] in (
+      (
+        pending,
+        [],
+        sym (append-nil pending),
+        lacks_whole pending (no_cut pending (sym c.line_feed_at.ensures ∙ c.in-None.is)),
+        long,
+      ),
+      few,
+    )

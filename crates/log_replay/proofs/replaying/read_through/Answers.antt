@@ -19,7 +19,8 @@ returns-in-Some-clause-replayed g c =
     let P : List ℕ → Type 0 = λ bytes. IsReplay bytes (Ok c.in-Some.verdict) input in
     if_known c.args.input.now.remaining P (λ bytes known.
     let now = c.lines.invariant.known bytes known in
-    ended_advance bytes progress.pending c.in_ok-verdict.field-0 c.in-Some.verdict progress.lines progress.checker (g.M.Machine.network c.advance.new.machine) input c.in-Some.is
+    ended_advance bytes progress.pending c.in_ok-verdict.field-0 c.in-Some.verdict progress.lines progress.checker
+    (g.M.Machine.network c.advance.new.machine) input c.in-Some.is
     (c.in_ok-verdict.ensures.advance bytes now.0 now.1 now.2))
 
 pub lines-preserved : goal.lines-preserved
@@ -32,5 +33,7 @@ lines-preserved g c =
       each = said.each none;
       known = λ bytes known.
           let now = c.lines.invariant.known bytes known in
-          more_advance bytes progress.pending c.in_ok-verdict.field-0 progress.lines progress.checker (g.M.Machine.network c.advance.new.machine) c.advance.new.input none (said.advance bytes now.0 now.1 now.2);
+          more_advance bytes progress.pending c.in_ok-verdict.field-0 progress.lines progress.checker
+          (g.M.Machine.network c.advance.new.machine) c.advance.new.input none
+          (said.advance bytes now.0 now.1 now.2);
     }

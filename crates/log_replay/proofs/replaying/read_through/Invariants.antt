@@ -3,8 +3,8 @@ use Rattle.log_replay.specs.Replaying.{most_lines}
 use Rattle.log_replay.specs.Progress.{Comes, work_left}
 use Rattle.log_replay.proofs.replaying.read_through.Given as goal
 
--- the reader has not failed, and there is a call a line at most; and where the bytes were known, those left are, and the lines so far
--- brought the log to where the checker and the machine are
+-- the reader has not failed, and there is a call a line at most; and where the bytes were known, those left are, and
+-- the lines so far brought the log to where the checker and the machine are
 abbrev pub invariant-lines : goal.invariant-lines
 invariant-lines g l = record {
   reader : l.input.failed ≡ false;

@@ -17,7 +17,8 @@ returns-in_err-write g c =
     let some : 0 < length cs = grind (arith, nat_tests) in
     let r = c.from_residual.result in
     writes_same c.args.output.now c.write.new.self _ _ r (named_numbers cs some)
-    (writes_cut c.args.output.now c.write.new.self (codes " comm=") (numbers_text cs) r c.from_residual.ensures.0 c.in_err-write.ensures)
+    (writes_cut c.args.output.now c.write.new.self (codes " comm=") (numbers_text cs) r c.from_residual.ensures.0
+    c.in_err-write.ensures)
 
 pub returns : goal.returns
 returns g c =
@@ -25,4 +26,5 @@ returns g c =
     let some : 0 < length cs = grind (arith, nat_tests) in
     let r = c.write_joined.result in
     writes_same c.args.output.now c.write_joined.new.output _ _ r (named_numbers cs some)
-    (writes_next c.args.output.now c.write.new.self c.write_joined.new.output (codes " comm=") (numbers_text cs) r c.in_ok-write.ensures c.write_joined.ensures)
+    (writes_next c.args.output.now c.write.new.self c.write_joined.new.output (codes " comm=")
+    (numbers_text cs) r c.in_ok-write.ensures c.write_joined.ensures)

@@ -14,7 +14,8 @@ returns-in_err-write_turn g c =
     let r = c.from_residual.result in
     c.loop-left.invariant r c.write_turn.new.output
     (writes_same c.loop-left.output c.write_turn.new.output _ _ r text
-    (writes_cut c.loop-left.output c.write_turn.new.output (flat_map entry_text turn) (flat_map entry_text later) r c.from_residual.ensures.0 c.in_err-write_turn.ensures))
+    (writes_cut c.loop-left.output c.write_turn.new.output (flat_map entry_text turn)
+    (flat_map entry_text later) r c.from_residual.ensures.0 c.in_err-write_turn.ensures))
 
 pub loop-left-preserved : goal.loop-left-preserved
 loop-left-preserved g c =
@@ -23,7 +24,8 @@ loop-left-preserved g c =
     let text = ap (flat_map entry_text) c.split_at.ensures.by_index.0 ∙ flat_map-append entry_text turn later in
     λ r new h. c.loop-left.invariant r new
     (writes_same c.loop-left.output new _ _ r text
-    (writes_next c.loop-left.output c.write_turn.new.output new (flat_map entry_text turn) (flat_map entry_text later) r c.in_ok-write_turn.ensures h))
+    (writes_next c.loop-left.output c.write_turn.new.output new (flat_map entry_text turn)
+    (flat_map entry_text later) r c.in_ok-write_turn.ensures h))
 
 pub returns : goal.returns
 returns g c =

@@ -7,7 +7,8 @@ use Rattle.log_text.proofs.in_threads.write_turns.Given as goal
 
 -- the calls that are left complete what was written
 abbrev pub invariant-loop-left : goal.invariant-loop-left
-invariant-loop-left g l = Continues WriterFailed l.fn.output (flat_map entry_text l.entries) l.output (flat_map entry_text l.left)
+invariant-loop-left g l = Continues WriterFailed l.fn.output (flat_map entry_text l.entries) l.output
+    (flat_map entry_text l.left)
 
 abbrev pub decreases-loop-left : goal.decreases-loop-left
 decreases-loop-left g l = length l.left

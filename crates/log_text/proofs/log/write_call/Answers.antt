@@ -11,7 +11,8 @@ returns-in_err-write_seat g c =
     let command = command_text c.args.event.now in
     let r = c.from_residual.result in
     writes_same c.args.output.now c.write_seat.new.output _ _ r (append_assoc head command line_end)
-    (writes_cut c.args.output.now c.write_seat.new.output head (command ++ line_end) r c.from_residual.ensures.0 c.in_err-write_seat.ensures)
+    (writes_cut c.args.output.now c.write_seat.new.output head (command ++ line_end) r c.from_residual.ensures.0
+    c.in_err-write_seat.ensures)
 
 pub returns-in_err-write_command : goal.returns-in_err-write_command
 returns-in_err-write_command g c =
@@ -19,8 +20,10 @@ returns-in_err-write_command g c =
     let command = command_text c.args.event.now in
     let r = c.from_residual-in_err-write_command.result in
     writes_same c.args.output.now c.write_command.new.output _ _ r (append_assoc head command line_end)
-    (writes_next c.args.output.now c.write_seat.new.output c.write_command.new.output head (command ++ line_end) r c.in_ok-write_seat.ensures
-    (writes_cut c.write_seat.new.output c.write_command.new.output command line_end r c.from_residual-in_err-write_command.ensures.0 c.in_err-write_command.ensures))
+    (writes_next c.args.output.now c.write_seat.new.output c.write_command.new.output head
+    (command ++ line_end) r c.in_ok-write_seat.ensures
+    (writes_cut c.write_seat.new.output c.write_command.new.output command line_end r
+    c.from_residual-in_err-write_command.ensures.0 c.in_err-write_command.ensures))
 
 pub returns : goal.returns
 returns g c =
@@ -28,5 +31,7 @@ returns g c =
     let command = command_text c.args.event.now in
     let r = c.write.result in
     writes_same c.args.output.now c.write.new.self _ _ r (append_assoc head command line_end)
-    (writes_next c.args.output.now c.write_seat.new.output c.write.new.self head (command ++ line_end) r c.in_ok-write_seat.ensures
-    (writes_next c.write_seat.new.output c.write_command.new.output c.write.new.self command line_end r c.in_ok-write_command.ensures c.write.ensures))
+    (writes_next c.args.output.now c.write_seat.new.output c.write.new.self head
+    (command ++ line_end) r c.in_ok-write_seat.ensures
+    (writes_next c.write_seat.new.output c.write_command.new.output c.write.new.self command line_end r
+    c.in_ok-write_command.ensures c.write.ensures))

@@ -15,7 +15,8 @@ returns-in_err-write_policy g c =
     let b = action_words c.args.rule.now.act in
     let r = c.from_residual.result in
     writes_same c.args.output.now c.write_policy.new.output _ _ r (join_three (codes "rule") ws a b)
-    (writes_cut c.args.output.now c.write_policy.new.output head (spaced a ++ spaced b) r c.from_residual.ensures.0 c.in_err-write_policy.ensures)
+    (writes_cut c.args.output.now c.write_policy.new.output head (spaced a ++ spaced b) r c.from_residual.ensures.0
+    c.in_err-write_policy.ensures)
 
 pub returns-in_err-write_match : goal.returns-in_err-write_match
 returns-in_err-write_match g c =
@@ -25,8 +26,10 @@ returns-in_err-write_match g c =
     let b = action_words c.args.rule.now.act in
     let r = c.from_residual-in_err-write_match.result in
     writes_same c.args.output.now c.write_match.new.output _ _ r (join_three (codes "rule") ws a b)
-    (writes_next c.args.output.now c.write_policy.new.output c.write_match.new.output head (spaced a ++ spaced b) r c.in_ok-write_policy.ensures
-    (writes_cut c.write_policy.new.output c.write_match.new.output (spaced a) (spaced b) r c.from_residual-in_err-write_match.ensures.0 c.in_err-write_match.ensures))
+    (writes_next c.args.output.now c.write_policy.new.output c.write_match.new.output head
+    (spaced a ++ spaced b) r c.in_ok-write_policy.ensures
+    (writes_cut c.write_policy.new.output c.write_match.new.output (spaced a)
+    (spaced b) r c.from_residual-in_err-write_match.ensures.0 c.in_err-write_match.ensures))
 
 pub returns : goal.returns
 returns g c =
@@ -36,5 +39,7 @@ returns g c =
     let b = action_words c.args.rule.now.act in
     let r = c.write_action.result in
     writes_same c.args.output.now c.write_action.new.output _ _ r (join_three (codes "rule") ws a b)
-    (writes_next c.args.output.now c.write_policy.new.output c.write_action.new.output head (spaced a ++ spaced b) r c.in_ok-write_policy.ensures
-    (writes_next c.write_policy.new.output c.write_match.new.output c.write_action.new.output (spaced a) (spaced b) r c.in_ok-write_match.ensures c.write_action.ensures))
+    (writes_next c.args.output.now c.write_policy.new.output c.write_action.new.output head
+    (spaced a ++ spaced b) r c.in_ok-write_policy.ensures
+    (writes_next c.write_policy.new.output c.write_match.new.output c.write_action.new.output (spaced a)
+    (spaced b) r c.in_ok-write_match.ensures c.write_action.ensures))

@@ -9,4 +9,5 @@ some_counted (n ∷ ns) = ap not (ne_eqb (length (n ∷ ns)) 0 (λ z. omega (ari
 
 pub returns-in-Update : goal.returns-in-Update
 returns-in-Update c =
-    ap not c.is_empty.ensures ∙ some_counted c.numbers.result.now ∙ ap has_some c.numbers.ensures.value ∙ sym (ap tells_communities c.in-Update.is)
+    ap not c.is_empty.ensures ∙ some_counted c.numbers.result.now ∙ ap has_some c.numbers.ensures.value
+    ∙ sym (ap tells_communities c.in-Update.is)

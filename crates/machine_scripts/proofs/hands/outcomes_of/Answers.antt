@@ -8,7 +8,8 @@ use Rattle.machine_scripts.proofs.hands.outcomes_of.Goals as goal
 pub loop-job-init : goal.loop-job-init
 loop-job-init c =
     let together : AreTakenTogether c.into_iter-job-iterator.result.rest.items =
-    subst AreTakenTogether (sym c.into_iter-job-iterator.ensures.into_iter_gives.0) c.into_vec-job-items.ensures.together in
+    subst AreTakenTogether (sym c.into_iter-job-iterator.ensures.into_iter_gives.0)
+    c.into_vec-job-items.ensures.together in
     (tt, tt, (together.0, together.1, search rules))
 
 pub loop-job-preserved : goal.loop-job-preserved
@@ -17,13 +18,16 @@ loop-job-preserved c =
     let rest : List Job = c.next.new.self.rest.items in
     let old : List Job = c.loop-job.outcomes.items in
     let room = c.loop-job.invariant.2.0 in
-    let seen : All (IsSeenIn room) (x ∷ rest) = subst (All (IsSeenIn room)) c.in-Some.ensures.steps.0 c.loop-job.invariant.2.1 in
-    let done : IsSeenIn room c.in-Ok.done = subst (IsSeenIn room) (sym c.in-Ok.ensures.done) (All-head (IsSeenIn room) x rest seen) in (
+    let seen : All (IsSeenIn room) (x ∷ rest) =
+    subst (All (IsSeenIn room)) c.in-Some.ensures.steps.0 c.loop-job.invariant.2.1 in
+    let done : IsSeenIn room c.in-Ok.done = subst (IsSeenIn room) (sym c.in-Ok.ensures.done)
+    (All-head (IsSeenIn room) x rest seen) in (
       tt,
       tt,
       (
         room,
         All-tail (IsSeenIn room) x rest seen,
-        all_pushed (IsSeenIn room) (is_ok c.push.result) old c.push.new.self.items c.in-Ok.done c.push.ensures.items c.loop-job.invariant.2.2 done,
+        all_pushed (IsSeenIn room) (is_ok c.push.result) old c.push.new.self.items c.in-Ok.done c.push.ensures.items
+            c.loop-job.invariant.2.2 done,
       ),
     )

@@ -5,4 +5,5 @@ use Rattle.plain_simulator.proofs.queues.add_before.Given as goal
 
 -- those of the queues so far are added
 abbrev pub invariant-loop-queue : goal.invariant-loop-queue
-invariant-loop-queue l = l.kept.items ≡ l.fn.kept.items ++ filter (λ q. is_gt (direction_cmp l.direction q.of)) (take l.queue-index l.queues)
+invariant-loop-queue l = l.kept.items ≡ l.fn.kept.items ++ filter (λ q. is_gt (direction_cmp l.direction q.of))
+    (take l.queue-index l.queues)

@@ -5,4 +5,5 @@ use Rattle.plain_simulator.proofs.state.insert_all.Given as goal
 
 -- the prefixes so far are in their places
 abbrev pub invariant-loop-prefix : goal.invariant-loop-prefix
-invariant-loop-prefix l = l.found.keys ≡ fold (λ qs p. insert_key prefix_cmp qs p) l.fn.found.keys (take l.prefix-index l.prefixes)
+invariant-loop-prefix l = l.found.keys ≡ fold (λ qs p. insert_key prefix_cmp qs p) l.fn.found.keys
+    (take l.prefix-index l.prefixes)

@@ -11,8 +11,11 @@ pub returns-then-sends : goal.returns-then-sends
 returns-then-sends c =
     let r = c.args.router in
     let t = c.args.peer in
-    IfOk-weaker c.messages_of.result (λ m. m.items ≡ messages_of c.is_up-was_up.result c.is_up-is_up.result c.args.choices.now t) (λ m. m.items ≡ sent c.args.earlier.now c.args.later.now r t)
-    (λ m is. is ∙ sent_by_choices c.args.earlier.now c.args.later.now r t c.is_up-was_up.result c.is_up-is_up.result c.args.choices.now
+    IfOk-weaker c.messages_of.result
+    (λ m. m.items ≡ messages_of c.is_up-was_up.result c.is_up-is_up.result c.args.choices.now t)
+    (λ m. m.items ≡ sent c.args.earlier.now c.args.later.now r t)
+    (λ m is. is ∙ sent_by_choices c.args.earlier.now c.args.later.now r t c.is_up-was_up.result
+    c.is_up-is_up.result c.args.choices.now
     (sym (ap (λ (x : Network). sends x.conf r t) c.later.view_is) ∙ sym c.sends.ensures ∙ c.if-sends.true)
     (c.is_up-was_up.ensures ∙ ap (λ (x : Network). is_up x.conf r t) c.earlier.view_is)
     (c.is_up-is_up.ensures ∙ ap (λ (x : Network). is_up x.conf r t) c.later.view_is)

@@ -11,9 +11,11 @@ loop-len-preserved c =
     let block = c.len.ensures.block in
     let equal : c.bit.result ≡ c.bit-then-len.result = search rules in
     let bits : bit_at c.args.first.addr c.loop-len.len ≡ bit_at c.args.second.addr c.loop-len.len =
-    ap (λ a. bit_at a c.loop-len.len) (sym c.addr.ensures) ∙ sym c.bit.ensures ∙ equal ∙ c.bit-then-len.ensures ∙ ap (λ a. bit_at a c.loop-len.len) c.addr-then-len.ensures in
+    ap (λ a. bit_at a c.loop-len.len) (sym c.addr.ensures) ∙ sym c.bit.ensures ∙ equal ∙ c.bit-then-len.ensures
+    ∙ ap (λ a. bit_at a c.loop-len.len) c.addr-then-len.ensures in
     record {
       long = omega arith;
       short = omega arith;
-      both = one_more_bit c.args.first.addr c.loop-len.len c.args.second (omega arith) (omega arith) c.loop-len.invariant.both bits;
+      both = one_more_bit c.args.first.addr c.loop-len.len c.args.second (omega arith)
+          (omega arith) c.loop-len.invariant.both bits;
     }

@@ -14,13 +14,17 @@ returns-then-is_empty-clause-none c =
 pub returns-in-Some-clause-found : goal.returns-in-Some-clause-found
 returns-in-Some-clause-found c =
     let top : (prefix_at c.args.nodes.now 0).len ≡ 0 = ap (λ p. p.len) c.requires.root in
-    let cut : c.cut.result ≡ prefix_around c.args.addr (min c.args.most 32) = c.cut.ensures ∙ ap (prefix_around c.args.addr) c.min.ensures in
+    let cut : c.cut.result ≡ prefix_around c.args.addr (min c.args.most 32) = c.cut.ensures
+    ∙ ap (prefix_around c.args.addr) c.min.ensures in
     let deep = subst (λ n. IsDeepest c.args.nodes.now n c.cut.result c.in-Some.at.0) top c.in-Some.ensures.found in
-    entry_longest c.args.nodes.now c.requires c.args.addr c.args.most c.in-Some.at.0 c.entry_at.result c.entry_at.ensures (subst (λ p. IsDeepest c.args.nodes.now 0 p c.in-Some.at.0) cut deep)
+    entry_longest c.args.nodes.now c.requires c.args.addr c.args.most c.in-Some.at.0 c.entry_at.result
+    c.entry_at.ensures (subst (λ p. IsDeepest c.args.nodes.now 0 p c.in-Some.at.0) cut deep)
 
 pub returns-in-None-clause-none : goal.returns-in-None-clause-none
 returns-in-None-clause-none c =
     let top : (prefix_at c.args.nodes.now 0).len ≡ 0 = ap (λ p. p.len) c.requires.root in
-    let cut : c.cut.result ≡ prefix_around c.args.addr (min c.args.most 32) = c.cut.ensures ∙ ap (prefix_around c.args.addr) c.min.ensures in
+    let cut : c.cut.result ≡ prefix_around c.args.addr (min c.args.most 32) = c.cut.ensures
+    ∙ ap (prefix_around c.args.addr) c.min.ensures in
     let none = subst (λ n. (j : ℕ) → IsCover c.args.nodes.now n c.cut.result j → ⊥) top c.in-None.ensures.none in
-    no_longest c.args.nodes.now c.args.addr c.args.most (subst (λ p. (j : ℕ) → IsCover c.args.nodes.now 0 p j → ⊥) cut none)
+    no_longest c.args.nodes.now c.args.addr c.args.most
+    (subst (λ p. (j : ℕ) → IsCover c.args.nodes.now 0 p j → ⊥) cut none)

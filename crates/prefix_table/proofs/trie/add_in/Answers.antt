@@ -11,11 +11,14 @@ returns-clause-index g c =
     let t = places_in c.args.nodes.now.items in
     let vs = c.args.values.now.items in
     let size : c.len.result ≡ length vs = omega arith in
-    let places : places_in c.put_place.new.nodes.items ≡ map.insert t c.args.prefix (length vs) = c.put_place.ensures.put ∙ ap (map.insert t c.args.prefix) size in
-    let placed = subst (ArePlaced (vs ++ c.args.value ∷ [])) (sym places) (added_placed vs t c.requires.index.placed c.args.prefix c.args.value) in
+    let places : places_in c.put_place.new.nodes.items ≡ map.insert t c.args.prefix (length vs) =
+    c.put_place.ensures.put ∙ ap (map.insert t c.args.prefix) size in
+    let placed = subst (ArePlaced (vs ++ c.args.value ∷ [])) (sym places)
+    (added_placed vs t c.requires.index.placed c.args.prefix c.args.value) in
     record {
       trie = c.put_place.ensures.trie;
-      placed = subst (λ l. ArePlaced l (places_in c.put_place.new.nodes.items)) (sym c.push_reserved.ensures.items) placed;
+      placed = subst (λ l. ArePlaced l (places_in c.put_place.new.nodes.items))
+          (sym c.push_reserved.ensures.items) placed;
     }
 
 pub returns-clause-inserted : goal.returns-clause-inserted
@@ -23,7 +26,8 @@ returns-clause-inserted g c =
     let t = places_in c.args.nodes.now.items in
     let vs = c.args.values.now.items in
     let size : c.len.result ≡ length vs = omega arith in
-    let places : places_in c.put_place.new.nodes.items ≡ map.insert t c.args.prefix (length vs) = c.put_place.ensures.put ∙ ap (map.insert t c.args.prefix) size in
+    let places : places_in c.put_place.new.nodes.items ≡ map.insert t c.args.prefix (length vs) =
+    c.put_place.ensures.put ∙ ap (map.insert t c.args.prefix) size in
     ap (values_of c.push_reserved.new.self.items) places
     ∙ ap (λ l. values_of l (map.insert t c.args.prefix (length vs))) c.push_reserved.ensures.items
     ∙ added_map vs t c.requires.index.placed c.args.prefix c.args.value

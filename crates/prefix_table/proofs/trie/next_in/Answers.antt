@@ -9,7 +9,8 @@ use Rattle.prefix_table.proofs.trie.next_in.Goals as goal
 pub returns-in-Some : goal.returns-in-Some
 returns-in-Some g c =
     let vs = c.args.values.now in
-    let there = slice_get_read vs (length vs) c.in-Some.key.1 c.index-values-key.result refl (c.requires.placed.in_range c.in-Some.key.0 c.in-Some.key.1 c.in-Some.ensures.key) c.index-values-key.is in
+    let there = slice_get_read vs (length vs) c.in-Some.key.1 c.index-values-key.result refl
+    (c.requires.placed.in_range c.in-Some.key.0 c.in-Some.key.1 c.in-Some.ensures.key) c.index-values-key.is in
     ap (option_map (λ v. (c.in-Some.key.0, v))) (sym there)
     ∙ ap (option_and_then (with_value vs)) c.in-Some.ensures.first
     ∙ first_of_places vs (places_in c.args.nodes.now) c.requires.placed c.args.after

@@ -11,4 +11,6 @@ returns-then-is_empty-clause-all c =
 
 pub returns-else-is_empty-clause-all : goal.returns-else-is_empty-clause-all
 returns-else-is_empty-clause-all c =
-    all_below c.args.nodes.now (Some (record { 0 = 0 })) (λ j lt. ap (λ p. covers p (prefix_at c.args.nodes.now j)) c.requires.root ∙ covered whole (prefix_at c.args.nodes.now j) (c.requires.covered j lt))
+    all_below c.args.nodes.now (Some (record { 0 = 0 }))
+    (λ j lt. ap (λ p. covers p (prefix_at c.args.nodes.now j)) c.requires.root
+    ∙ covered whole (prefix_at c.args.nodes.now j) (c.requires.covered j lt))

@@ -6,4 +6,6 @@ use Rattle.reply_text.proofs.marked.write_each_marked.Given as goal
 
 -- the items that are left complete what was written
 abbrev pub invariant-loop-item : goal.invariant-loop-item
-invariant-loop-item g l = (result : Result Unit WriterFailed) (new : Writing) → Writes l.output (flat_map (λ item. l.mark ++ g.T.Text.text item) (drop l.item-index l.items)) result new → Writes l.fn.output (flat_map (λ item. l.mark ++ g.T.Text.text item) l.items) result new
+invariant-loop-item g l = (result : Result Unit WriterFailed) (new : Writing) →
+    Writes l.output (flat_map (λ item. l.mark ++ g.T.Text.text item) (drop l.item-index l.items)) result new →
+    Writes l.fn.output (flat_map (λ item. l.mark ++ g.T.Text.text item) l.items) result new

@@ -4,8 +4,10 @@ use Rattle.reply_text.proofs.marked.write_marked_line.Goals as goal
 
 pub returns-in_err-write : goal.returns-in_err-write
 returns-in_err-write g c =
-    mark_cut c.args.output.now c.write.new.self c.args.mark.now (reply_text c.args.reply.now) c.from_residual.result c.from_residual.ensures.0 c.in_err-write.ensures
+    mark_cut c.args.output.now c.write.new.self c.args.mark.now (reply_text c.args.reply.now) c.from_residual.result
+    c.from_residual.ensures.0 c.in_err-write.ensures
 
 pub returns : goal.returns
 returns g c =
-    mark_next c.args.output.now c.write.new.self c.write_reply.new.output c.args.mark.now (reply_text c.args.reply.now) c.write_reply.result c.in_ok-write.ensures c.write_reply.ensures
+    mark_next c.args.output.now c.write.new.self c.write_reply.new.output c.args.mark.now
+    (reply_text c.args.reply.now) c.write_reply.result c.in_ok-write.ensures c.write_reply.ensures

@@ -12,7 +12,8 @@ returns-in_err-write_each_marked g c =
     let front = flat_map (λ item. mark ++ g.T.Text.text item) c.args.lines.now in
     writes_same c.args.output.now c.write_each_marked.new.output (front ++ (mark ++ last)) _ c.from_residual.result
     (marked_each mark g.T.Text.text c.args.lines.now (last ∷ []) ∙ ap (λ t. front ++ t) (append-nil (mark ++ last)))
-    (writes_cut c.args.output.now c.write_each_marked.new.output front (mark ++ last) c.from_residual.result c.from_residual.ensures.0 c.in_err-write_each_marked.ensures)
+    (writes_cut c.args.output.now c.write_each_marked.new.output front
+    (mark ++ last) c.from_residual.result c.from_residual.ensures.0 c.in_err-write_each_marked.ensures)
 
 pub returns : goal.returns
 returns g c =
@@ -21,4 +22,5 @@ returns g c =
     let front = flat_map (λ item. mark ++ g.T.Text.text item) c.args.lines.now in
     writes_same c.args.output.now c.write_marked_end.new.output (front ++ (mark ++ last)) _ c.write_marked_end.result
     (marked_each mark g.T.Text.text c.args.lines.now (last ∷ []) ∙ ap (λ t. front ++ t) (append-nil (mark ++ last)))
-    (writes_next c.args.output.now c.write_each_marked.new.output c.write_marked_end.new.output front (mark ++ last) c.write_marked_end.result c.in_ok-write_each_marked.ensures c.write_marked_end.ensures)
+    (writes_next c.args.output.now c.write_each_marked.new.output c.write_marked_end.new.output front
+    (mark ++ last) c.write_marked_end.result c.in_ok-write_each_marked.ensures c.write_marked_end.ensures)

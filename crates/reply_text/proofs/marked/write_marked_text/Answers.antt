@@ -3,8 +3,10 @@ use Rattle.reply_text.proofs.marked.write_marked_text.Goals as goal
 
 pub returns-in_err-write : goal.returns-in_err-write
 returns-in_err-write g c =
-    writes_cut c.args.output.now c.write.new.self c.args.mark.now (g.T.Text.text c.args.item.now) c.from_residual.result c.from_residual.ensures.0 c.in_err-write.ensures
+    writes_cut c.args.output.now c.write.new.self c.args.mark.now (g.T.Text.text c.args.item.now) c.from_residual.result
+    c.from_residual.ensures.0 c.in_err-write.ensures
 
 pub returns : goal.returns
 returns g c =
-    writes_next c.args.output.now c.write.new.self c.write-2.new.output c.args.mark.now (g.T.Text.text c.args.item.now) c.write-2.result c.in_ok-write.ensures c.write-2.ensures
+    writes_next c.args.output.now c.write.new.self c.write-2.new.output c.args.mark.now
+    (g.T.Text.text c.args.item.now) c.write-2.result c.in_ok-write.ensures c.write-2.ensures

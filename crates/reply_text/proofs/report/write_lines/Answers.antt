@@ -6,8 +6,12 @@ use Rattle.reply_text.proofs.report.write_lines.Goals as goal
 
 pub returns-in_err-write_each : goal.returns-in_err-write_each
 returns-in_err-write_each g c =
-    writes_cut c.args.output.now c.write_each.new.output (flat_map g.T.Text.text c.args.lines.now) (end_line (length c.args.lines.now)) c.from_residual.result c.from_residual.ensures.0 c.in_err-write_each.ensures
+    writes_cut c.args.output.now c.write_each.new.output (flat_map g.T.Text.text c.args.lines.now)
+    (end_line (length c.args.lines.now)) c.from_residual.result c.from_residual.ensures.0
+    c.in_err-write_each.ensures
 
 pub returns : goal.returns
 returns g c =
-    writes_next c.args.output.now c.write_each.new.output c.write_end.new.output (flat_map g.T.Text.text c.args.lines.now) (end_line (length c.args.lines.now)) c.write_end.result c.in_ok-write_each.ensures c.write_end.ensures
+    writes_next c.args.output.now c.write_each.new.output c.write_end.new.output
+    (flat_map g.T.Text.text c.args.lines.now) (end_line (length c.args.lines.now)) c.write_end.result
+    c.in_ok-write_each.ensures c.write_end.ensures

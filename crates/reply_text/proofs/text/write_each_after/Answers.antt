@@ -4,11 +4,17 @@ use Rattle.reply_text.proofs.text.write_each_after.Goals as goal
 
 pub returns-in_err-write_after : goal.returns-in_err-write_after
 returns-in_err-write_after g c =
-    each_cut (λ item. c.args.separator ∷ g.T.Text.text item) c.args.output.now c.loop-item.output c.write_after.new.output _ c.args.items.now c.loop-item.item-index c.item-item.result c.from_residual.result c.loop-item-test.true c.item-item.is c.loop-item.invariant c.from_residual.ensures.0 c.in_err-write_after.ensures
+    each_cut (λ item. c.args.separator ∷ g.T.Text.text item) c.args.output.now c.loop-item.output
+    c.write_after.new.output _ c.args.items.now c.loop-item.item-index c.item-item.result c.from_residual.result
+    c.loop-item-test.true c.item-item.is c.loop-item.invariant c.from_residual.ensures.0
+    c.in_err-write_after.ensures
 
 pub loop-item-preserved : goal.loop-item-preserved
 loop-item-preserved g c =
-    each_next (λ item. c.args.separator ∷ g.T.Text.text item) c.args.output.now c.loop-item.output c.write_after.new.output _ c.args.items.now c.loop-item.item-index c.item-item.result c.loop-item-test.true c.item-item.is c.loop-item.invariant c.in_ok-write_after.ensures
+    each_next (λ item. c.args.separator ∷ g.T.Text.text item) c.args.output.now c.loop-item.output
+    c.write_after.new.output _ c.args.items.now c.loop-item.item-index c.item-item.result c.loop-item-test.true
+    c.item-item.is c.loop-item.invariant c.in_ok-write_after.ensures
 
 pub returns : goal.returns
-returns g c = each_end (λ item. c.args.separator ∷ g.T.Text.text item) c.args.output.now c.loop-item.output _ c.args.items.now c.loop-item.item-index c.loop-item-test.false c.loop-item.invariant
+returns g c = each_end (λ item. c.args.separator ∷ g.T.Text.text item) c.args.output.now c.loop-item.output
+    _ c.args.items.now c.loop-item.item-index c.loop-item-test.false c.loop-item.invariant

@@ -14,7 +14,8 @@ returns-then-place-number_count c =
     let numbers : c.args.split.now.numbers ≡ path_numbers rules = ap (λ (s : Split). s.numbers) c.requires in
     let others : c.others.result.now ≡ other_rules rules = c.others.ensures ∙ ap (λ (s : Split). s.others) c.requires in
     let end : first_held (path_numbers rules) a.path ≡ length (path_numbers rules) =
-    subst (λ ns. first_held ns a.path ≡ length ns) numbers (sym c.first_held-place.ensures ∙ c.if-place-number_count.true ∙ c.number_count.ensures) in
+    subst (λ ns. first_held ns a.path ≡ length ns) numbers (sym c.first_held-place.ensures
+    ∙ c.if-place-number_count.true ∙ c.number_count.ensures) in
     c.first_of.ensures
     ∙ ap (λ (rs : List Rule). option_map {U = Action} (λ r. r.act) (find (λ r. matches r.cond p a) rs)) others
     ∙ ap (option_map {U = Action} (λ (r : Rule). r.act)) (passed_by p a rules end)

@@ -14,8 +14,13 @@ returns-then-keeps_best c =
     let is = c.requires.beside in
     let place = c.moved-place.result in
     let stands : candidate_at es place ≡ candidate_at is.others c.args.best =
-    ap (candidate_at es) c.moved-place.ensures ∙ ap (λ xs. candidate_at xs (if nat_lt c.args.best at then c.args.best else c.args.best + 1)) is.beside ∙ read_moved is.others at c.args.best (entry_at es at) is.in_range in
+    ap (candidate_at es) c.moved-place.ensures
+    ∙ ap (λ xs. candidate_at xs (if nat_lt c.args.best at then c.args.best else c.args.best + 1)) is.beside
+    ∙ read_moved is.others at c.args.best (entry_at es at) is.in_range in
     let keeps : keeps_best always (candidate_of (entry_at es at).1) (candidate_at is.others c.args.best) ≡ true =
-    ap (keeps_best always (candidate_at es at)) (sym stands) ∙ sym (λ i. keeps_best always (c.candidate_at.ensures i) (c.candidate_at-2.ensures i)) ∙ sym c.keeps_best.ensures ∙ c.if-keeps_best.true in
+    ap (keeps_best always (candidate_at es at)) (sym stands)
+    ∙ sym (λ i. keeps_best always (c.candidate_at.ensures i) (c.candidate_at-2.ensures i))
+    ∙ sym c.keeps_best.ensures ∙ c.if-keeps_best.true in
     subst (λ xs. IsBest always (considered_in xs) (candidate_at es place)) (sym is.beside)
-    (subst (IsBest always (considered_in (insert is.others at (entry_at es at)))) (sym stands) (best_kept always is.others at c.args.best (entry_at es at) is.in_range is.best keeps))
+    (subst (IsBest always (considered_in (insert is.others at (entry_at es at)))) (sym stands)
+    (best_kept always is.others at c.args.best (entry_at es at) is.in_range is.best keeps))

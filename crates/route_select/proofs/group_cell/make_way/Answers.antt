@@ -21,7 +21,8 @@ returns-in_ok-make_room-in-None-clause-ok c =
     c.make_room.ensures.same ∙ sym (without_absent c.args.source _ absent)
 
 -- one fewer than there were
-one_fewer : (es left : Entries) (i : ℕ) → left ≡ remove es i → i < length es → length es ≤ most_entries → length left < most_entries
+one_fewer : (es left : Entries) (i : ℕ) → left ≡ remove es i → i < length es → length es ≤ most_entries →
+    length left < most_entries
 one_fewer es left i is lt few =
     let less = length-remove es i lt in
     let same : length left ≡ length (remove es i) = ap length is in

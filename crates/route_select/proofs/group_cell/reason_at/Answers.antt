@@ -21,7 +21,12 @@ returns-in-Some c = λ set same.
     let es = c.args.entries.now in
     let x = c.in-Considered.c in
     let b = c.in-Some.b.now in
-    let is = best_moved always set (considered_in es) (Some b) same (subst (IsBest always (considered_in es)) (sym c.in-Some.ensures) c.requires.best) in
+    let is = best_moved always set (considered_in es) (Some b) same
+    (subst (IsBest always (considered_in es)) (sym c.in-Some.ensures) c.requires.best) in
     c.first_worse.ensures
-    ∙ sym (reason_by_three always set b c.leader.result.now x (least_leader_left always set b is.0 is.1) (leads_moved always set (considered_in es) c.leader.result.now same c.leader.ensures.leads) (same.back x (stands_in es _ c.index-entries-at.result _ c.requires.in_range c.in-Considered.is)) c.leader.ensures.same)
-    ∙ ap (reason_for always set) (sym (stands_at es _ c.index-entries-at.result _ c.requires.in_range c.in-Considered.is))
+    ∙ sym (reason_by_three always set b c.leader.result.now x (least_leader_left always set b is.0 is.1)
+    (leads_moved always set (considered_in es) c.leader.result.now same c.leader.ensures.leads)
+    (same.back x (stands_in es _ c.index-entries-at.result _ c.requires.in_range c.in-Considered.is))
+    c.leader.ensures.same)
+    ∙ ap (reason_for always set)
+    (sym (stands_at es _ c.index-entries-at.result _ c.requires.in_range c.in-Considered.is))

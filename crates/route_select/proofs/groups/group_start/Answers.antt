@@ -6,5 +6,7 @@ use Rattle.route_select.proofs.groups.group_start.Goals as goal
 
 pub returns : goal.returns
 returns c =
-    let point = IsPartitionPoint-from_clause (is_below c.args.med_always c.args.rank) _ _ c.partition_point.ensures.partitioned (start_parted c.args.med_always c.args.entries.now c.args.rank c.requires) (λ a r q k. search rules) in
+    let point = IsPartitionPoint-from_clause (is_below c.args.med_always c.args.rank)
+    _ _ c.partition_point.ensures.partitioned
+    (start_parted c.args.med_always c.args.entries.now c.args.rank c.requires) (λ a r q k. search rules) in
     start_of c.args.med_always c.args.entries.now c.args.rank _ c.partition_point.ensures.bound point

@@ -9,5 +9,7 @@ use Rattle.route_select.proofs.groups.slot.Goals as goal
 pub returns : goal.returns
 returns c =
     let e : Source × Standing = (c.args.source, c.args.standing.now) in
-    let point = IsPartitionPoint-from_clause (λ x. not (before c.args.med_always e x)) _ _ c.partition_point.ensures.partitioned (slot_parted c.args.med_always c.args.entries.now e c.requires) (λ a r q k. search rules) in
+    let point = IsPartitionPoint-from_clause (λ x. not (before c.args.med_always e x))
+    _ _ c.partition_point.ensures.partitioned (slot_parted c.args.med_always c.args.entries.now e c.requires)
+    (λ a r q k. search rules) in
     slot_of c.args.med_always c.args.entries.now e _ c.partition_point.ensures.bound point

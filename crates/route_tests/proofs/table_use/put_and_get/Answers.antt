@@ -9,4 +9,5 @@ pub returns-clause-value : goal.returns-clause-value
 returns-clause-value g c =
     c.copied.ensures ∙ c.get.ensures ∙ ap (λ m. map.get m c.args.prefix) c.in_ok-insert.ensures.inserted
     ∙ map.get-insert prefix_total (g.T.PrefixTable.table c.args.table.now) c.args.prefix c.args.value c.args.prefix
-    ∙ ap (λ o. cond (is_eq o) (Some c.args.value) (map.get (g.T.PrefixTable.table c.args.table.now) c.args.prefix)) (tied_itself prefix_total c.args.prefix)
+    ∙ ap (λ o. cond (is_eq o) (Some c.args.value) (map.get (g.T.PrefixTable.table c.args.table.now) c.args.prefix))
+    (tied_itself prefix_total c.args.prefix)

@@ -8,4 +8,5 @@ pub returns : goal.returns
 returns g c other =
     c.copied.ensures ∙ c.get.ensures ∙ ap (λ m. map.get m c.args.other) c.in_ok-insert.ensures.inserted
     ∙ map.get-insert prefix_total (g.T.PrefixTable.table c.args.table.now) c.args.prefix c.args.value c.args.other
-    ∙ ap (λ b. cond b (Some c.args.value) (map.get (g.T.PrefixTable.table c.args.table.now) c.args.other)) (other_keys c.args.other c.args.prefix other)
+    ∙ ap (λ b. cond b (Some c.args.value) (map.get (g.T.PrefixTable.table c.args.table.now) c.args.other))
+    (other_keys c.args.other c.args.prefix other)

@@ -15,7 +15,8 @@ returns-clause-entries g c =
     let back = c.in_ok-front.field-0.back in
     let place = rw c.deref.ensures.value at c.place_of-at.ensures in
     let got = slice_get-get_or cs at es place.in_range ∙ ap Some (sym c.index-chunk.ensures) in
-    let same : c.insert.new.self.items ≡ insert cs (suc at) back = c.in_ok-insert.ensures.items ∙ ap (λ n. insert cs n back) (add-one at) in
+    let same : c.insert.new.self.items ≡ insert cs (suc at) back = c.in_ok-insert.ensures.items
+    ∙ ap (λ n. insert cs n back) (add-one at) in
     ap (λ xs. entries_in (set xs at front)) same ∙ halved cs at es front back got c.in_ok-front.ensures.whole
 
 pub returns-clause-chunks : goal.returns-clause-chunks
@@ -27,5 +28,8 @@ returns-clause-chunks g c =
     let back = c.in_ok-front.field-0.back in
     let place = rw c.deref.ensures.value at c.place_of-at.ensures in
     let got = slice_get-get_or cs at es place.in_range ∙ ap Some (sym c.index-chunk.ensures) in
-    let same : c.insert.new.self.items ≡ insert cs (suc at) back = c.in_ok-insert.ensures.items ∙ ap (λ n. insert cs n back) (add-one at) in
-    halved_are g.K.Ord.cmp g.met.K.Ord.total cs c.requires.chunks at es front back (set c.insert.new.self.items at front) got place.in_range c.in_ok-front.ensures.whole c.in_ok-front.ensures.front c.in_ok-front.ensures.back (ap (λ xs. set xs at front) same)
+    let same : c.insert.new.self.items ≡ insert cs (suc at) back = c.in_ok-insert.ensures.items
+    ∙ ap (λ n. insert cs n back) (add-one at) in
+    halved_are g.K.Ord.cmp g.met.K.Ord.total cs c.requires.chunks at es front back
+    (set c.insert.new.self.items at front) got place.in_range c.in_ok-front.ensures.whole
+    c.in_ok-front.ensures.front c.in_ok-front.ensures.back (ap (λ xs. set xs at front) same)

@@ -14,7 +14,9 @@ returns g c =
     let cs = c.args.chunks.now in
     let q = c.args.key.now in
     let past = c.partition_point-past.result in
-    let at = IsPartitionPoint-from_clause (λ x. starts_by cmp q (keys_of x)) cs past c.partition_point-past.ensures.partitioned
+    let at = IsPartitionPoint-from_clause (λ x. starts_by cmp q (keys_of x)) cs past
+    c.partition_point-past.ensures.partitioned
     (entries_parted cmp q total cs c.requires.chunks) (λ a r q k. search rules) in
     subst (IsPlace cmp cs q) (sym c.saturating_sub.ensures)
-    (place_found cmp q total cs past c.requires.some c.partition_point-past.ensures.bound c.requires.chunks (λ j d lt. at.0 j d (omega arith) lt) (λ j d le lt. at.1 j d le lt))
+    (place_found cmp q total cs past c.requires.some c.partition_point-past.ensures.bound c.requires.chunks
+    (λ j d lt. at.0 j d (omega arith) lt) (λ j d le lt. at.1 j d le lt))

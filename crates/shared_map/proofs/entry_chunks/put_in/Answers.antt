@@ -14,7 +14,10 @@ returns-clause-chunks g c =
     let es = c.index_mut-chunk.result.now in
     let place = rw c.deref.ensures.value at c.place_of-at.ensures in
     let got = slice_get-get_or cs at es place.in_range ∙ ap Some (sym c.index_mut-chunk.ensures.value) in
-    elim c.put-2.result as (λ r. OnOk r (c.put-2.new.self ≡ insert_entry cmp es c.args.key c.args.value) → OnErr r (c.put-2.new.self ≡ es) → AreEntryChunks cmp (set cs at c.put-2.new.self)) [
-      | Ok u ↦ λ ok err. put_are cmp g.met.K.Ord.total cs c.make_room.ensures.chunks c.args.key c.args.value at es _ place got (ap (set cs at) ok)
-      | Err e ↦ λ ok err. subst (AreEntryChunks cmp) (sym (ap (set cs at) err ∙ set_same cs at es got)) c.make_room.ensures.chunks
+    elim c.put-2.result as (λ r. OnOk r (c.put-2.new.self ≡ insert_entry cmp es c.args.key c.args.value) →
+    OnErr r (c.put-2.new.self ≡ es) → AreEntryChunks cmp (set cs at c.put-2.new.self)) [
+      | Ok u ↦ λ ok err. put_are cmp g.met.K.Ord.total cs c.make_room.ensures.chunks c.args.key c.args.value at es
+          _ place got (ap (set cs at) ok)
+      | Err e ↦ λ ok err. subst (AreEntryChunks cmp) (sym (ap (set cs at) err ∙ set_same cs at es got))
+          c.make_room.ensures.chunks
     ] c.put-2.ensures.ok c.put-2.ensures.err

@@ -17,9 +17,11 @@ returns-then-len-gt1-clause-chunks g c =
     let first = c.index.result.now in
     let place = rw c.deref.ensures.value at c.place_of-at.ensures in
     let got = slice_get-get_or cs at es place.in_range ∙ ap Some (sym c.index_mut-chunk.ensures.value) in
-    let same : es ≡ first = same_Some es first (sym got ∙ slice_get-get_or cs at first place.in_range ∙ ap Some (sym c.index.ensures)) in
+    let same : es ≡ first = same_Some es first (sym got ∙ slice_get-get_or cs at first place.in_range
+    ∙ ap Some (sym c.index.ensures)) in
     let many : 1 < length es = subst (λ x. 1 < length x) (sym same) (omega (arith, c.len.ensures)) in
-    taken_are g.K.Ord.cmp g.met.K.Ord.total cs c.requires c.args.key.now at es (set cs at c.take_out.new.self) place got many (ap (set cs at) c.in_ok-take_out.ensures.ok)
+    taken_are g.K.Ord.cmp g.met.K.Ord.total cs c.requires c.args.key.now at es (set cs at c.take_out.new.self) place got
+    many (ap (set cs at) c.in_ok-take_out.ensures.ok)
 
 pub returns-then-contains_key-clause-ok : goal.returns-then-contains_key-clause-ok
 returns-then-contains_key-clause-ok g c =
@@ -30,10 +32,12 @@ returns-then-contains_key-clause-ok g c =
     let first = c.index.result.now in
     let place = rw c.deref.ensures.value at c.place_of-at.ensures in
     let got = slice_get-get_or cs at es place.in_range ∙ ap Some (sym c.index-2.ensures) in
-    let same : es ≡ first = same_Some es first (sym got ∙ slice_get-get_or cs at first place.in_range ∙ ap Some (sym c.index.ensures)) in
+    let same : es ≡ first = same_Some es first (sym got ∙ slice_get-get_or cs at first place.in_range
+    ∙ ap Some (sym c.index.ensures)) in
     let few : length es ≤ 1 = subst (λ x. length x ≤ 1) (sym same) (omega (arith, c.len.ensures)) in
     let there : is_some (lookup test es) ≡ true = sym c.contains_key.ensures ∙ c.if-contains_key.true in
-    removed_entries g.K.Ord.cmp g.met.K.Ord.total cs c.requires c.args.key.now at es c.remove.new.self.items place got (alone_left test es few there) c.remove.ensures.items
+    removed_entries g.K.Ord.cmp g.met.K.Ord.total cs c.requires c.args.key.now at es c.remove.new.self.items place got
+    (alone_left test es few there) c.remove.ensures.items
 
 pub returns-then-contains_key-clause-chunks : goal.returns-then-contains_key-clause-chunks
 returns-then-contains_key-clause-chunks g c =
@@ -44,10 +48,12 @@ returns-then-contains_key-clause-chunks g c =
     let first = c.index.result.now in
     let place = rw c.deref.ensures.value at c.place_of-at.ensures in
     let got = slice_get-get_or cs at es place.in_range ∙ ap Some (sym c.index-2.ensures) in
-    let same : es ≡ first = same_Some es first (sym got ∙ slice_get-get_or cs at first place.in_range ∙ ap Some (sym c.index.ensures)) in
+    let same : es ≡ first = same_Some es first (sym got ∙ slice_get-get_or cs at first place.in_range
+    ∙ ap Some (sym c.index.ensures)) in
     let few : length es ≤ 1 = subst (λ x. length x ≤ 1) (sym same) (omega (arith, c.len.ensures)) in
     let there : is_some (lookup test es) ≡ true = sym c.contains_key.ensures ∙ c.if-contains_key.true in
-    removed_are g.K.Ord.cmp g.met.K.Ord.total cs c.requires c.args.key.now at es c.remove.new.self.items place got (alone_left test es few there) c.remove.ensures.items
+    removed_are g.K.Ord.cmp g.met.K.Ord.total cs c.requires c.args.key.now at es c.remove.new.self.items place got
+    (alone_left test es few there) c.remove.ensures.items
 
 pub returns-else-contains_key-clause-ok : goal.returns-else-contains_key-clause-ok
 returns-else-contains_key-clause-ok g c =
@@ -57,4 +63,5 @@ returns-else-contains_key-clause-ok g c =
     let es = c.index-2.result.now in
     let place = rw c.deref.ensures.value at c.place_of-at.ensures in
     let got = slice_get-get_or cs at es place.in_range ∙ ap Some (sym c.index-2.ensures) in
-    entries_absent g.K.Ord.cmp test (entries_in cs) (ap (λ o. is_some o) (sym (place.value es got)) ∙ sym c.contains_key.ensures ∙ c.if-contains_key.false)
+    entries_absent g.K.Ord.cmp test (entries_in cs) (ap (λ o. is_some o) (sym (place.value es got))
+    ∙ sym c.contains_key.ensures ∙ c.if-contains_key.false)

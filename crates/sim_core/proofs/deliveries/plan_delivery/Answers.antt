@@ -16,9 +16,24 @@ returns-clause-plan g c =
     let o = c.in_ok-outcome.outcome in
     let e = c.outcome.new.self in
     let cells = c.in_ok-refreshed.refreshed.items in
-    let are : cells ≡ decided_at e.conf d.to (prefix_of m) = c.in_ok-refreshed.ensures ∙ ap (decided_at e.conf d.to) c.prefix-prefix.ensures in
-    let plan : Prefix → MessageKind → Plan = λ p k. record { reply = Took p k; refreshed = cells; pushed = None; taken = Some (record { direction = d; prefix = p; outcome = o }); edited = None } in
-    let is = prepared_delivery c.args.state.now e c.outcome.ensures.same c.facts.ensures.sound d m o c.requires.allowed c.requires.head c.in_ok-outcome.ensures.outcome c.in_ok-outcome.ensures.room cells are in
-    let boxed : Taken → Plan = λ t. record { reply = Took c.prefix-prefix.result c.kind.result; refreshed = cells; pushed = None; taken = Some t; edited = None } in
+    let are : cells ≡ decided_at e.conf d.to (prefix_of m) = c.in_ok-refreshed.ensures
+    ∙ ap (decided_at e.conf d.to) c.prefix-prefix.ensures in
+    let plan : Prefix → MessageKind → Plan = λ p k. record {
+      reply = Took p k;
+      refreshed = cells;
+      pushed = None;
+      taken = Some (record { direction = d; prefix = p; outcome = o });
+      edited = None;
+    } in
+    let is = prepared_delivery c.args.state.now e c.outcome.ensures.same c.facts.ensures.sound d m o c.requires.allowed
+    c.requires.head c.in_ok-outcome.ensures.outcome c.in_ok-outcome.ensures.room cells are in
+    let boxed : Taken → Plan = λ t. record {
+      reply = Took c.prefix-prefix.result c.kind.result;
+      refreshed = cells;
+      pushed = None;
+      taken = Some t;
+      edited = None;
+    } in
     subst (λ t. IsPrepared e (Deliver d.from d.to) (boxed t)) (sym c.in_ok-new.ensures.ok)
-    (subst (λ p. IsPrepared e (Deliver d.from d.to) (plan p c.kind.result)) (sym c.prefix-prefix.ensures) (subst (λ k. IsPrepared e (Deliver d.from d.to) (plan (prefix_of m) k)) (sym c.kind.ensures) is))
+    (subst (λ p. IsPrepared e (Deliver d.from d.to) (plan p c.kind.result)) (sym c.prefix-prefix.ensures)
+    (subst (λ k. IsPrepared e (Deliver d.from d.to) (plan (prefix_of m) k)) (sym c.kind.ensures) is))

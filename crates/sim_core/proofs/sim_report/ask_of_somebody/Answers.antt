@@ -9,7 +9,8 @@ pub returns-in-Some : goal.returns-in-Some
 unfolding network
 returns-in-Some g c =
     let q = c.args.ask.now in
-    let is : ask_refusal c.args.state.now.conf q ≡ Some c.in-Some.refusal = sym (c.in-Some.ensures ∙ ap (λ k. ask_refusal k q) c.conf.ensures) in
+    let is : ask_refusal c.args.state.now.conf q ≡ Some c.in-Some.refusal =
+    sym (c.in-Some.ensures ∙ ap (λ k. ask_refusal k q) c.conf.ensures) in
     (ap refusal_or_memory is, quiet_is_answered c.args.state.now.conf q c.in-Some.refusal is)
 
 pub returns-in-Ok : goal.returns-in-Ok

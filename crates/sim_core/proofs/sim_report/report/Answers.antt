@@ -30,7 +30,8 @@ pub cost_and_hop-requires-clause-there : goal.cost_and_hop-requires-clause-there
 cost_and_hop-requires-clause-there g c =
     let conf = c.args.state.now.conf in
     let q : Ask = Cost c.in-Cost.router c.in-Cost.target in
-    first_there (has_node conf c.in-Cost.router) (has_node conf c.in-Cost.target) (asks_somebody conf q (sym (ap (ask_refusal conf) c.in-Cost.is) ∙ c.requires))
+    first_there (has_node conf c.in-Cost.router) (has_node conf c.in-Cost.target)
+    (asks_somebody conf q (sym (ap (ask_refusal conf) c.in-Cost.is) ∙ c.requires))
 
 pub cost_and_hop-requires-clause-router : goal.cost_and_hop-requires-clause-router
 cost_and_hop-requires-clause-router g c =

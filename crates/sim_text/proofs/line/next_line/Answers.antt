@@ -19,7 +19,8 @@ pub returns-in_default : goal.returns-in_default
 returns-in_default c = λ rest.
     let pending = c.args.pending.now in
     let first = lines_first pending rest c.in-Some.end (sym c.line_feed_at.ensures ∙ c.in-Some.is) in
-    let same = c.without_carriage_return.ensures ∙ ap (λ b. strip_carriage_return (take c.in-Some.end b)) c.as_slice-bytes.ensures in
+    let same = c.without_carriage_return.ensures
+    ∙ ap (λ b. strip_carriage_return (take c.in-Some.end b)) c.as_slice-bytes.ensures in
     let len = ap length same in
     (_, _, first, inr (omega arith))
 
@@ -27,5 +28,6 @@ pub returns-in_default-2 : goal.returns-in_default-2
 returns-in_default-2 c = λ rest.
     let pending = c.args.pending.now in
     let len = ap length c.as_slice-bytes.ensures in
-    let long = lines_long pending rest most_bytes (no_cut pending (sym c.line_feed_at.ensures ∙ c.in-None.is)) (omega arith) in
+    let long = lines_long pending rest most_bytes (no_cut pending (sym c.line_feed_at.ensures ∙ c.in-None.is))
+    (omega arith) in
     (long.0, long.1, long.2, inr long.3)

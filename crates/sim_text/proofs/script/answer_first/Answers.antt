@@ -15,8 +15,10 @@ returns-in-Err-clause-err g c = λ rest i bytes s0 o0 so.
     let after = lines (drop (c.args.end + 1) pending ++ rest) in
     let said = c.in-Err.ensures in
     let short : length line ≤ most_bytes = omega (arith, ap length same, c.requires.next.1) in
-    end_unwritten bytes (pending ++ rest) c.args.script.now.answered s0 o0 _ c.args.output.now _ c.answer_line.new.output i line after said.0 said.2.0.0
-    (lines_first pending rest c.args.end c.requires.next.0 ∙ ap (λ l. l ∷ after) (sym same)) c.requires.next.2 short said.1 said.2.0.1 said.2.1 so.so_far
+    end_unwritten bytes (pending ++ rest) c.args.script.now.answered s0 o0 _ c.args.output.now
+    _ c.answer_line.new.output i line after said.0 said.2.0.0
+    (lines_first pending rest c.args.end c.requires.next.0 ∙ ap (λ l. l ∷ after) (sym same)) c.requires.next.2 short
+    said.1 said.2.0.1 said.2.1 so.so_far
 
 pub returns-clause-ok : goal.returns-clause-ok
 returns-clause-ok g c = λ rest bytes s0 o0 so.
@@ -31,7 +33,10 @@ returns-clause-ok g c = λ rest bytes s0 o0 so.
     let mid = g.M.Machine.network c.args.machine.now in
     let after = g.M.Machine.network c.answer_line.new.machine in
     let P : List ℕ → Type 0 = λ b. Reached bytes (b ++ rest) (k + 1) s0 o0 after c.answer_line.new.output in
-    subst P (sym c.skip.ensures) (reached_more bytes pending rest c.args.end k s0 o0 mid c.args.output.now after c.answer_line.new.output c.requires.next.0 so
-    (so_far_more bytes (pending ++ rest) (back ++ rest) line said.0 k s0 o0 mid c.args.output.now after c.answer_line.new.output
+    subst P (sym c.skip.ensures)
+    (reached_more bytes pending rest c.args.end k s0 o0 mid c.args.output.now after c.answer_line.new.output
+    c.requires.next.0 so
+    (so_far_more bytes (pending ++ rest) (back ++ rest) line said.0 k s0 o0 mid c.args.output.now after
+    c.answer_line.new.output
     (lines_first pending rest c.args.end c.requires.next.0 ∙ ap (λ l. l ∷ lines (back ++ rest)) (sym same))
     c.requires.next.2 short said.1 said.2.0 so.so_far))

@@ -11,16 +11,20 @@ pub returns-clause-err : goal.returns-clause-err
 returns-clause-err g c =
     let script = c.args.script.now in
     let answered = c.answer_last.new.script.answered in
-    let P : ServeFault → Type 0 = λ fault. (fault ≡ Write answered) × (0 < answered) × (c.flush.new.output.failed ≡ true) in
+    let P : ServeFault → Type 0 = λ fault. (fault ≡ Write answered) × (0 < answered)
+    × (c.flush.new.output.failed ≡ true) in
     let Q : ServeFault → Type 0 = λ fault. (i : Reading) →
-    Ends script.pending script.answered (g.M.Machine.network c.args.machine.now) c.args.output.now fault (g.M.Machine.network c.answer_last.new.machine) c.flush.new.output i in
+    Ends script.pending script.answered (g.M.Machine.network c.args.machine.now) c.args.output.now fault
+    (g.M.Machine.network c.answer_last.new.machine) c.flush.new.output i in
     IfErr-weaker c.flush.result P Q
-    (λ fault unsent i bytes s0 o0 re. unsent_after bytes [] answered s0 o0 _ c.answer_last.new.output c.flush.new.output fault i c.flush.ensures.kept unsent
+    (λ fault unsent i bytes s0 o0 re. unsent_after bytes [] answered s0 o0 _ c.answer_last.new.output c.flush.new.output
+    fault i c.flush.ensures.kept unsent
     (c.in_ok-answer_last.ensures.ok bytes s0 o0 re))
     c.flush.ensures.err
 
 pub returns-clause-ok : goal.returns-clause-ok
 returns-clause-ok g c = on_ok_weaker c.flush.result
-    (λ _ bytes s0 o0 re. so_far_kept bytes [] c.answer_last.new.script.answered s0 o0 _ c.answer_last.new.output c.flush.new.output c.flush.ensures.kept
+    (λ _ bytes s0 o0 re. so_far_kept bytes [] c.answer_last.new.script.answered s0 o0 _ c.answer_last.new.output
+    c.flush.new.output c.flush.ensures.kept
     (c.in_ok-answer_last.ensures.ok bytes s0 o0 re))
     c.flush.ensures.sent

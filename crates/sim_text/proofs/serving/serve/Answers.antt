@@ -8,7 +8,8 @@ use Rattle.sim_text.proofs.serving.serve.Goals as goal
 pub returns-in_err-advance-clause-served : goal.returns-in_err-advance-clause-served
 returns-in_err-advance-clause-served g c =
     let s = g.M.Machine.network c.args.machine.now in
-    let P : List ℕ → Type 0 = λ bytes. IsServing bytes s c.args.output.now c.from_residual.result (g.M.Machine.network c.advance.new.machine) c.advance.new.output (g.I.Typist.reading c.advance.new.input) in
+    let P : List ℕ → Type 0 = λ bytes. IsServing bytes s c.args.output.now c.from_residual.result
+    (g.M.Machine.network c.advance.new.machine) c.advance.new.output (g.I.Typist.reading c.advance.new.input) in
     if_known (g.I.Typist.reading c.args.input.now).remaining P (λ bytes known.
     let now = c.lines.invariant.known bytes known in
     let p = err_from_is_err_and c.from_residual.result c.from_residual.ensures.1 in
@@ -18,7 +19,8 @@ pub returns-clause-served : goal.returns-clause-served
 returns-clause-served g c =
     let s = g.M.Machine.network c.args.machine.now in
     let script = c.advance.new.script in
-    let P : List ℕ → Type 0 = λ bytes. IsServing bytes s c.args.output.now (Ok script.answered) (g.M.Machine.network c.advance.new.machine) c.advance.new.output (g.I.Typist.reading c.advance.new.input) in
+    let P : List ℕ → Type 0 = λ bytes. IsServing bytes s c.args.output.now (Ok script.answered)
+    (g.M.Machine.network c.advance.new.machine) c.advance.new.output (g.I.Typist.reading c.advance.new.input) in
     if_known (g.I.Typist.reading c.args.input.now).remaining P (λ bytes known.
     let now = c.lines.invariant.known bytes known in
     let last = c.in_ok-advance.ensures.advance now.0 now.1 in

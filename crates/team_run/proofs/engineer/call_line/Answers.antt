@@ -8,5 +8,7 @@ pub returns-in-Ok-Some : goal.returns-in-Ok-Some
 returns-in-Ok-Some g c =
     let line = c.args.line.now in
     let event = c.in-Ok-Some.event in
-    let means : Means line event = subst (λ (found : Option Event). IsReading line (Ok found)) c.in-Ok-Some.field-0-is c.in-Ok-Some.ensures in
-    called_or_not c.args.seat.now c.call.new.seat line event c.call.result c.want_of_memory.result means c.want_of_memory.ensures c.call.ensures.seat
+    let means : Means line event =
+    subst (λ (found : Option Event). IsReading line (Ok found)) c.in-Ok-Some.field-0-is c.in-Ok-Some.ensures in
+    called_or_not c.args.seat.now c.call.new.seat line event c.call.result c.want_of_memory.result means
+    c.want_of_memory.ensures c.call.ensures.seat

@@ -9,16 +9,19 @@ loop-line-preserved-in-Some-call g c = λ (end : SeatBook) rest.
     let line = c.in-Some.line.bytes.now in
     let left = c.next.new.self.left in
     c.loop-line.invariant end
-    (subst (λ ls. AreCalledFrom ls c.loop-line.seat end) (sym c.in-Some.ensures.line) (called_more line left _ c.loop-line.seat c.call.new.seat end c.call.ensures.call rest))
+    (subst (λ ls. AreCalledFrom ls c.loop-line.seat end) (sym c.in-Some.ensures.line)
+    (called_more line left _ c.loop-line.seat c.call.new.seat end c.call.ensures.call rest))
 
 pub loop-line-preserved : goal.loop-line-preserved
 loop-line-preserved g c = λ (end : SeatBook) rest.
     let line = c.in-Some.line.bytes.now in
     let left = c.next.new.self.left in
     c.loop-line.invariant end
-    (subst (λ ls. AreCalledFrom ls c.loop-line.seat end) (sym c.in-Some.ensures.line) (called_more line left _ c.loop-line.seat c.call.new.seat end c.call.ensures.call rest))
+    (subst (λ ls. AreCalledFrom ls c.loop-line.seat end) (sym c.in-Some.ensures.line)
+    (called_more line left _ c.loop-line.seat c.call.new.seat end c.call.ensures.call rest))
 
 pub returns : goal.returns
 returns g c =
     let none : c.next.result ≡ None = search rules in
-    c.loop-line.invariant c.loop-line.seat (subst (λ ls. AreCalledFrom ls c.loop-line.seat c.loop-line.seat) (sym (c.next.ensures.none none)) (none_called c.loop-line.seat))
+    c.loop-line.invariant c.loop-line.seat (subst (λ ls. AreCalledFrom ls c.loop-line.seat c.loop-line.seat)
+    (sym (c.next.ensures.none none)) (none_called c.loop-line.seat))

@@ -6,7 +6,8 @@ use Rattle.team_run.proofs.engineer.play.Given as goal
 
 -- once the lines that are left are called too, the whole script is
 abbrev pub invariant-loop-line : goal.invariant-loop-line
-invariant-loop-line g l = (end : SeatBook) → AreCalledFrom l.lines.left l.seat end → AreCalledFrom (lines l.fn.engineer.script) l.fn.engineer.seat end
+invariant-loop-line g l = (end : SeatBook) → AreCalledFrom l.lines.left l.seat end →
+    AreCalledFrom (lines l.fn.engineer.script) l.fn.engineer.seat end
 
 abbrev pub decreases-loop-line : goal.decreases-loop-line
 decreases-loop-line g l = length l.lines.left

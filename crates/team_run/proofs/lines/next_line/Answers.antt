@@ -9,7 +9,8 @@ returns-in-Some-clause-next c =
     let bytes = c.args.bytes.now in
     let after = c.in-Some.end + 1 in
     let line = c.without_carriage_return.result.now in
-    let rest : take (length bytes - after) (drop after bytes) ≡ drop after bytes = take_all (length bytes - after) (drop after bytes) (omega (arith, length-drop after bytes)) in
+    let rest : take (length bytes - after) (drop after bytes) ≡ drop after bytes =
+    take_all (length bytes - after) (drop after bytes) (omega (arith, length-drop after bytes)) in
     lines_first bytes c.in-Some.end (sym c.line_feed_in.ensures ∙ c.in-Some.is)
     ∙ ap (λ l. l ∷ lines (drop after bytes)) (sym c.without_carriage_return.ensures)
     ∙ ap (λ r. line ∷ lines r) (sym rest)

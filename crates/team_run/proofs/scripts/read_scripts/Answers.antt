@@ -19,6 +19,7 @@ loop-file-preserved g c =
       (
         done ++ file ∷ [],
         c.loop-file.invariant.3.1 ∙ ap (λ l. done ++ l) step ∙ sym (append_assoc done (file ∷ []) rest),
-        subst (AreRead (done ++ file ∷ [])) (sym pushed) (read_push done scripts file script c.loop-file.invariant.3.2 c.in_ok-script.ensures.script),
+        subst (AreRead (done ++ file ∷ [])) (sym pushed)
+            (read_push done scripts file script c.loop-file.invariant.3.2 c.in_ok-script.ensures.script),
       ),
     )

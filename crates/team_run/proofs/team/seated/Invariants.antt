@@ -9,5 +9,7 @@ invariant-loop-script g l =
     (goal.iterator-loop-script g).is_finite l.script-iterator ×
     (length l.engineers.items + length l.script-iterator.rest.items ≡ length l.fn.scripts.items)
     × (length l.script-iterator.rest.items ≤ length l.seats.rest.items)
-    × (engineers_of 1 l.fn.scripts.items l.fn.seats.items ≡ l.engineers.items ++ engineers_of (length l.engineers.items + 1) l.script-iterator.rest.items l.seats.rest.items)
-    × (drop (length l.fn.scripts.items) l.fn.seats.items ≡ drop (length l.script-iterator.rest.items) l.seats.rest.items)
+    × (engineers_of 1 l.fn.scripts.items l.fn.seats.items ≡ l.engineers.items
+    ++ engineers_of (length l.engineers.items + 1) l.script-iterator.rest.items l.seats.rest.items)
+    × (drop (length l.fn.scripts.items) l.fn.seats.items
+    ≡ drop (length l.script-iterator.rest.items) l.seats.rest.items)

@@ -5,5 +5,6 @@ use Rattle.team_run.proofs.team.write_entries.Goals as goal
 
 pub returns-clause-front : goal.returns-clause-front
 returns-clause-front g c =
-    let front = front_kept c.args.output.now.written c.write_log_in_threads.new.output.written c.flush.new.self.written (log_text c.args.entries.now) c.in_ok-write_log_in_threads.ensures.0 c.flush.ensures.kept in
+    let front = front_kept c.args.output.now.written c.write_log_in_threads.new.output.written c.flush.new.self.written
+    (log_text c.args.entries.now) c.in_ok-write_log_in_threads.ensures.0 c.flush.ensures.kept in
     search rules

@@ -3,4 +3,5 @@ use Rattle.team_run.specs.Told.{told_text}
 use Rattle.team_run.proofs.told.tell_at_once.Goals as goal
 
 pub returns : goal.returns
-returns g c = told_by c.args.errors.now c.write_told.new.output (told_text c.args.told) c.write_told.result c.write_told.ensures
+returns g c = told_by c.args.errors.now c.write_told.new.output (told_text c.args.told) c.write_told.result
+    c.write_told.ensures

@@ -5,12 +5,14 @@ use Rattle.attr_pool.proofs.Numbers.{numbers_kept, one_number}
 use Rattle.attr_pool.proofs.pool.Pool.intern_hashed.Goals as goal
 
 pub returns-then-not-contains-clause-one_number : goal.returns-then-not-contains-clause-one_number
-returns-then-not-contains-clause-one_number c = subst HaveOneNumber c.self.view_is (one_number c.self.inside.attrs.keys c.self.invariant.0)
+returns-then-not-contains-clause-one_number c =
+    subst HaveOneNumber c.self.view_is (one_number c.self.inside.attrs.keys c.self.invariant.0)
 
 pub returns-in-Ok-clause-numbered : goal.returns-in-Ok-clause-numbered
 returns-in-Ok-clause-numbered c =
     let stored = c.in-Ok.ensures.stored in
-    ap (λ n. slice_get c.insert_full.new.self.keys n) c.of-id.ensures ∙ stored.1 ∙ ap Some (sym ((attrs_exact _ _).0 stored.2) ∙ c.new-key.ensures)
+    ap (λ n. slice_get c.insert_full.new.self.keys n) c.of-id.ensures ∙ stored.1
+    ∙ ap Some (sym ((attrs_exact _ _).0 stored.2) ∙ c.new-key.ensures)
 
 pub returns-in-Ok-clause-keeps : goal.returns-in-Ok-clause-keeps
 returns-in-Ok-clause-keeps c =

@@ -19,16 +19,20 @@ pub place_edit-requires-clause-room : goal.place_edit-requires-clause-room
 place_edit-requires-clause-room g c t =
     let x : CellEdit = c.in-Some.edit in
     let rest = c.next.new.self.rest.items in
-    let room : length (told_from x.router (edit_sends x) x.router t ++ told_by_all (edits_send rest) x.router t) ≤ spare_at c.loop-edit.queues x.router t =
-    subst (λ l. length (told_by_all (edits_send l) x.router t) ≤ spare_at c.loop-edit.queues x.router t) c.in-Some.ensures.steps.0 (c.loop-edit.invariant.5 x.router t) in
-    let both = length-append (told_from x.router (edit_sends x) x.router t) (told_by_all (edits_send rest) x.router t) in
+    let room : length (told_from x.router (edit_sends x) x.router t ++ told_by_all (edits_send rest) x.router t)
+    ≤ spare_at c.loop-edit.queues x.router t =
+    subst (λ l. length (told_by_all (edits_send l) x.router t) ≤ spare_at c.loop-edit.queues x.router t)
+    c.in-Some.ensures.steps.0 (c.loop-edit.invariant.5 x.router t) in
+    let both = length-append (told_from x.router (edit_sends x) x.router t)
+    (told_by_all (edits_send rest) x.router t) in
     let here = ap (λ l. length l) (here_alone x.router (edit_sends x) t) in
     omega (arith, room, both, here)
 
 pub returns-clause-queue : goal.returns-clause-queue
 returns-clause-queue g c f t =
     let q = queue_at c.loop-edit.queues f t in
-    let none : c.loop-edit.edit-iterator.rest.items ≡ [] = nil_from_length c.loop-edit.edit-iterator.rest.items (sym c.loop-edit.edit-iterator.rest.ok.0 ∙ c.in-None.ensures.steps.0) in
+    let none : c.loop-edit.edit-iterator.rest.items ≡ [] = nil_from_length c.loop-edit.edit-iterator.rest.items
+    (sym c.loop-edit.edit-iterator.rest.ok.0 ∙ c.in-None.ensures.steps.0) in
     sym (ap (λ l. q ++ told_by_all (edits_send l) f t) none ∙ append-nil q) ∙ c.loop-edit.invariant.4 f t
 
 pub place_edit-requires-clause-admitted : goal.place_edit-requires-clause-admitted
@@ -36,7 +40,8 @@ place_edit-requires-clause-admitted g c =
     let admitted = c.loop-edit.queues.admitted in
     let x : CellEdit = c.in-Some.edit in
     let rest = c.next.new.self.rest.items in
-    All-head (λ (y : CellEdit). AreAdmitted admitted (edit_sends y)) x rest (subst (AreAllAdmitted admitted) c.in-Some.ensures.steps.0 c.loop-edit.invariant.6)
+    All-head (λ (y : CellEdit). AreAdmitted admitted (edit_sends y)) x rest
+    (subst (AreAllAdmitted admitted) c.in-Some.ensures.steps.0 c.loop-edit.invariant.6)
 
 pub loop-edit-preserved : goal.loop-edit-preserved
 loop-edit-preserved g c =
@@ -58,9 +63,13 @@ loop-edit-preserved g c =
           ∙ sym (ap (λ l. queue_at c.loop-edit.queues f t ++ told_by_all (edits_send l) f t) step)
           ∙ c.loop-edit.invariant.4 f t,
       λ f t.
-          let room : length (sent f t ++ later f t) ≤ spare_at c.loop-edit.queues f t = subst (λ l. length (told_by_all (edits_send l) f t) ≤ spare_at c.loop-edit.queues f t) step (c.loop-edit.invariant.5 f t) in
+          let room : length (sent f t ++ later f t) ≤ spare_at c.loop-edit.queues f t =
+          subst (λ l. length (told_by_all (edits_send l) f t) ≤ spare_at c.loop-edit.queues f t) step
+          (c.loop-edit.invariant.5 f t) in
           let left = c.place_edit.ensures.spare f t in
           let both = length-append (sent f t) (later f t) in
           omega (arith, room, left, both),
-      subst (λ a. AreAllAdmitted a rest) (sym c.place_edit.ensures.admitted) (All-tail (λ (y : CellEdit). AreAdmitted c.loop-edit.queues.admitted (edit_sends y)) x rest (subst (AreAllAdmitted c.loop-edit.queues.admitted) step c.loop-edit.invariant.6)),
+      subst (λ a. AreAllAdmitted a rest) (sym c.place_edit.ensures.admitted)
+          (All-tail (λ (y : CellEdit). AreAdmitted c.loop-edit.queues.admitted (edit_sends y)) x rest
+          (subst (AreAllAdmitted c.loop-edit.queues.admitted) step c.loop-edit.invariant.6)),
     )

@@ -9,7 +9,8 @@ use Rattle.cell_engine.proofs.edits.clearing.clear_all.Given as goal
 -- the sessions of the lists so far are cleared
 abbrev pub invariant-loop-list : goal.invariant-loop-list
 invariant-loop-list l = record {
-  queue : (f t : Addr) → queue_at l.queues f t ≡ (if list_any (is_of f t) (keys_in (take l.list-index l.lists)) then [] else queue_at l.initial.queues f t);
+  queue : (f t : Addr) → queue_at l.queues f t ≡ (if list_any (is_of f t) (keys_in (take l.list-index l.lists)) then []
+      else queue_at l.initial.queues f t);
   spare : (f t : Addr) → spare_at l.queues f t ≡ spare_at l.initial.queues f t;
   admitted : l.queues.admitted ≡ l.initial.queues.admitted;
 }

@@ -8,7 +8,8 @@ use Rattle.cell_engine.proofs.edits.clearing.clear_each.Given as goal
 -- the sessions so far are cleared
 abbrev pub invariant-loop-ends : goal.invariant-loop-ends
 invariant-loop-ends l = record {
-  queue : (f t : Addr) → queue_at l.queues f t ≡ (if list_any (is_of f t) (take l.ends-index l.sessions) then [] else queue_at l.initial.queues f t);
+  queue : (f t : Addr) → queue_at l.queues f t ≡ (if list_any (is_of f t) (take l.ends-index l.sessions) then []
+      else queue_at l.initial.queues f t);
   spare : (f t : Addr) → spare_at l.queues f t ≡ spare_at l.initial.queues f t;
   admitted : l.queues.admitted ≡ l.initial.queues.admitted;
 }

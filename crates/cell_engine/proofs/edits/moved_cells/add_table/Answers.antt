@@ -7,4 +7,5 @@ pub returns-then-leaves : goal.returns-then-leaves
 returns-then-leaves g c =
     let b = c.args.becoming.now in
     let before = c.args.moved.now in
-    sym (ap (λ l. before ++ l) (none_of_table b c.hops.result c.args.table.now c.hops.ensures c.if-leaves.ensures) ∙ append-nil before)
+    sym (ap (λ l. before ++ l) (none_of_table b c.hops.result c.args.table.now c.hops.ensures c.if-leaves.ensures)
+    ∙ append-nil before)

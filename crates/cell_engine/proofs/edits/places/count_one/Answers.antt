@@ -7,5 +7,7 @@ pub returns : goal.returns
 returns c =
     let d = c.args.direction in
     let es = c.args.counts.now.entries in
-    let before : c.unwrap_or-before.result ≡ count_at es d.from d.to = c.unwrap_or-before.ensures ∙ ap (λ o. unwrap_or o 0) (c.copied.ensures ∙ c.get.ensures.value) in
-    λ f t. ap (λ l. count_at l f t) c.in_ok-insert.ensures.entries ∙ counted_one d es (c.unwrap_or-before.result + 1) (ap (λ n. n + 1) before) f t
+    let before : c.unwrap_or-before.result ≡ count_at es d.from d.to = c.unwrap_or-before.ensures
+    ∙ ap (λ o. unwrap_or o 0) (c.copied.ensures ∙ c.get.ensures.value) in
+    λ f t. ap (λ l. count_at l f t) c.in_ok-insert.ensures.entries
+    ∙ counted_one d es (c.unwrap_or-before.result + 1) (ap (λ n. n + 1) before) f t

@@ -6,4 +6,5 @@ use Rattle.cell_engine.proofs.edits.places.count_sends.Given as goal
 
 -- those so far are counted
 abbrev pub invariant-loop-send : goal.invariant-loop-send
-invariant-loop-send l = (f t : Addr) → count_at l.counts.entries f t ≡ count_at l.fn.counts.entries f t + length (told_from l.router (take l.send-index l.sends) f t)
+invariant-loop-send l = (f t : Addr) → count_at l.counts.entries f t ≡ count_at l.fn.counts.entries f t
+    + length (told_from l.router (take l.send-index l.sends) f t)

@@ -18,17 +18,22 @@ loop-direction-preserved c =
     let q = c.loop-direction.queues in
     let r = c.reserve.new.self in
     let before = map {B = Direction × ℕ} (λ e. (e.0.now, e.1.now)) c.loop-direction.yielded in
-    let same : (f t : Addr) → queue_at r f t ≡ queue_at q f t = queue_kept d.from d.to q r c.reserve.ensures.others c.reserve.ensures.queue in
-    let grows : (f t : Addr) → spare_at q f t ≤ spare_at r f t = spare_grows d.from d.to q r c.reserve.ensures.others n c.in_ok-reserve.ensures.spare in
+    let same : (f t : Addr) → queue_at r f t ≡ queue_at q f t =
+    queue_kept d.from d.to q r c.reserve.ensures.others c.reserve.ensures.queue in
+    let grows : (f t : Addr) → spare_at q f t ≤ spare_at r f t =
+    spare_grows d.from d.to q r c.reserve.ensures.others n c.in_ok-reserve.ensures.spare in
     let here : n ≤ spare_at r d.from d.to = omega (arith, c.in_ok-reserve.ensures.spare) in
     let covers : (f t : Addr) → same_direction d.from d.to f t ≡ true → n ≤ spare_at r f t =
     λ f t is. let parts = and_parts (same_addr f d.from) (same_addr t d.to) is in
-    subst (λ x. n ≤ spare_at r x t) (sym (same_addr_true f d.from parts.0)) (subst (λ x. n ≤ spare_at r d.from x) (sym (same_addr_true t d.to parts.1)) here) in (
+    subst (λ x. n ≤ spare_at r x t) (sym (same_addr_true f d.from parts.0))
+    (subst (λ x. n ≤ spare_at r d.from x) (sym (same_addr_true t d.to parts.1)) here) in (
       λ f t. same f t ∙ c.loop-direction.invariant.0 f t,
       λ f t.
           let was = c.loop-direction.invariant.1 f t in
           let more = grows f t in
-          subst (λ l. count_at l f t ≤ spare_at r f t) (sym (map-append (λ e. (e.0.now, e.1.now)) c.loop-direction.yielded ((c.in-Some.direction, c.in-Some.count) ∷ [])))
+          subst (λ l. count_at l f t ≤ spare_at r f t)
+          (sym (map-append (λ e. (e.0.now, e.1.now)) c.loop-direction.yielded
+          ((c.in-Some.direction, c.in-Some.count) ∷ [])))
           (counts_covered before d n f t (spare_at r f t) (omega (arith, was, more)) (covers f t)),
       c.reserve.ensures.admitted ∙ c.loop-direction.invariant.2,
     )

@@ -9,5 +9,6 @@ use Rattle.cell_engine.proofs.edits.places.reserve_counts.Given as goal
 abbrev pub invariant-loop-direction : goal.invariant-loop-direction
 invariant-loop-direction l =
     ((f t : Addr) → queue_at l.queues f t ≡ queue_at l.initial.queues f t)
-    × ((f t : Addr) → count_at (map {B = Direction × ℕ} (λ e. (e.0.now, e.1.now)) l.yielded) f t ≤ spare_at l.queues f t)
+    × ((f t : Addr) → count_at (map {B = Direction × ℕ} (λ e. (e.0.now, e.1.now)) l.yielded) f t
+    ≤ spare_at l.queues f t)
     × (l.queues.admitted ≡ l.initial.queues.admitted)

@@ -13,7 +13,8 @@ choice_at-requires g c =
     let site = c.args.site.now in
     let p = prefix_of c.args.message.now in
     let held = c.args.cell.now.received in
-    compares_at (g.S.Chosen.standings c.cell.inside.chosen) (standings_by site p held) site.med_always (ap (λ h. h.standings) c.cell.view_is ∙ ap (λ h. h.standings) c.requires.decided) (compares_as site p held)
+    compares_at (g.S.Chosen.standings c.cell.inside.chosen) (standings_by site p held) site.med_always
+    (ap (λ h. h.standings) c.cell.view_is ∙ ap (λ h. h.standings) c.requires.decided) (compares_as site p held)
 
 pub returns : goal.returns
 unfolding delivered
@@ -25,9 +26,11 @@ returns g c =
     let routes = c.in_ok-received.ensures.news ∙ ap (λ h. with_news u m h.received) c.cell.view_is in
     let order : AreInOrder held = subst AreInOrder (ap (λ h. h.received) c.cell.view_is) c.with_news.ensures.order in
     let same = ap (λ h. h.standings) c.cell.view_is ∙ ap (λ h. h.standings) c.requires.decided in
-    let stood = compared_is (g.S.Chosen.standings c.cell.inside.chosen) (standings_by site (prefix_of m) held) site.med_always same (compares_as site (prefix_of m) held) in
+    let stood = compared_is (g.S.Chosen.standings c.cell.inside.chosen)
+    (standings_by site (prefix_of m) held) site.med_always same (compares_as site (prefix_of m) held) in
     let stands : g.S.Chosen.standings c.take.new.chosen ≡ standings_by site (prefix_of m) (with_news u m held) =
-    c.in_ok-take.ensures ∙ ap (standings_after site u m) (c.in_ok-chosen.ensures ∙ stood) ∙ taken site u m held c.requires.peers order in
+    c.in_ok-take.ensures ∙ ap (standings_after site u m) (c.in_ok-chosen.ensures ∙ stood)
+    ∙ taken site u m held c.requires.peers order in
     let has = c.best-2.ensures ∙ ap (λ s. best_of (effective s)) stands in
     let sends = c.in_ok-sends.ensures ∙ (λ i. sends_of site site (c.prefix.ensures i) (c.best.ensures i) (has i)) in
     λ i. record { cell = record { received = routes i; standings = effective (stands i) }; sends = sends i }

@@ -17,7 +17,8 @@ begin-requires g c =
     let site = c.args.site.now in
     let p = prefix_of c.args.message.now in
     let held = c.args.cell.now.received in
-    compares_at (g.S.Chosen.standings c.cell.inside.chosen) (standings_by site p held) site.med_always (ap (λ h. h.standings) c.cell.view_is ∙ ap (λ h. h.standings) c.requires.decided) (compares_as site p held)
+    compares_at (g.S.Chosen.standings c.cell.inside.chosen) (standings_by site p held) site.med_always
+    (ap (λ h. h.standings) c.cell.view_is ∙ ap (λ h. h.standings) c.requires.decided) (compares_as site p held)
 
 pub take_news-requires-clause-stands : goal.take_news-requires-clause-stands
 take_news-requires-clause-stands g c =
@@ -26,7 +27,8 @@ take_news-requires-clause-stands g c =
     let held = c.args.cell.now.received in
     let same = ap (λ h. h.standings) c.cell.view_is ∙ ap (λ h. h.standings) c.requires.decided in
     c.begin.ensures
-    ∙ compared_is (g.S.Chosen.standings c.cell.inside.chosen) (standings_by site p held) site.med_always same (compares_as site p held)
+    ∙ compared_is (g.S.Chosen.standings c.cell.inside.chosen) (standings_by site p held) site.med_always same
+    (compares_as site p held)
     ∙ sym (ap (λ (h : Cell). standings_by site p h.received) c.cell.view_is)
 
 pub take_news-requires-clause-one : goal.take_news-requires-clause-one
@@ -34,14 +36,17 @@ take_news-requires-clause-one g c t =
     let site = c.args.site.now in
     let u = c.args.direction.from in
     let m = c.args.message.now in
-    subst (λ (l : List (Addr × Message)). length (told t l) ≤ 1) (sends_delivered site c.args.cell.now u m c.requires.decided ∙ sym (ap (λ (h : Cell). sends_with site u m h.received) c.cell.view_is)) (c.requires.one t)
+    subst (λ (l : List (Addr × Message)). length (told t l) ≤ 1)
+    (sends_delivered site c.args.cell.now u m c.requires.decided
+    ∙ sym (ap (λ (h : Cell). sends_with site u m h.received) c.cell.view_is)) (c.requires.one t)
 
 pub returns-clause-sends : goal.returns-clause-sends
 returns-clause-sends g c =
     let site = c.args.site.now in
     let u = c.args.direction.from in
     let m = c.args.message.now in
-    when_ok c.take_news.result _ _ (λ sends is. is ∙ ap (λ (h : Cell). sends_with site u m h.received) c.cell.view_is ∙ sym (sends_delivered site c.args.cell.now u m c.requires.decided)) c.take_news.ensures.sends
+    when_ok c.take_news.result _ _ (λ sends is. is ∙ ap (λ (h : Cell). sends_with site u m h.received) c.cell.view_is
+    ∙ sym (sends_delivered site c.args.cell.now u m c.requires.decided)) c.take_news.ensures.sends
 
 both_err : {A E P Q R : Type 0} (r : Result A E) → (P → Q → R) → OnErr r P → OnErr r Q → OnErr r R
 both_err (Ok a) f p q = tt
@@ -53,7 +58,9 @@ returns-clause-same g c =
     let p = prefix_of c.args.message.now in
     let held = c.args.cell.now.received in
     let compares : ComparesAt site.med_always (g.S.Chosen.standings c.cell.inside.chosen) =
-    compares_at (g.S.Chosen.standings c.cell.inside.chosen) (standings_by site p held) site.med_always (ap (λ h. h.standings) c.cell.view_is ∙ ap (λ h. h.standings) c.requires.decided) (compares_as site p held) in
+    compares_at (g.S.Chosen.standings c.cell.inside.chosen) (standings_by site p held) site.med_always
+    (ap (λ h. h.standings) c.cell.view_is ∙ ap (λ h. h.standings) c.requires.decided) (compares_as site p held) in
     both_err c.take_news.result (λ stood kept.
     let stands = ap effective (stood ∙ c.begin.ensures) ∙ sym compares in
-    (λ i. record { received = kept i; standings = stands i }) ∙ c.cell.view_is) c.take_news.ensures.stood c.take_news.ensures.kept
+    (λ i. record { received = kept i; standings = stands i })
+    ∙ c.cell.view_is) c.take_news.ensures.stood c.take_news.ensures.kept

@@ -7,9 +7,13 @@ use Rattle.cell_engine.proofs.route_cell.in_place.take_in.Goals as goal
 
 pub deliver_in-requires-clause-one : goal.deliver_in-requires-clause-one
 deliver_in-requires-clause-one g c t =
-    subst (λ o. length (told t (outcome_by (option_copied o) c.args.cell.now c.args.direction.from c.args.message.now).sends) ≤ 1) c.in-Some.is (c.requires.one t)
+    subst (λ o. length (told t
+    (outcome_by (option_copied o) c.args.cell.now c.args.direction.from c.args.message.now).sends) ≤ 1) c.in-Some.is
+    (c.requires.one t)
 
 pub returns-in-None-clause-sends : goal.returns-in-None-clause-sends
 unfolding stored
 returns-in-None-clause-sends g c =
-    when_ok c.store_in.result _ _ (λ sends is. is ∙ ap (λ o. (outcome_by (option_copied o) c.args.cell.now c.args.direction.from c.args.message.now).sends) (sym c.in-None.is)) c.store_in.ensures.sends
+    when_ok c.store_in.result _ _ (λ sends is. is
+    ∙ ap (λ o. (outcome_by (option_copied o) c.args.cell.now c.args.direction.from c.args.message.now).sends)
+    (sym c.in-None.is)) c.store_in.ensures.sends

@@ -16,8 +16,10 @@ sends_ready-ready-requires-clause-one g c =
     let m = c.args.message.now in
     let old = g.S.Chosen.standings c.args.chosen.now in
     let had = c.as_ref.ensures.value ∙ c.in_ok-best.ensures ∙ ap best_of c.requires.stands in
-    let has = c.best.ensures ∙ ap best_of c.in_ok-set_aside.ensures.ok ∙ best_then site u m c.args.received.now c.requires.peers c.requires.order old c.requires.stands in
-    subst (λ (l : List (Addr × Message)). (t : Addr) → length (told t l) ≤ 1) (sym (λ i. sends_of site site (c.prefix-prefix.ensures i) (had i) (has i))) c.requires.one
+    let has = c.best.ensures ∙ ap best_of c.in_ok-set_aside.ensures.ok
+    ∙ best_then site u m c.args.received.now c.requires.peers c.requires.order old c.requires.stands in
+    subst (λ (l : List (Addr × Message)). (t : Addr) → length (told t l) ≤ 1)
+    (sym (λ i. sends_of site site (c.prefix-prefix.ensures i) (had i) (has i))) c.requires.one
 
 pub put_back-requires-clause-known : goal.put_back-requires-clause-known
 put_back-requires-clause-known g c standing is =
@@ -25,7 +27,8 @@ put_back-requires-clause-known g c standing is =
     let u = c.args.direction.from in
     let m = c.args.message.now in
     let old = g.S.Chosen.standings c.args.chosen.now in
-    ap (λ s. is_some (standing_from s (FromPeer u))) c.in_ok-set_aside.ensures.ok ∙ known_aside site u m old standing (sym c.in_ok-had.ensures.known ∙ is)
+    ap (λ s. is_some (standing_from s (FromPeer u))) c.in_ok-set_aside.ensures.ok
+    ∙ known_aside site u m old standing (sym c.in_ok-had.ensures.known ∙ is)
 
 pub returns-in-Ok-clause-stands : goal.returns-in-Ok-clause-stands
 returns-in-Ok-clause-stands g c =
@@ -44,8 +47,10 @@ returns-in-Ok-clause-sends g c =
     let m = c.args.message.now in
     let old = g.S.Chosen.standings c.args.chosen.now in
     let had = c.as_ref.ensures.value ∙ c.in_ok-best.ensures ∙ ap best_of c.requires.stands in
-    let has = c.best.ensures ∙ ap best_of c.in_ok-set_aside.ensures.ok ∙ best_then site u m c.args.received.now c.requires.peers c.requires.order old c.requires.stands in
-    subst (λ r. IfOk r (λ sends. sends.items ≡ sends_of site site c.prefix-prefix.result (option_copied c.as_ref.result) (option_copied c.best.result))) c.in-Ok.ensures.ready c.sends_ready-ready.ensures.sends
+    let has = c.best.ensures ∙ ap best_of c.in_ok-set_aside.ensures.ok
+    ∙ best_then site u m c.args.received.now c.requires.peers c.requires.order old c.requires.stands in
+    subst (λ r. IfOk r (λ sends. sends.items ≡ sends_of site site c.prefix-prefix.result (option_copied c.as_ref.result)
+    (option_copied c.best.result))) c.in-Ok.ensures.ready c.sends_ready-ready.ensures.sends
     ∙ (λ i. sends_of site site (c.prefix-prefix.ensures i) (had i) (has i))
 
 pub returns-in-Err-clause-stood : goal.returns-in-Err-clause-stood

@@ -5,4 +5,5 @@ use Rattle.cell_engine.proofs.route_cell.received_routes.add_after.Given as goal
 
 -- those of the routes so far are added
 abbrev pub invariant-loop-route : goal.invariant-loop-route
-invariant-loop-route l = l.kept.items ≡ l.fn.kept.items ++ filter (λ e. is_lt (addr_cmp l.sender e.0)) (take l.route-index l.routes)
+invariant-loop-route l = l.kept.items ≡ l.fn.kept.items ++ filter (λ e. is_lt (addr_cmp l.sender e.0))
+    (take l.route-index l.routes)

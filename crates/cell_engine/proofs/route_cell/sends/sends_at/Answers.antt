@@ -12,7 +12,8 @@ returns-then-is_same_choice c =
     let site = c.args.site.now in
     let had = option_copied c.args.had in
     let same : had ≡ option_copied c.args.has = c.is_same_choice.ensures.0 c.if-is_same_choice.true in
-    c.new.ensures.items ∙ sym (nothing_sent site c.args.prefix had c.requires) ∙ ap (sends_of site site c.args.prefix had) same
+    c.new.ensures.items ∙ sym (nothing_sent site c.args.prefix had c.requires)
+    ∙ ap (sends_of site site c.args.prefix had) same
 
 pub returns : goal.returns
 returns c =
@@ -21,5 +22,6 @@ returns c =
     let had = option_copied c.args.had in
     let has = option_copied c.args.has in
     IfOk-weaker c.sends_within.result _ (λ s. s.items ≡ sends_of site site p had has)
-    (λ s is. is ∙ (λ i. filter_map (send_within p (c.adverts_of-before.ensures i) (c.adverts_of-after.ensures i)) (c.as_slice.ensures i)) ∙ sent_within site p had has c.requires)
+    (λ s is. is ∙ (λ i. filter_map (send_within p (c.adverts_of-before.ensures i) (c.adverts_of-after.ensures i))
+    (c.as_slice.ensures i)) ∙ sent_within site p had has c.requires)
     c.sends_within.ensures

@@ -13,6 +13,8 @@ returns c =
     let had = option_copied c.args.had in
     let has = option_copied c.args.has in
     let over_each = send_if_up old new c.args.prefix had has in
-    IfOk-weaker c.sends_over.result (λ s. s.items ≡ filter_map over_each c.as_slice.result.now) (λ s. s.items ≡ sends_of old new c.args.prefix had has)
-    (λ s is. is ∙ ap (filter_map over_each) c.as_slice.ensures ∙ sym (picked (send_over old new c.args.prefix had has) (λ x. x.up) new.sessions))
+    IfOk-weaker c.sends_over.result (λ s. s.items ≡ filter_map over_each c.as_slice.result.now)
+    (λ s. s.items ≡ sends_of old new c.args.prefix had has)
+    (λ s is. is ∙ ap (filter_map over_each) c.as_slice.ensures
+    ∙ sym (picked (send_over old new c.args.prefix had has) (λ x. x.up) new.sessions))
     c.sends_over.ensures

@@ -5,5 +5,6 @@ use Rattle.cell_engine.proofs.route_cell.standings.put_peers.Goals as goal
 
 pub loop-from-preserved : goal.loop-from-preserved
 loop-from-preserved g c =
-    folded_more (λ n e. with_standing e.0 e.1 n) (standing_of c.args.site.now c.args.prefix c.args.received.now) _ _ c.from-item.result _ _ _ c.loop-from-test.true c.from-item.is
+    folded_more (λ n e. with_standing e.0 e.1 n) (standing_of c.args.site.now c.args.prefix c.args.received.now)
+    _ _ c.from-item.result _ _ _ c.loop-from-test.true c.from-item.is
     c.loop-from.invariant c.in_ok-put_peer.ensures

@@ -10,20 +10,32 @@ use Rattle.cell_engine.proofs.router_tables.places.place.Goals as goal
 pub returns-in-Some-clause-found : goal.returns-in-Some-clause-found
 returns-in-Some-clause-found g c =
     let sorted = T_of _ c.requires in
-    let at = IsPartitionPoint-from_clause (λ e. is_gt (addr_cmp c.args.router e.0)) c.args.entries.now c.partition_point-at.result c.partition_point-at.ensures.partitioned
-    (parted (λ k. is_gt (addr_cmp c.args.router k)) c.args.entries.now (low_greater c.args.router) sorted) (λ a r q k. search rules) in
-    placed c.args.entries.now c.args.router c.partition_point-at.result c.in-Some.entry.now at (read_some c.args.entries.now c.partition_point-at.result c.in-Some.entry.now c.in-Some.ensures.lookup.0 c.in-Some.ensures.lookup.1) (sym (ap is_eq c.cmp.ensures) ∙ sym c.is_eq.ensures ∙ c.if-is_eq.true)
+    let at = IsPartitionPoint-from_clause (λ e. is_gt (addr_cmp c.args.router e.0)) c.args.entries.now
+    c.partition_point-at.result c.partition_point-at.ensures.partitioned
+    (parted (λ k. is_gt (addr_cmp c.args.router k)) c.args.entries.now (low_greater c.args.router) sorted)
+    (λ a r q k. search rules) in
+    placed c.args.entries.now c.args.router c.partition_point-at.result c.in-Some.entry.now at
+    (read_some c.args.entries.now c.partition_point-at.result c.in-Some.entry.now c.in-Some.ensures.lookup.0
+    c.in-Some.ensures.lookup.1) (sym (ap is_eq c.cmp.ensures) ∙ sym c.is_eq.ensures ∙ c.if-is_eq.true)
 
 pub returns-in_default-clause-absent : goal.returns-in_default-clause-absent
 returns-in_default-clause-absent g c =
     let sorted = T_of _ c.requires in
-    let at = IsPartitionPoint-from_clause (λ e. is_gt (addr_cmp c.args.router e.0)) c.args.entries.now c.partition_point-at.result c.partition_point-at.ensures.partitioned
-    (parted (λ k. is_gt (addr_cmp c.args.router k)) c.args.entries.now (low_greater c.args.router) sorted) (λ a r q k. search rules) in
-    missing c.args.entries.now c.args.router c.partition_point-at.result c.in-Some.entry.now sorted at (read_some c.args.entries.now c.partition_point-at.result c.in-Some.entry.now c.in-Some.ensures.lookup.0 c.in-Some.ensures.lookup.1) (sym (ap is_eq c.cmp.ensures) ∙ sym c.is_eq.ensures ∙ c.if-is_eq.false)
+    let at = IsPartitionPoint-from_clause (λ e. is_gt (addr_cmp c.args.router e.0)) c.args.entries.now
+    c.partition_point-at.result c.partition_point-at.ensures.partitioned
+    (parted (λ k. is_gt (addr_cmp c.args.router k)) c.args.entries.now (low_greater c.args.router) sorted)
+    (λ a r q k. search rules) in
+    missing c.args.entries.now c.args.router c.partition_point-at.result c.in-Some.entry.now sorted at
+    (read_some c.args.entries.now c.partition_point-at.result c.in-Some.entry.now c.in-Some.ensures.lookup.0
+    c.in-Some.ensures.lookup.1) (sym (ap is_eq c.cmp.ensures) ∙ sym c.is_eq.ensures ∙ c.if-is_eq.false)
 
 pub returns-in_default-2-clause-absent : goal.returns-in_default-2-clause-absent
 returns-in_default-2-clause-absent g c =
     let sorted = T_of _ c.requires in
-    let at = IsPartitionPoint-from_clause (λ e. is_gt (addr_cmp c.args.router e.0)) c.args.entries.now c.partition_point-at.result c.partition_point-at.ensures.partitioned
-    (parted (λ k. is_gt (addr_cmp c.args.router k)) c.args.entries.now (low_greater c.args.router) sorted) (λ a r q k. search rules) in
-    past_end c.args.entries.now c.args.router c.partition_point-at.result at (read_none c.args.entries.now c.partition_point-at.result (sym (ap is_some c.in_default.is) ∙ c.get.ensures.lookup.0)) c.partition_point-at.ensures.bound
+    let at = IsPartitionPoint-from_clause (λ e. is_gt (addr_cmp c.args.router e.0)) c.args.entries.now
+    c.partition_point-at.result c.partition_point-at.ensures.partitioned
+    (parted (λ k. is_gt (addr_cmp c.args.router k)) c.args.entries.now (low_greater c.args.router) sorted)
+    (λ a r q k. search rules) in
+    past_end c.args.entries.now c.args.router c.partition_point-at.result at
+    (read_none c.args.entries.now c.partition_point-at.result (sym (ap is_some c.in_default.is)
+    ∙ c.get.ensures.lookup.0)) c.partition_point-at.ensures.bound

@@ -8,6 +8,8 @@ pub returns-then-not-contains-clause-more : goal.returns-then-not-contains-claus
 returns-then-not-contains-clause-more g c =
     let ts = c.args.self.now.tables in
     sym (
-    ap (λ l. all_changes c.args.becomings.now ts ++ l) (none_of_router c.args.self.now.conf c.args.conf.now c.args.router (c.requires c.args.router (sym c.contains.ensures ∙ c.if-not-contains.true)) ts c.facts.ensures.sessions)
+    ap (λ l. all_changes c.args.becomings.now ts ++ l)
+    (none_of_router c.args.self.now.conf c.args.conf.now c.args.router
+    (c.requires c.args.router (sym c.contains.ensures ∙ c.if-not-contains.true)) ts c.facts.ensures.sessions)
     ∙ append-nil (all_changes c.args.becomings.now ts)
     )

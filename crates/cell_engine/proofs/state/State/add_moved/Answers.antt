@@ -14,7 +14,8 @@ returns-in-None g c =
     let ts = c.args.self.now.tables in
     let b = c.args.becoming.now in
     let before = c.args.moved.now in
-    let none : find addr_cmp c.address.result ts ≡ None = ap (λ (e : State). find addr_cmp c.address.result e.tables) (sym c.self.view_is) ∙ sym c.in-None.ensures in
+    let none : find addr_cmp c.address.result ts ≡ None = ap (λ (e : State). find addr_cmp c.address.result e.tables)
+    (sym c.self.view_is) ∙ sym c.in-None.ensures in
     sym (
     ap (λ a. before ++ moved_cells b (finite.entries (table_at a ts))) (sym c.address.ensures)
     ∙ ap (λ x. before ++ moved_cells b (finite.entries (unwrap_or x finite.empty))) none

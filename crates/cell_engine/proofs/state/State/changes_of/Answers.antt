@@ -12,4 +12,6 @@ returns g c =
     let ts = e.tables in
     let becomings = c.args.becomings.now in
     let moved = c.as_slice.ensures ∙ c.in_ok-moved.ensures in
-    when_ok c.decide.result _ _ (λ made is. ap (whole_changes ts) (is ∙ ap (map edit_at) moved) ∙ whole_all e c.facts.ensures.sound c.facts.ensures.configured becomings c.requires ∙ decided_all ts becomings) c.decide.ensures
+    when_ok c.decide.result _ _ (λ made is. ap (whole_changes ts) (is ∙ ap (map edit_at) moved)
+    ∙ whole_all e c.facts.ensures.sound c.facts.ensures.configured becomings c.requires
+    ∙ decided_all ts becomings) c.decide.ensures

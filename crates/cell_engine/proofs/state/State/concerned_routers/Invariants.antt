@@ -9,7 +9,8 @@ use Rattle.cell_engine.proofs.state.State.concerned_routers.Given as goal
 abbrev pub invariant-walk : goal.invariant-walk
 invariant-walk g l =
     AreOf l.self.conf l.becomings
-    × (all_changes l.becomings l.self.tables ++ changes_in Network l.self.conf l.conf (tables_past l.past l.self.tables) ≡ changes_in Network l.self.conf l.conf l.self.tables)
+    × (all_changes l.becomings l.self.tables ++ changes_in Network l.self.conf l.conf (tables_past l.past l.self.tables)
+    ≡ changes_in Network l.self.conf l.conf l.self.tables)
 
 abbrev pub decreases-walk : goal.decreases-walk
 decreases-walk g l = length (tables_past l.past l.self.tables)

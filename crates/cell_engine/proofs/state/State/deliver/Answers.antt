@@ -25,28 +25,50 @@ use Rattle.cell_engine.proofs.Queues.{network_same}
 use Rattle.cell_engine.proofs.state.State.deliver.Goals as goal
 
 -- who ends a session that is up has its site kept
-site_is : (c k : Configuration) (a b : Addr) (site : Option SiteConf) → k ≡ c → site ≡ site_kept k b → is_up c a b ≡ true → site ≡ router_site c b
+site_is : (c k : Configuration) (a b : Addr) (site : Option SiteConf) → k ≡ c → site ≡ site_kept k b →
+    is_up c a b ≡ true → site ≡ router_site c b
 site_is c k a b site same is up =
-    is ∙ ap (λ x. site_kept x b) same ∙ kept_there c b (session_ends c b a (session_turned c a b (session_if_up c a b up)))
+    is ∙ ap (λ x. site_kept x b) same
+    ∙ kept_there c b (session_ends c b a (session_turned c a b (session_if_up c a b up)))
 
 pub take_lent-requires-clause-decided : goal.take_lent-requires-clause-decided
 take_lent-requires-clause-decided g c =
-    let e : State = record { conf = c.self.inside.conf; tables = c.self.inside.tables; directions = c.self.inside.directions; queues = c.self.inside.queues } in
-    let site = site_is c.self.inside.conf c.get.result.now c.args.direction.from c.args.direction.to (option_copied c.kept_site-site.result) c.get.ensures c.kept_site-site.ensures (ap (λ (n : State). is_up n.conf c.args.direction.from c.args.direction.to) c.self.view_is ∙ c.requires.up) in
+    let e : State = record {
+      conf = c.self.inside.conf;
+      tables = c.self.inside.tables;
+      directions = c.self.inside.directions;
+      queues = c.self.inside.queues;
+    } in
+    let site = site_is c.self.inside.conf c.get.result.now c.args.direction.from c.args.direction.to
+    (option_copied c.kept_site-site.result) c.get.ensures c.kept_site-site.ensures
+    (ap (λ (n : State). is_up n.conf c.args.direction.from c.args.direction.to) c.self.view_is ∙ c.requires.up) in
     let p = prefix_of c.args.message.now in
-    subst (λ x. IsDecided x p (cell_at c.args.direction.to p e.tables)) (sym site) (cell_decided e c.self.invariant.0 c.args.direction.to p)
+    subst (λ x. IsDecided x p (cell_at c.args.direction.to p e.tables)) (sym site)
+    (cell_decided e c.self.invariant.0 c.args.direction.to p)
 
 pub take_lent-requires-clause-peers : goal.take_lent-requires-clause-peers
 take_lent-requires-clause-peers g c s is =
-    let site = site_is c.self.inside.conf c.get.result.now c.args.direction.from c.args.direction.to (option_copied c.kept_site-site.result) c.get.ensures c.kept_site-site.ensures (ap (λ (n : State). is_up n.conf c.args.direction.from c.args.direction.to) c.self.view_is ∙ c.requires.up) in
-    site_sessions_in_order c.self.inside.conf c.args.direction.to s c.facts.ensures.configured (site_of_router c.self.inside.conf c.args.direction.to s (sym site ∙ is))
+    let site = site_is c.self.inside.conf c.get.result.now c.args.direction.from c.args.direction.to
+    (option_copied c.kept_site-site.result) c.get.ensures c.kept_site-site.ensures
+    (ap (λ (n : State). is_up n.conf c.args.direction.from c.args.direction.to) c.self.view_is ∙ c.requires.up) in
+    site_sessions_in_order c.self.inside.conf c.args.direction.to s c.facts.ensures.configured
+    (site_of_router c.self.inside.conf c.args.direction.to s (sym site ∙ is))
 
 pub take_lent-requires-clause-one : goal.take_lent-requires-clause-one
 take_lent-requires-clause-one g c t =
-    let e : State = record { conf = c.self.inside.conf; tables = c.self.inside.tables; directions = c.self.inside.directions; queues = c.self.inside.queues } in
-    let site = site_is c.self.inside.conf c.get.result.now c.args.direction.from c.args.direction.to (option_copied c.kept_site-site.result) c.get.ensures c.kept_site-site.ensures (ap (λ (n : State). is_up n.conf c.args.direction.from c.args.direction.to) c.self.view_is ∙ c.requires.up) in
+    let e : State = record {
+      conf = c.self.inside.conf;
+      tables = c.self.inside.tables;
+      directions = c.self.inside.directions;
+      queues = c.self.inside.queues;
+    } in
+    let site = site_is c.self.inside.conf c.get.result.now c.args.direction.from c.args.direction.to
+    (option_copied c.kept_site-site.result) c.get.ensures c.kept_site-site.ensures
+    (ap (λ (n : State). is_up n.conf c.args.direction.from c.args.direction.to) c.self.view_is ∙ c.requires.up) in
     let m = c.args.message.now in
-    subst (λ x. length (told t (outcome_by x (cell_at c.args.direction.to (prefix_of m) e.tables) c.args.direction.from m).sends) ≤ 1) (sym site) (outcome_tells_one e c.facts.ensures.configured c.args.direction m t)
+    subst (λ x. length (told t
+    (outcome_by x (cell_at c.args.direction.to (prefix_of m) e.tables) c.args.direction.from m).sends) ≤ 1)
+    (sym site) (outcome_tells_one e c.facts.ensures.configured c.args.direction m t)
 
 anyway : {A F P : Type 0} (r : Result A F) → P → OnErr r P
 anyway (Ok x) p = tt
@@ -54,7 +76,12 @@ anyway (Err x) p = p
 
 pub returns-in_err-sends-clause-same : goal.returns-in_err-sends-clause-same
 returns-in_err-sends-clause-same g c =
-    let e : State = record { conf = c.self.inside.conf; tables = c.self.inside.tables; directions = c.self.inside.directions; queues = c.self.inside.queues } in
+    let e : State = record {
+      conf = c.self.inside.conf;
+      tables = c.self.inside.tables;
+      directions = c.self.inside.directions;
+      queues = c.self.inside.queues;
+    } in
     anyway c.from_residual.result (
     ap (λ ts. network (record e { tables = ts; queues = c.take_lent.new.queues })) c.in_err-sends.ensures.same
     ∙ network_same e c.take_lent.new.queues c.take_lent.ensures.queue
@@ -63,24 +90,55 @@ returns-in_err-sends-clause-same g c =
 
 pub invariant_of-self-2 : goal.invariant_of-self-2
 invariant_of-self-2 g c =
-    let e : State = record { conf = c.self.inside.conf; tables = c.self.inside.tables; directions = c.self.inside.directions; queues = c.self.inside.queues } in
-    let site = site_is c.self.inside.conf c.get.result.now c.args.direction.from c.args.direction.to (option_copied c.kept_site-site.result) c.get.ensures c.kept_site-site.ensures (ap (λ (n : State). is_up n.conf c.args.direction.from c.args.direction.to) c.self.view_is ∙ c.requires.up) in
-    let first = ap (λ (n : State). slice_get (queue_at n.queues c.args.direction.from c.args.direction.to) 0) c.self.view_is ∙ c.requires.head in
-    let up : is_up e.conf c.args.direction.from c.args.direction.to ≡ true = ap (λ (n : State). is_up n.conf c.args.direction.from c.args.direction.to) c.self.view_is ∙ c.requires.up in
-    let block : MakePrefix (prefix_of c.args.message.now).addr (prefix_of c.args.message.now).len = subst (λ (p : Prefix). MakePrefix p.addr p.len) c.prefix.ensures c.len.ensures.block in (
-      sound_then e c.self.invariant.0 c.args.direction c.args.message.now (option_copied c.kept_site-site.result) site c.take_lent.new.tables c.in_ok-sends.ensures.cell c.facts.ensures.configured first c.in_ok-sends.sends.items c.in_ok-sends.ensures.sends c.take_lent.new.queues c.pop.new.self c.push_all.new.queues c.take_lent.ensures.queue c.pop.ensures.queue c.pop.ensures.others c.push_all.ensures.queue,
-      prefixes_then e c.self.invariant.0 c.args.direction c.args.message.now (option_copied c.kept_site-site.result) site c.take_lent.new.tables c.in_ok-sends.ensures.cell block c.self.invariant.1,
-      ups_then e c.self.invariant.0 c.args.direction c.args.message.now (option_copied c.kept_site-site.result) site c.take_lent.new.tables c.in_ok-sends.ensures.cell c.facts.ensures.configured first c.in_ok-sends.sends.items c.in_ok-sends.ensures.sends c.take_lent.new.queues c.pop.new.self c.push_all.new.queues c.take_lent.ensures.queue c.pop.ensures.queue c.pop.ensures.others c.push_all.ensures.queue up c.self.invariant.2,
+    let e : State = record {
+      conf = c.self.inside.conf;
+      tables = c.self.inside.tables;
+      directions = c.self.inside.directions;
+      queues = c.self.inside.queues;
+    } in
+    let site = site_is c.self.inside.conf c.get.result.now c.args.direction.from c.args.direction.to
+    (option_copied c.kept_site-site.result) c.get.ensures c.kept_site-site.ensures
+    (ap (λ (n : State). is_up n.conf c.args.direction.from c.args.direction.to) c.self.view_is ∙ c.requires.up) in
+    let first = ap (λ (n : State). slice_get (queue_at n.queues c.args.direction.from c.args.direction.to) 0)
+    c.self.view_is ∙ c.requires.head in
+    let up : is_up e.conf c.args.direction.from c.args.direction.to ≡ true =
+    ap (λ (n : State). is_up n.conf c.args.direction.from c.args.direction.to) c.self.view_is ∙ c.requires.up in
+    let block : MakePrefix (prefix_of c.args.message.now).addr (prefix_of c.args.message.now).len =
+    subst (λ (p : Prefix). MakePrefix p.addr p.len) c.prefix.ensures c.len.ensures.block in (
+      sound_then e c.self.invariant.0 c.args.direction c.args.message.now (option_copied c.kept_site-site.result) site
+          c.take_lent.new.tables c.in_ok-sends.ensures.cell c.facts.ensures.configured first c.in_ok-sends.sends.items
+          c.in_ok-sends.ensures.sends c.take_lent.new.queues c.pop.new.self c.push_all.new.queues
+          c.take_lent.ensures.queue c.pop.ensures.queue c.pop.ensures.others c.push_all.ensures.queue,
+      prefixes_then e c.self.invariant.0 c.args.direction c.args.message.now (option_copied c.kept_site-site.result)
+          site c.take_lent.new.tables c.in_ok-sends.ensures.cell block c.self.invariant.1,
+      ups_then e c.self.invariant.0 c.args.direction c.args.message.now (option_copied c.kept_site-site.result) site
+          c.take_lent.new.tables c.in_ok-sends.ensures.cell c.facts.ensures.configured first c.in_ok-sends.sends.items
+          c.in_ok-sends.ensures.sends c.take_lent.new.queues c.pop.new.self c.push_all.new.queues
+          c.take_lent.ensures.queue c.pop.ensures.queue c.pop.ensures.others c.push_all.ensures.queue up
+          c.self.invariant.2,
     )
 
 pub returns-clause-next : goal.returns-clause-next
 returns-clause-next g c =
-    let e : State = record { conf = c.self.inside.conf; tables = c.self.inside.tables; directions = c.self.inside.directions; queues = c.self.inside.queues } in
-    let site = site_is c.self.inside.conf c.get.result.now c.args.direction.from c.args.direction.to (option_copied c.kept_site-site.result) c.get.ensures c.kept_site-site.ensures (ap (λ (n : State). is_up n.conf c.args.direction.from c.args.direction.to) c.self.view_is ∙ c.requires.up) in
-    let first = ap (λ (n : State). slice_get (queue_at n.queues c.args.direction.from c.args.direction.to) 0) c.self.view_is ∙ c.requires.head in
-    let up : is_up e.conf c.args.direction.from c.args.direction.to ≡ true = ap (λ (n : State). is_up n.conf c.args.direction.from c.args.direction.to) c.self.view_is ∙ c.requires.up in
+    let e : State = record {
+      conf = c.self.inside.conf;
+      tables = c.self.inside.tables;
+      directions = c.self.inside.directions;
+      queues = c.self.inside.queues;
+    } in
+    let site = site_is c.self.inside.conf c.get.result.now c.args.direction.from c.args.direction.to
+    (option_copied c.kept_site-site.result) c.get.ensures c.kept_site-site.ensures
+    (ap (λ (n : State). is_up n.conf c.args.direction.from c.args.direction.to) c.self.view_is ∙ c.requires.up) in
+    let first = ap (λ (n : State). slice_get (queue_at n.queues c.args.direction.from c.args.direction.to) 0)
+    c.self.view_is ∙ c.requires.head in
+    let up : is_up e.conf c.args.direction.from c.args.direction.to ≡ true =
+    ap (λ (n : State). is_up n.conf c.args.direction.from c.args.direction.to) c.self.view_is ∙ c.requires.up in
     let d = c.args.direction in
-    next_then e c.self.invariant.0 c.args.direction c.args.message.now (option_copied c.kept_site-site.result) site c.take_lent.new.tables c.in_ok-sends.ensures.cell c.facts.ensures.configured first c.in_ok-sends.sends.items c.in_ok-sends.ensures.sends c.take_lent.new.queues c.pop.new.self c.push_all.new.queues c.take_lent.ensures.queue c.pop.ensures.queue c.pop.ensures.others c.push_all.ensures.queue (session_if_up e.conf d.from d.to up)
+    next_then e c.self.invariant.0 c.args.direction c.args.message.now (option_copied c.kept_site-site.result) site
+    c.take_lent.new.tables c.in_ok-sends.ensures.cell c.facts.ensures.configured first c.in_ok-sends.sends.items
+    c.in_ok-sends.ensures.sends c.take_lent.new.queues c.pop.new.self c.push_all.new.queues
+    c.take_lent.ensures.queue c.pop.ensures.queue c.pop.ensures.others c.push_all.ensures.queue
+    (session_if_up e.conf d.from d.to up)
     ∙ (λ i. (head_step (network (c.self.view_is i)) d (messages_in (network (c.self.view_is i)).queues d)).next)
 
 copied_some : {X : Type 0} (o : Option (Bor X)) → is_some (option_copied o) ≡ is_some o
@@ -89,7 +147,9 @@ copied_some (Some x) = refl
 
 pub returns-clause-decides : goal.returns-clause-decides
 returns-clause-decides g c =
-    let site = site_is c.self.inside.conf c.get.result.now c.args.direction.from c.args.direction.to (option_copied c.kept_site-site.result) c.get.ensures c.kept_site-site.ensures (ap (λ (n : State). is_up n.conf c.args.direction.from c.args.direction.to) c.self.view_is ∙ c.requires.up) in
+    let site = site_is c.self.inside.conf c.get.result.now c.args.direction.from c.args.direction.to
+    (option_copied c.kept_site-site.result) c.get.ensures c.kept_site-site.ensures
+    (ap (λ (n : State). is_up n.conf c.args.direction.from c.args.direction.to) c.self.view_is ∙ c.requires.up) in
     c.is_some-decides.ensures
     ∙ sym (copied_some c.kept_site-site.result)
     ∙ ap is_some (site ∙ ap (λ (n : State). router_site n.conf c.args.direction.to) c.self.view_is)

@@ -12,14 +12,25 @@ at_ok (Err x) f p = tt
 
 pub returns-clause-next : goal.returns-clause-next
 returns-clause-next g c =
-    let e : State = record { conf = c.self.inside.conf; tables = c.self.inside.tables; directions = c.self.inside.directions; queues = c.self.inside.queues } in
+    let e : State = record {
+      conf = c.self.inside.conf;
+      tables = c.self.inside.tables;
+      directions = c.self.inside.directions;
+      queues = c.self.inside.queues;
+    } in
     at_ok c.put.result (λ queue.
     network_pushed e c.put.new.self c.args.direction c.args.message queue c.put.ensures.others
-    ∙ ap (λ n. record (network n) { queues = with_message c.args.direction c.args.message (network n).queues }) c.self.view_is) c.put.ensures.queue
+    ∙ ap (λ n. record (network n) { queues = with_message c.args.direction c.args.message (network n).queues })
+    c.self.view_is) c.put.ensures.queue
 
 pub returns-clause-same : goal.returns-clause-same
 returns-clause-same g c =
-    let e : State = record { conf = c.self.inside.conf; tables = c.self.inside.tables; directions = c.self.inside.directions; queues = c.self.inside.queues } in
+    let e : State = record {
+      conf = c.self.inside.conf;
+      tables = c.self.inside.tables;
+      directions = c.self.inside.directions;
+      queues = c.self.inside.queues;
+    } in
     let d = c.args.direction in
     at_error c.put.result (λ queue.
     network_same e c.put.new.self (queue_kept d.from d.to e.queues c.put.new.self c.put.ensures.others queue)

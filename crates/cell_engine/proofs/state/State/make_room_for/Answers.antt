@@ -5,5 +5,10 @@ use Rattle.cell_engine.proofs.state.State.make_room_for.Goals as goal
 
 pub returns-clause-network : goal.returns-clause-network
 returns-clause-network g c =
-    let e : State = record { conf = c.self.inside.conf; tables = c.self.inside.tables; directions = c.self.inside.directions; queues = c.self.inside.queues } in
+    let e : State = record {
+      conf = c.self.inside.conf;
+      tables = c.self.inside.tables;
+      directions = c.self.inside.directions;
+      queues = c.self.inside.queues;
+    } in
     network_same e c.reserve_each.new.queues c.reserve_each.ensures.queue ∙ ap network c.self.view_is

@@ -6,6 +6,12 @@ use Rattle.cell_engine.proofs.state.State.push.Goals as goal
 
 pub returns : goal.returns
 returns g c =
-    let e : State = record { conf = c.self.inside.conf; tables = c.self.inside.tables; directions = c.self.inside.directions; queues = c.self.inside.queues } in
+    let e : State = record {
+      conf = c.self.inside.conf;
+      tables = c.self.inside.tables;
+      directions = c.self.inside.directions;
+      queues = c.self.inside.queues;
+    } in
     network_pushed e c.push.new.self c.args.direction c.args.message c.push.ensures.queue c.push.ensures.others
-    ∙ ap (λ n. record (network n) { queues = with_message c.args.direction c.args.message (network n).queues }) c.self.view_is
+    ∙ ap (λ n. record (network n) { queues = with_message c.args.direction c.args.message (network n).queues })
+    c.self.view_is

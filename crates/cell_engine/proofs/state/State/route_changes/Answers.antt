@@ -26,5 +26,6 @@ returns g c =
     ap (whole_changes e.tables) (is ∙ ap (λ (b : Becoming). map edit_at (moved_cell b p h)) same)
     ∙ whole_cells e c.facts.ensures.sound c.facts.ensures.configured after r ((p, h) ∷ []) (sym c.in-Some.ensures, tt)
     ∙ decided_cells (of before) ((p, h) ∷ [])
-    ∙ ap (λ (o : Option Cell). router_changes (moves before after) before after r (option_to_list (option_map (λ x. (p, x)) o))) c.in-Some.ensures)
+    ∙ ap (λ (o : Option Cell). router_changes (moves before after) before after r
+    (option_to_list (option_map (λ x. (p, x)) o))) c.in-Some.ensures)
     c.decide_cell-changes.ensures

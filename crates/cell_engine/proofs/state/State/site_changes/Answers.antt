@@ -13,7 +13,8 @@ returns-in_default g c =
     let r = c.args.router in
     let before = c.args.self.now.conf in
     let after = c.args.conf.now in
-    let none : find addr_cmp r c.args.self.now.tables ≡ None = sym c.table.ensures ∙ ap (λ o. option_map g.T.PrefixTable.table (option_copied o)) c.in_default.is in
+    let none : find addr_cmp r c.args.self.now.tables ≡ None = sym c.table.ensures
+    ∙ ap (λ o. option_map g.T.PrefixTable.table (option_copied o)) c.in_default.is in
     ap (whole_changes c.args.self.now.tables) c.new.ensures
     ∙ sym (
     ap (λ x. router_changes (moves before after) before after r (finite.entries (unwrap_or x finite.empty))) none

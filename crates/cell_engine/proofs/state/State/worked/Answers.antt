@@ -18,7 +18,8 @@ deliver-outcome-requires-clause-decided g c =
     let there : c.unwrap_or-cell.result.now ≡ cell_at r p e.tables =
     ap (λ b. b.now) c.unwrap_or-cell.ensures
     ∙ shown_or c.cell-found.result _
-    ∙ (λ i. unwrap_or ((c.cell-found.ensures ∙ ap (λ q. value_at r q e.tables) c.prefix.ensures) i) (c.new-nothing.ensures i)) in
+    ∙ (λ i. unwrap_or ((c.cell-found.ensures ∙ ap (λ q. value_at r q e.tables) c.prefix.ensures) i)
+    (c.new-nothing.ensures i)) in
     there ∙ cell_decided e c.facts.ensures.sound r p ∙ (λ i. decided (at i) p (sym there i).received)
 
 pub deliver-outcome-requires-clause-peers : goal.deliver-outcome-requires-clause-peers
@@ -26,4 +27,5 @@ deliver-outcome-requires-clause-peers g c =
     let e = c.args.self.now in
     let r = c.args.direction.to in
     let site = c.in-Some.site.now in
-    site_sessions_in_order e.conf r site c.facts.ensures.configured (site_of_router e.conf r site (sym c.in-Some.ensures))
+    site_sessions_in_order e.conf r site c.facts.ensures.configured
+    (site_of_router e.conf r site (sym c.in-Some.ensures))

@@ -4,4 +4,5 @@ use Rattle.cell_engine.proofs.Redecided.{router_by_kind}
 use Rattle.cell_engine.proofs.state.router_test.is_router.Goals as goal
 
 pub returns : goal.returns
-returns c = c.has_router_kind.ensures ∙ ap has_router_kind c.router.ensures ∙ router_by_kind c.args.conf.now c.args.address
+returns c = c.has_router_kind.ensures ∙ ap has_router_kind c.router.ensures
+    ∙ router_by_kind c.args.conf.now c.args.address

@@ -6,4 +6,5 @@ use Rattle.desk.proofs.workers.Crew.do_job.Goals as goal
 
 pub returns : goal.returns
 returns g c =
-    one_more (λ (x : Job). x ≡ c.args.job) (is_ok c.push.result) c.args.outcomes.now.items c.push.new.self.items c.in-Ok.done c.push.ensures.items c.in-Ok.ensures.done
+    one_more (λ (x : Job). x ≡ c.args.job) (is_ok c.push.result) c.args.outcomes.now.items c.push.new.self.items
+    c.in-Ok.done c.push.ensures.items c.in-Ok.ensures.done

@@ -24,12 +24,14 @@ loop-preserved g c =
           let more : c.loop.turns + count ≤ turns = omega arith in
           let left : turns ≤ c.args.self.now.turns = omega arith in
           let worked = w.do_jobs-put_in.ensures shard shards w.in-Ok.ensures.shard in
-          let now = turned shard shards place c.loop.turns count turns before old w.do_jobs-put_in.new.seat c.shard_of-shard.ensures.shard more c.loop.invariant.0 worked in
+          let now = turned shard shards place c.loop.turns count turns before old w.do_jobs-put_in.new.seat
+          c.shard_of-shard.ensures.shard more c.loop.invariant.0 worked in
           (subst (λ (s : SeatBook). IsWorkedAt place shards turns before s) (sym w.seat-is) now, left)
       | in-Err-ThisTurn w ↦
           let is = w.turns-is in
           let more : c.loop.turns ≤ turns = omega arith in
           let left : turns ≤ c.args.self.now.turns = omega arith in
-          let now : IsWorkedAt place shards turns before old = worked_longer (place % shards) shards c.loop.turns turns before old more c.loop.invariant.0 in
+          let now : IsWorkedAt place shards turns before old =
+          worked_longer (place % shards) shards c.loop.turns turns before old more c.loop.invariant.0 in
           (subst (λ (s : SeatBook). IsWorkedAt place shards turns before s) (sym w.seat-is) now, left)
     ]

@@ -8,7 +8,8 @@ pub loop-job-init : goal.loop-job-init
 loop-job-init g c =
     let all : c.args.jobs ≡ c.into_iter-job-iterator.result.rest.items = search rules in
     let together : AreTakenTogether c.into_iter-job-iterator.result.rest.items =
-    subst AreTakenTogether (sym c.into_iter-job-iterator.ensures.into_iter_gives.0) c.into_vec-job-items.ensures.together in
+    subst AreTakenTogether (sym c.into_iter-job-iterator.ensures.into_iter_gives.0)
+    c.into_vec-job-items.ensures.together in
     let many : length c.args.jobs ≡ length c.into_iter-job-iterator.result.rest.items = ap length all in (
       tt,
       tt,
@@ -26,7 +27,8 @@ loop-job-preserved g c =
     let more : List Job = c.do_job.ensures.0 in
     let added : new ≡ old ++ more = c.do_job.ensures.1 in
     let room = c.loop-job.invariant.2.0 in
-    let seen : All (IsSeenIn room) (x ∷ rest) = subst (All (IsSeenIn room)) c.in-Some.ensures.steps.0 c.loop-job.invariant.2.1 in
+    let seen : All (IsSeenIn room) (x ∷ rest) =
+    subst (All (IsSeenIn room)) c.in-Some.ensures.steps.0 c.loop-job.invariant.2.1 in
     let few : length more ≤ 1 = c.do_job.ensures.2 in
     let most = c.loop-job.invariant.4 in
     let longer : length new ≡ length old + length more = ap length added ∙ length-append old more in
@@ -36,16 +38,20 @@ loop-job-preserved g c =
       (
         room,
         All-tail (IsSeenIn room) x rest seen,
-        all_added (IsSeenIn room) x old more new added c.do_job.ensures.3 c.loop-job.invariant.2.2 (All-head (IsSeenIn room) x rest seen),
+        all_added (IsSeenIn room) x old more new added c.do_job.ensures.3 c.loop-job.invariant.2.2
+            (All-head (IsSeenIn room) x rest seen),
       ),
       (λ shard shards of.
           let both = c.loop-job.invariant.3 shard shards of in
-          let mine : All (IsOfShard shard shards) (x ∷ rest) = subst (All (IsOfShard shard shards)) c.in-Some.ensures.steps.0 both.0 in (
+          let mine : All (IsOfShard shard shards) (x ∷ rest) =
+          subst (All (IsOfShard shard shards)) c.in-Some.ensures.steps.0 both.0 in (
             All-tail (IsOfShard shard shards) x rest mine,
-            all_added (IsOfShard shard shards) x old more new added c.do_job.ensures.3 both.1 (All-head (IsOfShard shard shards) x rest mine),
+            all_added (IsOfShard shard shards) x old more new added c.do_job.ensures.3 both.1
+                (All-head (IsOfShard shard shards) x rest mine),
           )),
       (omega arith),
     )
 
 pub returns-clause-of_shard : goal.returns-clause-of_shard
-returns-clause-of_shard g c = λ shard shards every. subst (All (IsOfShard shard shards)) (sym c.of.ensures) (c.loop-job.invariant.3 shard shards every).1
+returns-clause-of_shard g c = λ shard shards every. subst (All (IsOfShard shard shards)) (sym c.of.ensures)
+    (c.loop-job.invariant.3 shard shards every).1

@@ -3,11 +3,13 @@ use Rattle.room.specs.Books.{RoomBook}
 use Rattle.room.specs.Jobs.{IsOfShard, IsSeenIn}
 use Rattle.desk.proofs.workers.Crew.outcomes_of.Given as goal
 
--- the jobs that are left and the outcomes were seen in one room, are of one shard if all jobs were, and are no more than those
+-- the jobs that are left and the outcomes were seen in one room, are of one shard if all jobs were, and are no more
+-- than those
 abbrev pub invariant-loop-job : goal.invariant-loop-job
 invariant-loop-job g l =
     (goal.iterator-loop-job g).can_next l.job-iterator ×
     (goal.iterator-loop-job g).is_finite l.job-iterator ×
     ((room : RoomBook) × All (IsSeenIn room) l.job-iterator.rest.items × All (IsSeenIn room) l.outcomes.items) ×
-    ((shard shards : ℕ) → All (IsOfShard shard shards) l.fn.jobs → All (IsOfShard shard shards) l.job-iterator.rest.items × All (IsOfShard shard shards) l.outcomes.items) ×
+    ((shard shards : ℕ) → All (IsOfShard shard shards) l.fn.jobs →
+    All (IsOfShard shard shards) l.job-iterator.rest.items × All (IsOfShard shard shards) l.outcomes.items) ×
     (length l.outcomes.items + length l.job-iterator.rest.items ≤ length l.fn.jobs)

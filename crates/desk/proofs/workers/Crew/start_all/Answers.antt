@@ -34,13 +34,22 @@ loop-seat-preserved g c =
     let pushed : c.push_reserved.new.self.items ≡ workers ++ worker ∷ [] = search rules in (
       tt,
       tt,
-      omega (arith, c.loop-seat.invariant.2, c.push_reserved.ensures.capacity, ap length pushed, length_push workers worker, ap length step),
+      omega (
+        arith,
+        c.loop-seat.invariant.2,
+        c.push_reserved.ensures.capacity,
+        ap length pushed,
+        length_push workers worker,
+        ap length step,
+      ),
       omega (arith, c.loop-seat.invariant.3, ap length pushed, length_push workers worker, ap length step),
       (
         so.0 ++ seat ∷ [],
         so.1 ∙ ap (λ l. so.0 ++ l) step ∙ sym (append_assoc so.0 (seat ∷ []) rest),
         omega (arith, so.2, ap length pushed, length_push workers worker, length_push so.0 seat),
-        subst (λ ws. AllToWork 0 shards turns (so.0 ++ seat ∷ []) ws) (sym pushed) (to_work_push shards turns 0 so.0 workers seat worker so.3 (subst (λ n. IsToWork n shards turns seat worker) place c.start-worker.ensures)),
+        subst (λ ws. AllToWork 0 shards turns (so.0 ++ seat ∷ []) ws) (sym pushed)
+            (to_work_push shards turns 0 so.0 workers seat worker so.3
+            (subst (λ n. IsToWork n shards turns seat worker) place c.start-worker.ensures)),
       ),
     )
 
@@ -50,7 +59,8 @@ returns-clause-each g c =
     let none : rest.items ≡ [] = nil_from_length rest.items (sym rest.ok.0 ∙ c.in-None.ensures.steps.0) in
     let so = c.loop-seat.invariant.4 in
     let whole : so.0 ≡ c.args.seats.items = sym (so.1 ∙ ap (λ l. so.0 ++ l) none ∙ append-nil so.0) in
-    subst (λ xs. AllToWork 0 c.args.self.now.desk.now.shards c.args.self.now.turns xs c.loop-seat.workers.items) whole so.3
+    subst (λ xs. AllToWork 0 c.args.self.now.desk.now.shards c.args.self.now.turns xs c.loop-seat.workers.items) whole
+    so.3
 
 pub returns-clause-len : goal.returns-clause-len
 returns-clause-len g c =

@@ -10,5 +10,6 @@ invariant-loop-seat g l =
     (goal.iterator-loop-seat g).is_finite l.seat-iterator ×
     (length l.workers.items + length l.seat-iterator.rest.items ≤ vec_capacity l.workers) ×
     (length l.workers.items + length l.seat-iterator.rest.items ≡ length l.fn.seats.items)
-    × ((done : List SeatBook) × (l.fn.seats.items ≡ done ++ l.seat-iterator.rest.items) × (length l.workers.items ≡ length done)
+    × ((done : List SeatBook) × (l.fn.seats.items ≡ done ++ l.seat-iterator.rest.items)
+    × (length l.workers.items ≡ length done)
     × AllToWork 0 l.self.desk.now.shards l.self.turns done l.workers.items)

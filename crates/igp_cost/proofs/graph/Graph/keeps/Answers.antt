@@ -13,5 +13,7 @@ returns-in-Some c =
     let tree = c.args.tree.now in
     let found = subst (λ (a : Addr). IsFound nodes a c.in-Some.graph.source) c.source.ensures c.in-Some.ensures.found in
     both_true c.is_unmoved.result _ _ _
-    (λ loses gains. subst (λ (n : Nodes). Stays c.args.change.now n edges tree) c.in-Some.ensures.nodes (stays_whole c.args.change.now nodes edges c.in-Some.graph.links.now c.in-Some.ensures.wired tree c.in-Some.graph.source found loses gains))
+    (λ loses gains. subst (λ (n : Nodes). Stays c.args.change.now n edges tree) c.in-Some.ensures.nodes
+    (stays_whole c.args.change.now nodes edges c.in-Some.graph.links.now c.in-Some.ensures.wired tree
+    c.in-Some.graph.source found loses gains))
     c.is_unmoved.ensures.loses c.is_unmoved.ensures.gains

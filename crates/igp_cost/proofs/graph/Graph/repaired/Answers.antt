@@ -20,5 +20,7 @@ returns-in-Some-clause-follows c =
     let After : Reached → Type 0 = λ made. Follows c.args.change.now c.args.self.now.nodes edges t made in
     IfOk-weaker c.mended_tree.result (λ o. IfSome o Mended) (λ o. IfSome o After)
     (λ o. some_weaker o Mended After (λ made mended.
-    subst (λ (n : Nodes). Follows c.args.change.now n edges t made) c.in-Some.ensures.nodes (follows_whole c.args.change.now graph.nodes.now edges graph.links.now c.in-Some.ensures.wired t graph.source found made mended)))
+    subst (λ (n : Nodes). Follows c.args.change.now n edges t made) c.in-Some.ensures.nodes
+    (follows_whole c.args.change.now graph.nodes.now edges graph.links.now c.in-Some.ensures.wired t graph.source
+    found made mended)))
     c.mended_tree.ensures

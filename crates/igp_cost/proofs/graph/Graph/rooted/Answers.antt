@@ -16,10 +16,12 @@ invariant_of-result-clause-within c =
 pub invariant_of-result-clause-bounds : goal.invariant_of-result-clause-bounds
 invariant_of-result-clause-bounds c =
     subst (λ (k : List Link). All (λ s. s ≤ length k) c.deref-2.result.now) (sym c.deref.ensures.value)
-    (subst (λ (p : List ℕ). All (λ s. s ≤ length c.self.inside.links.items) p) (sym c.deref-2.ensures.value) c.self.invariant.1.within)
+    (subst (λ (p : List ℕ). All (λ s. s ≤ length c.self.inside.links.items) p)
+    (sym c.deref-2.ensures.value) c.self.invariant.1.within)
 
 pub invariant_of-result-clause-each : goal.invariant_of-result-clause-each
 invariant_of-result-clause-each c =
     subst (λ (n : Nodes). StandsByStart n c.deref.result.now c.deref-2.result.now) (sym c.as_slice-nodes.ensures)
     (subst (λ (k : List Link). StandsByStart c.self.inside.nodes k c.deref-2.result.now) (sym c.deref.ensures.value)
-    (subst (λ (p : List ℕ). StandsByStart c.self.inside.nodes c.self.inside.links.items p) (sym c.deref-2.ensures.value) c.self.invariant.1.each))
+    (subst (λ (p : List ℕ). StandsByStart c.self.inside.nodes c.self.inside.links.items p)
+    (sym c.deref-2.ensures.value) c.self.invariant.1.each))

@@ -16,8 +16,17 @@ returns-then-nodes-at c =
     let nodes = c.args.nodes.now in
     let at = c.loop-at.at in
     let before = read nodes (at - 1) c.index-nodes-at.result (omega (arith, c.loop-at-test.true)) in
-    let here = read nodes at c.index-nodes-at-in-loop-at.result c.loop-at-test.true in
-    ((λ h. absurd (false≢true h)), (λ sorted. let up = rises_from_sorted nowhere nodes sorted (at - 1) at (omega (arith, c.loop-at.auto.at)) c.loop-at-test.true in absurd (omega (arith, up, before, here, c.if-nodes-at.true))))
+    let here = read nodes at c.index-nodes-at-in-loop-at.result c.loop-at-test.true in (
+      (λ h. absurd (false≢true h)),
+      (λ sorted. let up = rises_from_sorted nowhere nodes sorted (at - 1) at
+          (omega (arith, c.loop-at.auto.at)) c.loop-at-test.true in
+          absurd (omega (arith, up, before, here, c.if-nodes-at.true))),
+    )
 
 pub returns : goal.returns
-returns c = ((λ h. sorted_from_rises nowhere c.args.nodes.now (rises_from_steps nowhere c.args.nodes.now (λ i lt. c.loop-at.invariant i (omega (arith, lt, c.loop-at-test.false))))), (λ sorted. refl))
+returns c = (
+  (λ h. sorted_from_rises nowhere c.args.nodes.now
+      (rises_from_steps nowhere c.args.nodes.now
+      (λ i lt. c.loop-at.invariant i (omega (arith, lt, c.loop-at-test.false))))),
+  (λ sorted. refl),
+)

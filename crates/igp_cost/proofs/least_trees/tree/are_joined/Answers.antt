@@ -20,10 +20,13 @@ returns-then-are_same_rows c =
     let second = c.args.second.now in
     let front = c.split_at.result.0.now in
     let back = c.split_at.result.1.now in
-    let whole : front ++ back ≡ c.args.whole.now = front_and_rest c.args.whole.now front back (length first) c.split_at.ensures.front c.split_at.ensures.back in
+    let whole : front ++ back ≡ c.args.whole.now =
+    front_and_rest c.args.whole.now front back (length first) c.split_at.ensures.front c.split_at.ensures.back in
     let is_front : first ≡ front = c.are_same_rows.ensures.0 c.if-are_same_rows.true in (
       λ ever. same_joined first second front back is_front (c.are_same_rows-then-are_same_rows.ensures.0 ever) ∙ whole,
-      λ same. c.are_same_rows-then-are_same_rows.ensures.1 (same_fronts first second front back (ap (λ (l : List (Addr × Label)). length l) is_front) (same ∙ sym whole)).1,
+      λ same. c.are_same_rows-then-are_same_rows.ensures.1
+          (same_fronts first second front back (ap (λ (l : List (Addr × Label)). length l) is_front)
+          (same ∙ sym whole)).1,
     )
 
 pub returns-else-are_same_rows : goal.returns-else-are_same_rows
@@ -32,7 +35,9 @@ returns-else-are_same_rows c =
     let second = c.args.second.now in
     let front = c.split_at.result.0.now in
     let back = c.split_at.result.1.now in
-    let whole : front ++ back ≡ c.args.whole.now = front_and_rest c.args.whole.now front back (length first) c.split_at.ensures.front c.split_at.ensures.back in (
+    let whole : front ++ back ≡ c.args.whole.now =
+    front_and_rest c.args.whole.now front back (length first) c.split_at.ensures.front c.split_at.ensures.back in (
       λ ever. absurd (true≢false (sym ever ∙ c.if-are_same_rows.false)),
-      λ same. c.are_same_rows.ensures.1 (same_fronts first second front back (sym c.split_at.ensures.front_len) (same ∙ sym whole)).0,
+      λ same. c.are_same_rows.ensures.1 (same_fronts first second front back (sym c.split_at.ensures.front_len)
+          (same ∙ sym whole)).0,
     )

@@ -13,10 +13,14 @@ returns-then-are_same_rows c =
     let front = c.split_at.result.0.now in
     let middle = c.split_at.result.1.now in
     let whole : front ++ (middle ++ last) ≡ c.args.rows.now ++ last =
-    sym (append_assoc front middle last) ∙ ap (λ l. l ++ last) (front_and_rest c.args.rows.now front middle (length others) c.split_at.ensures.front c.split_at.ensures.back) in
+    sym (append_assoc front middle last)
+    ∙ ap (λ l. l ++ last) (front_and_rest c.args.rows.now front middle (length others) c.split_at.ensures.front
+    c.split_at.ensures.back) in
     let is_front : front ≡ others = c.are_same_rows.ensures.0 c.if-are_same_rows.true in (
       λ ever. sym whole ∙ same_joined front (middle ++ last) others later is_front (c.are_joined.ensures.0 ever),
-      λ same. c.are_joined.ensures.1 (same_fronts front (middle ++ last) others later (ap (λ (l : List (Addr × Label)). length l) is_front) (whole ∙ same)).1,
+      λ same. c.are_joined.ensures.1
+          (same_fronts front (middle ++ last) others later (ap (λ (l : List (Addr × Label)). length l) is_front) (whole
+          ∙ same)).1,
     )
 
 pub returns-else-are_same_rows : goal.returns-else-are_same_rows
@@ -27,7 +31,10 @@ returns-else-are_same_rows c =
     let front = c.split_at.result.0.now in
     let middle = c.split_at.result.1.now in
     let whole : front ++ (middle ++ last) ≡ c.args.rows.now ++ last =
-    sym (append_assoc front middle last) ∙ ap (λ l. l ++ last) (front_and_rest c.args.rows.now front middle (length others) c.split_at.ensures.front c.split_at.ensures.back) in (
+    sym (append_assoc front middle last)
+    ∙ ap (λ l. l ++ last) (front_and_rest c.args.rows.now front middle (length others) c.split_at.ensures.front
+    c.split_at.ensures.back) in (
       λ ever. absurd (true≢false (sym ever ∙ c.if-are_same_rows.false)),
-      λ same. c.are_same_rows.ensures.1 (same_fronts front (middle ++ last) others later c.split_at.ensures.front_len (whole ∙ same)).0,
+      λ same. c.are_same_rows.ensures.1
+          (same_fronts front (middle ++ last) others later c.split_at.ensures.front_len (whole ∙ same)).0,
     )

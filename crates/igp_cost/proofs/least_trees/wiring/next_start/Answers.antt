@@ -9,7 +9,8 @@ returns-else-links-next-clause-point c =
     let links = c.args.links.now in
     let n = c.loop-next.next in
     let later : (k : _) (d : Link) → n ≤ k → _ → ltb (get_or links k d).from c.args.at ≡ false = λ k d from lt.
-    let here = ap (λ (l : Link). l.from) (get_or_default links n (record { from = 0; to = 0; metric = 0 }) d c.loop-next-test.true) in
+    let here = ap (λ (l : Link). l.from)
+    (get_or_default links n (record { from = 0; to = 0; metric = 0 }) d c.loop-next-test.true) in
     let rises = c.requires.sorted n k d from lt in
     let stays : c.args.at ≤ (get_or links k d).from = omega (arith, c.if-links-next.false, here, rises) in
     grind (arith, nat_tests, stays)

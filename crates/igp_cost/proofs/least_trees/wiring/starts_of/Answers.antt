@@ -17,8 +17,11 @@ loop-at-preserved c =
           let below : (get_or links k d).from < n = grind (arith, nat_tests, test) in
           let still : (get_or links k d).from < n + 1 = omega (arith, below) in
           grind (arith, nat_tests, still);
-      within = rw (c.in_ok-push.ensures.items) (All-push (λ s. s ≤ length links) c.loop-at.starts.items start c.loop-at.invariant.within c.next_start-start.ensures.within);
-      parted = rw (c.in_ok-push.ensures.items) (parted_push (Parts links) c.loop-at.starts.items n start (search rules) c.loop-at.invariant.parted c.next_start-start.ensures.point);
+      within = rw (c.in_ok-push.ensures.items)
+          (All-push (λ s. s ≤ length links) c.loop-at.starts.items start c.loop-at.invariant.within
+          c.next_start-start.ensures.within);
+      parted = rw (c.in_ok-push.ensures.items) (parted_push (Parts links) c.loop-at.starts.items n start
+          (search rules) c.loop-at.invariant.parted c.next_start-start.ensures.point);
     }
 
 pub returns : goal.returns
@@ -28,5 +31,7 @@ returns c =
     record {
       count = search rules;
       within = c.loop-at.invariant.within;
-      each = λ v k link v_in k_in is from. each_from c.args.links.now v (get_or starts v 0) (get_or starts (v + 1) 0) k link (c.loop-at.invariant.parted v (search rules)) (c.loop-at.invariant.parted (v + 1) (search rules)) k_in is from;
+      each = λ v k link v_in k_in is from. each_from c.args.links.now v (get_or starts v 0)
+          (get_or starts (v + 1) 0) k link (c.loop-at.invariant.parted v (search rules))
+          (c.loop-at.invariant.parted (v + 1) (search rules)) k_in is from;
     }

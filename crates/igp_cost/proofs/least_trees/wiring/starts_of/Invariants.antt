@@ -11,5 +11,7 @@ invariant-loop-at l = record {
   start : l.start ≤ length l.links;
   passed : AllWithin (λ (y : Link). ltb y.from l.at ≡ true) l.links 0 l.start;
   within : All (λ s. s ≤ length l.links) l.starts.items;
-  parted : (v : ℕ) → v < l.at → IsPartitionPoint (λ (y : Link). ltb y.from v ≡ true) (λ (y : Link). ltb y.from v ≡ false) l.links (slice_index_or l.starts.items v 0);
+  parted : (v : ℕ) → v < l.at →
+      IsPartitionPoint (λ (y : Link). ltb y.from v ≡ true) (λ (y : Link). ltb y.from v ≡ false) l.links
+      (slice_index_or l.starts.items v 0);
 }

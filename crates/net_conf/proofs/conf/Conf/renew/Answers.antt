@@ -10,7 +10,8 @@ returns-in_ok-put-in-Some c r =
     let old = lookup (is_at (addr_cmp r)) c.args.sites.now in
     ap (lookup (is_at (addr_cmp r))) c.in_ok-put-in-Some.ensures.ok
     ∙ site_put c.args.router r c.in_ok-shared-in-Some.shared c.args.sites.now
-    ∙ ap (λ s. cond (is_at (addr_cmp c.args.router) r) s old) (ap Some c.in_ok-shared-in-Some.ensures ∙ sym c.in-Some.is ∙ c.in_ok-site.ensures)
+    ∙ ap (λ s. cond (is_at (addr_cmp c.args.router) r) s old) (ap Some c.in_ok-shared-in-Some.ensures ∙ sym c.in-Some.is
+    ∙ c.in_ok-site.ensures)
 
 pub returns-in_ok-take_out-in-None : goal.returns-in_ok-take_out-in-None
 returns-in_ok-take_out-in-None c r =

@@ -14,4 +14,5 @@ loop-router-preserved c r =
     let x : Addr = get_or c.args.routers.now i d in
     c.in_ok-renew.ensures r
     ∙ ap (cond (is_at (addr_cmp x) r) (site_kept c.args.after.now x)) (c.loop-router.invariant r)
-    ∙ one_renewed (site_kept c.args.after.now) (lookup (is_at (addr_cmp r)) c.args.sites) r c.args.routers.now i d c.loop-router-test.true
+    ∙ one_renewed (site_kept c.args.after.now) (lookup (is_at (addr_cmp r)) c.args.sites) r c.args.routers.now i d
+    c.loop-router-test.true

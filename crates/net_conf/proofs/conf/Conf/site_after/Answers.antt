@@ -23,8 +23,11 @@ returns-in_ok-site-in-Some c =
     let d = c.args.after.now in
     let r = c.args.router in
     let old = c.in-Some.old.now in
-    let was : router_site s r ≡ Some old = kept_then s r old (sym c.kept_site.ensures ∙ ap (λ o. option_copied o) c.in-Some.is) in
+    let was : router_site s r ≡ Some old = kept_then s r old (sym c.kept_site.ensures
+    ∙ ap (λ o. option_copied o) c.in-Some.is) in
     let after : IsConfigured (edited s e) = subst IsConfigured c.requires.made c.facts-2.ensures.configured in
-    let is : router_site d r ≡ site_from d e r (effect_on e r) old = subst (λ x. router_site x r ≡ site_from x e r (effect_on e r) old) (sym c.requires.made) (site_after s c.facts.ensures.configured r old was e after c.requires.passes) in
+    let is : router_site d r ≡ site_from d e r (effect_on e r) old =
+    subst (λ x. router_site x r ≡ site_from x e r (effect_on e r) old) (sym c.requires.made)
+    (site_after s c.facts.ensures.configured r old was e after c.requires.passes) in
     let ends : ends_session d r ≡ true = sym c.ends_session.ensures ∙ c.if-not-ends_session.false in
     c.in_ok-site-in-Some.ensures ∙ sym is ∙ sym (kept_there d r ends)

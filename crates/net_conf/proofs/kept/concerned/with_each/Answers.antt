@@ -12,8 +12,10 @@ loop-addr-preserved c =
     let i = c.loop-addr.addr-index in
     let x : Addr = get_or c.args.more.now i d in
     record {
-      known = λ r out. c.loop-addr.invariant.known r (not_among x c.loop-addr.all.keys c.insert.new.self.keys c.in_ok-insert.ensures.keys r out).1;
+      known = λ r out. c.loop-addr.invariant.known r
+          (not_among x c.loop-addr.all.keys c.insert.new.self.keys c.in_ok-insert.ensures.keys r out).1;
       added = λ r out.
           let apart = not_among x c.loop-addr.all.keys c.insert.new.self.keys c.in_ok-insert.ensures.keys r out in
-          list_any_more (is_at (addr_cmp r)) c.args.more.now i d c.loop-addr-test.true ∙ (λ k. c.loop-addr.invariant.added r apart.1 k || apart.0 k);
+          list_any_more (is_at (addr_cmp r)) c.args.more.now i d c.loop-addr-test.true
+          ∙ (λ k. c.loop-addr.invariant.added r apart.1 k || apart.0 k);
     }

@@ -11,5 +11,7 @@ use Rattle.net_conf.proofs.kept.concerned.with_ends_unless.Given as goal
 abbrev pub invariant-loop-ends : goal.invariant-loop-ends
 invariant-loop-ends l = record {
   known : (r : Addr) → is_among r l.more.keys ≡ false → is_among r l.fn.addrs.keys ≡ false;
-  added : (r : Addr) (e : Ends) → is_among r l.more.keys ≡ false → is_end r e ≡ true → list_any (is_at (ends_cmp e)) (take l.ends-index l.sessions) ≡ true → list_any (is_at (ends_cmp e)) l.known ≡ true;
+  added : (r : Addr) (e : Ends) → is_among r l.more.keys ≡ false → is_end r e ≡ true →
+      list_any (is_at (ends_cmp e)) (take l.ends-index l.sessions) ≡ true →
+      list_any (is_at (ends_cmp e)) l.known ≡ true;
 }

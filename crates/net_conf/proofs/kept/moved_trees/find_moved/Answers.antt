@@ -14,8 +14,11 @@ with_moved-requires c =
     let graph = c.args.graph.now in
     let old = c.args.old.now in
     let P : Addr × Reached → Type 0 = λ e. WasTreeOf change graph.nodes graph.edges e.0 e.1 in
-    let all : AllByRecursion P (entries_in old) = all_from_each P (entries_in old) (λ i d lt. was_at change graph.nodes graph.edges (entries_in old) c.requires.ordered c.requires.were i d lt) in
-    subst (AllByRecursion P) (sym (c.as_slice.ensures.value ∙ c.chunk-item.is)) (all_of_chunk P old c.loop-chunk.chunk-index c.chunk-item.result all c.loop-chunk-test.true)
+    let all : AllByRecursion P (entries_in old) =
+    all_from_each P (entries_in old)
+    (λ i d lt. was_at change graph.nodes graph.edges (entries_in old) c.requires.ordered c.requires.were i d lt) in
+    subst (AllByRecursion P) (sym (c.as_slice.ensures.value ∙ c.chunk-item.is))
+    (all_of_chunk P old c.loop-chunk.chunk-index c.chunk-item.result all c.loop-chunk-test.true)
 
 pub loop-chunk-preserved : goal.loop-chunk-preserved
 loop-chunk-preserved c =
@@ -23,5 +26,7 @@ loop-chunk-preserved c =
     let at = c.loop-chunk.chunk-index in
     let here : List (Addr × Reached) = c.chunk-item.result in
     let more : entries_in (take (at + 1) old) ≡ entries_in (take at old) ++ c.as_slice.result.now =
-    one_chunk_more old at here c.loop-chunk-test.true ∙ ap (λ es. entries_in (take at old) ++ es) (sym (c.as_slice.ensures.value ∙ c.chunk-item.is)) in
-    subst (λ es. AreMoved c.args.graph.now es c.in_ok-moved.moved.items) (sym more) (c.in_ok-moved.ensures (entries_in (take at old)) c.loop-chunk.invariant)
+    one_chunk_more old at here c.loop-chunk-test.true
+    ∙ ap (λ es. entries_in (take at old) ++ es) (sym (c.as_slice.ensures.value ∙ c.chunk-item.is)) in
+    subst (λ es. AreMoved c.args.graph.now es c.in_ok-moved.moved.items) (sym more)
+    (c.in_ok-moved.ensures (entries_in (take at old)) c.loop-chunk.invariant)

@@ -16,8 +16,10 @@ pub loop-member-preserved-in_default : goal.loop-member-preserved-in_default
 loop-member-preserved-in_default c =
     let rs = c.args.members.now in
     let at = c.loop-member.member-index in
-    let more = one_more rs c.args.old.now at (record { 0 = 0 }) c.loop-member-test.true None (sym c.get.ensures ∙ ap (λ o. option_copied o) c.in_default.is) in
-    subst (λ es. AreMoved c.args.graph.now es c.loop-member.moved.items) (sym (more ∙ append-nil (trees_of (take at rs) c.args.old.now))) c.loop-member.invariant
+    let more = one_more rs c.args.old.now at (record { 0 = 0 }) c.loop-member-test.true None (sym c.get.ensures
+    ∙ ap (λ o. option_copied o) c.in_default.is) in
+    subst (λ es. AreMoved c.args.graph.now es c.loop-member.moved.items)
+    (sym (more ∙ append-nil (trees_of (take at rs) c.args.old.now))) c.loop-member.invariant
 
 pub loop-member-preserved-then-keeps : goal.loop-member-preserved-then-keeps
 loop-member-preserved-then-keeps c =
@@ -28,12 +30,14 @@ loop-member-preserved-then-keeps c =
     let r : Addr = get_or rs at (record { 0 = 0 }) in
     let tree = c.in-Some.tree.now in
     let found = sym c.get.ensures ∙ ap (λ o. option_copied o) c.in-Some.is in
-    let was : WasTreeOf change graph.nodes graph.edges r tree = c.requires r tree (among_at rs at (record { 0 = 0 }) c.loop-member-test.true) found in
+    let was : WasTreeOf change graph.nodes graph.edges r tree =
+    c.requires r tree (among_at rs at (record { 0 = 0 }) c.loop-member-test.true) found in
     let stays = subst (λ b. OnTrue b (Stays change graph.nodes graph.edges tree)) c.if-keeps.true c.keeps.ensures in
     let still = stays was.was.before was.was.changes was.was.was in
     let more = one_more rs c.args.old.now at (record { 0 = 0 }) c.loop-member-test.true (Some tree) found in
     subst (λ es. AreMoved graph es c.loop-member.moved.items) (sym more)
-    (one_stays graph (trees_of (take at rs) c.args.old.now) c.loop-member.moved.items r tree c.loop-member.invariant (still.whole ∙ ap (tree_of graph.nodes graph.edges) was.source))
+    (one_stays graph (trees_of (take at rs) c.args.old.now) c.loop-member.moved.items r tree c.loop-member.invariant
+    (still.whole ∙ ap (tree_of graph.nodes graph.edges) was.source))
 
 pub invariant_of-push : goal.invariant_of-push
 invariant_of-push c =
@@ -43,7 +47,8 @@ invariant_of-push c =
     let r : Addr = get_or rs at (record { 0 = 0 }) in
     let tree = c.in-Some.tree.now in
     let found = sym c.get.ensures ∙ ap (λ o. option_copied o) c.in-Some.is in
-    let was : WasTreeOf c.args.change.now graph.nodes graph.edges r tree = c.requires r tree (among_at rs at (record { 0 = 0 }) c.loop-member-test.true) found in
+    let was : WasTreeOf c.args.change.now graph.nodes graph.edges r tree =
+    c.requires r tree (among_at rs at (record { 0 = 0 }) c.loop-member-test.true) found in
     record { node = ap (is_node graph.nodes) was.source ∙ was.node; was = was.was }
 
 pub loop-member-preserved : goal.loop-member-preserved
@@ -55,6 +60,11 @@ loop-member-preserved c =
     let r : Addr = get_or rs at (record { 0 = 0 }) in
     let tree = c.in-Some.tree.now in
     let found = sym c.get.ensures ∙ ap (λ o. option_copied o) c.in-Some.is in
-    let was : WasTreeOf change graph.nodes graph.edges r tree = c.requires r tree (among_at rs at (record { 0 = 0 }) c.loop-member-test.true) found in
+    let was : WasTreeOf change graph.nodes graph.edges r tree =
+    c.requires r tree (among_at rs at (record { 0 = 0 }) c.loop-member-test.true) found in
     let more = one_more rs c.args.old.now at (record { 0 = 0 }) c.loop-member-test.true (Some tree) found in
-    rw (c.in_ok-push.ensures.items, more) (one_moves graph (trees_of (take at rs) c.args.old.now) c.loop-member.moved.items r (record { graph = graph; change = change; tree = tree }) c.loop-member.invariant refl was.source)
+    rw (
+      c.in_ok-push.ensures.items,
+      more,
+    ) (one_moves graph (trees_of (take at rs) c.args.old.now) c.loop-member.moved.items r
+    (record { graph = graph; change = change; tree = tree }) c.loop-member.invariant refl was.source)

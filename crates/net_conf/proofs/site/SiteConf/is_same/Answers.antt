@@ -7,12 +7,14 @@ use Rattle.net_conf.proofs.site.SiteConf.is_same.Goals as goal
 pub returns-then-not-has_same_facts : goal.returns-then-not-has_same_facts
 returns-then-not-has_same_facts c = (
   λ never. absurd (true≢false (sym never)),
-  λ same. absurd (other_facts c.args.self.now c.args.other.now (sym c.has_same_facts.ensures ∙ c.if-not-has_same_facts.true) same),
+  λ same. absurd (other_facts c.args.self.now c.args.other.now (sym c.has_same_facts.ensures
+      ∙ c.if-not-has_same_facts.true) same),
 )
 
 pub returns-then-eq : goal.returns-then-eq
 returns-then-eq c = (
-  λ yes. same_but_costs c.args.self.now c.args.other.now (sym c.has_same_facts.ensures ∙ c.if-not-has_same_facts.false) (sym c.eq.ensures ∙ c.if-eq.true) (c.is_same.ensures.0 yes),
+  λ yes. same_but_costs c.args.self.now c.args.other.now (sym c.has_same_facts.ensures ∙ c.if-not-has_same_facts.false)
+      (sym c.eq.ensures ∙ c.if-eq.true) (c.is_same.ensures.0 yes),
   λ same. c.is_same.ensures.1 (ap (λ (s : SiteConf). s.costs) same),
 )
 

@@ -12,7 +12,9 @@ returns-then-is_empty-clause-ok c =
     let es = c.args.routers.now in
     let r = c.args.router in
     let none : c.args.prefixes ≡ [] = c.if-is_empty.ensures.0 refl in
-    elim c.take_out.result as (λ x. OnOk x (c.take_out.new.self ≡ remove_entry (is_at (addr_cmp r)) es) → OnOk x (originations_in c.take_out.new.self ≡ originations_in (insert_entry addr_cmp es r c.args.prefixes))) [
-      | Ok u ↦ λ ok. ap originations_in ok ∙ with_none r es c.requires ∙ ap (λ ps. originations_in (insert_entry addr_cmp es r ps)) (sym none)
+    elim c.take_out.result as (λ x. OnOk x (c.take_out.new.self ≡ remove_entry (is_at (addr_cmp r)) es) →
+    OnOk x (originations_in c.take_out.new.self ≡ originations_in (insert_entry addr_cmp es r c.args.prefixes))) [
+      | Ok u ↦ λ ok. ap originations_in ok ∙ with_none r es c.requires
+          ∙ ap (λ ps. originations_in (insert_entry addr_cmp es r ps)) (sym none)
       | Err e ↦ λ ok. tt
     ] c.take_out.ensures.ok

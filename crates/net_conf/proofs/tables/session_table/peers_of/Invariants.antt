@@ -6,4 +6,6 @@ use Rattle.net_conf.proofs.tables.session_table.peers_of.Given as goal
 
 -- those in the chunks so far
 abbrev pub invariant-loop-chunk : goal.invariant-loop-chunk
-invariant-loop-chunk l = l.peers.items ≡ map (λ e. peer_in l.addr e.0) (filter (λ e. is_end l.addr e.0) (entries_in (take l.chunk-index l.chunks)))
+invariant-loop-chunk l =
+    l.peers.items ≡ map (λ e. peer_in l.addr e.0)
+    (filter (λ e. is_end l.addr e.0) (entries_in (take l.chunk-index l.chunks)))

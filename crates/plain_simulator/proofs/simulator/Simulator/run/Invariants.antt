@@ -7,7 +7,8 @@ use Rattle.plain_simulator.proofs.simulator.Simulator.run.Given as goal
 -- any run of what is left completes the run
 abbrev pub invariant-loop-event : goal.invariant-loop-event
 invariant-loop-event g l = record {
-  told : (rest : List Reply) (end : Network) → IsRun l.self (drop l.event-index l.events) rest end → IsRun l.fn.self l.events (l.replies.items ++ rest) end;
+  told : (rest : List Reply) (end : Network) → IsRun l.self (drop l.event-index l.events) rest end →
+      IsRun l.fn.self l.events (l.replies.items ++ rest) end;
   room : length l.events ≤ vec_capacity l.replies;
   len : vec_len l.replies ≡ l.event-index;
 }

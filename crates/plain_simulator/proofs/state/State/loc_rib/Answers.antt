@@ -9,4 +9,5 @@ pub returns : goal.returns
 unfolding loc_rib
 returns g c =
     let held_at = λ (p : Prefix). held_of p (best c.args.self.now c.args.router p) in
-    subst (λ (prefixes : List Prefix). IfOk c.held.result (λ routes. routes.items ≡ filter_map held_at prefixes)) (c.deref.ensures.value ∙ c.in_ok-prefixes.ensures) c.held.ensures
+    subst (λ (prefixes : List Prefix). IfOk c.held.result (λ routes. routes.items ≡ filter_map held_at prefixes))
+    (c.deref.ensures.value ∙ c.in_ok-prefixes.ensures) c.held.ensures

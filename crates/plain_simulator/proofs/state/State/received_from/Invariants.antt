@@ -6,4 +6,5 @@ use Rattle.plain_simulator.proofs.state.State.received_from.Given as goal
 
 -- the routes of the peer so far
 abbrev pub invariant-loop-key : goal.invariant-loop-key
-invariant-loop-key l = l.routes.items ≡ map (λ e. (e.0.prefix, e.1)) (routes_from l.router l.peer (map {B = RouteKey × Attr} (λ e. (e.0.now, e.1.now)) l.yielded))
+invariant-loop-key l = l.routes.items ≡ map (λ e. (e.0.prefix, e.1))
+    (routes_from l.router l.peer (map {B = RouteKey × Attr} (λ e. (e.0.now, e.1.now)) l.yielded))

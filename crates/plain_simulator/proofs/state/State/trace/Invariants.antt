@@ -7,7 +7,8 @@ use Rattle.plain_simulator.proofs.state.State.trace.Given as goal
 abbrev pub invariant-hop : goal.invariant-hop
 invariant-hop g l = record {
   have : HaveForwarded l.self l.hops;
-  same : trace_from (suc (length l.self.conf.nodes) - length l.hops) l.self l.target l.hops l.at ≡ trace_from (suc (length l.self.conf.nodes)) l.self l.target [] l.fn.router;
+  same : trace_from (suc (length l.self.conf.nodes) - length l.hops) l.self l.target l.hops l.at
+      ≡ trace_from (suc (length l.self.conf.nodes)) l.self l.target [] l.fn.router;
 }
 
 abbrev pub decreases-hop : goal.decreases-hop

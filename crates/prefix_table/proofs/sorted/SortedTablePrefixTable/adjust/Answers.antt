@@ -11,7 +11,8 @@ pub invariant_of-self : goal.invariant_of-self
 invariant_of-self g c =
     let entries = c.self.inside.entries.items in
     ap (is_sorted prefix_cmp) c.adjust_in.ensures.changed
-    ∙ changed_kept (g.A.Adjust.after c.args.change.now) c.args.prefix entries c.self.invariant (find prefix_cmp c.args.prefix entries)
+    ∙ changed_kept (g.A.Adjust.after c.args.change.now) c.args.prefix entries c.self.invariant
+    (find prefix_cmp c.args.prefix entries)
 
 pub returns-clause-there : goal.returns-clause-there
 returns-clause-there g c =

@@ -7,5 +7,7 @@ use Rattle.prefix_table.proofs.sorted.SortedTablePrefixTable.entries.Goals as go
 
 pub returns : goal.returns
 returns g c =
-    IfOk-weaker c.refer_to.result (λ found. all_seen found.items ≡ c.deref.result.now) (λ found. all_seen found.items ≡ map.entries c.args.self.now)
-    (λ found is. is ∙ c.deref.ensures.value ∙ sym (entries_of c.self.inside.entries.items c.self.invariant) ∙ ap map.entries c.self.view_is) c.refer_to.ensures
+    IfOk-weaker c.refer_to.result (λ found. all_seen found.items ≡ c.deref.result.now) (λ found. all_seen found.items
+    ≡ map.entries c.args.self.now)
+    (λ found is. is ∙ c.deref.ensures.value ∙ sym (entries_of c.self.inside.entries.items c.self.invariant)
+    ∙ ap map.entries c.self.view_is) c.refer_to.ensures

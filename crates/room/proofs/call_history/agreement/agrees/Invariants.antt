@@ -5,4 +5,6 @@ use Rattle.room.proofs.call_history.agreement.agrees.Given as goal
 
 -- the notes are the seat's calls where what is left of them is what is left of the history
 abbrev pub invariant-loop-index : goal.invariant-loop-index
-invariant-loop-index l = ((calls_of l.number l.entries ≡ l.notes) ↔ (calls_of l.number (drop l.index l.entries) ≡ drop l.next l.notes)) × (l.next ≤ length l.notes)
+invariant-loop-index l =
+    ((calls_of l.number l.entries ≡ l.notes) ↔ (calls_of l.number (drop l.index l.entries) ≡ drop l.next l.notes))
+    × (l.next ≤ length l.notes)

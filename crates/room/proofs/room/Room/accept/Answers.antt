@@ -14,15 +14,29 @@ invariant_of-self-2 g c =
     let x : Entry = record { seat = c.seat.inside.number; event = event; reply = reply } in
     let now : c.write.new.self.entries ≡ es ++ x ∷ [] = search rules in
     let state : c.self.inside.sim.engine ≡ c.args.self.now.engine = ap (λ r. r.engine) c.self.view_is in
-    let prepared : IsPrepared c.self.inside.sim.engine event c.args.plan = subst (λ n. IsPrepared n event c.args.plan) (sym state) c.requires in
-    let room : RoomBook = record { history = es; engine = c.self.inside.sim.engine; decided = c.self.inside.sim.decided; seats = c.self.inside.seats } in
-    let next : RoomBook = record { history = c.write.new.self.entries; engine = c.apply-reply.new.self.engine; decided = c.apply-reply.new.self.decided; seats = c.self.inside.seats } in
-    let one : c.edits_in-edits.result ≡ cond (is_accepted_edit x) 1 0 = c.edits_in-edits.ensures ∙ sym (accepted_one (is_edit event) reply c.requires.accepted) in (
+    let prepared : IsPrepared c.self.inside.sim.engine event c.args.plan =
+    subst (λ n. IsPrepared n event c.args.plan) (sym state) c.requires in
+    let room : RoomBook = record {
+      history = es;
+      engine = c.self.inside.sim.engine;
+      decided = c.self.inside.sim.decided;
+      seats = c.self.inside.seats;
+    } in
+    let next : RoomBook = record {
+      history = c.write.new.self.entries;
+      engine = c.apply-reply.new.self.engine;
+      decided = c.apply-reply.new.self.decided;
+      seats = c.self.inside.seats;
+    } in
+    let one : c.edits_in-edits.result ≡ cond (is_accepted_edit x) 1 0 = c.edits_in-edits.ensures
+    ∙ sym (accepted_one (is_edit event) reply c.requires.accepted) in (
       kept_push room next c.seat.inside.number event reply i.0 now
           prepared.reply
           (c.apply-reply.ensures.next event prepared)
-          (prepared_counts c.self.inside.sim.engine event c.args.plan room.decided next.decided prepared c.apply-reply.ensures.decided),
-      ap (λ k. k + c.edits_in-edits.result) i.1 ∙ ap (λ k. version_of es + k) one ∙ sym (version_push es x) ∙ ap version_of (sym now),
+          (prepared_counts c.self.inside.sim.engine event c.args.plan room.decided next.decided prepared
+          c.apply-reply.ensures.decided),
+      ap (λ k. k + c.edits_in-edits.result) i.1 ∙ ap (λ k. version_of es + k) one ∙ sym (version_push es x)
+          ∙ ap version_of (sym now),
       c.add.ensures.total ∙ ap (λ k. k + 1) i.2 ∙ sym (ap length now ∙ length-append _ _),
       i.3,
       i.4,

@@ -25,8 +25,11 @@ pub install-requires-clause-head : goal.install-requires-clause-head
 install-requires-clause-head g c =
     let room = c.args.self.now in
     let kept : IsKept room = subst IsKept c.self.view_is c.self.invariant.0 in
-    subst (λ (e : State). IsOutcomeOfHead e c.direction-direction.result c.args.outcome) (sym (ap (λ r. r.engine) c.self.view_is))
-    (subst (λ d. IsOutcomeOfHead room.engine d c.args.outcome) (sym c.direction-direction.ensures) (seen_outcome room kept c.engine_facts.ensures.sound c.args.job.now c.requires.seen c.args.outcome c.requires.outcome))
+    subst (λ (e : State). IsOutcomeOfHead e c.direction-direction.result c.args.outcome)
+    (sym (ap (λ r. r.engine) c.self.view_is))
+    (subst (λ d. IsOutcomeOfHead room.engine d c.args.outcome) (sym c.direction-direction.ensures)
+    (seen_outcome room kept c.engine_facts.ensures.sound c.args.job.now c.requires.seen c.args.outcome
+    c.requires.outcome))
 
 pub invariant_of-self-2 : goal.invariant_of-self-2
 invariant_of-self-2 g c =
@@ -43,14 +46,27 @@ invariant_of-self-2 g c =
     let now : c.write.new.self.entries ≡ es ++ entry ∷ [] = search rules in
     let next : network c.install.new.self.engine ≡ (step (network e) (delivery_of x)).next = search rules in
     let dirs = c.direction-direction.ensures in
-    let before : RoomBook = record { history = es; engine = e; decided = c.self.inside.sim.decided; seats = c.self.inside.seats } in
-    let after : RoomBook = record { history = c.write.new.self.entries; engine = c.install.new.self.engine; decided = c.install.new.self.decided; seats = c.self.inside.seats } in
+    let before : RoomBook = record {
+      history = es;
+      engine = e;
+      decided = c.self.inside.sim.decided;
+      seats = c.self.inside.seats;
+    } in
+    let after : RoomBook = record {
+      history = c.write.new.self.entries;
+      engine = c.install.new.self.engine;
+      decided = c.install.new.self.decided;
+      seats = c.self.inside.seats;
+    } in
     let replies : took ≡ (step (network e) (delivery_of x)).reply =
-    sym (seen_took room kept c.engine_facts.ensures.sound x c.requires.seen) ∙ ap (λ n. (step (network n) (delivery_of x)).reply) (sym state) in
-    let told : c.in-Ok.reply ≡ took = c.in-Ok.ensures.reply ∙ (λ i. (step (network e) (Deliver (dirs i).from (dirs i).to)).reply) ∙ sym replies in
+    sym (seen_took room kept c.engine_facts.ensures.sound x c.requires.seen)
+    ∙ ap (λ n. (step (network n) (delivery_of x)).reply) (sym state) in
+    let told : c.in-Ok.reply ≡ took = c.in-Ok.ensures.reply
+    ∙ (λ i. (step (network e) (Deliver (dirs i).from (dirs i).to)).reply) ∙ sym replies in
     let counts : Counts (network e) (delivery_of x) took before.decided after.decided =
     subst (λ r. Counts (network e) (delivery_of x) r before.decided after.decided) told
-    (subst (λ d. Counts (network e) (Deliver d.from d.to) c.in-Ok.reply before.decided after.decided) dirs c.in-Ok.ensures.decided) in (
+    (subst (λ d. Counts (network e) (Deliver d.from d.to) c.in-Ok.reply before.decided after.decided) dirs
+    c.in-Ok.ensures.decided) in (
       kept_push before after c.seat.inside.number (delivery_of x) took i.0 now
           replies
           next
@@ -74,9 +90,12 @@ returns-clause-delivered g c =
     let decided : c.self.inside.sim.decided ≡ room.decided = ap (λ r. r.decided) c.self.view_is in
     let counts : Counts (network room.engine) (delivery_of x) c.in-Ok.reply room.decided c.install.new.self.decided =
     subst (λ n. Counts (network room.engine) (delivery_of x) c.in-Ok.reply n c.install.new.self.decided) decided
-    (subst (λ n. Counts (network n) (delivery_of x) c.in-Ok.reply c.self.inside.sim.decided c.install.new.self.decided) state
-    (subst (λ d. Counts (network c.self.inside.sim.engine) (Deliver d.from d.to) c.in-Ok.reply c.self.inside.sim.decided c.install.new.self.decided) dirs c.in-Ok.ensures.decided)) in
-    let took : Took (prefix_of x.head) (kind_of x.head) ≡ c.in-Ok.reply = sym (seen_took room kept c.engine_facts.ensures.sound x c.requires.seen) ∙ sym replies in
+    (subst (λ n. Counts (network n) (delivery_of x) c.in-Ok.reply c.self.inside.sim.decided c.install.new.self.decided)
+    state
+    (subst (λ d. Counts (network c.self.inside.sim.engine) (Deliver d.from d.to) c.in-Ok.reply c.self.inside.sim.decided
+    c.install.new.self.decided) dirs c.in-Ok.ensures.decided)) in
+    let took : Took (prefix_of x.head) (kind_of x.head) ≡ c.in-Ok.reply =
+    sym (seen_took room kept c.engine_facts.ensures.sound x c.requires.seen) ∙ sym replies in
     record {
       replies = replies;
       state = c.in-Ok.ensures.next ∙ (λ i. (step (network (state i)) (Deliver (dirs i).from (dirs i).to)).next);
@@ -88,12 +107,15 @@ returns-clause-delivered g c =
 
 pub returns-in-Err-clause-conf : goal.returns-in-Err-clause-conf
 returns-in-Err-clause-conf g c =
-    conf_still c.self.inside.sim.engine c.install.new.self.engine c.in-Err.ensures.same ∙ ap (λ r. r.engine.conf) c.self.view_is
+    conf_still c.self.inside.sim.engine c.install.new.self.engine c.in-Err.ensures.same
+    ∙ ap (λ r. r.engine.conf) c.self.view_is
 
 pub returns-clause-conf : goal.returns-clause-conf
 returns-clause-conf g c =
     let e = c.self.inside.sim.engine in
     let x = c.args.job.now in
     let next : network c.install.new.self.engine ≡ (step (network e) (delivery_of x)).next =
-    c.in-Ok.ensures.next ∙ (λ i. (step (network e) (Deliver (c.direction-direction.ensures i).from (c.direction-direction.ensures i).to)).next) in
+    c.in-Ok.ensures.next ∙ (λ i.
+    (step (network e) (Deliver (c.direction-direction.ensures i).from
+    (c.direction-direction.ensures i).to)).next) in
     conf_after_delivery e c.install.new.self.engine x next ∙ ap (λ r. r.engine.conf) c.self.view_is

@@ -10,5 +10,6 @@ add_jobs-requires-clause-apart g c =
     let first : Job = c.in-Some.first in
     let jobs : List Job = c.in-Ok.jobs.items in
     let none : jobs ≡ [] = c.in-Ok.ensures.items in
-    apart_pushed (is_ok c.push.result) jobs c.push.new.self.items first c.push.ensures.items (subst AreApart (sym none) tt)
+    apart_pushed (is_ok c.push.result) jobs c.push.new.self.items first c.push.ensures.items
+    (subst AreApart (sym none) tt)
     (subst (All (λ (x : Job). cell_of x ≢ cell_of first)) (sym none) (All-nil (λ (x : Job). cell_of x ≢ cell_of first)))

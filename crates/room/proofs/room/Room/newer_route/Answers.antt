@@ -18,7 +18,8 @@ returns-in_default-clause-none g c = λ none.
     let d = x.direction in
     let had : c.received-had.result.now ≡ x.cell.received = search rules in
     let now : c.received_at-now.result.now ≡ (cell_at d.to (prefix_of x.head) e.tables).received = search rules in
-    let lists = sym had ∙ same_lists c.received-had.result.now c.received_at-now.result.now (sym c.first_difference.ensures ∙ c.in_default.is) ∙ now in
+    let lists = sym had ∙ same_lists c.received-had.result.now c.received_at-now.result.now
+    (sym c.first_difference.ensures ∙ c.in_default.is) ∙ now in
     record {
       version = c.requires.version;
       site = c.requires.site;
@@ -36,11 +37,15 @@ returns-clause-newer g c =
     let sound = c.engine_facts.ensures.sound in
     let had : c.received-had.result.now ≡ x.cell.received = search rules in
     let now : c.received_at-now.result.now ≡ (cell_at d.to p e.tables).received = search rules in
-    let left : c.in_ok-route_of.field-0 ≡ route_of x.cell.received u = c.in_ok-route_of.ensures ∙ ap (λ l. route_of l u) had in
-    let right : c.in_ok-route_of-2.field-0 ≡ route_of (cell_at d.to p e.tables).received u = c.in_ok-route_of-2.ensures ∙ ap (λ l. route_of l u) now in
+    let left : c.in_ok-route_of.field-0 ≡ route_of x.cell.received u = c.in_ok-route_of.ensures
+    ∙ ap (λ l. route_of l u) had in
+    let right : c.in_ok-route_of-2.field-0 ≡ route_of (cell_at d.to p e.tables).received u = c.in_ok-route_of-2.ensures
+    ∙ ap (λ l. route_of l u) now in
     let had_order : AreInOrder c.received-had.result.now = subst AreInOrder (sym had) c.received-had.ensures.order in
-    let now_order : AreInOrder c.received_at-now.result.now = subst AreInOrder (sym now) (cell_in_order e sound d.to p) in
-    let first : first_difference c.received-had.result.now c.received_at-now.result.now ≡ Some u = sym c.first_difference.ensures ∙ c.in-Some.is in
+    let now_order : AreInOrder c.received_at-now.result.now =
+    subst AreInOrder (sym now) (cell_in_order e sound d.to p) in
+    let first : first_difference c.received-had.result.now c.received_at-now.result.now ≡ Some u =
+    sym c.first_difference.ensures ∙ c.in-Some.is in
     let other = other_route c.received-had.result.now c.received_at-now.result.now had_order now_order u first in (
       c.requires.version,
       c.requires.site,
@@ -50,7 +55,8 @@ returns-clause-newer g c =
       λ same. other (sym c.in_ok-route_of.ensures ∙ same ∙ c.in_ok-route_of-2.ensures),
       λ v less.
           ap (λ l. route_of l v) (sym had)
-          ∙ same_below c.received-had.result.now c.received_at-now.result.now had_order now_order u v first (sym (nat_cmp_is v.0 u.0 Less less))
+          ∙ same_below c.received-had.result.now c.received_at-now.result.now had_order now_order u v first
+          (sym (nat_cmp_is v.0 u.0 Less less))
           ∙ ap (λ l. route_of l v) now
           ∙ sym (route_in_network e sound d.to p v),
     )

@@ -18,13 +18,19 @@ invariant_of-self-2 g c =
     let now : c.write.new.self.entries ≡ es ++ x ∷ [] = search rules in
     let state : e ≡ c.args.self.now.engine = ap (λ r. r.engine) c.self.view_is in
     let refuses = ap (λ n. step (network n) event) state ∙ c.requires in
-    let room : RoomBook = record { history = es; engine = e; decided = c.self.inside.sim.decided; seats = c.self.inside.seats } in
+    let room : RoomBook = record {
+      history = es;
+      engine = e;
+      decided = c.self.inside.sim.decided;
+      seats = c.self.inside.seats;
+    } in
     let next : RoomBook = record room { history = c.write.new.self.entries } in (
       kept_push room next c.seat.inside.number event (Refused c.args.refusal) i.0 now
           (sym (ap (λ o. o.reply) refuses))
           (ap network state ∙ sym (ap (λ o. o.next) refuses))
           refl,
-      i.1 ∙ zero ∙ sym (version_push es x ∙ ap (λ k. version_of es + k) (refused_none (is_edit event))) ∙ ap version_of (sym now),
+      i.1 ∙ zero ∙ sym (version_push es x ∙ ap (λ k. version_of es + k) (refused_none (is_edit event)))
+          ∙ ap version_of (sym now),
       c.add.ensures.total ∙ ap (λ k. k + 1) i.2 ∙ sym (ap length now ∙ length-append _ _),
       i.3,
       i.4,

@@ -9,5 +9,13 @@ invariant_of-result c =
     let before = c.self.inside.numbers in
     let asn = c.args.asn in
     let marks : c.add.new.self.words ≡ with_mark words asn = cc in
-    let numbers : c.of.result ≡ before ++ asn ∷ [] = grind (arith, c.of.ensures, c.in_ok-push.ensures.items, c.in_ok-extend_from_slice.ensures.items, c.in_ok-numbers.ensures.items, c.as_slice-2.ensures) in
-    subst (AreAllMarked c.of.result) (sym marks) (subst (λ ns. AreAllMarked ns (with_mark words asn)) (sym numbers) (one_more_marked words before asn c.self.invariant))
+    let numbers : c.of.result ≡ before ++ asn ∷ [] = grind (
+      arith,
+      c.of.ensures,
+      c.in_ok-push.ensures.items,
+      c.in_ok-extend_from_slice.ensures.items,
+      c.in_ok-numbers.ensures.items,
+      c.as_slice-2.ensures,
+    ) in
+    subst (AreAllMarked c.of.result) (sym marks) (subst (λ ns. AreAllMarked ns (with_mark words asn)) (sym numbers)
+    (one_more_marked words before asn c.self.invariant))

@@ -16,8 +16,10 @@ pub returns-in-Ok-clause-from : goal.returns-in-Ok-clause-from
 returns-in-Ok-clause-from c =
     let es = c.self.inside.entries.items in
     let is = rw c.deref.ensures.value at c.in-Ok.ensures.found in
-    subst (IsFrom c.args.source) (sym (c.standing_at.ensures ∙ ap (λ xs. standing_at xs c.in-Ok.at) c.deref-in-Ok.ensures.value))
-    (subst (λ s. IsFrom s (standing_at es c.in-Ok.at)) (sym (same_source c.args.source _ is.here)) (each_at es c.in-Ok.at is.in_range c.self.invariant.own))
+    subst (IsFrom c.args.source)
+    (sym (c.standing_at.ensures ∙ ap (λ xs. standing_at xs c.in-Ok.at) c.deref-in-Ok.ensures.value))
+    (subst (λ s. IsFrom s (standing_at es c.in-Ok.at)) (sym (same_source c.args.source _ is.here))
+    (each_at es c.in-Ok.at is.in_range c.self.invariant.own))
 
 pub returns-in-Err-clause-known : goal.returns-in-Err-clause-known
 returns-in-Err-clause-known c =

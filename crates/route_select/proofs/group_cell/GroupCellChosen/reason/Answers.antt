@@ -13,7 +13,9 @@ returns-in-Some c =
     let set = considered_of es in
     let is = rw c.deref.ensures.value at c.in-Some.ensures.found in
     let read = c.deref-in-Some.ensures.value in
-    ap Some (c.reason_at.ensures set (subst (λ xs. SameMembers set (considered_in xs)) (sym read) (same_members es c.self.invariant.distinct c.self.invariant.own)) ∙ ap (λ xs. reason_for always set (standing_at xs c.in-Some.at)) read)
+    ap Some (c.reason_at.ensures set (subst (λ xs. SameMembers set (considered_in xs)) (sym read)
+    (same_members es c.self.invariant.distinct c.self.invariant.own))
+    ∙ ap (λ xs. reason_for always set (standing_at xs c.in-Some.at)) read)
     ∙ ap (option_map (reason_for always set)) (sym (get_from es c.args.source ∙ is.found))
     ∙ ap (λ (m : Standings). reason_in m c.args.source) c.self.view_is
 

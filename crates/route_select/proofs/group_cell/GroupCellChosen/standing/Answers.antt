@@ -25,5 +25,7 @@ pub returns-clause-from : goal.returns-clause-from
 returns-clause-from c =
     let es = c.self.inside.entries.items in
     let is = rw c.deref.ensures.value at c.in_ok-at.ensures.found in
-    subst (IsFrom c.args.source) (sym (c.standing_at.ensures ∙ ap (λ xs. standing_at xs c.in_ok-at.at) c.deref-2.ensures.value))
-    (subst (λ s. IsFrom s (standing_at es c.in_ok-at.at)) (sym (same_source c.args.source _ is.tied)) (each_at es c.in_ok-at.at is.in_range c.self.invariant.own))
+    subst (IsFrom c.args.source)
+    (sym (c.standing_at.ensures ∙ ap (λ xs. standing_at xs c.in_ok-at.at) c.deref-2.ensures.value))
+    (subst (λ s. IsFrom s (standing_at es c.in_ok-at.at)) (sym (same_source c.args.source _ is.tied))
+    (each_at es c.in_ok-at.at is.in_range c.self.invariant.own))

@@ -8,10 +8,14 @@ use Rattle.route_select.proofs.group_cell.GroupCellSelector.set_cost.Goals as go
 
 pub invariant_of-self : goal.invariant_of-self
 invariant_of-self c =
-    let items = written_back c.self.inside.entries _ _ c.args.cost c.deref_mut.ensures.len c.deref_mut.ensures.value c.set_lone_cost.auto.entries c.set_lone_cost.ensures in
-    subst (λ xs. AreGrouped c.self.inside.med_always xs c.self.inside.best) (sym items) (grouped_at _ _ _ _ c.self.invariant)
+    let items = written_back c.self.inside.entries _ _ c.args.cost c.deref_mut.ensures.len c.deref_mut.ensures.value
+    c.set_lone_cost.auto.entries c.set_lone_cost.ensures in
+    subst (λ xs. AreGrouped c.self.inside.med_always xs c.self.inside.best) (sym items)
+    (grouped_at _ _ _ _ c.self.invariant)
 
 pub returns : goal.returns
 returns c =
-    let items = written_back c.self.inside.entries _ _ c.args.cost c.deref_mut.ensures.len c.deref_mut.ensures.value c.set_lone_cost.auto.entries c.set_lone_cost.ensures in
-    ap (compared c.self.inside.med_always) (ap known_of items ∙ known_at _ _ c.self.invariant.distinct) ∙ ap (λ (m : Standings). at_cost c.args.cost m) c.self.view_is
+    let items = written_back c.self.inside.entries _ _ c.args.cost c.deref_mut.ensures.len c.deref_mut.ensures.value
+    c.set_lone_cost.auto.entries c.set_lone_cost.ensures in
+    ap (compared c.self.inside.med_always) (ap known_of items ∙ known_at _ _ c.self.invariant.distinct)
+    ∙ ap (λ (m : Standings). at_cost c.args.cost m) c.self.view_is

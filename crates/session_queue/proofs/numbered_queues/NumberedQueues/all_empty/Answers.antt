@@ -7,5 +7,7 @@ use Rattle.session_queue.proofs.numbered_queues.NumberedQueues.all_empty.Goals a
 pub returns : goal.returns
 returns c =
     let full = c.self.inside.full in
-    let q = c.self.inside.queues.entries in
-    (λ none. subst AreEmpty c.self.view_is (quiet q full c.self.invariant (eqb-true full 0 none)), λ silent. eq-eqb full 0 (count_of_quiet q full c.self.invariant (subst AreEmpty (sym c.self.view_is) silent)))
+    let q = c.self.inside.queues.entries in (
+      λ none. subst AreEmpty c.self.view_is (quiet q full c.self.invariant (eqb-true full 0 none)),
+      λ silent. eq-eqb full 0 (count_of_quiet q full c.self.invariant (subst AreEmpty (sym c.self.view_is) silent)),
+    )

@@ -12,7 +12,9 @@ pub returns : goal.returns
 returns c =
     let q = c.args.self.now in
     let pairs : c.map.result ≡ option_map pair_of c.first_full.result = search rules in
-    let start = ap (λ s. option_map pair_of (option_map (λ e. e.0) (find (λ e. has_message e.1) (entries_between direction_cmp s Unbounded q)))) c.start_past.ensures in
+    let start = ap (λ s. option_map pair_of
+    (option_map (λ e. e.0) (find (λ e. has_message e.1) (entries_between direction_cmp s Unbounded q))))
+    c.start_past.ensures in
     let is = pairs ∙ ap (option_map pair_of) c.first_full.ensures.first ∙ start in
     let ordered = c.first_full.ensures.ordered in
     record {

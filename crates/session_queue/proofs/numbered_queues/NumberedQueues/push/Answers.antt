@@ -11,12 +11,15 @@ use Rattle.std.specs.Int.{from_bool}
 use Rattle.session_queue.proofs.numbered_queues.NumberedQueues.push.Goals as goal
 
 -- what stands at the direction is w, which is v with m at its end
-module _ (from to : Addr) (p q r : Lines Numbered) (v w : Waiting Numbered) (m : Numbered) (whole : p ≡ q) (found : Some v ≡ waiting_at p from to) (is : r ≡ set_value (at from to) p w) (pushed : w ≡ record { messages = v.messages ++ m ∷ []; spare = v.spare - 1 }) where
+module _ (from to : Addr) (p q r : Lines Numbered) (v w : Waiting Numbered) (m : Numbered) (whole : p ≡ q)
+    (found : Some v ≡ waiting_at p from to) (is : r ≡ set_value (at from to) p w)
+    (pushed : w ≡ record { messages = v.messages ++ m ∷ []; spare = v.spare - 1 }) where
   changed : Changes from to q r (Some w)
   changed = put from to p q r whole v w found is
 
   queue_pushed : messages_at r from to ≡ messages_at q from to ++ m ∷ []
-  queue_pushed = queue_here from to q r (Some w) changed ∙ ap (λ u. u.messages) pushed ∙ ap (λ ms. ms ++ m ∷ []) (sym (queue_held from to p q whole (Some v) found))
+  queue_pushed = queue_here from to q r (Some w) changed ∙ ap (λ u. u.messages) pushed
+      ∙ ap (λ ms. ms ++ m ∷ []) (sym (queue_held from to p q whole (Some v) found))
 
   spare_pushed : 0 < spare_in q from to → spare_in r from to + 1 ≡ spare_in q from to
   spare_pushed room =
@@ -28,23 +31,29 @@ module _ (from to : Addr) (p q r : Lines Numbered) (v w : Waiting Numbered) (m :
   others_pushed : KeepsOtherLines from to q r
   others_pushed = others_keep from to q r (Some w) changed
 
-  tidy_pushed : {resting : Option Direction} (full more : ℕ) (b : Bool) → IsTidy p full resting → b ≡ (length v.messages == 0) → more ≡ from_bool b → IsTidy r (full + more) resting
-  tidy_pushed full more b tidy empty counts = longer_tidy from to p r v w m full more b tidy found is (ap (λ u. u.messages) pushed) empty counts
+  tidy_pushed : {resting : Option Direction} (full more : ℕ) (b : Bool) → IsTidy p full resting →
+      b ≡ (length v.messages == 0) → more ≡ from_bool b → IsTidy r (full + more) resting
+  tidy_pushed full more b tidy empty counts = longer_tidy from to p r v w m full more b tidy found is
+      (ap (λ u. u.messages) pushed) empty counts
 
 pub push-requires : goal.push-requires
 push-requires c =
     let room : 0 < spare_in c.args.self.now c.args.from c.args.to = c.requires in
-    let before : spare_in c.args.self.now c.args.from c.args.to ≡ c.in-Some.queue.now.spare = spare_held _ _ _ _ c.self.view_is (Some c.in-Some.queue.now) c.in-Some.ensures.value in
+    let before : spare_in c.args.self.now c.args.from c.args.to ≡ c.in-Some.queue.now.spare =
+    spare_held _ _ _ _ c.self.view_is (Some c.in-Some.queue.now) c.in-Some.ensures.value in
     omega (arith, room, before)
 
 pub returns-clause-queue : goal.returns-clause-queue
-returns-clause-queue c = queue_pushed _ _ _ _ _ _ _ _ c.self.view_is c.in-Some.ensures.value (c.get_mut.follows.holds c.push.new.self).0 c.push.ensures
+returns-clause-queue c = queue_pushed _ _ _ _ _ _ _ _ c.self.view_is c.in-Some.ensures.value
+    (c.get_mut.follows.holds c.push.new.self).0 c.push.ensures
 
 pub returns-clause-spare : goal.returns-clause-spare
-returns-clause-spare c = spare_pushed _ _ _ _ _ _ _ _ c.self.view_is c.in-Some.ensures.value (c.get_mut.follows.holds c.push.new.self).0 c.push.ensures c.requires
+returns-clause-spare c = spare_pushed _ _ _ _ _ _ _ _ c.self.view_is c.in-Some.ensures.value
+    (c.get_mut.follows.holds c.push.new.self).0 c.push.ensures c.requires
 
 pub returns-clause-others : goal.returns-clause-others
-returns-clause-others c = others_pushed _ _ _ _ _ _ _ _ c.self.view_is c.in-Some.ensures.value (c.get_mut.follows.holds c.push.new.self).0 c.push.ensures
+returns-clause-others c = others_pushed _ _ _ _ _ _ _ _ c.self.view_is c.in-Some.ensures.value
+    (c.get_mut.follows.holds c.push.new.self).0 c.push.ensures
 
 pub prove-unreachable-requires : goal.prove-unreachable-requires
 prove-unreachable-requires c =
@@ -55,8 +64,10 @@ prove-unreachable-requires c =
 pub unreachable-requires : goal.unreachable-requires
 unreachable-requires c =
     let room : 0 < spare_in c.args.self.now c.args.from c.args.to = c.requires in
-    let before : spare_in c.args.self.now c.args.from c.args.to ≡ 0 = spare_held _ _ _ _ c.self.view_is None c.in_default.ensures.value in
+    let before : spare_in c.args.self.now c.args.from c.args.to ≡ 0 =
+    spare_held _ _ _ _ c.self.view_is None c.in_default.ensures.value in
     omega (arith, room, before)
 
 pub invariant_of-self : goal.invariant_of-self
-invariant_of-self c = tidy_pushed _ _ _ _ _ _ _ _ c.self.view_is c.in-Some.ensures.value (c.get_mut.follows.holds c.push.new.self).0 c.push.ensures _ _ _ c.self.invariant c.is_empty.ensures c.from.ensures
+invariant_of-self c = tidy_pushed _ _ _ _ _ _ _ _ c.self.view_is c.in-Some.ensures.value
+    (c.get_mut.follows.holds c.push.new.self).0 c.push.ensures _ _ _ c.self.invariant c.is_empty.ensures c.from.ensures

@@ -20,27 +20,35 @@ prove-unreachable-requires c =
 
 pub invariant_of-self : goal.invariant_of-self
 invariant_of-self c =
-    let same = unwritten _ _ c.self.inside.queues.entries _ _ (λ i. c.self.inside.queues.entries) c.in-Some.queue.now c.put.new.self c.in-Some.ensures.value (c.get_mut.follows.holds c.put.new.self).0 c.in_err-put.ensures.err in
+    let same = unwritten _ _ c.self.inside.queues.entries _ _ (λ i. c.self.inside.queues.entries) c.in-Some.queue.now
+    c.put.new.self c.in-Some.ensures.value (c.get_mut.follows.holds c.put.new.self).0 c.in_err-put.ensures.err in
     subst (λ q. IsTidy q c.self.inside.full c.self.inside.resting) (sym same) c.self.invariant
 
 pub returns-in_err-put-clause-others : goal.returns-in_err-put-clause-others
 returns-in_err-put-clause-others c =
-    let b = placed _ _ _ _ _ c.in-Some.queue.now c.put.new.self c.self.view_is c.in-Some.ensures.value (c.get_mut.follows.holds c.put.new.self).0 in
+    let b = placed _ _ _ _ _ c.in-Some.queue.now c.put.new.self c.self.view_is c.in-Some.ensures.value
+    (c.get_mut.follows.holds c.put.new.self).0 in
     b.others
 
 pub returns-in_err-put-clause-err : goal.returns-in_err-put-clause-err
-returns-in_err-put-clause-err c = if_err c.from_residual.result (unwritten _ _ _ _ _ c.self.view_is c.in-Some.queue.now c.put.new.self c.in-Some.ensures.value (c.get_mut.follows.holds c.put.new.self).0 c.in_err-put.ensures.err)
+returns-in_err-put-clause-err c =
+    if_err c.from_residual.result
+    (unwritten _ _ _ _ _ c.self.view_is c.in-Some.queue.now c.put.new.self c.in-Some.ensures.value
+    (c.get_mut.follows.holds c.put.new.self).0 c.in_err-put.ensures.err)
 
 pub invariant_of-self-in-Some : goal.invariant_of-self-in-Some
 invariant_of-self-in-Some c =
-    longer_tidy _ _ _ _ c.in-Some.queue.now c.put.new.self c.args.message _ _ _ c.self.invariant c.in-Some.ensures.value (c.get_mut.follows.holds c.put.new.self).0 c.in_ok-put.ensures.messages c.is_empty-was_empty.ensures c.from.ensures
+    longer_tidy _ _ _ _ c.in-Some.queue.now c.put.new.self c.args.message _ _ _ c.self.invariant c.in-Some.ensures.value
+    (c.get_mut.follows.holds c.put.new.self).0 c.in_ok-put.ensures.messages
+    c.is_empty-was_empty.ensures c.from.ensures
 
 pub returns-in-Some-clause-queue : goal.returns-in-Some-clause-queue
 returns-in-Some-clause-queue c =
     let v = c.in-Some.queue.now in
     let w = c.put.new.self in
     let b = placed _ _ _ _ _ v w c.self.view_is c.in-Some.ensures.value (c.get_mut.follows.holds w).0 in
-    queue_from _ _ _ _ _ v w c.self.view_is c.in-Some.ensures.value b (λ ms. ms ++ c.args.message ∷ []) c.in_ok-put.ensures.messages
+    queue_from _ _ _ _ _ v w c.self.view_is c.in-Some.ensures.value b (λ ms. ms ++ c.args.message
+    ∷ []) c.in_ok-put.ensures.messages
 
 pub returns-in-Some-clause-spare : goal.returns-in-Some-clause-spare
 returns-in-Some-clause-spare c =
@@ -52,7 +60,8 @@ returns-in-Some-clause-spare c =
 
 pub returns-in-Some-clause-others : goal.returns-in-Some-clause-others
 returns-in-Some-clause-others c =
-    let b = placed _ _ _ _ _ c.in-Some.queue.now c.put.new.self c.self.view_is c.in-Some.ensures.value (c.get_mut.follows.holds c.put.new.self).0 in
+    let b = placed _ _ _ _ _ c.in-Some.queue.now c.put.new.self c.self.view_is c.in-Some.ensures.value
+    (c.get_mut.follows.holds c.put.new.self).0 in
     b.others
 
 -- WHERE IT HAS NONE
@@ -60,19 +69,26 @@ returns-in-Some-clause-others c =
 pub invariant_of-self-2 : goal.invariant_of-self-2
 invariant_of-self-2 c =
     let w = c.push.new.self in
-    let before = ap (λ m. insert_entry direction_cmp m.entries (key c.args.from c.args.to) w) c.get_mut.follows.holds-at-none in
-    let messages : w.messages ≡ c.args.message ∷ [] = ap (λ u. u.messages) c.push.ensures ∙ ap (λ u. u.messages ++ c.args.message ∷ []) c.in_ok-queue.ensures in
+    let before = ap (λ m. insert_entry direction_cmp m.entries (key c.args.from c.args.to) w)
+    c.get_mut.follows.holds-at-none in
+    let messages : w.messages ≡ c.args.message ∷ [] = ap (λ u. u.messages) c.push.ensures
+    ∙ ap (λ u. u.messages ++ c.args.message ∷ []) c.in_ok-queue.ensures in
     let long : length w.messages ≡ 1 = ap length messages in
     let one : one_if_any w.messages ≡ 1 = ap one_if_any messages in
-    added_tidy c.args.from c.args.to c.self.inside.queues.entries _ _ _ c.self.invariant w c.in_default.ensures.value (c.in_ok-insert.ensures.entries ∙ before) c.in_ok-insert.ensures.ordered (added _ _ _ _ _ (ap (λ m. m.entries) c.get_mut.follows.holds-at-none) w c.in_ok-insert.ensures.updates.0) (omega (arith, long)) (omega (arith, one))
+    added_tidy c.args.from c.args.to c.self.inside.queues.entries _ _ _ c.self.invariant w c.in_default.ensures.value
+    (c.in_ok-insert.ensures.entries ∙ before) c.in_ok-insert.ensures.ordered
+    (added _ _ _ _ _ (ap (λ m. m.entries) c.get_mut.follows.holds-at-none) w c.in_ok-insert.ensures.updates.0)
+    (omega (arith, long)) (omega (arith, one))
 
 pub returns-clause-queue : goal.returns-clause-queue
 returns-clause-queue c =
     let w = c.push.new.self in
     let whole = ap (λ m. m.entries) c.get_mut.follows.holds-at-none ∙ c.self.view_is in
     let h = added _ _ _ _ _ whole w c.in_ok-insert.ensures.updates.0 in
-    let messages : w.messages ≡ c.args.message ∷ [] = ap (λ u. u.messages) c.push.ensures ∙ ap (λ u. u.messages ++ c.args.message ∷ []) c.in_ok-queue.ensures in
-    queue_here _ _ _ _ _ h ∙ messages ∙ ap (λ ms. ms ++ c.args.message ∷ []) (sym (queue_held _ _ _ _ c.self.view_is None c.in_default.ensures.value))
+    let messages : w.messages ≡ c.args.message ∷ [] = ap (λ u. u.messages) c.push.ensures
+    ∙ ap (λ u. u.messages ++ c.args.message ∷ []) c.in_ok-queue.ensures in
+    queue_here _ _ _ _ _ h ∙ messages
+    ∙ ap (λ ms. ms ++ c.args.message ∷ []) (sym (queue_held _ _ _ _ c.self.view_is None c.in_default.ensures.value))
 
 pub returns-clause-spare : goal.returns-clause-spare
 returns-clause-spare c =

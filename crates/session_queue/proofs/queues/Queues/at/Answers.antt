@@ -8,18 +8,24 @@ use Rattle.session_queue.proofs.queues.Queues.at.Goals as goal
 
 pub returns-in_err-message : goal.returns-in_err-message
 returns-in_err-message c =
-    let none : None ≡ slice_get (messages_at c.self.inside.queues c.args.from c.args.to) c.args.n = sym c.in_err-message.was ∙ c.at.ensures in
+    let none : None ≡ slice_get (messages_at c.self.inside.queues c.args.from c.args.to) c.args.n =
+    sym c.in_err-message.was ∙ c.at.ensures in
     ap (option_map message_of) c.from_residual.ensures
     ∙ ap (option_map (message_by c.self.inside.pool)) none
-    ∙ sym (message_was c.self.inside.pool c.self.inside.queues c.self.inside.queues c.args.self.now c.self.view_is c.args.from c.args.to c.args.n)
+    ∙ sym (message_was c.self.inside.pool c.self.inside.queues c.self.inside.queues c.args.self.now c.self.view_is
+    c.args.from c.args.to c.args.n)
 
 pub by-requires : goal.by-requires
 by-requires c =
-    given_at c.self.inside.pool c.self.inside.queues c.self.invariant c.args.from c.args.to c.args.n c.in_ok-message.message (sym c.at.ensures ∙ c.in_ok-message.was)
+    given_at c.self.inside.pool c.self.inside.queues c.self.invariant c.args.from c.args.to c.args.n
+    c.in_ok-message.message (sym c.at.ensures ∙ c.in_ok-message.was)
 
 pub returns : goal.returns
 returns c =
-    let found : Some c.in_ok-message.message ≡ slice_get (messages_at c.self.inside.queues c.args.from c.args.to) c.args.n = sym c.in_ok-message.was ∙ c.at.ensures in
+    let found : Some c.in_ok-message.message
+    ≡ slice_get (messages_at c.self.inside.queues c.args.from c.args.to) c.args.n = sym c.in_ok-message.was
+    ∙ c.at.ensures in
     ap Some c.by.ensures
     ∙ ap (option_map (message_by c.self.inside.pool)) found
-    ∙ sym (message_was c.self.inside.pool c.self.inside.queues c.self.inside.queues c.args.self.now c.self.view_is c.args.from c.args.to c.args.n)
+    ∙ sym (message_was c.self.inside.pool c.self.inside.queues c.self.inside.queues c.args.self.now c.self.view_is
+    c.args.from c.args.to c.args.n)

@@ -11,9 +11,11 @@ none_then (Some x) p f = tt
 pub returns-clause-full : goal.returns-clause-full
 returns-clause-full c =
     IfSome_then c.next_in.result c.next_in.ensures.full
-    (λ found some. some_seen c.self.inside.pool c.self.inside.queues c.self.inside.queues c.args.self.now c.self.view_is found.from found.to some)
+    (λ found some. some_seen c.self.inside.pool c.self.inside.queues c.self.inside.queues c.args.self.now c.self.view_is
+    found.from found.to some)
 
 pub returns-clause-none : goal.returns-clause-none
 returns-clause-none c =
     none_then c.next_in.result c.next_in.ensures.none
-    (λ none from to is. empty_seen c.self.inside.pool c.self.inside.queues c.self.inside.queues c.args.self.now c.self.view_is from to (none from to is))
+    (λ none from to is. empty_seen c.self.inside.pool c.self.inside.queues c.self.inside.queues c.args.self.now
+    c.self.view_is from to (none from to is))

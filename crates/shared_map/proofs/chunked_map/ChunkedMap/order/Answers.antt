@@ -6,4 +6,5 @@ use Rattle.shared_map.proofs.EntryPlaces.{same_keys}
 use Rattle.shared_map.proofs.chunked_map.ChunkedMap.order.Goals as goal
 
 pub returns : goal.returns
-returns g c = subst (IsStrictlySortedBy g.K.Ord.cmp) (sym (same_keys (items_shown c.self.inside.chunks)) ∙ ap keys_of c.self.view_is) c.self.invariant.1
+returns g c = subst (IsStrictlySortedBy g.K.Ord.cmp) (sym (same_keys (items_shown c.self.inside.chunks))
+    ∙ ap keys_of c.self.view_is) c.self.invariant.1

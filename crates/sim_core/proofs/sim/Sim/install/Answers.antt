@@ -17,7 +17,8 @@ use Rattle.sim_core.proofs.sim.Sim.install.Goals as goal
 pub install-requires-clause-up : goal.install-requires-clause-up
 install-requires-clause-up g c =
     let d = c.args.direction in
-    delivery_up c.self.inside.state.conf d (ap (λ (s : Counted). delivery_refusal s.engine.conf d) c.self.view_is ∙ c.requires.allowed)
+    delivery_up c.self.inside.state.conf d (ap (λ (s : Counted). delivery_refusal s.engine.conf d) c.self.view_is
+    ∙ c.requires.allowed)
 
 pub install-requires-clause-head : goal.install-requires-clause-head
 install-requires-clause-head g c =
@@ -26,8 +27,10 @@ install-requires-clause-head g c =
     let o = c.args.outcome in
     let m = message_of c.in-Some.head in
     let first : slice_get (queue_at e.queues d.from d.to) 0 ≡ Some m =
-    sym (ap (λ q. slice_get (queue_at q d.from d.to) 0) c.queues.ensures) ∙ sym c.head.ensures ∙ ap (option_map message_of) c.in-Some.is in
-    let is : IsOutcomeOfHead e d o = subst (λ (s : Counted). IsOutcomeOfHead s.engine d o) (sym c.self.view_is) c.requires.head in
+    sym (ap (λ q. slice_get (queue_at q d.from d.to) 0) c.queues.ensures) ∙ sym c.head.ensures
+    ∙ ap (option_map message_of) c.in-Some.is in
+    let is : IsOutcomeOfHead e d o = subst (λ (s : Counted). IsOutcomeOfHead s.engine d o)
+    (sym c.self.view_is) c.requires.head in
     subst (λ p. IsOfHead e d p o) (sym c.prefix-prefix.ensures) (of_head e d o is m first)
 
 pub returns-clause-reply : goal.returns-clause-reply
@@ -37,7 +40,8 @@ returns-clause-reply g c =
     let m = message_of c.in-Some.head in
     let none = ap (λ (s : Counted). delivery_refusal s.engine.conf d) c.self.view_is ∙ c.requires.allowed in
     let first : slice_get (queue_at e.queues d.from d.to) 0 ≡ Some m =
-    sym (ap (λ q. slice_get (queue_at q d.from d.to) 0) c.queues.ensures) ∙ sym c.head.ensures ∙ ap (option_map message_of) c.in-Some.is in
+    sym (ap (λ q. slice_get (queue_at q d.from d.to) 0) c.queues.ensures) ∙ sym c.head.ensures
+    ∙ ap (option_map message_of) c.in-Some.is in
     (λ i. Took (c.prefix-prefix.ensures i) (c.kind-kind.ensures i))
     ∙ sym (delivery_takes e c.facts.ensures.sound d none m first)
     ∙ ap (λ (s : Counted). (step (network s.engine) (Deliver d.from d.to)).reply) c.self.view_is
@@ -46,7 +50,8 @@ pub returns-clause-next : goal.returns-clause-next
 returns-clause-next g c =
     let d = c.args.direction in
     c.in_ok-install.ensures.next
-    ∙ ap (λ (s : Counted). (head_step (network s.engine) d (messages_in (network s.engine).queues d)).next) c.self.view_is
+    ∙ ap (λ (s : Counted). (head_step (network s.engine) d (messages_in (network s.engine).queues d)).next)
+    c.self.view_is
     ∙ sym (next_is c.args.self.now.engine d c.requires.allowed)
 
 pub returns-clause-decided : goal.returns-clause-decided
@@ -58,7 +63,9 @@ returns-clause-decided g c =
     let reply = Took c.prefix-prefix.result c.kind-kind.result in
     let none = ap (λ (s : Counted). delivery_refusal s.engine.conf d) c.self.view_is ∙ c.requires.allowed in
     let first : slice_get (queue_at e.queues d.from d.to) 0 ≡ Some m =
-    sym (ap (λ q. slice_get (queue_at q d.from d.to) 0) c.queues.ensures) ∙ sym c.head.ensures ∙ ap (option_map message_of) c.in-Some.is in
-    subst (λ (s : Counted). Counts (network s.engine) (Deliver d.from d.to) reply s.decided c.raised-self-inside.result) c.self.view_is
+    sym (ap (λ q. slice_get (queue_at q d.from d.to) 0) c.queues.ensures) ∙ sym c.head.ensures
+    ∙ ap (option_map message_of) c.in-Some.is in
+    subst (λ (s : Counted). Counts (network s.engine) (Deliver d.from d.to) reply s.decided c.raised-self-inside.result)
+    c.self.view_is
     (subst (λ k. Counts (network e) (Deliver d.from d.to) reply n k) (sym c.raised-self-inside.ensures)
     (counts e c.facts.ensures.sound d none m first n c.decisions_at-more.result c.decisions_at-more.ensures))

@@ -8,7 +8,9 @@ use Rattle.sim_core.proofs.sim.Sim.run.Given as goal
 -- any counted run of what is left completes the run
 abbrev pub invariant-loop-event : goal.invariant-loop-event
 invariant-loop-event g l = record {
-  told : (rest : List Reply) (end : Network) (last : ℕ) → IsCountedRun (network l.self.engine) l.self.decided (drop l.event-index l.events) rest end last → IsCountedRun (network l.fn.self.engine) l.fn.self.decided l.events (l.replies.items ++ rest) end last;
+  told : (rest : List Reply) (end : Network) (last : ℕ) →
+      IsCountedRun (network l.self.engine) l.self.decided (drop l.event-index l.events) rest end last →
+      IsCountedRun (network l.fn.self.engine) l.fn.self.decided l.events (l.replies.items ++ rest) end last;
   room : length l.events ≤ vec_capacity l.replies;
   len : vec_len l.replies ≡ l.event-index;
 }

@@ -13,4 +13,5 @@ returns g c =
     let u = c.args.peer in
     let up : c.is_up-up.result ≡ is_up e.conf r u = c.is_up-up.ensures ∙ ap (λ k. is_up k r u) c.conf.ensures in
     IfOk-weaker c.received_if_up.result _ _ (λ routes is.
-    is ∙ ap (λ b. if b then filter_map (route_in u) (cells_of r e.tables) else []) up ∙ sym (adj_rib_in_by_cells e c.facts.ensures.sound r u)) c.received_if_up.ensures
+    is ∙ ap (λ b. if b then filter_map (route_in u) (cells_of r e.tables) else []) up
+    ∙ sym (adj_rib_in_by_cells e c.facts.ensures.sound r u)) c.received_if_up.ensures

@@ -7,7 +7,8 @@ use Rattle.sim_core.proofs.sim_report.cells.lines.Given as goal
 abbrev pub invariant-walk : goal.invariant-walk
 invariant-walk g l =
     let said = g.L.Line.said l.line in
-    l.items.items ++ filter_map said (cells_after l.fn.router l.state.tables l.after) ≡ filter_map said (cells_of l.fn.router l.state.tables)
+    l.items.items ++ filter_map said (cells_after l.fn.router l.state.tables l.after)
+    ≡ filter_map said (cells_of l.fn.router l.state.tables)
 
 abbrev pub decreases-walk : goal.decreases-walk
 decreases-walk g l = length (cells_after l.fn.router l.state.tables l.after)

@@ -21,4 +21,5 @@ returns-in-Some g c =
     IfOk-weaker c.held_in.result _ _ (λ held is.
     is
     ∙ sym (choice_by_cell e c.facts.ensures.sound c.args.router c.requires c.args.prefix
-    ∙ ap (λ x. held_of c.args.prefix (best_of (unwrap_or x new_cell).standings)) (sym c.in-Some.ensures))) c.held_in.ensures
+    ∙ ap (λ x. held_of c.args.prefix (best_of (unwrap_or x new_cell).standings)) (sym c.in-Some.ensures)))
+    c.held_in.ensures

@@ -9,4 +9,6 @@ use Rattle.sim_core.proofs.sim_report.queues.is_quiet.Goals as goal
 pub returns : goal.returns
 returns g c =
     let e = c.args.state.now in
-    same_test c.all_empty.result (is_quiet (network e)) (subst (λ q. IsTrue c.all_empty.result ↔ IsQuiet q) c.queues.ensures c.all_empty.ensures) (quiet_by_queues e c.facts.ensures.sound)
+    same_test c.all_empty.result (is_quiet (network e))
+    (subst (λ q. IsTrue c.all_empty.result ↔ IsQuiet q) c.queues.ensures c.all_empty.ensures)
+    (quiet_by_queues e c.facts.ensures.sound)

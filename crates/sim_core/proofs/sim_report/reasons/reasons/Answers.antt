@@ -16,7 +16,8 @@ returns-in-None g c =
     ∙ sym (
     reasons_by_cell e c.facts.ensures.sound c.args.router c.args.prefix c.requires
     ∙ ap (λ x. reasons_in (unwrap_or x new_cell)) (sym c.in-None.ensures)
-    ∙ ap (λ o. cons_option (option_map (λ reason. (Own, reason)) (option_map (reason_for false (considered (no_standings false))) o)) []) (finite.get-empty source_cmp Own))
+    ∙ ap (λ o. cons_option (option_map (λ reason. (Own, reason))
+    (option_map (reason_for false (considered (no_standings false))) o)) []) (finite.get-empty source_cmp Own))
 
 pub returns-in-Some : goal.returns-in-Some
 returns-in-Some g c =

@@ -6,7 +6,8 @@ use Rattle.sim_core.proofs.sim_report.reasons.reasons_in.Given as goal
 
 -- the reasons so far, and those of the senders that are left, are all
 abbrev pub invariant-walk : goal.invariant-walk
-invariant-walk g l = l.found.items ++ filter_map (reason_at l.cell.standings) (map (λ e. FromPeer e.0) (received_past l.cell.received l.past)) ≡ reasons_in l.cell
+invariant-walk g l = l.found.items ++ filter_map (reason_at l.cell.standings)
+    (map (λ e. FromPeer e.0) (received_past l.cell.received l.past)) ≡ reasons_in l.cell
 
 abbrev pub decreases-walk : goal.decreases-walk
 decreases-walk g l = length (received_past l.cell.received l.past)

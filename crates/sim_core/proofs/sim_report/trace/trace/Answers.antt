@@ -20,21 +20,30 @@ pub returns-in-Ends : goal.returns-in-Ends
 unfolding trace
 returns-in-Ends g c =
     let s = network c.args.state.now in
-    let is : look s c.args.target c.hop.hops c.hop.at ≡ Ends c.in-Ends.ending = sym (c.in_ok-seen.ensures ∙ ap (λ hops. look s c.args.target hops c.hop.at) c.as_slice.ensures) ∙ c.in-Ends.is in
+    let is : look s c.args.target c.hop.hops c.hop.at ≡ Ends c.in-Ends.ending =
+    sym (c.in_ok-seen.ensures ∙ ap (λ hops. look s c.args.target hops c.hop.at) c.as_slice.ensures)
+    ∙ c.in-Ends.is in
     sym (ends_here s c.args.target c.hop.hops c.hop.at c.hop.invariant.have c.in-Ends.ending is) ∙ c.hop.invariant.same
 
 pub hop-smaller : goal.hop-smaller
-hop-smaller g c = fewer_left (network c.args.state.now) c.hop.hops c.push.new.self c.hop.at c.in-Forwards.prefix c.hop.invariant.have c.in_ok-push-in-Forwards.ensures.ok
+hop-smaller g c = fewer_left (network c.args.state.now) c.hop.hops c.push.new.self c.hop.at c.in-Forwards.prefix
+    c.hop.invariant.have c.in_ok-push-in-Forwards.ensures.ok
 
 pub hop-preserved : goal.hop-preserved
 hop-preserved g c =
     let s = network c.args.state.now in
-    let is : look s c.args.target c.hop.hops c.hop.at ≡ Forwards c.in-Forwards.prefix c.in-Forwards.next = sym (c.in_ok-seen.ensures ∙ ap (λ hops. look s c.args.target hops c.hop.at) c.as_slice.ensures) ∙ c.in-Forwards.is in
+    let is : look s c.args.target c.hop.hops c.hop.at ≡ Forwards c.in-Forwards.prefix c.in-Forwards.next =
+    sym (c.in_ok-seen.ensures ∙ ap (λ hops. look s c.args.target hops c.hop.at) c.as_slice.ensures)
+    ∙ c.in-Forwards.is in
     let Have : List (Addr × Prefix) → Type 0 = λ hops. HaveForwarded s hops in
     record {
-      have = subst Have (sym c.in_ok-push-in-Forwards.ensures.ok) (one_more_has s c.args.target c.hop.hops c.hop.at c.in-Forwards.prefix c.in-Forwards.next c.hop.invariant.have is);
+      have = subst Have (sym c.in_ok-push-in-Forwards.ensures.ok)
+          (one_more_has s c.args.target c.hop.hops c.hop.at c.in-Forwards.prefix c.in-Forwards.next
+          c.hop.invariant.have is);
       same =
-          ap (λ hops. trace_from (suc (length s.conf.nodes) - length hops) s c.args.target hops c.in-Forwards.next) c.in_ok-push-in-Forwards.ensures.ok
-          ∙ sym (goes_on s c.args.target c.hop.hops c.hop.at c.hop.invariant.have c.in-Forwards.prefix c.in-Forwards.next is)
+          ap (λ hops. trace_from (suc (length s.conf.nodes) - length hops) s c.args.target hops c.in-Forwards.next)
+          c.in_ok-push-in-Forwards.ensures.ok
+          ∙ sym (goes_on s c.args.target c.hop.hops c.hop.at c.hop.invariant.have c.in-Forwards.prefix
+          c.in-Forwards.next is)
           ∙ c.hop.invariant.same;
     }

@@ -8,7 +8,8 @@ use Rattle.sim_core.proofs.sim_report.trace.trace.Given as goal
 abbrev pub invariant-hop : goal.invariant-hop
 invariant-hop g l = record {
   have : HaveForwarded (network l.state) l.hops;
-  same : trace_from (suc (length (network l.state).conf.nodes) - length l.hops) (network l.state) l.target l.hops l.at ≡ trace_from (suc (length (network l.state).conf.nodes)) (network l.state) l.target [] l.fn.router;
+  same : trace_from (suc (length (network l.state).conf.nodes) - length l.hops) (network l.state) l.target l.hops l.at
+      ≡ trace_from (suc (length (network l.state).conf.nodes)) (network l.state) l.target [] l.fn.router;
 }
 
 abbrev pub decreases-hop : goal.decreases-hop

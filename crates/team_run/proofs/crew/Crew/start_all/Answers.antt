@@ -26,11 +26,19 @@ loop-engineer-preserved-in-Ok g c =
     let pushed : c.push_reserved.new.self.items ≡ threads ++ thread ∷ [] = search rules in (
       tt,
       tt,
-      omega (arith, c.loop-engineer.invariant.2, c.push_reserved.ensures.capacity, ap length pushed, length_push threads thread, ap length step),
+      omega (
+        arith,
+        c.loop-engineer.invariant.2,
+        c.push_reserved.ensures.capacity,
+        ap length pushed,
+        length_push threads thread,
+        ap length step,
+      ),
       (
         so.0 ++ engineer ∷ [],
         so.1 ∙ ap (λ l. so.0 ++ l) step ∙ sym (append_assoc so.0 (engineer ∷ []) rest),
-        on_ok_weaker c.loop-engineer.outcome (λ all. subst (λ ts. AreToPlay (so.0 ++ engineer ∷ []) ts) (sym pushed) (to_play_push so.0 threads engineer thread all c.in-Ok.ensures)) so.2,
+        on_ok_weaker c.loop-engineer.outcome (λ all. subst (λ ts. AreToPlay (so.0 ++ engineer ∷ []) ts) (sym pushed)
+            (to_play_push so.0 threads engineer thread all c.in-Ok.ensures)) so.2,
       ),
     )
 

@@ -9,4 +9,5 @@ invariant-loop-engineer g l =
     (goal.iterator-loop-engineer g).can_next l.engineer-iterator ×
     (goal.iterator-loop-engineer g).is_finite l.engineer-iterator ×
     (length l.threads.items + length l.engineer-iterator.rest.items ≤ vec_capacity l.threads)
-    × ((done : List Engineering) × (l.fn.engineers.items ≡ done ++ l.engineer-iterator.rest.items) × OnOk l.outcome (AreToPlay done l.threads.items))
+    × ((done : List Engineering) × (l.fn.engineers.items ≡ done ++ l.engineer-iterator.rest.items)
+    × OnOk l.outcome (AreToPlay done l.threads.items))

@@ -13,14 +13,23 @@ invariant_of-self g c =
     let there = c.move_to_front.new.bytes in
     let value : c.as_mut_slice-bytes.result.now ≡ b.bytes.items = search rules in
     let whole : held - 0 ≡ held = omega arith in
-    let within : held ≤ length there = omega (arith, c.move_to_front.auto.bytes, ap length value, c.self.invariant.2, c.self.invariant.3) in
+    let within : held ≤ length there = omega (
+      arith,
+      c.move_to_front.auto.bytes,
+      ap length value,
+      c.self.invariant.2,
+      c.self.invariant.3,
+    ) in
     let front : slice_range there 0 held ≡ c.args.self.now =
-    ap (λ j. take j there) whole ∙ c.move_to_front.ensures ∙ ap (λ xs. slice_range xs b.start b.end) value ∙ c.self.view_is in (
+    ap (λ j. take j there) whole ∙ c.move_to_front.ensures ∙ ap (λ xs. slice_range xs b.start b.end) value
+    ∙ c.self.view_is in (
       omega arith,
       omega arith,
       omega arith,
       c.self.invariant.3,
-      All-same (λ x. eqb x 10 ≡ false) _ c.args.self.now (kept there c.read.new.buffer b.bytes.items (vec_len b.bytes) held _ within (omega arith) ∙ front) (no_cut c.args.self.now c.requires.whole),
+      All-same (λ x. eqb x 10 ≡ false) _ c.args.self.now
+          (kept there c.read.new.buffer b.bytes.items (vec_len b.bytes) held _ within (omega arith)
+          ∙ front) (no_cut c.args.self.now c.requires.whole),
     )
 
 pub invariant_of-self-2 : goal.invariant_of-self-2
@@ -31,14 +40,23 @@ invariant_of-self-2 g c =
     let value : c.as_mut_slice-bytes.result.now ≡ b.bytes.items = search rules in
     let whole : held - 0 ≡ held = omega arith in
     let bound : c.in_ok-count.count ≤ length c.read.new.buffer = c.in_ok-count.ensures.bound in
-    let within : held ≤ length there = omega (arith, c.move_to_front.auto.bytes, ap length value, c.self.invariant.2, c.self.invariant.3) in
+    let within : held ≤ length there = omega (
+      arith,
+      c.move_to_front.auto.bytes,
+      ap length value,
+      c.self.invariant.2,
+      c.self.invariant.3,
+    ) in
     let front : slice_range there 0 held ≡ c.args.self.now =
-    ap (λ j. take j there) whole ∙ c.move_to_front.ensures ∙ ap (λ xs. slice_range xs b.start b.end) value ∙ c.self.view_is in (
+    ap (λ j. take j there) whole ∙ c.move_to_front.ensures ∙ ap (λ xs. slice_range xs b.start b.end) value
+    ∙ c.self.view_is in (
       omega arith,
       omega arith,
       omega (arith, c.read.auto.buffer, c.move_to_front.auto.bytes, ap length value),
       c.self.invariant.3,
-      All-same (λ x. eqb x 10 ≡ false) _ c.args.self.now (kept there c.read.new.buffer b.bytes.items (vec_len b.bytes) held _ within (omega arith) ∙ front) (no_cut c.args.self.now c.requires.whole),
+      All-same (λ x. eqb x 10 ≡ false) _ c.args.self.now
+          (kept there c.read.new.buffer b.bytes.items (vec_len b.bytes) held _ within (omega arith)
+          ∙ front) (no_cut c.args.self.now c.requires.whole),
     )
 
 pub returns-clause-ok : goal.returns-clause-ok
@@ -49,17 +67,35 @@ returns-clause-ok g c =
     let read = c.read.new.buffer in
     let there = c.move_to_front.new.bytes in
     let value : c.as_mut_slice-bytes.result.now ≡ b.bytes.items = search rules in
-    let len : length (slice_range b.bytes.items b.start b.end) ≡ held = omega (arith, length-take {A = ℕ}, length-drop {A = ℕ}) in
+    let len : length (slice_range b.bytes.items b.start b.end) ≡ held = omega (
+      arith,
+      length-take {A = ℕ},
+      length-drop {A = ℕ},
+    ) in
     let room = rw (← c.self.view_is) at c.requires.room in
     let bound : n ≤ length read = c.in_ok-count.ensures.bound in
     let within : held ≤ length there = omega (arith, c.move_to_front.auto.bytes, ap length value) in
     let whole : held - 0 ≡ held = omega arith in
     let front : slice_range there 0 held ≡ c.args.self.now =
-    ap (λ j. take j there) whole ∙ c.move_to_front.ensures ∙ ap (λ xs. slice_range xs b.start b.end) value ∙ c.self.view_is in
-    let fits : held + n ≤ vec_len b.bytes = omega (arith, c.read.auto.buffer, c.move_to_front.auto.bytes, ap length value) in (
+    ap (λ j. take j there) whole ∙ c.move_to_front.ensures ∙ ap (λ xs. slice_range xs b.start b.end) value
+    ∙ c.self.view_is in
+    let fits : held + n ≤ vec_len b.bytes = omega (
+      arith,
+      c.read.auto.buffer,
+      c.move_to_front.auto.bytes,
+      ap length value,
+    ) in (
       take n read,
       refilled there read b.bytes.items (vec_len b.bytes) held _ n within bound fits ∙ ap (λ t. t ++ take n read) front,
       c.in_ok-count.ensures.bytes.0,
       (λ t. let some = ltb-true 0 n t in omega (arith, length-take-le n read bound)),
-      (λ f. let none : n ≡ 0 = omega (arith, ltb-false 0 n f) in (ap (λ j. take j read) none, c.in_ok-count.ensures.bytes.1 none (omega (arith, c.read.auto.buffer, c.move_to_front.auto.bytes, ap length value)))),
+      (λ f. let none : n ≡ 0 = omega (arith, ltb-false 0 n f) in (
+        ap (λ j. take j read) none,
+        c.in_ok-count.ensures.bytes.1 none (omega (
+          arith,
+          c.read.auto.buffer,
+          c.move_to_front.auto.bytes,
+          ap length value,
+        )),
+      )),
     )

@@ -7,4 +7,5 @@ pub returns : goal.returns
 returns g c =
     let b = c.self.inside in
     let fits = rw (← c.self.view_is) at c.requires in
-    consumed b.bytes.items b.start b.end c.args.count (omega (arith, fits, length-take {A = ℕ}, length-drop {A = ℕ})) ∙ ap (drop c.args.count) c.self.view_is
+    consumed b.bytes.items b.start b.end c.args.count (omega (arith, fits, length-take {A = ℕ}, length-drop {A = ℕ}))
+    ∙ ap (drop c.args.count) c.self.view_is

@@ -21,7 +21,10 @@ refresh_compared-requires g c =
     let sites = c.in-Some-default.change in
     let both = pair_some (old b) (new b) sites (sym c.in-Some-default.is-0 ∙ c.site_change-change.ensures) in
     let configured = subst IsConfigured (ap (λ (v : Becoming). v.after) c.self.view_is) c.facts.ensures.configured in
-    record { peers = site_sessions_in_order b.after b.address sites.new configured (site_of_router b.after b.address sites.new both.1) }
+    record {
+      peers = site_sessions_in_order b.after b.address sites.new configured
+          (site_of_router b.after b.address sites.new both.1);
+    }
 
 pub returns-in-Some-default : goal.returns-in-Some-default
 returns-in-Some-default g c =
@@ -43,7 +46,8 @@ returns-in-None-Some g c =
     let h = c.args.cell.now in
     let site : SiteConf = c.in-None-Some.site in
     let there : new b ≡ Some site = sym (ap new c.self.view_is) ∙ sym c.self.invariant.1 ∙ c.in-None-Some.is-1 in
-    let before : old b ≡ None = pair_none (old b) site (sym c.in-None-Some.is-0 ∙ c.site_change-change.ensures ∙ ap (pair_of (old b)) there) in
+    let before : old b ≡ None = pair_none (old b) site (sym c.in-None-Some.is-0 ∙ c.site_change-change.ensures
+    ∙ ap (pair_of (old b)) there) in
     when_ok c.refresh.result _ _ (λ made is.
     is
     ∙ (λ i. refreshed (c.get.ensures i) (c.get-in-None-Some.ensures i) p h)

@@ -19,7 +19,8 @@ loop-route-preserved c =
 pub returns : goal.returns
 returns c =
     let routes = c.args.routes.now in
-    let all = sym (at_drop_all (with_hops c.loop-route.hops) routes c.loop-route.route-index c.loop-route-test.false) ∙ c.loop-route.invariant in
+    let all = sym (at_drop_all (with_hops c.loop-route.hops) routes c.loop-route.route-index c.loop-route-test.false)
+    ∙ c.loop-route.invariant in
     record {
       value = all;
       covers = subst (λ k. Have k routes) (sym all) (covered c.args.self routes);
@@ -30,7 +31,8 @@ pub returns-in-Several : goal.returns-in-Several
 returns-in-Several c =
     let routes = c.args.routes.now in
     let rest = drop c.loop-route.route-index routes in
-    let all = c.in-Several.is ∙ sym (several_stay rest) ∙ ap (λ k. with_hops k rest) (sym c.in-Several.is) ∙ c.loop-route.invariant in
+    let all = c.in-Several.is ∙ sym (several_stay rest) ∙ ap (λ k. with_hops k rest) (sym c.in-Several.is)
+    ∙ c.loop-route.invariant in
     record {
       value = all;
       covers = subst (λ k. Have k routes) (sym all) (covered c.args.self routes);

@@ -6,5 +6,6 @@ use Rattle.cell_engine.proofs.route_cell.moves.SiteChange.moves_any.Given as goa
 -- one of all routes moves just where one of those that are left does
 abbrev pub invariant-loop-route : goal.invariant-loop-route
 invariant-loop-route l =
-    (list_any (is_route_moved l.fn.self l.prefix) (drop l.route-index l.routes) ≡ list_any (is_route_moved l.fn.self l.prefix) l.routes)
+    (list_any (is_route_moved l.fn.self l.prefix) (drop l.route-index l.routes)
+    ≡ list_any (is_route_moved l.fn.self l.prefix) l.routes)
     × (l.self ≡ l.fn.self)

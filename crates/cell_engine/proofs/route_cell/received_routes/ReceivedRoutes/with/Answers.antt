@@ -7,4 +7,5 @@ use Rattle.cell_engine.proofs.route_cell.received_routes.ReceivedRoutes.with.Goa
 pub invariant_of-result : goal.invariant_of-result
 invariant_of-result c =
     let more = rw c.deref.ensures.value at c.in_ok-with_route.ensures in
-    subst AreInOrder (sym more) (ordered_inserted addr_total c.args.sender c.args.attr.now c.self.inside.routes.items c.self.invariant)
+    subst AreInOrder (sym more)
+    (ordered_inserted addr_total c.args.sender c.args.attr.now c.self.inside.routes.items c.self.invariant)

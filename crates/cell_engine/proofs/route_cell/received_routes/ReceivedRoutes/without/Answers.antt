@@ -9,4 +9,5 @@ use Rattle.cell_engine.proofs.route_cell.received_routes.ReceivedRoutes.without.
 pub invariant_of-result : goal.invariant_of-result
 invariant_of-result c =
     let less = rw c.deref.ensures.value at c.in_ok-without_sender.ensures in
-    subst AreInOrder (sym less) (ordered_removed addr_total (is_at (addr_cmp c.args.sender)) c.self.inside.routes.items c.self.invariant)
+    subst AreInOrder (sym less)
+    (ordered_removed addr_total (is_at (addr_cmp c.args.sender)) c.self.inside.routes.items c.self.invariant)

@@ -14,14 +14,17 @@ returns-in_err-table_in-clause-value g c =
     ∙ ap (value_at c.args.router c.args.prefix) c.self.view_is
 
 pub returns-in_err-table_in-clause-by_address : goal.returns-in_err-table_in-clause-by_address
-returns-in_err-table_in-clause-by_address g c = ap (is_sorted addr_cmp) (sym c.self.view_is) ∙ sorted_seen g.T.PrefixTable.table c.self.inside.entries.items ∙ c.self.invariant
+returns-in_err-table_in-clause-by_address g c = ap (is_sorted addr_cmp) (sym c.self.view_is)
+    ∙ sorted_seen g.T.PrefixTable.table c.self.inside.entries.items ∙ c.self.invariant
 
 pub returns-clause-value : goal.returns-clause-value
 returns-clause-value g c =
     let there = c.in_ok-table_in.ensures ∙ ap (find addr_cmp c.args.router) c.deref.ensures.value in
     c.get.ensures
-    ∙ sym (value_found g.T.PrefixTable.table c.args.router c.args.prefix c.self.inside.entries.items c.in_ok-table_in.field-0.now (sym there))
+    ∙ sym (value_found g.T.PrefixTable.table c.args.router c.args.prefix c.self.inside.entries.items
+    c.in_ok-table_in.field-0.now (sym there))
     ∙ ap (value_at c.args.router c.args.prefix) c.self.view_is
 
 pub returns-clause-by_address : goal.returns-clause-by_address
-returns-clause-by_address g c = ap (is_sorted addr_cmp) (sym c.self.view_is) ∙ sorted_seen g.T.PrefixTable.table c.self.inside.entries.items ∙ c.self.invariant
+returns-clause-by_address g c = ap (is_sorted addr_cmp) (sym c.self.view_is)
+    ∙ sorted_seen g.T.PrefixTable.table c.self.inside.entries.items ∙ c.self.invariant

@@ -13,7 +13,9 @@ one_more P n old here v lt = elim (cases_lt v n) [
 pub loop-at-preserved : goal.loop-at-preserved
 loop-at-preserved c =
     let nodes = c.args.self.now.nodes.now in
-    let P : ℕ → Type 0 = λ v. IsSameOrSettled nodes c.args.self.now.links.now (tree_in nodes c.args.self.now.source c.args.before.now) (tree_in nodes c.args.self.now.source c.args.rows.now) v in
+    let P : ℕ → Type 0 = λ v. IsSameOrSettled nodes c.args.self.now.links.now
+    (tree_in nodes c.args.self.now.source c.args.before.now)
+    (tree_in nodes c.args.self.now.source c.args.rows.now) v in
     one_more P c.loop-at.at c.loop-at.invariant c.if-not-is_same_or_settled.ensures
 
 pub returns : goal.returns

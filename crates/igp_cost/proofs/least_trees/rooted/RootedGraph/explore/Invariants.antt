@@ -6,7 +6,8 @@ use Rattle.igp_cost.proofs.least_trees.rooted.RootedGraph.explore.Given as goal
 abbrev pub invariant-loop-cost : goal.invariant-loop-cost
 invariant-loop-cost l = record {
   bounded : IsBounded l.self.nodes.now l.labels;
-  backed : AreBackedLabels l.self.nodes.now l.self.source l.self.links.now l.initial.labels → AreBackedLabels l.self.nodes.now l.self.source l.self.links.now l.labels;
+  backed : AreBackedLabels l.self.nodes.now l.self.source l.self.links.now l.initial.labels →
+      AreBackedLabels l.self.nodes.now l.self.source l.self.links.now l.labels;
   queued : AreQueued l.self.nodes.now (heap_items l.queue);
 }
 

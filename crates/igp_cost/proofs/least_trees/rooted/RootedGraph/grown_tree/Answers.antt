@@ -17,5 +17,11 @@ returns-in-None-Some c =
     let Over : Change → Reached → Type 0 = λ change made. IsGrownOver nodes links change t made in
     subst (λ (change : Change). IfOk c.grown_to-in-None-Some.result (λ o. IfSome o (Over change))) (sym c.in-Added.is)
     (IfOk-weaker c.grown_to-in-None-Some.result (λ o. IfSome o To) (λ o. IfSome o (Over added))
-    (λ o. some_weaker o To (Over added) (λ made grown. record { adds = λ none. none; near = c.in-Added.other; leaf = c.in-Added.one; ends = inr (refl, refl); grown = grown }))
+    (λ o. some_weaker o To (Over added) (λ made grown. record {
+      adds = λ none. none;
+      near = c.in-Added.other;
+      leaf = c.in-Added.one;
+      ends = inr (refl, refl);
+      grown = grown;
+    }))
     c.grown_to-in-None-Some.ensures)

@@ -4,5 +4,7 @@ use Rattle.igp_cost.proofs.least_trees.rooted.RootedGraph.is_plain_source.Goals 
 
 pub returns-then-is_plainly_not_after : goal.returns-then-is_plainly_not_after
 returns-then-is_plainly_not_after c = on_both c.passes_on.result _ _ _
-    (plain_source c.args.self.now.nodes.now c.args.self.now.source c.args.rows.now c.args.self.now.rising c.requires.same_length c.args.from c.args.at c.args.metric c.args.label _ c.requires.from c.if-is_plainly_not_after.ensures.after c.if-is_plainly_not_after.ensures.known)
+    (plain_source c.args.self.now.nodes.now c.args.self.now.source c.args.rows.now c.args.self.now.rising
+    c.requires.same_length c.args.from c.args.at c.args.metric c.args.label _ c.requires.from
+    c.if-is_plainly_not_after.ensures.after c.if-is_plainly_not_after.ensures.known)
     c.passes_on.ensures.inside c.passes_on.ensures.elsewhere

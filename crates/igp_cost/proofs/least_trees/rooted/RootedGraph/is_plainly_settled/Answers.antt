@@ -12,7 +12,9 @@ loop-i-preserved c =
     let nodes = c.args.self.now.nodes.now in
     let links = c.args.self.now.links.now in
     let n = c.loop-i.i in
-    let Over : Link → Type 0 = λ link. IsSettledOver nodes links (tree_in nodes c.args.self.now.source c.args.before.now) (tree_in nodes c.args.self.now.source c.args.rows.now) (addr_at nodes c.args.at) link in
+    let Over : Link → Type 0 =
+    λ link. IsSettledOver nodes links (tree_in nodes c.args.self.now.source c.args.before.now)
+    (tree_in nodes c.args.self.now.source c.args.rows.now) (addr_at nodes c.args.at) link in
     record {
       held = search rules;
       each = λ k link from lt within is. elim (cases_lt k n) [
@@ -20,6 +22,7 @@ loop-i-preserved c =
         | inr after ↦
             let at : n ≡ k = omega arith in
             let n_in = subst (λ j. j < length links) (sym at) within in
-            subst Over (get_or_default links n _ link n_in ∙ ap (λ j. get_or links j link) at ∙ is) c.if-not-is_plainly_settled_over.ensures
+            subst Over (get_or_default links n _ link n_in ∙ ap (λ j. get_or links j link) at
+            ∙ is) c.if-not-is_plainly_settled_over.ensures
       ];
     }

@@ -10,5 +10,8 @@ use Rattle.igp_cost.proofs.least_trees.rooted.RootedGraph.is_plainly_settled.Giv
 abbrev pub invariant-loop-i : goal.invariant-loop-i
 invariant-loop-i l = record {
   held : OnTrue l.held (IsHeldAt l.self.nodes.now l.self.links.now l.self.source l.rows l.at);
-  each : (k : ℕ) (link : Link) → l.initial.i ≤ k → k < l.i → k < length l.self.links.now → slice_index_or l.self.links.now k link ≡ link → IsSettledOver l.self.nodes.now l.self.links.now (tree_in l.self.nodes.now l.self.source l.before) (tree_in l.self.nodes.now l.self.source l.rows) (addr_at l.self.nodes.now l.at) link;
+  each : (k : ℕ) (link : Link) → l.initial.i ≤ k → k < l.i → k < length l.self.links.now →
+      slice_index_or l.self.links.now k link ≡ link →
+      IsSettledOver l.self.nodes.now l.self.links.now (tree_in l.self.nodes.now l.self.source l.before)
+      (tree_in l.self.nodes.now l.self.source l.rows) (addr_at l.self.nodes.now l.at) link;
 }

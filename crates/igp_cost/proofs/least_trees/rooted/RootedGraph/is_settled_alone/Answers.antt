@@ -17,5 +17,6 @@ loop-i-preserved c =
       | inr after ↦
           let at : n ≡ k = omega arith in
           let n_in = subst (λ j. j < length links) (sym at) within in
-          subst Over (get_or_default links n _ link n_in ∙ ap (λ j. get_or links j link) at ∙ is) c.if-not-is_quiet_over.ensures
+          subst Over (get_or_default links n _ link n_in ∙ ap (λ j. get_or links j link) at
+          ∙ is) c.if-not-is_quiet_over.ensures
     ]

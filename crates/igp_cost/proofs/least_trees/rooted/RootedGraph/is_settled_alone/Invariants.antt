@@ -6,4 +6,6 @@ use Rattle.igp_cost.specs.Offers.{IsQuietOver}
 use Rattle.igp_cost.proofs.least_trees.rooted.RootedGraph.is_settled_alone.Given as goal
 
 abbrev pub invariant-loop-i : goal.invariant-loop-i
-invariant-loop-i l = (k : ℕ) (link : Link) → l.initial.i ≤ k → k < l.i → k < length l.self.links.now → slice_index_or l.self.links.now k link ≡ link → IsQuietOver l.self.nodes.now l.tree (addr_at l.self.nodes.now l.at) link
+invariant-loop-i l = (k : ℕ) (link : Link) → l.initial.i ≤ k → k < l.i → k < length l.self.links.now →
+    slice_index_or l.self.links.now k link ≡ link →
+    IsQuietOver l.self.nodes.now l.tree (addr_at l.self.nodes.now l.at) link

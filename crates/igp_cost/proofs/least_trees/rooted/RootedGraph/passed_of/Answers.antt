@@ -8,5 +8,6 @@ use Rattle.igp_cost.proofs.least_trees.rooted.RootedGraph.passed_of.Goals as goa
 pub code_of-requires : goal.code_of-requires
 code_of-requires c =
     let label = label_at c.args.labels.now c.loop-at.at in
-    let here = small_passed c.args.self.now.nodes.now c.args.self.now.source c.loop-at.at label (small c.args.self.now.nodes.now c.args.labels.now c.args.self.now.size c.requires label c.loop-at.at refl) in
+    let here = small_passed c.args.self.now.nodes.now c.args.self.now.source c.loop-at.at label
+    (small c.args.self.now.nodes.now c.args.labels.now c.args.self.now.size c.requires label c.loop-at.at refl) in
     subst (λ (o : Option Label). IfSome o (λ l. l.cost < 1073741824)) (sym c.passed_by.ensures) here

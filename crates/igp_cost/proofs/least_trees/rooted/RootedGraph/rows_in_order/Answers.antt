@@ -19,4 +19,5 @@ returns-then-are_in_order-clause-known c =
     let is = c.in_ok-rows.ensures.rows in
     let placed = subst (ArePlaced nodes) is c.if-are_in_order.ensures.placed in
     let within = subst Within is c.if-are_in_order.ensures.within in
-    subst (λ rows. AreLabelsOf nodes c.args.old.now (labels_of rows)) (sym is) (labels_in_place nodes c.args.old.now c.in_ok-rows.ensures.ascending placed within)
+    subst (λ rows. AreLabelsOf nodes c.args.old.now (labels_of rows)) (sym is)
+    (labels_in_place nodes c.args.old.now c.in_ok-rows.ensures.ascending placed within)

@@ -9,5 +9,6 @@ returns c =
     let nodes = c.args.self.now.nodes.now in
     let count = count_of_labels nodes c.args.before.now c.requires.before.placed.count in
     let made = count_of_labels nodes c.args.rows.items c.requires.placed.count in
-    let known = said_same nodes c.args.self.now.source (labels_of c.args.before.now) c.args.old.now c.args.self.now.rising count c.requires.before.known in
+    let known = said_same nodes c.args.self.now.source (labels_of c.args.before.now) c.args.old.now
+    c.args.self.now.rising count c.requires.before.known in
     search (rules, made, known)

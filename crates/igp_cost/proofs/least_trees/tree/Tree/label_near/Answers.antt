@@ -12,7 +12,8 @@ returns c =
     let rows = c.args.self.now.labels in
     let there = stands rows c.args.row (c.in-Some.addr, c.in-Some.label) (sym c.row.ensures.row ∙ c.in-Some.is) in
     let key = ap (λ (e : Addr × Label). e.0) there.1 ∙ same_addr _ _ (search rules) in
-    sym (lookup_at no_row rows c.row.ensures.ascending c.args.row c.args.to there.0 key ∙ ap (λ (e : Addr × Label). Some e.1) there.1)
+    sym (lookup_at no_row rows c.row.ensures.ascending c.args.row c.args.to there.0 key
+    ∙ ap (λ (e : Addr × Label). Some e.1) there.1)
 
 pub returns-then-is_below : goal.returns-then-is_below
 returns-then-is_below c = sym (above_all c.args.self.now.labels c.args.to c.if-is_below.ensures)

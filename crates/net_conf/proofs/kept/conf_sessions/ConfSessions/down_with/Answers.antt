@@ -17,7 +17,9 @@ returns-in_ok-remove c =
     let b = c.args.other in
     let joined = subst (λ x. IsJoined x d a b) (sym c.self.view_is) c.requires in
     let was : c.in_ok-down.down ≡ down_sessions s = c.in_ok-down.ensures.ok ∙ c.self.invariant in
-    let is : c.remove.new.self ≡ remove_key (is_at (ends_cmp (ends_of a b))) (down_sessions s) = c.in_ok-remove.ensures.ok ∙ ap (λ e. remove_key (is_at (ends_cmp e)) c.in_ok-down.down) c.of-ends.ensures ∙ ap (remove_key (is_at (ends_cmp (ends_of a b)))) was in
+    let is : c.remove.new.self ≡ remove_key (is_at (ends_cmp (ends_of a b))) (down_sessions s) =
+    c.in_ok-remove.ensures.ok ∙ ap (λ e. remove_key (is_at (ends_cmp e)) c.in_ok-down.down) c.of-ends.ensures
+    ∙ ap (remove_key (is_at (ends_cmp (ends_of a b)))) was in
     is
     ∙ down_without_one s d a b joined c.facts.ensures.configured.sessions_apart
     (down_in_order s c.facts.ensures.configured.ordered.sessions) c.facts-2.ensures.configured.ordered.sessions
@@ -32,7 +34,9 @@ returns-in_ok-insert c =
     let b = c.args.other in
     let joined = subst (λ x. IsJoined x d a b) (sym c.self.view_is) c.requires in
     let was : c.in_ok-down.down ≡ down_sessions s = c.in_ok-down.ensures.ok ∙ c.self.invariant in
-    let is : c.insert.new.self ≡ insert_key ends_cmp (down_sessions s) (ends_of a b) = c.in_ok-insert.ensures.ok ∙ ap (λ e. insert_key ends_cmp c.in_ok-down.down e) c.of-ends.ensures ∙ ap (λ ks. insert_key ends_cmp ks (ends_of a b)) was in
+    let is : c.insert.new.self ≡ insert_key ends_cmp (down_sessions s) (ends_of a b) = c.in_ok-insert.ensures.ok
+    ∙ ap (λ e. insert_key ends_cmp c.in_ok-down.down e) c.of-ends.ensures
+    ∙ ap (λ ks. insert_key ends_cmp ks (ends_of a b)) was in
     is
     ∙ down_with_one s d a b joined c.facts.ensures.configured.sessions_apart
     (down_in_order s c.facts.ensures.configured.ordered.sessions) c.facts-2.ensures.configured.ordered.sessions

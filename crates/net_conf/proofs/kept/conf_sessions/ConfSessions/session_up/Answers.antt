@@ -11,7 +11,8 @@ returns-then-has_session c =
     let s = c.self.inside.trees in
     let a = c.args.one in
     let b = c.args.other in
-    let there : has_session s a b ≡ true = ap (λ x. has_session x a b) (sym c.tables.ensures) ∙ sym c.has_session.ensures ∙ c.if-has_session.true in
+    let there : has_session s a b ≡ true = ap (λ x. has_session x a b) (sym c.tables.ensures)
+    ∙ sym c.has_session.ensures ∙ c.if-has_session.true in
     ap (λ t. Some (not t))
     (c.contains.ensures
     ∙ ap (λ e. list_any (is_at (ends_cmp e)) c.self.inside.down) c.of.ensures
@@ -24,5 +25,6 @@ returns-else-has_session c =
     let s = c.self.inside.trees in
     let a = c.args.one in
     let b = c.args.other in
-    let none : has_session s a b ≡ false = ap (λ x. has_session x a b) (sym c.tables.ensures) ∙ sym c.has_session.ensures ∙ c.if-has_session.false in
+    let none : has_session s a b ≡ false = ap (λ x. has_session x a b) (sym c.tables.ensures)
+    ∙ sym c.has_session.ensures ∙ c.if-has_session.false in
     sym (state_missing s a b none) ∙ ap (λ x. session_up x a b) c.self.view_is

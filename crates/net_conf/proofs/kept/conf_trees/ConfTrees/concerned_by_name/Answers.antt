@@ -17,7 +17,8 @@ returns-clause-alone c r out =
     } in
     subst (λ d. StaysAt c.args.self.now d r) (sym c.requires.made)
     (subst (λ x. StaysAt x (edited x e) r) c.self.view_is
-    (named_concerns c.lone_node_moves_no_tree.ensures s c.self.invariant.0 c.orders.ensures.nodes r e none c.requires.link other))
+    (named_concerns c.lone_node_moves_no_tree.ensures s c.self.invariant.0 c.orders.ensures.nodes r e none
+    c.requires.link other))
 
 pub returns-clause-ends : goal.returns-clause-ends
 returns-clause-ends c r out =
@@ -30,5 +31,6 @@ returns-clause-ends c r out =
       session = λ a b is. c.in_ok-named.ensures.session r a b out is;
     } in
     ap (λ x. ends_session x r) (c.requires.made ∙ ap (λ x. edited x e) (sym c.self.view_is))
-    ∙ ends_not_named c.lone_node_moves_no_tree.ensures s c.self.invariant.0 c.orders.ensures.nodes r e none c.requires.link other
+    ∙ ends_not_named c.lone_node_moves_no_tree.ensures s c.self.invariant.0 c.orders.ensures.nodes r e none
+    c.requires.link other
     ∙ ap (λ x. ends_session x r) c.self.view_is

@@ -12,4 +12,5 @@ returns-in-Some c =
     let kept : tree_kept s c.args.router ≡ Some c.in-Some.tree.now =
     sym (c.self.invariant.1 c.args.router) ∙ sym c.get.ensures ∙ ap (λ o. option_copied o) c.in-Some.is in
     IfOk-weaker c.copy.result (λ t. t ≡ c.in-Some.tree.now) (λ t. t ≡ costs_of c.args.self.now c.args.router)
-    (λ t is. is ∙ (kept_is s c.args.router c.in-Some.tree.now kept).1 ∙ ap (λ (x : Configuration). costs_of x c.args.router) c.self.view_is) c.copy.ensures
+    (λ t is. is ∙ (kept_is s c.args.router c.in-Some.tree.now kept).1
+    ∙ ap (λ (x : Configuration). costs_of x c.args.router) c.self.view_is) c.copy.ensures

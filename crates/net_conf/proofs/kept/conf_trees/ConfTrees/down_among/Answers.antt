@@ -12,7 +12,8 @@ pub is_down_then-requires-clause-there : goal.is_down_then-requires-clause-there
 is_down_then-requires-clause-there c =
     let i = c.loop-ends.ends-index in
     let d : Ends = record { low = record { 0 = 0 }; high = record { 0 = 0 } } in
-    subst (λ ks. list_any (is_at (ends_cmp (get_or ks i d))) (keys_of c.args.self.now.sessions) ≡ true) (sym c.requires.sessions)
+    subst (λ ks. list_any (is_at (ends_cmp (get_or ks i d))) (keys_of c.args.self.now.sessions) ≡ true)
+    (sym c.requires.sessions)
     (session_at c.args.self.now i d (subst (λ ks. i < length ks) c.requires.sessions c.loop-ends-test.true))
 
 pub is_down_then-requires-clause-low : goal.is_down_then-requires-clause-low

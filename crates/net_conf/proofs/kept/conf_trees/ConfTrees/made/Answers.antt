@@ -16,11 +16,15 @@ trees_after-requires-clause-sound g c _ _ =
     let s = c.self.inside.tables in
     let e = c.args.edit.now in
     let none : refusal_of s e ≡ None = ap (λ x. refusal_of x e) c.self.view_is ∙ c.requires in
-    subst IsSound (sym (c.in-Ok.ensures.ok ∙ ap (λ x. edited x e) c.in_ok-tables.ensures)) (sound_after s e c.self.invariant.0 c.knows_metric.ensures none)
+    subst IsSound (sym (c.in-Ok.ensures.ok ∙ ap (λ x. edited x e) c.in_ok-tables.ensures))
+    (sound_after s e c.self.invariant.0 c.knows_metric.ensures none)
 
 pub invariant_of-conf : goal.invariant_of-conf
 invariant_of-conf g c =
     let s = c.self.inside.tables in
     let e = c.args.edit.now in
-    let none : refusal_of s e ≡ None = ap (λ x. refusal_of x e) c.self.view_is ∙ c.requires in
-    (subst IsSound (sym (c.in-Ok.ensures.ok ∙ ap (λ x. edited x e) c.in_ok-tables.ensures)) (sound_after s e c.self.invariant.0 c.knows_metric.ensures none), c.in-Ok-trees_after.ensures.trees)
+    let none : refusal_of s e ≡ None = ap (λ x. refusal_of x e) c.self.view_is ∙ c.requires in (
+      subst IsSound (sym (c.in-Ok.ensures.ok ∙ ap (λ x. edited x e) c.in_ok-tables.ensures))
+          (sound_after s e c.self.invariant.0 c.knows_metric.ensures none),
+      c.in-Ok-trees_after.ensures.trees,
+    )

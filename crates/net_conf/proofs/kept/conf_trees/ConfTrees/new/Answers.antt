@@ -10,7 +10,18 @@ use Rattle.net_conf.specs.Kept.{IsSound, tree_kept}
 use Rattle.net_conf.proofs.kept.conf_trees.ConfTrees.new.Goals as goal
 
 empty : IsSound unconfigured
-empty = record { size = omega arith; links = All-nil (HasEnds unconfigured); sessions = All-nil (HasEnds unconfigured); links_apart = All-nil AreApart; sessions_apart = All-nil AreApart; metrics = All-nil (λ l. IsMetric l.metric) }
+empty = record {
+  size = omega arith;
+  links = All-nil (HasEnds unconfigured);
+  sessions = All-nil (HasEnds unconfigured);
+  links_apart = All-nil AreApart;
+  sessions_apart = All-nil AreApart;
+  metrics = All-nil (λ l. IsMetric l.metric);
+}
 
 pub invariant_of-result : goal.invariant_of-result
-invariant_of-result c = (subst IsSound (sym c.new.ensures) empty, λ r. ap (lookup (is_at (addr_cmp r))) c.new-2.ensures ∙ sym (ap (λ x. tree_kept x r) c.new.ensures))
+invariant_of-result c = (
+  subst IsSound (sym c.new.ensures) empty,
+  λ r. ap (lookup (is_at (addr_cmp r))) c.new-2.ensures
+      ∙ sym (ap (λ x. tree_kept x r) c.new.ensures),
+)

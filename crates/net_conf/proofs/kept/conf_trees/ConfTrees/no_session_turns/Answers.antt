@@ -10,5 +10,6 @@ returns c =
     let e = c.args.edit.now in
     let none : refusal_of s e ≡ None = ap (λ x. refusal_of x e) c.self.view_is ∙ c.requires.passes in
     ap (λ x. down_sessions x) (c.requires.made ∙ ap (λ x. edited x e) (sym c.self.view_is))
-    ∙ down_as_before c.lone_node_moves_no_tree.ensures s c.self.invariant.0 c.orders.ensures.nodes e none c.requires.link c.requires.session
+    ∙ down_as_before c.lone_node_moves_no_tree.ensures s c.self.invariant.0 c.orders.ensures.nodes e none
+    c.requires.link c.requires.session
     ∙ ap (λ x. down_sessions x) c.self.view_is

@@ -14,5 +14,7 @@ returns c r =
     let none : refusal_of s e ≡ None = ap (λ x. refusal_of x e) c.self.view_is ∙ c.requires.passes in
     let same : c.in_ok-trees.trees ≡ c.self.inside.trees = c.in_ok-trees.ensures.ok in
     ap (lookup (is_at (addr_cmp r))) same
-    ∙ kept_still s (edited s e) c.self.inside.trees (others_stay c.lone_node_moves_no_tree.ensures s e c.self.invariant.0 c.orders.ensures.nodes (node_is_new s e none) c.requires.link c.requires.session) c.self.invariant.1 r
+    ∙ kept_still s (edited s e) c.self.inside.trees
+    (others_stay c.lone_node_moves_no_tree.ensures s e c.self.invariant.0 c.orders.ensures.nodes
+    (node_is_new s e none) c.requires.link c.requires.session) c.self.invariant.1 r
     ∙ ap (λ x. tree_kept x r) (ap (λ x. edited x e) c.self.view_is ∙ sym c.requires.made)

@@ -10,7 +10,11 @@ pub returns-then-not-may_turn : goal.returns-then-not-may_turn
 returns-then-not-may_turn c =
     let e = c.args.ends in
     let ks = c.args.moved.now.keys in
-    let all : ((is_among e.low ks || is_among e.high ks) || is_at (ends_cmp (ends_of e.low e.high)) c.args.link) ≡ false = sym c.may_turn.ensures ∙ c.if-not-may_turn.true in
+    let all : ((is_among e.low ks || is_among e.high ks) || is_at (ends_cmp (ends_of e.low e.high)) c.args.link)
+    ≡ false = sym c.may_turn.ensures ∙ c.if-not-may_turn.true in
     let apart = both_false _ _ all in
     let ends = both_false _ _ apart.0 in
-    ap not c.if-not-may_turn.true ∙ sym (ap not (stays_away c.args.self.now c.args.after.now c.args.link c.requires.linked e.low e.high apart.1 (c.requires.moved e.low ends.0 c.requires.low) (c.requires.moved e.high ends.1 c.requires.high) ∙ c.requires.down))
+    ap not c.if-not-may_turn.true
+    ∙ sym (ap not (stays_away c.args.self.now c.args.after.now c.args.link c.requires.linked e.low e.high apart.1
+    (c.requires.moved e.low ends.0 c.requires.low) (c.requires.moved e.high ends.1 c.requires.high)
+    ∙ c.requires.down))

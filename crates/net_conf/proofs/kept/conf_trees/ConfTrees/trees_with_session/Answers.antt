@@ -13,12 +13,16 @@ use Rattle.net_conf.proofs.kept.conf_trees.ConfTrees.trees_with_session.Goals as
 pub returns-then-ends_session-2 : goal.returns-then-ends_session-2
 returns-then-ends_session-2 c r =
     let s = c.self.inside.tables in
-    let joined = subst (λ x. IsJoined x c.args.tables.now c.args.one c.args.other) (sym c.self.view_is) c.requires.joined in
+    let joined = subst (λ x. IsJoined x c.args.tables.now c.args.one c.args.other)
+    (sym c.self.view_is) c.requires.joined in
     let same : c.in_ok-trees.trees ≡ c.self.inside.trees = c.in_ok-trees.ensures.ok in
-    let first : ends_session s c.args.one ≡ true = ap (λ x. ends_session x c.args.one) c.self.view_is ∙ sym c.ends_session.ensures ∙ c.if-ends_session.true in
-    let second : ends_session s c.args.other ≡ true = ap (λ x. ends_session x c.args.other) c.self.view_is ∙ sym c.ends_session-then-ends_session.ensures ∙ c.if-ends_session-2.true in
+    let first : ends_session s c.args.one ≡ true = ap (λ x. ends_session x c.args.one) c.self.view_is
+    ∙ sym c.ends_session.ensures ∙ c.if-ends_session.true in
+    let second : ends_session s c.args.other ≡ true = ap (λ x. ends_session x c.args.other) c.self.view_is
+    ∙ sym c.ends_session-then-ends_session.ensures ∙ c.if-ends_session-2.true in
     ap (lookup (is_at (addr_cmp r))) same
-    ∙ kept_still s c.args.tables.now c.self.inside.trees (stay_joined s c.args.tables.now c.args.one c.args.other joined first second) c.self.invariant.1 r
+    ∙ kept_still s c.args.tables.now c.self.inside.trees
+    (stay_joined s c.args.tables.now c.args.one c.args.other joined first second) c.self.invariant.1 r
 
 pub graph_for-requires-clause-first : goal.graph_for-requires-clause-first
 graph_for-requires-clause-first c =
@@ -45,7 +49,8 @@ add_missing-requires-clause-right c t found =
     let a = c.args.one in
     let joined = subst (λ x. IsJoined x d a c.args.other) (sym c.self.view_is) c.requires.joined in
     let same : c.in_ok-trees.trees ≡ c.self.inside.trees = c.in_ok-trees.ensures.ok in
-    right_still s d a c.args.other joined a t (sym (c.self.invariant.1 a) ∙ sym (ap (lookup (is_at (addr_cmp a))) same) ∙ found)
+    right_still s d a c.args.other joined a t (sym (c.self.invariant.1 a) ∙ sym (ap (lookup (is_at (addr_cmp a))) same)
+    ∙ found)
     ∙ sym c.in_ok-graph.ensures.one
 
 pub add_missing-requires-2-clause-right : goal.add_missing-requires-2-clause-right
@@ -57,8 +62,10 @@ add_missing-requires-2-clause-right c t found =
     let joined = subst (λ x. IsJoined x d a b) (sym c.self.view_is) c.requires.joined in
     let same : c.in_ok-trees.trees ≡ c.self.inside.trees = c.in_ok-trees.ensures.ok in
     let graph = c.in_ok-graph.ensures.other in
-    let first = ap (λ x. cond (is_at (addr_cmp b) a) (Some x) (lookup (is_at (addr_cmp b)) c.in_ok-trees.trees)) graph in
-    let kept = ap (cond (is_at (addr_cmp b) a) (Some (costs_of d b))) (ap (lookup (is_at (addr_cmp b))) same ∙ c.self.invariant.1 b) in
+    let first = ap (λ x. cond (is_at (addr_cmp b) a) (Some x) (lookup (is_at (addr_cmp b)) c.in_ok-trees.trees))
+    graph in
+    let kept = ap (cond (is_at (addr_cmp b) a) (Some (costs_of d b))) (ap (lookup (is_at (addr_cmp b))) same
+    ∙ c.self.invariant.1 b) in
     right_then s d a b joined b t (is_at (addr_cmp b) a) (sym (c.in_ok-add_missing.ensures b ∙ first ∙ kept) ∙ found)
     ∙ sym graph
 
@@ -74,6 +81,9 @@ returns c r =
     let before = ap (lookup (is_at (addr_cmp r))) same ∙ c.self.invariant.1 r in
     c.in_ok-add_missing-2.ensures r
     ∙ ap (cond (is_at (addr_cmp r) b) (Some (made r))) (c.in_ok-add_missing.ensures r)
-    ∙ at_one made (costs_of d) r b c.in_ok-graph.ensures.other (cond (is_at (addr_cmp r) a) (Some (made r)) (lookup (is_at (addr_cmp r)) c.in_ok-trees.trees))
-    ∙ ap (cond (is_at (addr_cmp r) b) (Some (costs_of d r))) (at_one made (costs_of d) r a c.in_ok-graph.ensures.one (lookup (is_at (addr_cmp r)) c.in_ok-trees.trees) ∙ ap (cond (is_at (addr_cmp r) a) (Some (costs_of d r))) before)
+    ∙ at_one made (costs_of d) r b c.in_ok-graph.ensures.other
+    (cond (is_at (addr_cmp r) a) (Some (made r)) (lookup (is_at (addr_cmp r)) c.in_ok-trees.trees))
+    ∙ ap (cond (is_at (addr_cmp r) b) (Some (costs_of d r)))
+    (at_one made (costs_of d) r a c.in_ok-graph.ensures.one (lookup (is_at (addr_cmp r)) c.in_ok-trees.trees)
+    ∙ ap (cond (is_at (addr_cmp r) a) (Some (costs_of d r))) before)
     ∙ kept_joined s d a b joined r

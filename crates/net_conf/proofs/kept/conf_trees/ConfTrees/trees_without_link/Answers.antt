@@ -18,5 +18,6 @@ returns-clause-moved c r out ends =
     let none : refusal_of s e ≡ None = ap (λ x. refusal_of x e) c.self.view_is ∙ c.requires.passes in
     let there : ends_session s r ≡ true = ap (λ x. ends_session x r) c.self.view_is ∙ ends in
     ap (λ x. costs_of x r) (c.requires.made ∙ ap (λ x. edited x e) (sym c.self.view_is))
-    ∙ costs_stay c.lone_node_moves_no_tree.ensures s e c.self.invariant.0 c.orders.ensures.nodes none c.requires.link r there
+    ∙ costs_stay c.lone_node_moves_no_tree.ensures s e c.self.invariant.0 c.orders.ensures.nodes none
+    c.requires.link r there
     ∙ ap (λ x. costs_of x r) c.self.view_is

@@ -9,5 +9,6 @@ pub invariant_of-result : goal.invariant_of-result
 invariant_of-result c =
     let same : c.in_ok-trees.trees ≡ c.self.inside.trees = c.in_ok-trees.ensures.ok in (
       subst IsSound (sym c.in_ok-copy.ensures) c.self.invariant.0,
-      λ r. ap (lookup (is_at (addr_cmp r))) same ∙ c.self.invariant.1 r ∙ ap (λ x. tree_kept x r) (sym c.in_ok-copy.ensures),
+      λ r. ap (lookup (is_at (addr_cmp r))) same ∙ c.self.invariant.1 r
+          ∙ ap (λ x. tree_kept x r) (sym c.in_ok-copy.ensures),
     )

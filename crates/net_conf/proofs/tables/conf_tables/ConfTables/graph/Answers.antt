@@ -8,4 +8,5 @@ pub build-requires : goal.build-requires
 build-requires c =
     let s = c.args.self.now in
     subst (λ n. IsTopology n c.deref-2.result.now) (sym (c.deref.ensures.value ∙ c.in_ok-nodes.ensures.list))
-    (subst (λ es. IsTopology (nodes_of s) es) (sym (c.deref-2.ensures.value ∙ c.in_ok-edges.ensures)) (topology s c.requires c.node_list.ensures.ascending))
+    (subst (λ es. IsTopology (nodes_of s) es) (sym (c.deref-2.ensures.value ∙ c.in_ok-edges.ensures))
+    (topology s c.requires c.node_list.ensures.ascending))

@@ -16,11 +16,23 @@ returns-then-len-node_count c =
     let sorted = c.sort_unstable.new.self.items in
     let kept = c.dedup.new.self.items in
     let once = dedup_is _ sorted kept c.dedup.ensures.filtered in
-    let rising = once_sorted named sorted kept c.sort_unstable.ensures.permutation c.sort_unstable.ensures.sorted once in
-    let few : length kept ≤ length s.nodes = omega (arith, c.dedup.ensures.bound, c.sort_unstable.ensures.len, c.len.ensures, c.node_count.ensures, c.if-len-node_count.true) in
-    let all : (x : Addr) → is_among x xs ≡ true → is_among x kept ≡ true = λ x among. once_among named sorted kept c.sort_unstable.ensures.permutation c.sort_unstable.ensures.sorted once x (ap (is_among x) c.in_ok-addrs.ensures ∙ among) in
+    let rising = once_sorted named sorted kept c.sort_unstable.ensures.permutation
+    c.sort_unstable.ensures.sorted once in
+    let few : length kept ≤ length s.nodes = omega (
+      arith,
+      c.dedup.ensures.bound,
+      c.sort_unstable.ensures.len,
+      c.len.ensures,
+      c.node_count.ensures,
+      c.if-len-node_count.true,
+    ) in
+    let all : (x : Addr) → is_among x xs ≡ true →
+    is_among x kept ≡ true =
+    λ x among. once_among named sorted kept c.sort_unstable.ensures.permutation c.sort_unstable.ensures.sorted once
+    x (ap (is_among x) c.in_ok-addrs.ensures ∙ among) in
     IfOk-weaker c.nodes_at.result (λ v. v.items ≡ nodes_at s c.deref.result.now) (λ v. AreNear s xs v.items)
-    (λ v is. subst (AreNear s xs) (sym (is ∙ ap (nodes_at s) c.deref.ensures.value)) (some_near s xs kept rising few all))
+    (λ v is. subst (AreNear s xs) (sym (is ∙ ap (nodes_at s) c.deref.ensures.value))
+    (some_near s xs kept rising few all))
     c.nodes_at.ensures
 
 pub returns : goal.returns

@@ -9,5 +9,8 @@ use Rattle.net_conf.proofs.tables.session_table.SessionTable.peers_of.Goals as g
 
 pub returns : goal.returns
 returns c =
-    let peers : List (Ends × Bool) → List Addr = λ es. map (λ e. peer_in c.args.addr e.0) (filter (λ e. is_end c.args.addr e.0) es) in
-    IfOk-weaker c.peers_of.result (λ v. v.items ≡ peers (entries_in c.chunks.result.now)) (λ v. v.items ≡ peers c.args.self.now) (λ v is. is ∙ ap peers (c.chunks.ensures ∙ c.self.view_is)) c.peers_of.ensures
+    let peers : List (Ends × Bool) →
+    List Addr = λ es. map (λ e. peer_in c.args.addr e.0) (filter (λ e. is_end c.args.addr e.0) es) in
+    IfOk-weaker c.peers_of.result (λ v. v.items ≡ peers (entries_in c.chunks.result.now))
+    (λ v. v.items ≡ peers c.args.self.now) (λ v is. is
+    ∙ ap peers (c.chunks.ensures ∙ c.self.view_is)) c.peers_of.ensures
