@@ -1,5 +1,6 @@
-//! Tests of the desk: what no clause says of threads, of waiting and of its limits. They stand apart from the desk,
-//! which would be proved once more with them.
+//! Tests of the desk: what no clause says of threads, of waiting and of its limits; and of the machines: what only a
+//! call can show. They stand apart from the desk and from the program that has each machine, which would be proved once
+//! more with them.
 #![tactic(auto)]
 
 #[cfg(test)]
@@ -12,5 +13,7 @@ mod engineers;
 mod gate;
 #[cfg(test)]
 mod limits;
+#[cfg(test)]
+mod machines;
 #[cfg(test)]
 mod stale;

@@ -109,6 +109,3 @@ fn call_streams<L: Ledger>(
         Err(fault) => ExitCode::from(end_by(&fault, &mut watched::Output::new(errors))),
     }
 }
-
-#[cfg(test)]
-mod tests;

@@ -1,7 +1,6 @@
 //! Readers and writers that fail midway.
 
-use super::{FIRST_PATH, asked};
-use crate::machines::{PlainMachine, SortedMachine, TrieMachine};
+use super::{FIRST_PATH, PlainMachine, SortedMachine, TrieMachine, asked};
 use reference_machine::Machine;
 use sim_text::{ServeFault, serve};
 use std::alloc::Global;

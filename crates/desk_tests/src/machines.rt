@@ -7,12 +7,26 @@ mod prompt;
 mod runs;
 mod serving;
 
+use cell_engine::Cell;
+use plain_simulator::Simulator;
+use prefix_table::{SortedTable, TrieTable};
 use reference_machine::Machine;
+use route_select::{FilterCell, GroupCell};
+use sim_core::Sim;
 use sim_text::serve;
 use std::alloc::Global;
 use std::process::Abort;
 use std::thread::Threads;
 use watched::{Input, LineBuffer, Output};
+
+/// The definitions made to run.
+type PlainMachine = Simulator<FilterCell>;
+
+/// The engine with sorted tables, whose cells choose when they are asked.
+type SortedMachine = Sim<FilterCell, SortedTable<Cell<FilterCell>>>;
+
+/// The engine with tries, whose cells keep groups: this is what `bgpsim` runs.
+type TrieMachine = Sim<GroupCell, TrieTable<Cell<GroupCell>>>;
 
 /// Lines, and the reply to each.
 type Lines = &'static [(&'static str, &'static str)];

@@ -1,7 +1,6 @@
 //! How many routes the engine decides anew.
 
-use super::asked;
-use crate::machines::{SortedMachine, TrieMachine};
+use super::{SortedMachine, TrieMachine, asked};
 use reference_machine::Machine;
 use std::alloc::Global;
 use std::process::Abort;

@@ -1,6 +1,6 @@
 //! A user at a terminal: each reply stands there before the next line is typed.
 
-use crate::machines::{PlainMachine, SortedMachine, TrieMachine};
+use super::{PlainMachine, SortedMachine, TrieMachine};
 use reference_machine::Machine;
 use sim_text::serve;
 use std::alloc::Global;
