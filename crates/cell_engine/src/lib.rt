@@ -1,9 +1,10 @@
 //! The engine: tables of cells beside the configuration, and the queues (`state`); what it does with a message
-//! (`deliveries`) and with an edit (`edits`), and what both need to send (`sending`). What one cell is stands in the
-//! module `route_cell`; how cells are kept, in `router_tables` and `hop_table`; the network that an engine is, and the
-//! laws of both, in `specs` and `proofs`.
+//! (`deliveries`, of an `arrival`) and with an edit (`edits`), and what both need to send (`sending`). What one cell is
+//! stands in the module `route_cell`; how cells are kept, in `router_tables` and `hop_table`; the network that an
+//! engine is, and the laws of both, in `specs` and `proofs`.
 #![tactic(auto)]
 
+mod arrival;
 mod deliveries;
 mod edits;
 mod hop_table;

@@ -18,6 +18,7 @@ ghost use Rattle.cell_engine.specs.RouterTables.{with_value};
 ghost use Rattle.cell_engine.specs.Sending.{told};
 ghost use Rattle.cell_engine.specs.State.{cell_at, network};
 
+use crate::arrival::Arrival;
 use crate::route_cell::{Cell, take_in};
 use crate::router_tables::RouterTables;
 use crate::sending::push_all;
@@ -37,24 +38,27 @@ fn take_new<S: Selector + Drop, T: PrefixTable<Cell<S>> + Drop>(
     cell: Cell<S>,
     tables: &mut RouterTables<Cell<S>, T>,
     queues: &mut Queues,
-    direction: Direction,
-    message: &Message,
+    arrival: &Arrival<'_>,
 ) -> Result<Vec<(Addr, Message)>, AllocError>
-    requires decided { IsDecided (option_copied site) (prefix_of message.now) cell }
+    requires decided { IsDecided (option_copied site) (prefix_of arrival.now.message.now) cell }
     requires peers { ArePeersInOrder (option_copied site) }
     requires one { (t : addr.Addr) →
-        length (told t (outcome_by (option_copied site) cell direction.from message.now).sends) ≤ 1 }
+        length (told t (outcome_by (option_copied site) cell arrival.now.direction.from
+        arrival.now.message.now).sends) ≤ 1 }
     ensures cell { OnOk result
-        (tables.new ≡ with_value direction.to (prefix_of message.now)
-        (outcome_by (option_copied site.entry) cell direction.from message.now).cell tables.old) }
+        (tables.new ≡ with_value arrival.now.direction.to (prefix_of arrival.now.message.now)
+        (outcome_by (option_copied site.entry) cell arrival.now.direction.from
+        arrival.now.message.now).cell tables.old) }
     ensures sends { IfOk result (λ sends.
-        sends.items ≡ (outcome_by (option_copied site.entry) cell direction.from message.now).sends) }
+        sends.items ≡ (outcome_by (option_copied site.entry) cell arrival.now.direction.from
+        arrival.now.message.now).sends) }
     ensures room { IfOk result (λ sends.
-        (t : addr.Addr) → length (told t sends.items) ≤ spare_at queues.new direction.to t) }
+        (t : addr.Addr) → length (told t sends.items) ≤ spare_at queues.new arrival.now.direction.to t) }
     ensures admitted { IfOk result (λ sends. AreAdmitted queues.new.admitted sends.items) }
     ensures queue { KeepsMessages queues.old queues.new }
     ensures same { OnErr result (tables.new ≡ tables.old) }
 {
+    let (direction, message) = (arrival.direction, arrival.message);
     let mut cell = cell;
     let sends = take_in(alloc, site, &mut cell, queues, direction, message)?;
     match tables.insert(alloc, direction.to, message.prefix(), cell) {
@@ -96,7 +100,10 @@ fn take_lent<S: Selector + Drop, T: PrefixTable<Cell<S>> + Drop>(
     let (router, prefix) = (direction.to, message.prefix());
     let mut cell = match tables.replace(router, prefix, Cell::new(alloc, false)) {
         Ok(cell) => cell,
-        Err(empty) => return take_new(alloc, site, empty, tables, queues, direction, message),
+        Err(empty) => {
+            let arrival = Arrival { direction, message };
+            return take_new(alloc, site, empty, tables, queues, &arrival);
+        }
     };
     let sends = take_in(alloc, site, &mut cell, queues, direction, message);
     match tables.replace(router, prefix, cell) {

@@ -18,12 +18,13 @@ ghost use Rattle.cell_engine.specs.Senders.{AreInOrder};
 ghost use Rattle.cell_engine.specs.Sending.{told};
 ghost use Rattle.cell_engine.specs.Updates.{ComparesAt, compared};
 
+use crate::arrival::Arrival;
 use crate::route_cell::cell::Cell;
 use crate::route_cell::received_routes::ReceivedRoutes;
 use crate::route_cell::sends::sends_at;
 use crate::sending::make_ready;
 use net_conf::SiteConf;
-use net_prefix::{Addr, Prefix};
+use net_prefix::Addr;
 use reference_machine::put_received;
 use route_select::{Candidate, Chosen, Reason, Selector, Source, Standing};
 use seq::Copied;
@@ -114,27 +115,20 @@ fn put_back<S: Selector>(chosen: &mut S, source: Source, had: Option<Standing>)
     }
 }
 
-/// What is sent where the site stays, each message admitted and with a place.
-fn sends_ready(
-    alloc: Global,
-    site: &SiteConf,
-    prefix: Prefix,
-    had: Option<&Candidate>,
-    has: Option<&Candidate>,
+/// What the router sends, where each message of it is admitted and has a place.
+fn made_ready(
     queues: &mut Queues,
     router: Addr,
+    sends: Result<Vec<(Addr, Message)>, AllocError>,
 ) -> Result<Vec<(Addr, Message)>, AllocError>
-    requires peers { IsStrictlySortedBy addr_cmp (map (λ x. x.peer) site.now.sessions) }
-    requires one { (t : addr.Addr) →
-        length (told t (sends_of site.now site.now prefix (option_copied had) (option_copied has))) ≤ 1 }
-    ensures sends { IfOk result (λ sends.
-        sends.items ≡ sends_of site.now site.now prefix (option_copied had.entry) (option_copied has.entry)) }
+    requires { IfOk sends (λ sends. (t : addr.Addr) → length (told t sends.items) ≤ 1) }
+    ensures sends { IfOk result (λ ready. sends ≡ Ok ready) }
     ensures queue { KeepsMessages queues.old queues.new }
-    ensures room { IfOk result (λ sends.
-        (t : addr.Addr) → length (told t sends.items) ≤ spare_at queues.new router t) }
-    ensures admitted { IfOk result (λ sends. AreAdmitted queues.new.admitted sends.items) }
+    ensures room { IfOk result (λ ready.
+        (t : addr.Addr) → length (told t ready.items) ≤ spare_at queues.new router t) }
+    ensures admitted { IfOk result (λ ready. AreAdmitted queues.new.admitted ready.items) }
 {
-    let sends = sends_at(alloc, site, prefix, had, has)?;
+    let sends = sends?;
     make_ready(queues, router, &sends)?;
     Ok(sends)
 }
@@ -164,42 +158,35 @@ fn take_news<S: Selector>(
     chosen: &mut S,
     received: &mut ReceivedRoutes,
     queues: &mut Queues,
-    direction: Direction,
-    message: &Message,
+    arrival: &Arrival<'_>,
 ) -> Result<Vec<(Addr, Message)>, AllocError>
-    requires stands { S.standings chosen.old ≡ standings_by site.now (prefix_of message.now) received.old }
+    requires stands { S.standings chosen.old ≡ standings_by site.now (prefix_of arrival.now.message.now) received.old }
     requires peers { IsStrictlySortedBy addr_cmp (map (λ x. x.peer) site.now.sessions) }
     requires order { AreInOrder received.old }
     requires one { (t : addr.Addr) →
-        length (told t (sends_with site.now direction.from message.now received.old)) ≤ 1 }
+        length (told t (sends_with site.now arrival.now.direction.from arrival.now.message.now received.old)) ≤ 1 }
     ensures stands { OnOk result
-        (S.standings chosen.new ≡ standings_by site.now (prefix_of message.now)
-        (with_news direction.from message.now received.old)) }
-    ensures received { OnOk result (received.new ≡ with_news direction.from message.now received.old) }
+        (S.standings chosen.new ≡ standings_by site.now (prefix_of arrival.now.message.now)
+        (with_news arrival.now.direction.from arrival.now.message.now received.old)) }
+    ensures received { OnOk result
+        (received.new ≡ with_news arrival.now.direction.from arrival.now.message.now received.old) }
     ensures sends { IfOk result (λ sends.
-        sends.items ≡ sends_with site.now direction.from message.now received.old) }
+        sends.items ≡ sends_with site.now arrival.now.direction.from arrival.now.message.now received.old) }
     ensures room { IfOk result (λ sends.
-        (t : addr.Addr) → length (told t sends.items) ≤ spare_at queues.new direction.to t) }
+        (t : addr.Addr) → length (told t sends.items) ≤ spare_at queues.new arrival.now.direction.to t) }
     ensures admitted { IfOk result (λ sends. AreAdmitted queues.new.admitted sends.items) }
     ensures queue { KeepsMessages queues.old queues.new }
     ensures stood { OnErr result (S.standings chosen.new ≡ S.standings chosen.old) }
     ensures kept { OnErr result (received.new ≡ received.old) }
 {
+    let (direction, message) = (arrival.direction, arrival.message);
     let source = Source::Peer(direction.from);
     let had = shared_standing(alloc, chosen, source)?;
     let best = shared_best(alloc, chosen)?;
     set_aside(alloc, chosen, site, direction.from, message)?;
-    let (prefix, router) = (message.prefix(), direction.to);
-    let ready = sends_ready(
-        alloc,
-        site,
-        prefix,
-        best.as_ref(),
-        chosen.best(),
-        queues,
-        router,
-    );
+    let sends = sends_at(alloc, site, message.prefix(), best.as_ref(), chosen.best());
     drop(best);
+    let ready = made_ready(queues, direction.to, sends);
     match receive(alloc, received, direction.from, message, ready) {
         Ok(sends) => {
             drop(had);
@@ -239,14 +226,14 @@ fn deliver_in<S: Selector + Drop>(
 {
     let _ = cell.received.routes();
     begin(alloc, site, &mut cell.chosen);
+    let arrival = Arrival { direction, message };
     take_news(
         alloc,
         site,
         &mut cell.chosen,
         &mut cell.received,
         queues,
-        direction,
-        message,
+        &arrival,
     )
 }
 

@@ -182,29 +182,8 @@ impl ConfTrees {
         ensures { IfOk result (λ then. AreDown after.now then.items) }
     {
         let sessions = self.tables.session_list(alloc)?;
-        let then = self.down_among(alloc, after, link, moved, down, &sessions)?;
-        Ok(then)
-    }
-
-    /// Those of all sessions that are down after such an edit.
-    fn down_among(
-        &self,
-        alloc: Global,
-        after: &ConfTrees,
-        link: Ends,
-        moved: &BTreeSet<Addr>,
-        down: &ChunkedSet<Ends>,
-        sessions: &[Ends],
-    ) -> Result<Vec<Ends>, AllocError>
-        requires linked { AreLinked self.now after.now link }
-        requires moved { CostsStayBut self.now after.now moved.now.keys }
-        requires down { AreDown self.now down.now }
-        requires none { NoneGoesDown after.now self.now }
-        requires sessions { sessions.now ≡ keys_of self.now.sessions }
-        ensures { IfOk result (λ then. then.items ≡ filter (λ e. not (is_up after.now e.low e.high)) sessions.now) }
-    {
         let mut then = Vec::new(alloc);
-        for ends in sessions {
+        for ends in &sessions {
             if self.is_down_then(after, link, moved, down, *ends) {
                 then.push(*ends)?;
             }

@@ -84,60 +84,51 @@ impl Conf {
         requires ends { EndsStayBut self.now after.now concerned.now.keys }
         ensures { IfOk result (λ sites. AreSitesKept after.now sites) }
     {
-        let sites = self.sites.share()?;
         let routers = listed(alloc, concerned)?;
-        let renewed = self.renewed(alloc, edit, after, sites, &routers, turned)?;
+        let renewed = self.renewed(alloc, edit, after, &routers, turned)?;
         Ok(renewed)
     }
 
-    /// The sites, with those of these routers as they are after the edit.
+    /// The sites that are kept, with those of these routers as they are after the edit.
     fn renewed(
         &self,
         alloc: Global,
         edit: &Edit,
         after: &ConfSessions,
-        sites: ChunkedMap<Addr, SharedSite>,
         routers: &[Addr],
         turned: &BTreeSet<Addr>,
     ) -> Result<ChunkedMap<Addr, SharedSite>, AllocError>
         requires { IsMadeBy self.now after.now edit.now turned.now.keys }
         ensures { IfOk result (λ new. (r : Addr) →
             lookup (is_at (addr_cmp r)) new ≡ cond (is_among r routers.now) (site_kept after.now r)
-            (lookup (is_at (addr_cmp r)) sites)) }
+            (site_kept self.now r)) }
     {
-        let mut renewed = sites;
+        let mut renewed = self.sites.share()?;
         for router in routers {
-            self.renew(alloc, edit, after, &mut renewed, *router, turned)?;
+            let site = self.shared_after(alloc, edit, after, *router, turned)?;
+            renew(alloc, &mut renewed, *router, site)?;
         }
         Ok(renewed)
     }
 
-    /// Puts in the router's site as it is after the edit.
-    fn renew(
+    /// The router's site after the edit, to be kept: none where it has no session then.
+    fn shared_after(
         &self,
         alloc: Global,
         edit: &Edit,
         after: &ConfSessions,
-        sites: &mut ChunkedMap<Addr, SharedSite>,
         router: Addr,
         turned: &BTreeSet<Addr>,
-    ) -> Result<(), AllocError>
+    ) -> Result<Option<SharedSite>, AllocError>
         requires { IsMadeBy self.now after.now edit.now turned.now.keys }
-        ensures { OnOk result ((r : Addr) →
-            lookup (is_at (addr_cmp r)) sites.new ≡ cond (is_at (addr_cmp router) r) (site_kept after.now router)
-            (lookup (is_at (addr_cmp r)) sites.old)) }
+        ensures { IfOk result (λ site. site ≡ site_kept after.now router) }
     {
         match self.site_after(alloc, edit, after, router, turned)? {
             Some(site) => {
                 let shared = SharedSite::of(alloc, site)?;
-                sites.put(alloc, router, shared)?;
-                Ok(())
+                Ok(Some(shared))
             }
-            None => {
-                sites.order();
-                sites.take_out(alloc, &router)?;
-                Ok(())
-            }
+            None => Ok(None),
         }
     }
 
@@ -164,6 +155,30 @@ impl Conf {
                 let site = after.site_from(alloc, edit, router, old, turned)?;
                 Ok(site)
             }
+        }
+    }
+}
+
+/// Puts in the router's site, or takes out the one that is there.
+fn renew(
+    alloc: Global,
+    sites: &mut ChunkedMap<Addr, SharedSite>,
+    router: Addr,
+    site: Option<SharedSite>,
+) -> Result<(), AllocError>
+    ensures { OnOk result ((r : Addr) →
+        lookup (is_at (addr_cmp r)) sites.new ≡ cond (is_at (addr_cmp router) r) site
+        (lookup (is_at (addr_cmp r)) sites.old)) }
+{
+    match site {
+        Some(shared) => {
+            sites.put(alloc, router, shared)?;
+            Ok(())
+        }
+        None => {
+            sites.order();
+            sites.take_out(alloc, &router)?;
+            Ok(())
         }
     }
 }

@@ -11,4 +11,4 @@ use Rattle.net_conf.proofs.conf.Conf.renewed.Given as goal
 abbrev pub invariant-loop-router : goal.invariant-loop-router
 invariant-loop-router l = (r : Addr) →
     lookup (is_at (addr_cmp r)) l.renewed ≡ cond (is_among r (take l.router-index l.routers)) (site_kept l.after r)
-    (lookup (is_at (addr_cmp r)) l.fn.sites)
+    (site_kept l.self r)

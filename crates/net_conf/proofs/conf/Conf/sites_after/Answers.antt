@@ -12,11 +12,8 @@ returns c r =
     let s = c.args.self.now in
     let d = c.args.after.now in
     let keys = c.args.concerned.now.keys in
-    let same : c.in_ok-sites.sites ≡ c.self.inside.sites = c.in_ok-sites.ensures.ok in
     c.in_ok-renewed.ensures r
-    ∙ ap (λ ks. cond (is_among r ks) (site_kept d r) (lookup (is_at (addr_cmp r)) c.in_ok-sites.sites))
+    ∙ ap (λ ks. cond (is_among r ks) (site_kept d r) (site_kept s r))
     (c.deref.ensures.value ∙ c.in_ok-routers.ensures)
-    ∙ ap (cond (is_among r keys) (site_kept d r)) (ap (lookup (is_at (addr_cmp r))) same ∙ c.self.invariant r
-    ∙ ap (λ x. site_kept x r) c.self.view_is)
     ∙ either_kept (site_kept d r) (site_kept s r) (is_among r keys)
     (λ out. same_kept s d r (c.requires.concerned r out) (c.requires.ends r out))
