@@ -41,7 +41,7 @@ BOOK, CLOSE = b"book\n", b"close\n"
 # refused to the next.
 DELIVERY, TOGETHER, MOST_TOGETHER = b"job\nwork\ncommit\n", b"turns\n", 4
 # The answers of a room that no memory is needed for, beside a fault of syntax.
-WITHOUT_MEMORY = (b"refused 1 ", b"none\n", b"stale: edits ", b"edits ")
+WITHOUT_MEMORY = (b"refused 1 ", b"none\n", b"stale: edits ", b"edits ", b"decided ")
 # Of a script of more lines only the edits among the last so many are tried, and asked what it asks itself.
 LONG, LAST = 500, 60
 # So many growths of such an edit are enough for the gate.

@@ -1,6 +1,6 @@
 -- What the program does: what the words of its command line ask for, on three streams, and with which exit status
 -- (own).
-use Rattle.std.specs.Prelude.{◌≡◌, ◌⊎◌, ℕ, List, [], map, Option, Result, Ok, Err, IfOk, MatchResult}
+use Rattle.std.specs.Prelude.{◌≡◌, ◌⊎◌, ℕ, false, List, [], map, Option, Result, Ok, Err, IfOk, MatchResult}
 use Rattle.clap.specs.Words.{Text, FailsBy, fault_of, kind_of}
 use Rattle.clap.specs.declared.error.Error.{Error}
 use Rattle.clap.specs.declared.error.kind.ErrorKind.{ErrorKind}
@@ -47,14 +47,19 @@ IsShown kind errors status errors' = (shown : Result ℕ RunFault) × IsPrinted 
 
 -- ---- where something is
 
--- a script was run, which left the reader at some place and the machine in some network
+-- all that was written was sent on, unless the writer failed
+abbrev pub IsSentOn : Writing → Type 0
+IsSentOn o' = o'.failed ≡ false → o'.held ≡ false
+
+-- a script was run, which left the reader at some place and the machine in some network; all replies were sent on
 abbrev pub IsServed : Option (List ℕ) → Writing → Writing → ℕ → Writing → Writing → Type 0
-IsServed bytes o errors status o' errors' = (end : Network) × (i' : Reading)
+IsServed bytes o errors status o' errors' = IsSentOn o' × (end : Network) × (i' : Reading)
     × IsScriptRun bytes o errors status end i' o' errors'
 
--- a log was replayed, which left the reader at some place
+-- a log was replayed, which left the reader at some place; what it was found to be was sent on
 abbrev pub IsReplayed : Option (List ℕ) → Writing → Writing → ℕ → Writing → Writing → Type 0
-IsReplayed bytes o errors status o' errors' = (i' : Reading) × IsReplayRun bytes o errors status i' o' errors'
+IsReplayed bytes o errors status o' errors' = IsSentOn o' × (i' : Reading)
+    × IsReplayRun bytes o errors status i' o' errors'
 
 -- the files of these names, in their order
 abbrev pub AreNamed : List Text → List Source → Type 0

@@ -1,6 +1,6 @@
 //! What a configuration answers of a router, a virtual peer and their session.
 
-use crate::common::asn;
+use crate::common::{asn, equal};
 use net_conf::{Conf, Edit, Kind, Metric, Refusal};
 use net_prefix::Addr;
 use std::alloc::Global;
@@ -32,20 +32,20 @@ fn peered(rt: &(impl Abort + Threads + Sync), alloc: Global) -> Conf {
 #[test]
 fn routers_and_sessions(rt: HostRuntime) {
     let conf = peered(&rt, rt.alloc());
-    assert_eq!(rt; conf.router(ROUTER), Some((asn(&rt, 1), Kind::Router)));
-    assert_eq!(rt; conf.router(PEER), Some((asn(&rt, 2), Kind::Virtual)));
-    assert_eq!(rt; conf.router(NOBODY), None);
-    assert_eq!(rt; conf.session_up(PEER, ROUTER), Some(true));
-    assert_eq!(rt; conf.session_up(ROUTER, NOBODY), None);
+    equal(&rt, conf.router(ROUTER), Some((asn(&rt, 1), Kind::Router)));
+    equal(&rt, conf.router(PEER), Some((asn(&rt, 2), Kind::Virtual)));
+    equal(&rt, conf.router(NOBODY), None);
+    equal(&rt, conf.session_up(PEER, ROUTER), Some(true));
+    equal(&rt, conf.session_up(ROUTER, NOBODY), None);
     drop(conf);
 }
 
 /// Fails where the site of the router is not what the configuration says.
 fn has_site(rt: &impl Abort, alloc: Global, conf: &Conf) {
     let site = conf.site(alloc, ROUTER).expect(rt, "a router has a site");
-    assert_eq!(rt; site.asn, asn(rt, 1));
+    equal(rt, site.asn, asn(rt, 1));
     let session = site.session(PEER).expect(rt, "they have a session");
-    assert_eq!(rt; session.peer_asn, Some(asn(rt, 2)));
+    equal(rt, session.peer_asn, Some(asn(rt, 2)));
     assert!(rt; session.up && session.external);
     drop(site);
 }
@@ -54,8 +54,8 @@ fn has_site(rt: &impl Abort, alloc: Global, conf: &Conf) {
 fn sites(rt: HostRuntime) {
     let alloc = rt.alloc();
     let conf = peered(&rt, alloc);
-    assert_eq!(rt; conf.site(alloc, NOBODY).err(), Some(Refusal::NoRouter));
-    assert_eq!(rt; conf.site(alloc, PEER).err(), Some(Refusal::BadEnd));
+    equal(&rt, conf.site(alloc, NOBODY).err(), Some(Refusal::NoRouter));
+    equal(&rt, conf.site(alloc, PEER).err(), Some(Refusal::BadEnd));
     has_site(&rt, alloc, &conf);
     drop(conf);
 }
@@ -75,9 +75,9 @@ fn med_over_all_neighbours(rt: HostRuntime) {
         let edit = Edit::MedAlways(ROUTER, always);
         conf.edit(&rt, alloc, &edit)
             .expect(&rt, "a setting may repeat");
-        assert_eq!(rt; compares_all_meds(&rt, alloc, &conf), always);
+        equal(&rt, compares_all_meds(&rt, alloc, &conf), always);
     }
     let edit = Edit::MedAlways(PEER, true);
-    assert_eq!(rt; conf.check(&edit), Err(Refusal::BadEnd));
+    equal(&rt, conf.check(&edit), Err(Refusal::BadEnd));
     drop(conf);
 }

@@ -1,6 +1,6 @@
 //! Worked graphs.
 
-use crate::common::asn;
+use crate::common::{asn, equal};
 use igp_cost::{Change, Graph, Metric, Tree, is_topology};
 use net_prefix::Addr;
 use path_attr::Asn;
@@ -73,8 +73,8 @@ fn retouched(rt: &impl Abort, alloc: Global, graph: &Graph, old: &Tree, change: 
 
 /// Fails where the tree says another cost or first hop.
 fn says(rt: &impl Abort, tree: &Tree, to: Addr, cost: Option<u32>, hop: Option<Addr>) {
-    assert_eq!(rt; tree.cost(to), cost);
-    assert_eq!(rt; tree.first_hop(to), hop);
+    equal(rt, tree.cost(to), cost);
+    equal(rt, tree.first_hop(to), hop);
 }
 
 #[test]
@@ -90,6 +90,7 @@ fn least_walks(rt: HostRuntime) {
     let from_outside = tree(&rt, alloc, &whole, OUTSIDE);
     says(&rt, &from_outside, THIRD, Some(5), Some(THIRD));
     says(&rt, &from_outside, FIRST, None, None);
+    drop((whole, from_first, from_outside));
 }
 
 #[test]
@@ -98,19 +99,24 @@ fn first_edge_removed(rt: HostRuntime) {
     let fewer = fewer(&rt, alloc);
     let made = tree(&rt, alloc, &fewer, FIRST);
     says(&rt, &made, SECOND, Some(3), Some(THIRD));
-    let old = tree(&rt, alloc, &whole(&rt, alloc), FIRST);
+    let whole = whole(&rt, alloc);
+    let old = tree(&rt, alloc, &whole, FIRST);
     let removed = Change::Removed(FIRST, SECOND);
     let repaired = retouched(&rt, alloc, &fewer, &old, removed);
     says(&rt, &repaired, SECOND, Some(3), Some(THIRD));
+    drop((whole, fewer, made, old, repaired));
 }
 
 /// An old tree that is wrong where the change does not lead.
 #[test]
 fn old_tree_of_another_graph(rt: HostRuntime) {
     let alloc = rt.alloc();
-    let old = tree(&rt, alloc, &fewer(&rt, alloc), FIRST);
+    let fewer = fewer(&rt, alloc);
+    let whole = whole(&rt, alloc);
+    let old = tree(&rt, alloc, &fewer, FIRST);
     let elsewhere = Change::Removed(OUTSIDE, OUTSIDE);
-    let made = retouched(&rt, alloc, &whole(&rt, alloc), &old, elsewhere);
+    let made = retouched(&rt, alloc, &whole, &old, elsewhere);
     says(&rt, &made, SECOND, Some(1), Some(SECOND));
     says(&rt, &made, THIRD, Some(2), Some(SECOND));
+    drop((whole, fewer, old, made));
 }

@@ -1,6 +1,6 @@
 //! A run of the plain simulator, with the replies that the worked example gives.
 
-use crate::common::{asn, ten};
+use crate::common::{asn, equal, ten};
 use net_conf::{Edit, Metric};
 use net_prefix::Addr;
 use plain_simulator::Simulator;
@@ -32,7 +32,9 @@ fn first_path(rt: &impl Abort) -> [Event; 7] {
 /// What the machine answers to the events, from the empty network on.
 fn replies_to(rt: &(impl Abort + Threads + Sync), alloc: Global, events: &[Event]) -> Vec<Reply> {
     let mut machine: Simulator<FilterCell> = Simulator::new(alloc);
-    machine.run(rt, events).expect(rt, "memory for the replies")
+    let replies = machine.run(rt, events);
+    drop(machine);
+    replies.expect(rt, "memory for the replies")
 }
 
 /// Whether this is the one route of the second router's table.
@@ -55,7 +57,7 @@ fn is_first_path(rt: &impl Abort, reply: &Reply) -> bool {
 #[test]
 fn a_run_gives_one_reply_an_event(rt: HostRuntime) {
     let replies = replies_to(&rt, rt.alloc(), &first_path(&rt));
-    assert_eq!(rt; replies.len(), 7);
+    equal(&rt, replies.len(), 7);
     assert!(rt; matches!(&replies[4], Reply::Done));
     assert!(rt; matches!(&replies[5], Reply::Took(_, MessageKind::Update)));
     assert!(rt; is_first_path(&rt, &replies[6]));

@@ -1,5 +1,6 @@
 //! Attributes by number.
 
+use crate::common::equal;
 use attr_pool::Pool;
 use net_prefix::Addr;
 use path_attr::{Attr, SharedAttr};
@@ -27,11 +28,14 @@ fn equal_attributes_have_one_number(rt: HostRuntime) {
     let five = pool.intern(attr(&rt, rt.alloc(), 5)).expect(&rt, "memory");
     let six = pool.intern(attr(&rt, rt.alloc(), 6)).expect(&rt, "memory");
     assert_ne!(rt; five, six);
-    assert_eq!(rt;
+    equal(
+        &rt,
         pool.intern(attr(&rt, rt.alloc(), 5)).expect(&rt, "memory"),
-        five
+        five,
     );
-    assert_eq!(rt; pool.attr(six), Some(&attr(&rt, rt.alloc(), 6)));
+    let wanted = attr(&rt, rt.alloc(), 6);
+    equal(&rt, pool.attr(six), Some(&wanted));
+    drop((pool, wanted));
 }
 
 #[test]
@@ -48,6 +52,7 @@ fn many_attributes_keep_their_numbers(rt: HostRuntime) {
         let again = pool
             .intern(attr(&rt, rt.alloc(), drawn(n)))
             .expect(&rt, "memory");
-        assert_eq!(rt; numbers.get(n as usize), Some(&again));
+        equal(&rt, numbers.get(n as usize), Some(&again));
     }
+    drop((pool, numbers));
 }

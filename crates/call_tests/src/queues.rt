@@ -1,5 +1,6 @@
 //! A walk over the directions with a message.
 
+use crate::common::equal;
 use crate::pool::attr;
 use net_prefix::{Addr, Prefix};
 use session_queue::{Message, Queues, View};
@@ -19,12 +20,12 @@ fn put(rt: &impl Abort, queues: &mut Queues, from: Addr, to: Addr) {
 #[test]
 fn walks_over_full_directions(rt: HostRuntime) {
     let mut queues = Queues::new(rt.alloc(), None);
-    assert_eq!(rt; queues.next_full(None), None);
+    equal(&rt, queues.next_full(None), None);
     put(&rt, &mut queues, B, A);
     put(&rt, &mut queues, A, B);
-    assert_eq!(rt; queues.next_full(None), Some((A, B)));
-    assert_eq!(rt; queues.next_full(Some((A, B))), Some((B, A)));
-    assert_eq!(rt; queues.next_full(Some((B, A))), None);
+    equal(&rt, queues.next_full(None), Some((A, B)));
+    equal(&rt, queues.next_full(Some((A, B))), Some((B, A)));
+    equal(&rt, queues.next_full(Some((B, A))), None);
 }
 
 #[test]
@@ -37,13 +38,15 @@ fn updates_keep_their_attributes_while_others_come(rt: HostRuntime) {
         queues.admit(&sent).expect(&rt, "memory");
         queues.push(A, B, Message::Update(all, sent));
     }
-    assert_eq!(rt;
+    equal(
+        &rt,
         queues.head(A, B),
-        Some(View::Update(all, &attr(&rt, rt.alloc(), 0)))
+        Some(View::Update(all, &attr(&rt, rt.alloc(), 0))),
     );
-    assert_eq!(rt;
+    equal(
+        &rt,
         queues.at(A, B, 99),
-        Some(View::Update(all, &attr(&rt, rt.alloc(), 99)))
+        Some(View::Update(all, &attr(&rt, rt.alloc(), 99))),
     );
-    assert_eq!(rt; queues.at(A, B, 100), None);
+    equal(&rt, queues.at(A, B, 100), None);
 }

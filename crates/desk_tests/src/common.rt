@@ -14,6 +14,7 @@ use route_select::{FilterCell, GroupCell};
 use sim_core::Sim;
 use sim_event::Reply;
 use std::alloc::Global;
+use std::fmt::Debug;
 use std::process::Abort;
 use std::sync::Wait;
 use std::sync::ledger::{Blank, Ledger};
@@ -44,6 +45,11 @@ pub fn opened<L: Ledger, R: Abort>(
         alloc, None, seats, shards, blank,
     );
     opened.ok().expect(rt, "a desk")
+}
+
+/// Fails, and shows both, unless they are equal. A call is much less to prove than `assert_eq!` in its place.
+pub fn equal<T: PartialEq + Debug + Drop>(rt: &impl Abort, found: T, wanted: T) {
+    assert_eq!(rt; found, wanted);
 }
 
 /// A command, and the text of its reply.
@@ -110,7 +116,9 @@ pub fn is_answered<L: Ledger, R: Threads + Wait + Sync>(
         return false;
     };
     let reply = desk.call(rt, seat, event);
-    is_text(alloc, &reply, text)
+    let is_wanted = is_text(alloc, &reply, text);
+    drop(reply);
+    is_wanted
 }
 
 /// Whether this is the text of the reply.

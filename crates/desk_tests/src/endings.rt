@@ -2,7 +2,7 @@
 
 ghost use Rattle.desk.specs.Desks.{IsDeskLedger};
 
-use crate::common::{Open, STAR, are_answered, opened};
+use crate::common::{Open, STAR, are_answered, equal, opened};
 use desk::run_workers;
 use std::alloc::Global;
 use std::marker::Brand;
@@ -15,19 +15,19 @@ use std::thread::Threads;
 fn a_worker_ends_after_its_turns(rt: HostRuntime) {
     let alloc = rt.alloc();
     let none = delivered::<Brand, _>(&rt, alloc, 1, 0, false, Blank::new(256));
-    assert_eq!(rt; none, 0);
+    equal(&rt, none, 0);
     let one = delivered::<Brand, _>(&rt, alloc, 1, 1, false, Blank::new(256));
-    assert_eq!(rt; one, 1);
+    equal(&rt, one, 1);
 }
 
 #[test]
 fn a_worker_ends_once_the_calls_do_and_it_is_left_no_job(rt: HostRuntime) {
     let alloc = rt.alloc();
     let all = delivered::<Brand, _>(&rt, alloc, 1, 1_000, true, Blank::new(256));
-    assert_eq!(rt; all, 2);
+    equal(&rt, all, 2);
     // Nobody serves the shard of the other message.
     let one = delivered::<Brand, _>(&rt, alloc, 2, 1_000, true, Blank::new(256));
-    assert_eq!(rt; one, 1);
+    equal(&rt, one, 1);
 }
 
 /// How many of two messages the one worker of a desk delivers.
@@ -48,6 +48,8 @@ fn delivered<L: Ledger + Send + Sync, R: Threads + Wait + Abort + Sync>(
         desk.finish_calls(rt);
     }
     let workers = run_workers(rt, &desk, workers, &Open, turns);
-    assert_eq!(rt; workers.len(), 1);
-    workers[0].count()
+    equal(rt, workers.len(), 1);
+    let count = workers[0].count();
+    drop((desk, engineer, workers));
+    count
 }

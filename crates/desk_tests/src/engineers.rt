@@ -2,7 +2,7 @@
 
 ghost use Rattle.desk.specs.Desks.{IsDeskLedger};
 
-use crate::common::{Asked, GroupDesk, GroupRoom, Open, are_answered, opened, replayed};
+use crate::common::{Asked, GroupDesk, GroupRoom, Open, are_answered, equal, opened, replayed};
 use desk::{Audit, CloseFault, Fault, Seat, run_workers};
 use log_replay::Replayed;
 use std::alloc::Global;
@@ -61,14 +61,14 @@ fn closes_with_all_seats<L: Ledger, R: Threads + Abort + Sync>(
     entries: u64,
 ) {
     let last = seats.pop().expect(rt, "a last seat");
-    assert_eq!(rt; usize::from(last.number()), seats.len());
+    equal(rt, usize::from(last.number()), seats.len());
     let left = room.close(seats).err().expect(rt, "a seat is missing");
     let CloseFault {
         fault,
         room,
         mut seats,
     } = left;
-    assert_eq!(rt; fault, Fault::MissingSeat);
+    equal(rt, fault, Fault::MissingSeat);
     seats.push(last).expect(rt, "memory");
     is_record_of(rt, alloc, room, seats, entries);
 }
@@ -82,10 +82,11 @@ fn is_record_of<L: Ledger, R: Threads + Abort + Sync>(
     entries: u64,
 ) {
     let record = room.close(seats).ok().expect(rt, "all seats are there");
-    assert_eq!(rt; record.entries().len() as u64, entries);
-    assert_eq!(rt;
+    equal(rt, record.entries().len() as u64, entries);
+    equal(
+        rt,
         replayed(rt, alloc, &record),
-        Some(Replayed::Agrees { entries })
+        Some(Replayed::Agrees { entries }),
     );
 }
 
@@ -138,7 +139,7 @@ fn with_workers<L: Ledger + Send + Sync, R: Threads + Wait + Abort + Sync>(
         || run_workers(rt, &desk, workers, &Open, 1_000),
     );
     assert!(rt; made);
-    assert_eq!(rt; delivered(rt, &desk, &workers), 1);
+    equal(rt, delivered(rt, &desk, &workers), 1);
     seats.append(&mut workers).expect(rt, "memory");
     closes_with_all_seats(rt, alloc, desk.end(), seats, 10);
 }
@@ -151,7 +152,7 @@ fn delivered<L: Ledger, R: Wait + Abort>(
 ) -> usize {
     let mut delivered = 0_usize;
     for worker in workers {
-        assert_eq!(rt; desk.audit(rt, worker), Audit::Agrees);
+        equal(rt, desk.audit(rt, worker), Audit::Agrees);
         delivered = delivered.saturating_add(worker.notes().len());
     }
     delivered

@@ -2,7 +2,7 @@
 
 ghost use Rattle.desk.specs.Desks.{IsDeskLedger};
 
-use crate::common::{Asked, GroupDesk, STAR, are_answered, is_answered, opened, worked};
+use crate::common::{Asked, GroupDesk, STAR, are_answered, equal, is_answered, opened, worked};
 use desk::{Committed, Gate, Newer, Seat, run_workers};
 use std::alloc::Global;
 use std::marker::Brand;
@@ -106,8 +106,9 @@ fn meet<L: Ledger + Send + Sync, R: Threads + Wait + Abort + Sync>(
     );
     assert!(rt; is_edited);
     assert!(rt; !gate.has_failed.load(Ordering::SeqCst));
-    assert_eq!(rt; workers.len(), 2);
+    equal(rt, workers.len(), 2);
     assert!(rt; are_answered(rt, alloc, &desk, &mut engineer, &TAKEN));
+    drop((desk, engineer, workers));
 }
 
 /// Edits the configuration while worker 0 has its first job, and ends the calls once it has another. Whether an outcome

@@ -15,5 +15,3 @@ mod gate;
 mod limits;
 #[cfg(test)]
 mod machines;
-#[cfg(test)]
-mod stale;

@@ -2,7 +2,7 @@
 
 ghost use Rattle.desk.specs.Desks.{IsDeskLedger};
 
-use crate::common::{GroupDesk, Tries};
+use crate::common::{GroupDesk, Tries, equal};
 use desk::{Desk, OpenFault, Seat};
 use route_select::GroupCell;
 use std::alloc::Global;
@@ -14,13 +14,13 @@ use std::sync::ledger::{Blank, Ledger};
 fn a_desk_has_1_to_256_seats_and_1_to_64_shards(rt: HostRuntime) {
     let alloc = rt.alloc();
     let none = fault_of::<Brand>(alloc, 0, 1, Blank::new(256));
-    assert_eq!(rt; none, Some(OpenFault::Seats));
+    equal(&rt, none, Some(OpenFault::Seats));
     let many = fault_of::<Brand>(alloc, 257, 1, Blank::new(256));
-    assert_eq!(rt; many, Some(OpenFault::Seats));
+    equal(&rt, many, Some(OpenFault::Seats));
     let shards = fault_of::<Brand>(alloc, 1, 65, Blank::new(256));
-    assert_eq!(rt; shards, Some(OpenFault::Shards));
+    equal(&rt, shards, Some(OpenFault::Shards));
     let most = fault_of::<Brand>(alloc, 256, 64, Blank::new(256));
-    assert_eq!(rt; most, None);
+    equal(&rt, most, None);
 }
 
 /// Why such a desk is not opened.

@@ -1,7 +1,6 @@
 //! What only a call can show, on each machine: readers and writers that fail, a reader that waits for its replies.
 //! Whole scripts are data, in cases/ at the top of the repository.
 
-mod counts;
 mod faults;
 mod prompt;
 mod runs;

@@ -37,6 +37,8 @@ enum Call {
     Turns,
     /// `Desk::open` of the largest desk.
     Open,
+    /// `Room::decided`.
+    Decided,
     /// What the calls have come to.
     Book,
 }
@@ -49,6 +51,7 @@ fn call_named(word: &[u8]) -> Option<Call> {
         b"commit" => Some(Call::Commit),
         b"turns" => Some(Call::Turns),
         b"open" => Some(Call::Open),
+        b"decided" => Some(Call::Decided),
         b"book" => Some(Call::Book),
         _ => None,
     }
@@ -101,6 +104,7 @@ impl<L: Ledger> Hands<L> {
             Some(Call::Commit) => self.commit(output),
             Some(Call::Turns) => self.make_turns(output),
             Some(Call::Open) => open_another::<Brand, W>(self.alloc, Blank::new(256), output),
+            Some(Call::Decided) => write_numbered(b"decided ", self.room.decided(), output),
             Some(Call::Book) => self.tell(output),
         }
     }

@@ -155,6 +155,13 @@ impl<S: Chosen, T: PrefixTable<Cell<S>>, L: Ledger> Room<S, T, L> {
         self.version
     }
 
+    /// How many routes were decided anew.
+    pub fn decided(&self) -> u64
+        ensures { result ≡ self.now.decided }
+    {
+        self.sim.decided()
+    }
+
     /// Whether the seat's notes are its calls in the history.
     pub fn audit(&self, seat: &Seat<L>) -> Audit
         ensures { (result ≡ Audit.Agrees) ↔ (calls_of seat.now.number self.now.history ≡ seat.now.notes) }

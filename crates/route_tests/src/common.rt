@@ -4,6 +4,7 @@ use net_prefix::{Prefix, read_prefix};
 use path_attr::{AsPath, Asn, Segment};
 use seq::{Seq, SharedSeq};
 use std::alloc::Global;
+use std::fmt::Debug;
 use std::process::Abort;
 
 /// The prefix that the text spells.
@@ -36,4 +37,9 @@ pub fn path(rt: &impl Abort, alloc: Global, sequence: &[u32], set: &[u32]) -> As
     }
     let segments = SharedSeq::of(alloc, segments).expect(rt, "memory");
     AsPath::new(segments).expect(rt, "the path is well formed")
+}
+
+/// Fails, and shows both, unless they are equal. A call is much less to prove than `assert_eq!` in its place.
+pub fn equal<T: PartialEq + Debug + Drop>(rt: &impl Abort, found: T, wanted: T) {
+    assert_eq!(rt; found, wanted);
 }

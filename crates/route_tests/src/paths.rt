@@ -1,6 +1,6 @@
 //! Worked paths.
 
-use crate::common::{asn, path};
+use crate::common::{asn, equal, path};
 use path_attr::AsPath;
 use std::process::Abort;
 
@@ -8,21 +8,21 @@ use std::process::Abort;
 fn begins_with_a_sequence(rt: HostRuntime) {
     let alloc = rt.alloc();
     let mut worked = path(&rt, alloc, &[7], &[1, 2, 3]);
-    assert_eq!(rt; worked.length(), 2);
-    assert_eq!(rt; worked.neighbour(), Some(asn(&rt, 7)));
+    equal(&rt, worked.length(), 2);
+    equal(&rt, worked.neighbour(), Some(asn(&rt, 7)));
     assert!(rt; worked.holds(asn(&rt, 2)));
     worked.prepend(alloc, asn(&rt, 9)).expect(&rt, "memory");
-    assert_eq!(rt; worked, path(&rt, alloc, &[9, 7], &[1, 2, 3]));
+    equal(&rt, worked, path(&rt, alloc, &[9, 7], &[1, 2, 3]));
 }
 
 #[test]
 fn begins_with_a_set(rt: HostRuntime) {
     let alloc = rt.alloc();
     let mut worked = path(&rt, alloc, &[], &[1, 2]);
-    assert_eq!(rt; worked.length(), 1);
-    assert_eq!(rt; worked.neighbour(), None);
+    equal(&rt, worked.length(), 1);
+    equal(&rt, worked.neighbour(), None);
     worked.prepend(alloc, asn(&rt, 9)).expect(&rt, "memory");
-    assert_eq!(rt; worked, path(&rt, alloc, &[9], &[1, 2]));
+    equal(&rt, worked, path(&rt, alloc, &[9], &[1, 2]));
 }
 
 #[test]
@@ -30,5 +30,5 @@ fn prepends_to_nothing(rt: HostRuntime) {
     let alloc = rt.alloc();
     let mut worked = AsPath::empty();
     worked.prepend(alloc, asn(&rt, 9)).expect(&rt, "memory");
-    assert_eq!(rt; worked, path(&rt, alloc, &[9], &[]));
+    equal(&rt, worked, path(&rt, alloc, &[9], &[]));
 }

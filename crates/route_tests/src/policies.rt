@@ -1,6 +1,6 @@
 //! A worked policy.
 
-use crate::common::prefix;
+use crate::common::{equal, prefix};
 use net_prefix::Addr;
 use path_attr::Attr;
 use route_policy::{Action, Match, Policy, Rule, Settings, judge};
@@ -31,11 +31,11 @@ fn judges_by_the_first_rule(rt: HostRuntime) {
     add(&rt, &mut policy, inside, Action::Deny);
     add(&rt, &mut policy, Match::Any, PREFER_FIVE);
     let part = prefix(&rt, "10.1.0.0/16");
-    assert_eq!(rt; judge(&policy, part, &route), Action::Deny);
+    equal(&rt, judge(&policy, part, &route), Action::Deny);
     let other = prefix(&rt, "11.0.0.0/8");
-    assert_eq!(rt; judge(&policy, other, &route), PREFER_FIVE);
+    equal(&rt, judge(&policy, other, &route), PREFER_FIVE);
     policy.clear();
-    assert_eq!(rt; judge(&policy, part, &route), Action::PLAIN_PERMIT);
+    equal(&rt, judge(&policy, part, &route), Action::PLAIN_PERMIT);
 }
 
 /// The policy `comm 5 deny`.
@@ -45,7 +45,7 @@ fn judges_by_communities(rt: HostRuntime) {
     let mut policy = Policy::new(rt.alloc());
     add(&rt, &mut policy, Match::Comm(5), Action::Deny);
     let ten = prefix(&rt, "10.0.0.0/8");
-    assert_eq!(rt; judge(&policy, ten, &route), Action::PLAIN_PERMIT);
+    equal(&rt, judge(&policy, ten, &route), Action::PLAIN_PERMIT);
     route.comms = route.comms.with(rt.alloc(), 5).expect(&rt, "memory");
-    assert_eq!(rt; judge(&policy, ten, &route), Action::Deny);
+    equal(&rt, judge(&policy, ten, &route), Action::Deny);
 }

@@ -1,5 +1,6 @@
 //! Worked prefixes and addresses.
 
+use crate::common::equal;
 use net_prefix::{Addr, Prefix, read_addr};
 use std::process::Abort;
 
@@ -10,6 +11,6 @@ fn a_prefix_has_no_host_bits(rt: HostRuntime) {
     assert!(rt; Prefix::new(Addr(0), 0).is_some());
     assert!(rt; Prefix::new(Addr(0x0a00_0001), 8).is_none());
     assert!(rt; Prefix::new(Addr(0), 33).is_none());
-    assert_eq!(rt; read_addr(b"10.0.0.0"), Some(ten));
-    assert_eq!(rt; read_addr(b"01.2.3.4"), None);
+    equal(&rt, read_addr(b"10.0.0.0"), Some(ten));
+    equal(&rt, read_addr(b"01.2.3.4"), None);
 }

@@ -1,5 +1,6 @@
 //! Each caller at both tables.
 
+use crate::common::equal;
 use crate::table_use::{
     keys, keys_at_once, longest_of_both, put_and_get, put_and_get_other, put_and_match,
 };
@@ -17,9 +18,9 @@ fn filled<T: PrefixTable<u8> + Drop>(rt: &impl Abort, mut table: T) -> T {
     let ten = prefix(rt, 0x0a00_0000, 8);
     let part = prefix(rt, 0x0a00_0000, 16);
     let all = prefix(rt, 0, 0);
-    assert_eq!(rt; put_and_get(&mut table, part, 3), Ok(Some(3)));
-    assert_eq!(rt; put_and_get_other(&mut table, ten, 2, part), Ok(Some(3)));
-    assert_eq!(rt; put_and_match(&mut table, all, 1), Ok(Some((all, 1))));
+    equal(rt, put_and_get(&mut table, part, 3), Ok(Some(3)));
+    equal(rt, put_and_get_other(&mut table, ten, 2, part), Ok(Some(3)));
+    equal(rt, put_and_match(&mut table, all, 1), Ok(Some((all, 1))));
     table
 }
 
@@ -29,9 +30,9 @@ fn walks<T: PrefixTable<u8>>(rt: &impl Abort, alloc: Global, table: &T) {
     let part = prefix(rt, 0x0a00_0000, 16);
     let walk = [prefix(rt, 0, 0), ten, part];
     let walked = keys(alloc, table).expect(rt, "memory");
-    assert_eq!(rt; walked.as_slice(), walk.as_slice());
+    equal(rt, walked.as_slice(), walk.as_slice());
     let listed = keys_at_once(alloc, table).expect(rt, "memory");
-    assert_eq!(rt; listed.as_slice(), walk.as_slice());
+    equal(rt, listed.as_slice(), walk.as_slice());
 }
 
 #[test]
@@ -42,5 +43,5 @@ fn callers_use_either_table(rt: HostRuntime) {
     walks(&rt, rt.alloc(), &trie);
     let ten = prefix(&rt, 0x0a00_0000, 8);
     let both = longest_of_both(&plain, &trie, Addr(0x0a00_0501), 15);
-    assert_eq!(rt; both, (Some((ten, 2)), Some((ten, 2))));
+    equal(&rt, both, (Some((ten, 2)), Some((ten, 2))));
 }

@@ -1,5 +1,6 @@
 //! Worked tables of either kind.
 
+use crate::common::equal;
 use net_prefix::{Addr, Prefix};
 use prefix_table::{PrefixTable, SortedTable, TrieTable};
 use std::alloc::Global;
@@ -17,7 +18,7 @@ fn put<T: PrefixTable<u32>>(rt: &impl Abort, table: &mut T, prefix: Prefix, valu
     let Ok(before) = table.insert(prefix, value) else {
         panic!(rt; "want of memory");
     };
-    assert_eq!(rt; before, None);
+    equal(rt, before, None);
 }
 
 // The key and the value of the longest match.
@@ -40,25 +41,41 @@ fn nested<T: PrefixTable<u32> + Drop>(rt: &impl Abort, mut table: T) {
     let ten = prefix(rt, address(10, 0, 0, 0), 8);
     let part = prefix(rt, address(10, 0, 0, 0), 16);
     let eleven = prefix(rt, address(11, 0, 0, 0), 8);
-    assert_eq!(rt; next(&table, None), None);
-    assert_eq!(rt; longest(&table, address(10, 0, 5, 1), 32), None);
+    equal(rt, next(&table, None), None);
+    equal(rt, longest(&table, address(10, 0, 5, 1), 32), None);
     put(rt, &mut table, part, 3);
     put(rt, &mut table, all, 1);
     put(rt, &mut table, ten, 2);
-    assert_eq!(rt; longest(&table, address(10, 0, 5, 1), 32), Some((part, 3)));
-    assert_eq!(rt; longest(&table, address(10, 0, 5, 1), 255), Some((part, 3)));
-    assert_eq!(rt; longest(&table, address(10, 0, 5, 1), 15), Some((ten, 2)));
-    assert_eq!(rt; longest(&table, address(11, 0, 0, 0), 32), Some((all, 1)));
-    assert_eq!(rt; next(&table, None), Some((all, 1)));
-    assert_eq!(rt; next(&table, Some(all)), Some((ten, 2)));
-    assert_eq!(rt; next(&table, Some(ten)), Some((part, 3)));
-    assert_eq!(rt; next(&table, Some(part)), None);
-    assert_eq!(rt; next(&table, Some(eleven)), None);
-    assert_eq!(rt; table.replace(ten, 9), Ok(2));
-    assert_eq!(rt; table.replace(eleven, 9), Err(9));
-    assert_eq!(rt; table.get(ten).copied(), Some(9));
-    assert_eq!(rt; table.get(eleven).copied(), None);
-    assert_eq!(rt; table.insert(ten, 4), Ok(Some(9)));
+    equal(
+        rt,
+        longest(&table, address(10, 0, 5, 1), 32),
+        Some((part, 3)),
+    );
+    equal(
+        rt,
+        longest(&table, address(10, 0, 5, 1), 255),
+        Some((part, 3)),
+    );
+    equal(
+        rt,
+        longest(&table, address(10, 0, 5, 1), 15),
+        Some((ten, 2)),
+    );
+    equal(
+        rt,
+        longest(&table, address(11, 0, 0, 0), 32),
+        Some((all, 1)),
+    );
+    equal(rt, next(&table, None), Some((all, 1)));
+    equal(rt, next(&table, Some(all)), Some((ten, 2)));
+    equal(rt, next(&table, Some(ten)), Some((part, 3)));
+    equal(rt, next(&table, Some(part)), None);
+    equal(rt, next(&table, Some(eleven)), None);
+    equal(rt, table.replace(ten, 9), Ok(2));
+    equal(rt, table.replace(eleven, 9), Err(9));
+    equal(rt, table.get(ten).copied(), Some(9));
+    equal(rt, table.get(eleven).copied(), None);
+    equal(rt, table.insert(ten, 4), Ok(Some(9)));
 }
 
 fn ends<T: PrefixTable<u32> + Drop>(rt: &impl Abort, mut table: T) {
@@ -69,11 +86,11 @@ fn ends<T: PrefixTable<u32> + Drop>(rt: &impl Abort, mut table: T) {
     put(rt, &mut table, upper, 2);
     put(rt, &mut table, last, 3);
     let addr = address(255, 255, 255, 255);
-    assert_eq!(rt; longest(&table, addr, 32), Some((last, 3)));
-    assert_eq!(rt; longest(&table, addr, 31), Some((upper, 2)));
-    assert_eq!(rt; longest(&table, addr, 0), Some((all, 1)));
-    assert_eq!(rt; next(&table, Some(upper)), Some((last, 3)));
-    assert_eq!(rt; next(&table, Some(last)), None);
+    equal(rt, longest(&table, addr, 32), Some((last, 3)));
+    equal(rt, longest(&table, addr, 31), Some((upper, 2)));
+    equal(rt, longest(&table, addr, 0), Some((all, 1)));
+    equal(rt, next(&table, Some(upper)), Some((last, 3)));
+    equal(rt, next(&table, Some(last)), None);
 }
 
 fn listed<T: PrefixTable<u32>>(rt: &impl Abort, alloc: Global, table: &T) -> Vec<(Prefix, u32)> {
@@ -111,7 +128,7 @@ fn entries_in_order<T: PrefixTable<u32> + Drop>(rt: &impl Abort, alloc: Global, 
         (left, 6),
         (right, 7),
     ];
-    assert_eq!(rt; listed(rt, alloc, &table).as_slice(), order.as_slice());
+    equal(rt, listed(rt, alloc, &table).as_slice(), order.as_slice());
 }
 
 #[test]

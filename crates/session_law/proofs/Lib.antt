@@ -10,6 +10,7 @@ mod Lists
 mod NextHops
 mod Queues
 mod ReceivedPaths
+mod Refusals
 mod Routes
 pub mod Runs
 mod Steps

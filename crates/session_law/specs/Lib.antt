@@ -1,2 +1,3 @@
+pub mod RefusalLaw
 pub mod RouteLaws
 pub mod SessionLaw

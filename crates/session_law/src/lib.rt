@@ -1,6 +1,7 @@
 //! What holds of every run. A function here does nothing: a call gives the caller's proof what it ensures.
 #![tactic(auto)]
 
+ghost use Rattle.session_law.specs.RefusalLaw.{RefusalLaw, QuietIsTold};
 ghost use Rattle.session_law.specs.RouteLaws.{SendersPathLaw, NeighbourLaw, NextHopLaw, OwnNextHopLaw, NoLoopLaw};
 ghost use Rattle.session_law.specs.RouteLaws.{EachHasItsSource, OneIsChosen};
 ghost use Rattle.session_law.specs.SessionLaw.{SessionLaw, QuietLaw};
@@ -37,4 +38,11 @@ pub fn next_hops_are_as_put()
 pub fn one_route_is_chosen()
     ensures sources { EachHasItsSource }
     ensures one { OneIsChosen }
+{}
+
+/// Want of memory comes last: an event that the machine refuses is answered by that refusal, whatever memory there is,
+/// and changes nothing; and whether all queues are empty is always told.
+pub fn want_of_memory_comes_last()
+    ensures refused { RefusalLaw }
+    ensures quiet { QuietIsTold }
 {}

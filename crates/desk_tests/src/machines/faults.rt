@@ -1,6 +1,7 @@
 //! Readers and writers that fail midway.
 
 use super::{FIRST_PATH, PlainMachine, SortedMachine, TrieMachine, asked};
+use crate::common::equal;
 use reference_machine::Machine;
 use sim_text::{ServeFault, serve};
 use std::alloc::Global;
@@ -38,7 +39,7 @@ fn replies(rt: &impl Abort, alloc: Global, lines: usize) -> String {
     replies
 }
 
-/// Gives 20 bytes at a time, and fails when its reads are used up.
+/// Gives 20 bytes at a time, and fails when its reads are used up, by an error of its own kind.
 #[derive(Drop)]
 struct Faltering<'a> {
     rest: &'a [u8],
@@ -48,7 +49,7 @@ struct Faltering<'a> {
 impl Read for Faltering<'_> {
     fn read(&mut self, buffer: &mut [u8]) -> io::Result<usize> {
         if self.reads_left == 0 {
-            return Err(io::Error::from(io::ErrorKind::Other));
+            return Err(io::Error::from(io::ErrorKind::UnexpectedEof));
         }
         self.reads_left -= 1;
         let length = self.rest.len().min(buffer.len()).min(20);
@@ -108,10 +109,10 @@ fn reader_fails<M: Machine + Drop>(
     let served = serve(rt, alloc, buffer, &mut input, &mut output, &mut machine);
     drop(output);
     let line = (lines as u64).saturating_add(1);
-    assert_eq!(rt; served, Err(ServeFault::Read { line }));
-    assert_eq!(rt; written.as_slice(), replies(rt, alloc, lines).as_bytes());
+    equal(rt, served, Err(ServeFault::Read { line }));
+    equal(rt, written.as_slice(), replies(rt, alloc, lines).as_bytes());
     let table = asked(rt, alloc, &mut machine, "routes 2.0.0.1\n");
-    assert_eq!(rt; table.as_slice(), table_after(lines).as_bytes());
+    equal(rt, table.as_slice(), table_after(lines).as_bytes());
 }
 
 #[test]
@@ -122,6 +123,16 @@ fn a_reader_that_fails_at_each_read(rt: HostRuntime) {
         reader_fails(&rt, alloc, SortedMachine::new(alloc, None), reads);
         reader_fails(&rt, alloc, TrieMachine::new(alloc, None), reads);
     }
+}
+
+#[test]
+fn a_readers_own_error_is_given(rt: HostRuntime) {
+    let rest = b"".as_slice();
+    let reads_left = 0;
+    let mut input = Input::new(Faltering { rest, reads_left });
+    let mut buffer = [0; 2];
+    let kind = input.read(&mut buffer).map_err(|error| error.kind());
+    equal(&rt, kind, Err(io::ErrorKind::UnexpectedEof));
 }
 
 /// Serves the whole script to a writer that fails after so many writes. What it took, and the line of the fault.
@@ -159,7 +170,7 @@ fn writer_fails<M: Machine + Drop>(
     assert!(rt; replies(rt, alloc, lines - 1).len() <= taken.len());
     assert!(rt; taken.len() < with_it.len());
     let table = asked(rt, alloc, &mut machine, "routes 2.0.0.1\n");
-    assert_eq!(rt; table.as_slice(), table_after(lines).as_bytes());
+    equal(rt, table.as_slice(), table_after(lines).as_bytes());
 }
 
 #[test]

@@ -1,6 +1,7 @@
 //! A user at a terminal: each reply stands there before the next line is typed.
 
 use super::{PlainMachine, SortedMachine, TrieMachine};
+use crate::common::equal;
 use reference_machine::Machine;
 use sim_text::serve;
 use std::alloc::Global;
@@ -80,8 +81,8 @@ fn is_answered_at_once<M: Machine + Drop>(
     });
     let buffer = LineBuffer::new(alloc).expect(rt, "memory");
     let served = serve(rt, alloc, buffer, &mut input, &mut output, &mut machine);
-    assert_eq!(rt; served, Ok(5));
-    assert_eq!(rt; shown.get(), 5);
+    equal(rt, served, Ok(5));
+    equal(rt, shown.get(), 5);
 }
 
 #[test]

@@ -1,6 +1,7 @@
 //! Lists of events that the engine is given at once.
 
 use super::{SortedMachine, TrieMachine};
+use crate::common::equal;
 use cell_engine::Cell;
 use net_conf::{Edit, Refusal};
 use net_prefix::Addr;
@@ -25,7 +26,7 @@ fn events(number: Asn) -> [Event; 3] {
 
 /// Fails where these are not the replies to the events, but for want of memory.
 fn are_replies(rt: &impl Abort, replies: &[Reply]) {
-    assert_eq!(rt; replies.len(), 3);
+    equal(rt, replies.len(), 3);
     if matches!(&replies[0], Reply::Refused(Refusal::Memory)) {
         return;
     }
@@ -45,6 +46,7 @@ fn runs<S: Selector + Send + Sync + Drop, T: PrefixTable<Cell<S>> + Drop>(
         Err(_) => machine.run(rt, &events).expect(rt, "memory"),
     };
     are_replies(rt, &replies);
+    drop((events, replies));
 }
 
 #[test]

@@ -1,12 +1,12 @@
 //! Whole scripts that reach no event, read in pieces of every kind, and how serving ends early.
 
+use crate::common::equal;
 use reference_machine::{Event, Machine, Reply};
 use sim_text::{ServeFault, serve};
 use std::alloc::Global;
 use std::io;
 use std::io::{Read, Write};
 use std::process::Abort;
-use std::test::Fail;
 use std::thread::Threads;
 use watched::{Input, LineBuffer, Output};
 
@@ -98,12 +98,12 @@ fn answers_each_line(rt: HostRuntime) {
             let mut room = [0u8; 51];
             let reader = Pieces { rest: script, size };
             let result = served(&rt, rt.alloc(), reader, room.as_mut_slice());
-            assert_eq!(rt; result, Ok(lines), "in pieces of {size}");
+            equal(&rt, (size, result), (size, Ok(lines)));
             let mut expected = [0u8; 51];
             let length = 17 * refused;
             assert!(rt; length <= 51);
             expected[..length].copy_from_slice(&refusals[..length]);
-            assert_eq!(rt; room.as_slice(), expected.as_slice(), "in pieces of {size}");
+            equal(&rt, (size, room.as_slice()), (size, expected.as_slice()));
         }
     }
 }
@@ -112,49 +112,53 @@ fn answers_each_line(rt: HostRuntime) {
 fn holds_the_longest_line(rt: HostRuntime) {
     let mut script = [b'#'; 65_540];
     let longest = &script[..65_536];
-    assert_eq!(rt; served(&rt, rt.alloc(), longest, io::sink()), Ok(1));
+    equal(&rt, served(&rt, rt.alloc(), longest, io::sink()), Ok(1));
     let slow = Pieces {
         rest: longest,
         size: 1,
     };
-    assert_eq!(rt; served(&rt, rt.alloc(), slow, io::sink()), Ok(1));
+    equal(&rt, served(&rt, rt.alloc(), slow, io::sink()), Ok(1));
     let longer = &script[..65_537];
-    assert_eq!(rt;
+    equal(
+        &rt,
         served(&rt, rt.alloc(), longer, io::sink()),
-        Err(ServeFault::Read { line: 1 })
+        Err(ServeFault::Read { line: 1 }),
     );
     script[65_536] = b'\r';
     script[65_537] = b'\n';
     let two = script.as_slice();
-    assert_eq!(rt; served(&rt, rt.alloc(), two, io::sink()), Ok(2));
+    equal(&rt, served(&rt, rt.alloc(), two, io::sink()), Ok(2));
     script[65_536] = b'#';
     let longer = script.as_slice();
-    assert_eq!(rt;
+    equal(
+        &rt,
         served(&rt, rt.alloc(), longer, io::sink()),
-        Err(ServeFault::Read { line: 1 })
+        Err(ServeFault::Read { line: 1 }),
     );
 }
 
 #[test]
-fn faults_name_their_line(rt: HostRuntime) -> Result<(), Fail> {
+fn faults_name_their_line(rt: HostRuntime) {
     let broken = b"x\n\nx".chain(Broken);
-    assert_eq!(rt;
+    equal(
+        &rt,
         served(&rt, rt.alloc(), broken, io::sink()),
-        Err(ServeFault::Read { line: 3 })
+        Err(ServeFault::Read { line: 3 }),
     );
-    assert_eq!(rt;
+    equal(
+        &rt,
         served(&rt, rt.alloc(), Broken, io::sink()),
-        Err(ServeFault::Read { line: 1 })
+        Err(ServeFault::Read { line: 1 }),
     );
     let mut room = [0u8; 20];
     let script = b"\nx\n\nx\nx\n".as_slice();
     let full = served(&rt, rt.alloc(), script, room.as_mut_slice());
-    assert_eq!(rt; full, Err(ServeFault::Write { line: 4 }));
-    assert_eq!(rt; room.as_slice(), b"refused 1 syntax\nref".as_slice());
-    assert_eq!(rt;
+    equal(&rt, full, Err(ServeFault::Write { line: 4 }));
+    equal(&rt, room.as_slice(), b"refused 1 syntax\nref".as_slice());
+    equal(
+        &rt,
         served(&rt, rt.alloc(), script, Stuck),
-        Err(ServeFault::Write { line: 5 })
+        Err(ServeFault::Write { line: 5 }),
     );
-    assert_eq!(rt; served(&rt, rt.alloc(), b"".as_slice(), Stuck), Ok(0));
-    Ok(())
+    equal(&rt, served(&rt, rt.alloc(), b"".as_slice(), Stuck), Ok(0));
 }
