@@ -38,15 +38,10 @@ fn updates_keep_their_attributes_while_others_come(rt: HostRuntime) {
         queues.admit(&sent).expect(&rt, "memory");
         queues.push(A, B, Message::Update(all, sent));
     }
-    equal(
-        &rt,
-        queues.head(A, B),
-        Some(View::Update(all, &attr(&rt, rt.alloc(), 0))),
-    );
-    equal(
-        &rt,
-        queues.at(A, B, 99),
-        Some(View::Update(all, &attr(&rt, rt.alloc(), 99))),
-    );
-    equal(&rt, queues.at(A, B, 100), None);
+    let first = attr(&rt, rt.alloc(), 0);
+    let last = attr(&rt, rt.alloc(), 99);
+    assert!(rt; queues.head(A, B) == Some(View::Update(all, &first)));
+    assert!(rt; queues.at(A, B, 99) == Some(View::Update(all, &last)));
+    assert!(rt; queues.at(A, B, 100).is_none());
+    drop((queues, first, last));
 }
