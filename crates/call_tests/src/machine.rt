@@ -1,6 +1,6 @@
 //! A run of the plain simulator, with the replies that the worked example gives.
 
-use crate::common::{asn, equal, ten};
+use crate::common::{asn, ten};
 use net_conf::{Edit, Metric};
 use net_prefix::Addr;
 use plain_simulator::Simulator;
@@ -57,7 +57,7 @@ fn is_first_path(rt: &impl Abort, reply: &Reply) -> bool {
 #[test]
 fn a_run_gives_one_reply_an_event(rt: HostRuntime) {
     let replies = replies_to(&rt, rt.alloc(), &first_path(&rt));
-    equal(&rt, replies.len(), 7);
+    assert!(rt; replies.len() == 7);
     assert!(rt; matches!(&replies[4], Reply::Done));
     assert!(rt; matches!(&replies[5], Reply::Took(_, MessageKind::Update)));
     assert!(rt; is_first_path(&rt, &replies[6]));

@@ -48,7 +48,7 @@ fn delivered<L: Ledger + Send + Sync, R: Threads + Wait + Abort + Sync>(
         desk.finish_calls(rt);
     }
     let workers = run_workers(rt, &desk, workers, &Open, turns);
-    equal(rt, workers.len(), 1);
+    assert!(rt; workers.len() == 1);
     let count = workers[0].count();
     drop((desk, engineer, workers));
     count

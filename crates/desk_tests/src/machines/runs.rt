@@ -1,7 +1,6 @@
 //! Lists of events that the engine is given at once.
 
 use super::{SortedMachine, TrieMachine};
-use crate::common::equal;
 use cell_engine::Cell;
 use net_conf::{Edit, Refusal};
 use net_prefix::Addr;
@@ -26,7 +25,7 @@ fn events(number: Asn) -> [Event; 3] {
 
 /// Fails where these are not the replies to the events, but for want of memory.
 fn are_replies(rt: &impl Abort, replies: &[Reply]) {
-    equal(rt, replies.len(), 3);
+    assert!(rt; replies.len() == 3);
     if matches!(&replies[0], Reply::Refused(Refusal::Memory)) {
         return;
     }
