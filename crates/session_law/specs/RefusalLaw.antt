@@ -1,4 +1,4 @@
--- What is told where an event is refused, and memory may be wanted too: want of memory comes last.
+-- What is told where an event is refused, and memory may be wanted too: want of memory comes last (own).
 use Rattle.std.specs.Prelude.{◌≡◌}
 use Rattle.net_conf.specs.declared.refusal.Refusal.{Refusal}
 use Rattle.sim_event.specs.declared.event.Event.{Event}
