@@ -3,10 +3,12 @@
     tools/failing-streams       a part of the gate; it needs cc, for simtools/streams.c
 
 Each byte of a small script, of its log and of a team's files cannot be read, in turn; each write, and each byte of
-what is written, fails. Read a byte at a time and written so, all is as ever. Then a full device, help and version
-there too; a pipe that nobody reads; and Ctrl-C. A fault is told as docs/LANGUAGE.md says, with status 3 or 4; what was
-written is the replies to the lines before it, whole lines where writes are whole. The last line is `N passed, M
-failed`. PROGRAM= is another program than crates/bgpsim/out/bgpsim.
+what is written, fails. Read a byte at a time and written so, all is as ever. A user who types a line only once the
+reply to the last one stands there is answered. Then a full device, help and version there too; a pipe that nobody
+reads; and Ctrl-C. A fault is told as docs/LANGUAGE.md says, with status 3 or 4; what was written is the replies to the
+lines before it, whole lines where writes are whole. The script is also given to each machine, by machine_scripts, where
+that is built; with MACHINES=1 it has to be. The last line is `N passed, M failed`. PROGRAM= is another program than
+crates/bgpsim/out/bgpsim, and no machines.
 """
 from __future__ import annotations
 
@@ -16,7 +18,8 @@ import pathlib
 import signal
 import subprocess
 import tempfile
-from typing import Dict, Iterator, List, Sequence, Tuple
+import threading
+from typing import Dict, Iterator, List, NamedTuple, Sequence, Tuple
 
 from . import commands, logs, programs, team_logs
 from .commands import Missing
@@ -30,8 +33,23 @@ TEAM = [TOP / "examples" / "team" / name for name in ("border.engineer", "interi
 TEXTS = ("--help", "-h", "--version", "-V", "help", "help script", "help replay", "help team", "script --help",
          "replay --help", "team --help")
 WRITE_FAULT = b"write fault\n"
+# How many seconds a reply may take.
+PATIENCE = 60
 # What was tried, and what is wrong: nothing, or a run.
 Tried = Tuple[str, object]
+
+
+class Reader(NamedTuple):
+    """A program that reads a script or a log, by the name that is told of it."""
+    name: str
+    command: List[str]
+    wants_script: bool = True
+
+
+def on_machines() -> Iterator[Reader]:
+    """A script's readers beside the program."""
+    for machine in programs.machines():
+        yield Reader("script on %s" % machine, [programs.machine_scripts(), machine])
 
 
 class Streams:
@@ -46,8 +64,11 @@ class Streams:
         names = {"read": "FAIL_READ", "write": "FAIL_WRITE", "short": "SHORT", "once": "ONCE"}
         return {**os.environ, "LD_PRELOAD": self.library, **{names[name]: str(n) for name, n in settings.items()}}
 
-    def run(self, words: Sequence[str], given: bytes = b"", **settings: int) -> Ran:
-        return run([programs.bgpsim(), *words], given, env=self.environment(**settings))
+    def run(self, command: Sequence[str], given: bytes = b"", **settings: int) -> Ran:
+        return run(command, given, env=self.environment(**settings))
+
+    def run_team(self, files: Sequence[str], **settings: int) -> Ran:
+        return self.run([programs.bgpsim(), "team", "--workers", "2", *files], **settings)
 
 
 @contextlib.contextmanager
@@ -68,19 +89,20 @@ def told(name: str, ran: Ran, is_well: bool) -> Tried:
 
 # Reading
 
-def read_faults(streams: Streams, kind: str, text: bytes, whole: bytes) -> Iterator[Tried]:
+def read_faults(streams: Streams, reader: Reader, text: bytes, whole: bytes) -> Iterator[Tried]:
     """A script or a log: as ever a byte at a time; and each byte, and then the end, cannot be read."""
     as_ever = Ran(whole, b"", 0)
-    yield told("%s, read and written a byte at a time" % kind, *well(streams.run([kind], text, short=1), as_ever))
-    behind = streams.run([kind], text, short=1, read=len(text) + 2)
-    yield told("%s, no read fails" % kind, *well(behind, as_ever))
+    slow = streams.run(reader.command, text, short=1)
+    yield told("%s, read and written a byte at a time" % reader.name, *well(slow, as_ever))
+    behind = streams.run(reader.command, text, short=1, read=len(text) + 2)
+    yield told("%s, no read fails" % reader.name, *well(behind, as_ever))
 
     def one(number: int) -> Tried:
         before = text[:number - 1]
-        answered = by_model(before[:before.rfind(b"\n") + 1]).out if kind == "script" else b""
+        answered = by_model(before[:before.rfind(b"\n") + 1]).out if reader.wants_script else b""
         wanted = Ran(answered, b"read fault at line %d\n" % (before.count(b"\n") + 1), 3)
-        ran = streams.run([kind], text, read=number, short=1)
-        return told("%s, byte %d cannot be read" % (kind, number), *well(ran, wanted))
+        ran = streams.run(reader.command, text, read=number, short=1)
+        return told("%s, byte %d cannot be read" % (reader.name, number), *well(ran, wanted))
 
     yield from side_by_side(one, range(1, len(text) + 2))
 
@@ -95,7 +117,7 @@ def unreadable_files(streams: Streams, files: List[str]) -> Iterator[Tried]:
 
     def one(number: int) -> Tried:
         name = files[0] if number <= sizes[0] + 1 else files[1]
-        ran = streams.run(["team", "--workers", "2", *files], read=number, short=1)
+        ran = streams.run_team(files, read=number, short=1)
         return told("team, read %d fails" % number, *well(ran, Ran(b"", b"cannot read %s\n" % os.fsencode(name), 3)))
 
     # Behind the last byte of a file one read more finds its end.
@@ -104,46 +126,69 @@ def unreadable_files(streams: Streams, files: List[str]) -> Iterator[Tried]:
 
 # Writing
 
-def write_faults(streams: Streams, kind: str, text: bytes, whole: bytes) -> Iterator[Tried]:
+def write_faults(streams: Streams, reader: Reader, text: bytes, whole: bytes) -> Iterator[Tried]:
     """Each byte cannot be written, in turn, nor any later one; then it can, when it is tried once more."""
     def one(number: int) -> Tried:
-        ran = streams.run([kind], text, write=number, short=1)
+        ran = streams.run(reader.command, text, write=number, short=1)
         wanted = Ran(whole[:number - 1], WRITE_FAULT, 4)
-        return told("%s, byte %d cannot be written" % (kind, number), *well(ran, wanted))
+        return told("%s, byte %d cannot be written" % (reader.name, number), *well(ran, wanted))
 
     def again(number: int) -> Tried:
-        ran = streams.run([kind], text, write=number, short=1, once=1)
+        ran = streams.run(reader.command, text, write=number, short=1, once=1)
         is_prefix = whole.startswith(ran.out) and ran.out[-1:] in (b"", b"\n") and len(ran.out) >= number - 1
         is_so = is_prefix and (ran.err, ran.status) == (WRITE_FAULT, 4)
-        return told("%s, byte %d cannot be written at first" % (kind, number), ran, is_so)
+        return told("%s, byte %d cannot be written at first" % (reader.name, number), ran, is_so)
 
     yield from side_by_side(one, range(1, len(whole) + 1))
     yield from side_by_side(again, range(1, len(whole) + 1))
 
 
-def whole_writes(streams: Streams, text: bytes, whole: bytes) -> Iterator[Tried]:
+def whole_writes(streams: Streams, reader: Reader, text: bytes, whole: bytes) -> Iterator[Tried]:
     """A script that is read line by line, so that each reply is written by itself: what was written before one that
     cannot be is whole lines, the replies of lines before it."""
     for number in range(1, 100):
-        ran = run([programs.bgpsim(), "script"], text, env=streams.environment(write=number))
+        ran = streams.run(reader.command, text, write=number)
         if ran.status == 0:
-            yield told("script, %d writes" % (number - 1), ran, ran == Ran(whole, b"", 0) and number > 1)
+            yield told("%s, %d writes" % (reader.name, number - 1), ran, ran == Ran(whole, b"", 0) and number > 1)
             return
         is_whole = whole.startswith(ran.out) and ran.out[-1:] in (b"", b"\n")
-        yield told("script, write %d fails" % number, ran, is_whole and (ran.err, ran.status) == (WRITE_FAULT, 4))
+        is_so = is_whole and (ran.err, ran.status) == (WRITE_FAULT, 4)
+        yield told("%s, write %d fails" % (reader.name, number), ran, is_so)
 
 
 def team_writes(streams: Streams, files: List[str]) -> Iterator[Tried]:
     """A team whose log cannot be written: of the first byte, of some bytes on the way, of the last ones."""
     def one(number: int) -> Tried:
-        ran = streams.run(["team", "--workers", "2", *files], write=number, short=1)
+        ran = streams.run_team(files, write=number, short=1)
         is_part = len(ran.out) == number - 1 and "bgpsim log 2\n".startswith(ran.out[:13].decode("latin-1"))
         is_so = is_part and (ran.err, ran.status) == (WRITE_FAULT, 4)
         return told("team, byte %d cannot be written" % number, ran, is_so)
 
     # The deliveries and their replies take the same bytes in whatever order they come.
-    size = len(streams.run(["team", "--workers", "2", *files]).out)
+    size = len(streams.run_team(files).out)
     yield from side_by_side(one, [*range(1, 40), *range(40, size - 40, 17), *range(size - 40, size + 1)])
+
+
+# A terminal
+
+def typed(reader: Reader, script: bytes) -> Tried:
+    """Each line is typed once the reply to the last one stands there."""
+    given, answered = b"", b""
+    ran = subprocess.Popen(reader.command, stdin=subprocess.PIPE, stdout=subprocess.PIPE)
+    impatient = threading.Timer(PATIENCE, ran.kill)
+    impatient.start()
+    with contextlib.suppress(BrokenPipeError), ran:
+        assert ran.stdin and ran.stdout
+        for line in script.splitlines(keepends=True):
+            given += line
+            ran.stdin.write(line)
+            ran.stdin.flush()
+            answered += ran.stdout.read(len(by_model(given).out) - len(answered))
+        ran.stdin.close()
+        answered += ran.stdout.read()
+    status = ran.wait()
+    impatient.cancel()
+    return told("%s, typed line by line" % reader.name, *well(Ran(answered, b"", status), by_model(script)))
 
 
 # Other ends
@@ -205,12 +250,16 @@ def tries(streams: Streams, folder: str) -> Iterator[Tried]:
     script, log = SCRIPT.read_bytes(), logs.log_of(SCRIPT.read_text(), 3).encode()
     files = team_logs.written(folder, [path.read_text() for path in TEAM])
     answered, found = by_model(script).out, (logs.verdict(log.decode()) + "\n").encode()
-    yield from read_faults(streams, "script", script, answered)
-    yield from read_faults(streams, "replay", log, found)
+    serving = Reader("script", [programs.bgpsim(), "script"])
+    replaying = Reader("replay", [programs.bgpsim(), "replay"], wants_script=False)
+    for reader in [serving, *on_machines()]:
+        yield from read_faults(streams, reader, script, answered)
+        yield from whole_writes(streams, reader, script, answered)
+        yield typed(reader, script)
+    yield from read_faults(streams, replaying, log, found)
     yield from unreadable_files(streams, files)
-    yield from write_faults(streams, "script", script, answered)
-    yield from write_faults(streams, "replay", log, found)
-    yield from whole_writes(streams, script, answered)
+    yield from write_faults(streams, serving, script, answered)
+    yield from write_faults(streams, replaying, log, found)
     yield from team_writes(streams, files)
     yield from full_device(script, log, files)
     yield from closed_pipe(script, log, files)

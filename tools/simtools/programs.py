@@ -5,6 +5,7 @@ import os
 import pathlib
 import subprocess
 import sys
+from typing import Sequence
 
 from .commands import Missing
 
@@ -47,6 +48,15 @@ def machine_scripts() -> str:
 def has_machine_scripts() -> bool:
     """Whether that program was built."""
     return _is_program(str(MACHINE_SCRIPTS))
+
+
+def machines() -> Sequence[str]:
+    """The machines that scripts are given to beside the program: none for a PROGRAM=, or where machine_scripts was not
+    built; with MACHINES=1 it is Missing then."""
+    if is_chosen() or not (os.environ.get("MACHINES") or has_machine_scripts()):
+        return ()
+    machine_scripts()
+    return MACHINES
 
 
 def _is_program(path: str) -> bool:

@@ -206,11 +206,7 @@ def results(paths: Iterable[pathlib.Path], machines: Sequence[str]) -> Iterator[
 def run_cases(paths: List[pathlib.Path]) -> int:
     """Runs the cases at the paths. Missing where a program is not there that has to be."""
     programs.bgpsim()
-    machines: Sequence[str] = ()
-    if not programs.is_chosen() and (os.environ.get("MACHINES") or programs.has_machine_scripts()):
-        programs.machine_scripts()
-        machines = programs.MACHINES
-    came = list(results(paths, machines))
+    came = list(results(paths, programs.machines()))
     failed = [(what, wrong) for what, wrong in came if wrong]
     for what, wrong in failed:
         print("FAILED %s\n    %s" % (what, "\n    ".join(wrong)))

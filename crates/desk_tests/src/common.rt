@@ -24,6 +24,12 @@ use watched::{Input, LineBuffer, Output};
 /// The cells that keep groups of one neighbouring AS.
 pub type Tries = TrieTable<Cell<GroupCell>>;
 
+/// The engine with tries, whose cells keep groups: this is what `bgpsim` runs.
+pub type TrieMachine = Sim<GroupCell, Tries>;
+
+/// The engine with sorted tables, whose cells choose when they are asked.
+pub type SortedMachine = Sim<FilterCell, SortedTable<Cell<FilterCell>>>;
+
 /// A desk of the engine that keeps such cells in tries.
 pub type GroupDesk<L> = Desk<GroupCell, Tries, L>;
 
@@ -135,7 +141,7 @@ pub fn replayed<R: Threads + Sync>(rt: &R, alloc: Global, record: &Record) -> Op
     let mut output = Output::new(Vec::new(alloc));
     write_log(record.entries(), &mut output).ok()?;
     let log = output.into_inner();
-    let mut machine: Sim<FilterCell, SortedTable<Cell<FilterCell>>> = Sim::new(alloc, None);
+    let mut machine = SortedMachine::new(alloc, None);
     let buffer = LineBuffer::new(alloc).ok()?;
     let found = replay(
         rt,

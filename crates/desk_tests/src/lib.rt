@@ -1,6 +1,5 @@
-//! Tests of the desk: what no clause says of threads, of waiting and of its limits; and of the machines: what only a
-//! call can show. They stand apart from the desk and from the program that has each machine, which would be proved once
-//! more with them.
+//! Tests of the desk: what no clause says of threads, of waiting and of its limits. Then what only a call can show: lists
+//! of events, and a reader's own error. They stand apart from the desk, which would be proved once more with them.
 #![tactic(auto)]
 
 #[cfg(test)]
@@ -14,4 +13,6 @@ mod gate;
 #[cfg(test)]
 mod limits;
 #[cfg(test)]
-mod machines;
+mod runs;
+#[cfg(test)]
+mod streams;

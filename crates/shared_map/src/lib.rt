@@ -12,9 +12,7 @@ mod keys;
 mod map;
 mod position;
 mod same_keys;
-mod set;
 
 pub use chunked::ChunkedSet;
 pub use chunked_map::ChunkedMap;
 pub use map::SharedMap;
-pub use set::SharedSet;

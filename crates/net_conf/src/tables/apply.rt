@@ -16,7 +16,7 @@ use igp_cost::Metric;
 use net_prefix::Addr;
 use path_attr::Asn;
 use route_policy::{Policy, Rule};
-use shared_map::{ChunkedMap, SharedSet};
+use shared_map::{ChunkedMap, ChunkedSet};
 use std::alloc::{AllocError, Global};
 
 impl ConfTables {
@@ -223,7 +223,7 @@ impl ConfTables {
 }
 
 /// Adds the end to the set, or takes it out; where that is so already, it takes no memory. An error changes nothing.
-fn switch(alloc: Global, ends: &mut SharedSet<End>, end: End, on: bool) -> Result<(), AllocError>
+fn switch(alloc: Global, ends: &mut ChunkedSet<End>, end: End, on: bool) -> Result<(), AllocError>
     ensures ok { OnOk result (ends.new ≡ switched on end ends.old) }
     ensures change { OnErr result (has_end end ends.old ≡ not on) }
     ensures err { OnErr result (ends.new ≡ ends.old) }

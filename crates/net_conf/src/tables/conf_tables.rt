@@ -1,10 +1,12 @@
 //! What is configured, as plain tables.
 
-ghost use Rattle.std.specs.Prelude.{◌≡◌, nat_le, IfOk, OnOk, OnErr, length};
+ghost use Rattle.std.specs.Prelude.{◌≡◌, ◌==◌, nat_le, IfOk, OnOk, OnErr, length};
+ghost use Rattle.std.specs.List.{list_any};
 ghost use Rattle.std.specs.Map.{remove_entry};
 ghost use Rattle.std.specs.BTreeMap.{insert_entry, is_at};
 ghost use Rattle.net_prefix.specs.Address.{addr_cmp};
 ghost use Rattle.net_conf.specs.Configuration.{unconfigured, node_at, has_node, is_virtual, as_of, is_external, link_between, has_link, has_link_up, session_between, has_session, session_count, is_client, is_reflector, cluster_id, compares_all_meds, puts_itself, rules_at, import_rules, export_rules, originates, origins_of, end_of};
+ghost use Rattle.shared_map.specs.Chunks.{keys_in};
 ghost use Rattle.net_conf.specs.Configured.{IsInOrder};
 
 use crate::tables::originations::Originations;
@@ -13,8 +15,8 @@ use crate::tables::{End, Ends, Kind, Link, Node, Origination};
 use net_prefix::{Addr, Prefix};
 use path_attr::Asn;
 use route_policy::{Policy, Rule};
-use seq::Copied;
-use shared_map::{ChunkedMap, ChunkedSet, SharedMap, SharedSet};
+use seq::{Copied, SharedSeq};
+use shared_map::{ChunkedMap, ChunkedSet, SharedMap};
 use std::alloc::{AllocError, Global};
 use std::marker::Model;
 
@@ -26,12 +28,12 @@ pub struct ConfTables {
     pub(crate) nodes: SharedMap<Addr, Node>,
     pub(crate) links: SharedMap<Ends, Link>,
     pub(crate) sessions: SessionTable,
-    pub(crate) clients: SharedSet<End>,
-    pub(crate) own_next: SharedSet<End>,
+    pub(crate) clients: ChunkedSet<End>,
+    pub(crate) own_next: ChunkedSet<End>,
     pub(crate) imports: ChunkedMap<End, Policy>,
     pub(crate) exports: ChunkedMap<End, Policy>,
     pub(crate) clusters: SharedMap<Addr, Addr>,
-    pub(crate) med_always: SharedSet<Addr>,
+    pub(crate) med_always: ChunkedSet<Addr>,
     pub(crate) origins: Originations,
 }
 
@@ -63,12 +65,12 @@ impl ConfTables {
             nodes: SharedMap::new(),
             links: SharedMap::new(),
             sessions: SessionTable::new(),
-            clients: SharedSet::new(),
-            own_next: SharedSet::new(),
+            clients: ChunkedSet::new(),
+            own_next: ChunkedSet::new(),
             imports: ChunkedMap::new(),
             exports: ChunkedMap::new(),
             clusters: SharedMap::new(),
-            med_always: SharedSet::new(),
+            med_always: ChunkedSet::new(),
             origins: Originations::new(),
         }
     }
@@ -80,12 +82,12 @@ impl ConfTables {
         let _ = self.nodes.as_slice();
         let _ = self.links.as_slice();
         self.sessions.order();
-        let _ = self.clients.as_slice();
-        let _ = self.own_next.as_slice();
+        self.clients.order();
+        self.own_next.order();
         self.imports.order();
         self.exports.order();
         let _ = self.clusters.as_slice();
-        let _ = self.med_always.as_slice();
+        self.med_always.order();
         self.origins.order();
     }
 
@@ -192,10 +194,7 @@ impl ConfTables {
     pub fn is_reflector(&self, router: Addr) -> bool
         ensures { result ≡ is_reflector self.now router }
     {
-        self.clients
-            .as_slice()
-            .iter()
-            .any(|end| end.router == router)
+        is_end_in(self.clients.chunks(), router)
     }
 
     /// The router's CLUSTER_ID.
@@ -279,14 +278,32 @@ pub(crate) fn policy_at(
     }
 }
 
+/// Whether an end of this router is in the chunks.
+fn is_end_in(chunks: &[SharedSeq<End>], router: Addr) -> bool
+    ensures { result ≡ list_any (λ e. e.router.0 == router.0) (keys_in chunks.now) }
+{
+    let mut is_found = false;
+    for chunk in chunks {
+        is_found = is_found || has_end_of(chunk.as_slice(), router);
+    }
+    is_found
+}
+
+/// Whether one of the ends is of this router.
+fn has_end_of(ends: &[End], router: Addr) -> bool
+    ensures { result ≡ list_any (λ e. e.router.0 == router.0) ends.now }
+{
+    ends.iter().any(|end| end.router == router)
+}
+
 /// Routers and virtual peers, and links.
 type Interior = (SharedMap<Addr, Node>, SharedMap<Ends, Link>);
 
 /// The settings of routers: CLUSTER_IDs, and who compares MULTI_EXIT_DISC whatever the neighbouring AS.
-type RouterSettings = (SharedMap<Addr, Addr>, SharedSet<Addr>);
+type RouterSettings = (SharedMap<Addr, Addr>, ChunkedSet<Addr>);
 
 /// Sessions, and the settings of their ends but for the policies.
-type Sessions = (SessionTable, SharedSet<End>, SharedSet<End>);
+type Sessions = (SessionTable, ChunkedSet<End>, ChunkedSet<End>);
 
 /// The policies for what comes in and for what goes out, and who originates what.
 type Policies = (

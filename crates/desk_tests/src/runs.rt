@@ -1,6 +1,6 @@
 //! Lists of events that the engine is given at once.
 
-use super::{SortedMachine, TrieMachine};
+use crate::common::{SortedMachine, TrieMachine};
 use cell_engine::Cell;
 use net_conf::{Edit, Refusal};
 use net_prefix::Addr;

@@ -1,5 +1,0 @@
-use Rattle.shared_map.proofs.set.SharedSet.new.Goals as goal
-
-pub invariant_of-result : goal.invariant_of-result
-unfolding Rattle.std.specs.List.Sorted.IsStrictlySortedBy
-invariant_of-result g c = tt
