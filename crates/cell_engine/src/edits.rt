@@ -94,18 +94,25 @@ fn boxed<S: Selector + Drop>(
 {
     let EditedConf { conf, concerned } = made;
     drop(concerned);
-    let Ok(conf) = Arc::new(alloc, conf) else {
-        drop((directions, edits));
-        return Err(AllocError);
+    let conf = match Arc::new(alloc, conf) {
+        Ok(conf) => conf,
+        Err(failed) => {
+            drop((failed, directions, edits));
+            return Err(AllocError);
+        }
     };
     let parts = Parts {
         conf,
         directions,
         edits,
     };
-    Ok(Edited {
-        parts: Box::new(alloc, parts)?,
-    })
+    match Box::new(alloc, parts) {
+        Ok(parts) => Ok(Edited { parts }),
+        Err(failed) => {
+            drop(failed);
+            Err(AllocError)
+        }
+    }
 }
 
 impl<S: Selector + Send + Sync + Drop, T: PrefixTable<Cell<S>> + Drop> State<S, T> {

@@ -138,11 +138,9 @@ fn is_text(alloc: Global, reply: &Reply, text: &str) -> bool {
 
 /// What the record's log is found to be, by the plainest form of the engine.
 pub fn replayed<R: Threads + Sync>(rt: &R, alloc: Global, record: &Record) -> Option<Replayed> {
-    let mut output = Output::new(Vec::new(alloc));
-    write_log(record.entries(), &mut output).ok()?;
-    let log = output.into_inner();
-    let mut machine = SortedMachine::new(alloc, None);
+    let log = log_of(alloc, record)?;
     let buffer = LineBuffer::new(alloc).ok()?;
+    let mut machine = SortedMachine::new(alloc, None);
     let found = replay(
         rt,
         alloc,
@@ -151,6 +149,12 @@ pub fn replayed<R: Threads + Sync>(rt: &R, alloc: Global, record: &Record) -> Op
         &mut machine,
     )
     .ok();
-    drop(machine);
+    drop((machine, log));
     found
+}
+
+fn log_of(alloc: Global, record: &Record) -> Option<Vec<u8>> {
+    let mut output = Output::new(Vec::new(alloc));
+    write_log(record.entries(), &mut output).ok()?;
+    Some(output.into_inner())
 }

@@ -120,7 +120,9 @@ impl<L: Ledger> Hands<L> {
             Ok(None) => Ok(()),
             Ok(Some(event)) => {
                 let reply = self.room.step(rt, &mut self.engineer, event);
-                write_reply(&reply, output)
+                let told = write_reply(&reply, output);
+                drop(reply);
+                told
             }
             Err(refusal) => write_refusal(refusal, output),
         }
@@ -183,14 +185,19 @@ impl<L: Ledger> Hands<L> {
         let Some(done) = self.outcomes.pop() else {
             return output.write(b"none\n");
         };
-        match self.room.commit(&mut self.worker, done) {
-            Ok(Committed::Delivered(reply)) => write_reply(&reply, output),
-            Ok(Committed::Stale(newer)) => write_newer(&newer, output),
+        let committed = match self.room.commit(&mut self.worker, done) {
+            Ok(committed) => committed,
             Err(CommitFault { done }) => {
                 drop(self.outcomes.push(done));
-                write_refusal(Refusal::Memory, output)
+                return write_refusal(Refusal::Memory, output);
             }
-        }
+        };
+        let told = match &committed {
+            Committed::Delivered(reply) => write_reply(reply, output),
+            Committed::Stale(newer) => write_newer(newer, output),
+        };
+        drop(committed);
+        told
     }
 
     /// The worker makes turns: takes jobs, works them, and commits all their outcomes.

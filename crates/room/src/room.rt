@@ -286,7 +286,10 @@ impl<S: Selector + Drop, T: PrefixTable<Cell<S>> + Drop, L: Ledger> Room<S, T, L
         ensures same { OnErr result (self.new ≡ self.old) }
         ensures left { OnErr result (seat.new ≡ seat.old) }
     {
-        self.history.make_space(&mut seat.notes)?;
+        if self.history.make_space(&mut seat.notes).is_err() {
+            drop((event, plan));
+            return Err(AllocError);
+        }
         let edits = edits_in(&event);
         let Ok(draft) = Draft::of(self.alloc, seat.number, event, plan.reply()) else {
             drop(plan);
@@ -321,7 +324,10 @@ impl<S: Selector + Drop, T: PrefixTable<Cell<S>> + Drop, L: Ledger> Room<S, T, L
         ensures same { OnErr result (self.new ≡ self.old) }
         ensures left { OnErr result (seat.new ≡ seat.old) }
     {
-        self.history.make_space(&mut seat.notes)?;
+        if self.history.make_space(&mut seat.notes).is_err() {
+            drop(event);
+            return Err(AllocError);
+        }
         let reply = Reply::Refused(refusal);
         let Ok(draft) = Draft::of(self.alloc, seat.number, event, &reply) else {
             drop(reply);
