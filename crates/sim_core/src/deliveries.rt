@@ -113,17 +113,27 @@ fn plan_delivery<S: Selector + Drop, T: PrefixTable<Cell<S>> + Drop>(
     state.facts();
     let prefix = message.prefix();
     let outcome = state.outcome(direction, message)?;
-    let refreshed = decided_at(alloc, state, direction.to, prefix)?;
+    let Ok(refreshed) = decided_at(alloc, state, direction.to, prefix) else {
+        drop(outcome);
+        return Err(AllocError);
+    };
     let taken = Taken {
         direction,
         prefix,
         outcome,
     };
+    let taken = match Box::new(alloc, taken) {
+        Ok(taken) => taken,
+        Err(failed) => {
+            drop((failed, refreshed));
+            return Err(AllocError);
+        }
+    };
     Ok(Plan {
         reply: Reply::Took(prefix, message.kind()),
         refreshed,
         pushed: None,
-        taken: Some(Box::new(alloc, taken)?),
+        taken: Some(taken),
         edited: None,
     })
 }

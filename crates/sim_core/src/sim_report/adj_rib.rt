@@ -117,5 +117,7 @@ pub(crate) fn adj_rib_out<S: Selector, T: PrefixTable<Cell<S>>>(
     let up = state.conf().is_up(router, peer);
     let made = state.made_site(router)?;
     let site = state.site(router, &made);
-    lines(alloc, state, router, &AdvertTo { up, site, peer })
+    let routes = lines(alloc, state, router, &AdvertTo { up, site, peer });
+    drop(made);
+    routes
 }

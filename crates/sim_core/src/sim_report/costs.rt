@@ -28,7 +28,11 @@ pub(crate) fn cost_and_hop<S: Selector, T: PrefixTable<Cell<S>>>(
     let made = state.made_site(router)?;
     match state.site(router, &made) {
         None => unreachable!(),
-        Some(site) => Ok(cost_and_hop_in(&site.costs, target)),
+        Some(site) => {
+            let way = cost_and_hop_in(&site.costs, target);
+            drop(made);
+            Ok(way)
+        }
     }
 }
 

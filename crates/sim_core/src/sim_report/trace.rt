@@ -74,8 +74,15 @@ fn by_prefix<S: Selector, T: PrefixTable<Cell<S>>>(
     };
     let made = state.made_site(at)?;
     match state.site(at, &made) {
-        None => Ok(Look::Ends(TraceEnd::NoRoute(at))),
-        Some(site) => Ok(by_route(&site.costs, at, found.0, found.1)),
+        None => {
+            drop(made);
+            Ok(Look::Ends(TraceEnd::NoRoute(at)))
+        }
+        Some(site) => {
+            let look = by_route(&site.costs, at, found.0, found.1);
+            drop(made);
+            Ok(look)
+        }
     }
 }
 

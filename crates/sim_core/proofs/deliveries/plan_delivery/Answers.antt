@@ -15,8 +15,8 @@ returns-clause-plan g c =
     let m = c.args.message.now in
     let o = c.in_ok-outcome.outcome in
     let e = c.outcome.new.self in
-    let cells = c.in_ok-refreshed.refreshed.items in
-    let are : cells ≡ decided_at e.conf d.to (prefix_of m) = c.in_ok-refreshed.ensures
+    let cells = c.in-Ok.refreshed.items in
+    let are : cells ≡ decided_at e.conf d.to (prefix_of m) = c.in-Ok.ensures
     ∙ ap (decided_at e.conf d.to) c.prefix-prefix.ensures in
     let plan : Prefix → MessageKind → Plan = λ p k. record {
       reply = Took p k;
@@ -34,6 +34,6 @@ returns-clause-plan g c =
       taken = Some t;
       edited = None;
     } in
-    subst (λ t. IsPrepared e (Deliver d.from d.to) (boxed t)) (sym c.in_ok-new.ensures.ok)
+    subst (λ t. IsPrepared e (Deliver d.from d.to) (boxed t)) (sym c.in-Ok-new.ensures.ok)
     (subst (λ p. IsPrepared e (Deliver d.from d.to) (plan p c.kind.result)) (sym c.prefix-prefix.ensures)
     (subst (λ k. IsPrepared e (Deliver d.from d.to) (plan (prefix_of m) k)) (sym c.kind.ensures) is))

@@ -18,8 +18,8 @@ returns g c =
     let up : c.is_up-up.result ≡ is_up e.conf r t = c.is_up-up.ensures ∙ ap (λ k. is_up k r t) c.conf.ensures in
     let site : option_copied c.site-site.result ≡ site_of e.conf r = c.site-site.ensures
     ∙ ap (λ b. cond b None (site_of e.conf r)) c.requires in
-    IfOk-weaker c.lines.result _ _ (λ routes is.
+    IfOk-weaker c.lines-routes.result _ _ (λ routes is.
     is
     ∙ (λ i. filter_map (λ x. option_map (λ attr. (x.0, attr)) (advert_of (up i) (site i) t x.0 (best_of x.1.standings)))
     (cells_of r e.tables))
-    ∙ sym (adj_rib_out_by_cells e c.facts.ensures.sound r c.requires t)) c.lines.ensures
+    ∙ sym (adj_rib_out_by_cells e c.facts.ensures.sound r c.requires t)) c.lines-routes.ensures

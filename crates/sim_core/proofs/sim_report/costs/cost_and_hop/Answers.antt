@@ -13,7 +13,7 @@ unreachable-requires g c = has_site c.args.state.now.conf c.args.router c.requir
 pub returns : goal.returns
 unfolding cost_and_hop network
 returns g c =
-    c.cost_and_hop_in.ensures
+    c.cost_and_hop_in-way.ensures
     ∙ ap (λ t. option_and_then (λ n. option_map (λ hop. (n, hop)) (first_hop_in t c.args.target))
     (cost_in t c.args.target)) (costs_of_site c.args.state.now.conf c.args.router c.in-Some.site.now
     (sym c.in-Some.ensures))
