@@ -246,15 +246,20 @@ class Streams(Case):
         program = self.file("other", "#!/bin/sh\ncat > /dev/null 2>&1\necho yes\nexit 0\n")
         program.chmod(0o755)
         with unittest.mock.patch.dict(os.environ, {"PROGRAM": str(program)}), failing_streams.failing() as streams:
-            tried = list(failing_streams.read_faults(streams, "script", b"quiet\n", b"yes\n"))
+            reader = failing_streams.serving()
+            tried = list(failing_streams.read_faults(streams, reader, b"quiet\n", b"yes\n"))
             self.assertEqual([wrong is None for _, wrong in tried], [True, True] + 7 * [False])
+            with unittest.mock.patch.object(failing_streams, "PATIENCE", 1):
+                self.assertIsNotNone(failing_streams.typed(reader, b"quiet\n")[1])
             tried = list(failing_streams.full_device(b"quiet\n", b"", []))
             self.assertFalse(any(wrong is None for _, wrong in tried))
 
     def test_some_streams(self):
         with failing_streams.failing() as streams:
-            for tries in (failing_streams.read_faults(streams, "script", b"quiet\nrouter\n", b"yes\nrefused 1 syntax\n"),
-                          failing_streams.write_faults(streams, "script", b"quiet\nquiet\n", b"yes\nyes\n"),
+            reader = failing_streams.serving()
+            for tries in (failing_streams.read_faults(streams, reader, b"quiet\nrouter\n", b"yes\nrefused 1 syntax\n"),
+                          failing_streams.write_faults(streams, reader, b"quiet\nquiet\n", b"yes\nyes\n"),
+                          [failing_streams.typed(reader, b"quiet\nrouter\n")],
                           failing_streams.full_device(b"quiet\n", b"", list(map(str, failing_streams.TEAM)))):
                 self.assertEqual([name for name, wrong in tries if wrong is not None], [])
 

@@ -46,6 +46,14 @@ class Reader(NamedTuple):
     wants_script: bool = True
 
 
+def serving() -> Reader:
+    return Reader("script", [programs.bgpsim(), "script"])
+
+
+def replaying() -> Reader:
+    return Reader("replay", [programs.bgpsim(), "replay"], wants_script=False)
+
+
 def on_machines() -> Iterator[Reader]:
     """A script's readers beside the program."""
     for machine in programs.machines():
@@ -250,16 +258,14 @@ def tries(streams: Streams, folder: str) -> Iterator[Tried]:
     script, log = SCRIPT.read_bytes(), logs.log_of(SCRIPT.read_text(), 3).encode()
     files = team_logs.written(folder, [path.read_text() for path in TEAM])
     answered, found = by_model(script).out, (logs.verdict(log.decode()) + "\n").encode()
-    serving = Reader("script", [programs.bgpsim(), "script"])
-    replaying = Reader("replay", [programs.bgpsim(), "replay"], wants_script=False)
-    for reader in [serving, *on_machines()]:
+    for reader in [serving(), *on_machines()]:
         yield from read_faults(streams, reader, script, answered)
         yield from whole_writes(streams, reader, script, answered)
         yield typed(reader, script)
-    yield from read_faults(streams, replaying, log, found)
+    yield from read_faults(streams, replaying(), log, found)
     yield from unreadable_files(streams, files)
-    yield from write_faults(streams, serving, script, answered)
-    yield from write_faults(streams, replaying, log, found)
+    yield from write_faults(streams, serving(), script, answered)
+    yield from write_faults(streams, replaying(), log, found)
     yield from team_writes(streams, files)
     yield from full_device(script, log, files)
     yield from closed_pipe(script, log, files)
