@@ -86,7 +86,7 @@ impl<S: Selector + Drop, T: PrefixTable<Cell<S>> + Drop> State<S, T> {
             Some(site) => deliver(self.alloc, site, cell, direction.from, message),
             None => store(self.alloc, cell, direction.from, message),
         };
-        drop(made);
+        drop((nothing, made));
         Ok((outcome?, has_cell))
     }
 

@@ -1,6 +1,7 @@
 -- What a caller at a desk knows of its own seat, what workers made of theirs, and why a desk is not opened.
 use Rattle.std.specs.Prelude.{◌≡◌, ◌≢◌, ◌≤◌, ◌+◌, ◌%◌, ℕ, List, [], ◌∷◌, ◌++◌, length, All}
 use Rattle.net_prefix.specs.declared.addr.Addr.{Addr}
+use Rattle.scheduler.specs.Shards.{AreShards}
 use Rattle.session_queue.specs.Shards.{shard_of}
 use Rattle.sim_event.specs.declared.entry.Entry.{Entry}
 use Rattle.sim_event.specs.declared.entry.Call.{Call}
@@ -25,10 +26,6 @@ pub record DeskBook : Type 0 where
 -- a desk has 1 to 256 seats
 abbrev pub AreSeats : ℕ → Type 0
 AreSeats n = (1 ≤ n) × (n ≤ 256)
-
--- and 1 to 64 shards
-abbrev pub AreShards : ℕ → Type 0
-AreShards n = (1 ≤ n) × (n ≤ 64)
 
 -- the ledger that counts the calls: it has the name and the parts that its type says, and 256 parts, one for each seat
 -- that there may be

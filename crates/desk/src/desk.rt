@@ -3,18 +3,17 @@
 ghost use Rattle.std.specs.Prelude.{◌≡◌, ◌<◌, ◌≤◌, false, None, All, length, max, IfOk, IfErr, IfSome, OnOk, OnErr};
 ghost use Rattle.room.specs.Books.{blank_seats, is_memory, noted};
 ghost use Rattle.room.specs.Jobs.{IsOfShard};
-ghost use Rattle.desk.specs.Desks.{AreSeats, AreShards, IsDeskLedger, IsOpenFault, IsReplied, IsTaken, IsWithout, IsNoted, IsUnlike, IsSeatAfter, IsSeatAfterAll, IsSeatAfterFirst};
+ghost use Rattle.scheduler.specs.Shards.{AreShards};
+ghost use Rattle.desk.specs.Desks.{AreSeats, IsDeskLedger, IsOpenFault, IsReplied, IsTaken, IsWithout, IsNoted, IsUnlike, IsSeatAfter, IsSeatAfterAll, IsSeatAfterFirst};
 
-use crate::backoff::Backoff;
 use crate::effort::are_much_work;
 use crate::guarded::Guarded;
-use crate::receivers::Receivers;
-use crate::scheduler::{Scheduler, Workers};
 use cell_engine::Cell;
 use net_prefix::Addr;
 use prefix_table::PrefixTable;
 use room::{Audit, CommitFault, Committed, Done, Job, Jobs, Outcomes, Progress, Room, Seat};
 use route_select::{Chosen, Selector};
+use scheduler::{Backoff, Receivers, Scheduler, Workers};
 use sim_event::{Event, Reply};
 use std::alloc::{AllocError, Global};
 use std::hash::RandomState;

@@ -11,12 +11,12 @@ ghost use Rattle.room.specs.Jobs.{AreApart, IsOfShard, IsSeenIn, NoneWaits};
 ghost use Rattle.room.specs.Commits.{AreCommitted, IsBrokenOff, IsCommitted, IsUnchanged};
 ghost use Rattle.desk.specs.Desks.{AreSeats, IsDeskLedger};
 
-use crate::scheduler::Workers;
 use cell_engine::Cell;
 use net_prefix::Addr;
 use prefix_table::PrefixTable;
 use room::{Audit, CommitFault, Committed, Done, Job, Jobs, Outcomes, Progress, Room, Seat};
 use route_select::{Chosen, Selector};
+use scheduler::Workers;
 use sim_event::{Event, Reply};
 use std::alloc::{AllocError, Global};
 use std::hash::RandomState;
@@ -45,7 +45,7 @@ impl<S: Chosen, T: PrefixTable<Cell<S>>, L: Ledger> Guarded<S, T, L> {
         ensures history { IfOk result (λ made. made.0.room.history ≡ []) }
         ensures network { IfOk result (λ made. network made.0.room.engine ≡ nothing) }
         ensures count { IfOk result (λ made. made.0.room.seats ≡ seats) }
-        ensures shards { IfOk result (λ made. length made.0.workers.waits.shards.items ≡ shards) }
+        ensures shards { IfOk result (λ made. made.0.workers ≡ shards) }
         ensures seats { IfOk result (λ made. made.1.items ≡ blank_seats seats) }
     {
         let workers = Workers::new(alloc, shards)?;

@@ -1,13 +1,9 @@
 //! One machine for several who work on it at once, and a history of their calls that is proved legal.
 #![tactic(auto)]
 
-mod backoff;
 mod desk;
 mod effort;
 mod guarded;
-mod receivers;
-mod scheduler;
-mod shard_waits;
 mod worker_threads;
 mod workers;
 

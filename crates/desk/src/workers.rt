@@ -5,12 +5,12 @@ ghost use Rattle.room.specs.Jobs as taken;
 ghost use Rattle.room.specs.Jobs.{IsOfShard};
 ghost use Rattle.desk.specs.Desks.{AllWorked, IsWorked, IsWorkedAt};
 
-use crate::backoff::{Backoff, Between};
 use crate::desk::{Desk, NoJobs};
 use cell_engine::Cell;
 use prefix_table::PrefixTable;
 use room::{Done, Job, Jobs, Outcomes, Seat};
 use route_select::Selector;
+use scheduler::{Backoff, Between};
 use std::sync::Wait;
 use std::sync::ledger::Ledger;
 use std::thread::Threads;

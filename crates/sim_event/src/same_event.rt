@@ -24,32 +24,14 @@ impl Same for Rule {
 }
 
 impl Same for Edit {
+    // Rules are compared apart: all at once is too much for the prover's search.
     fn is_same(&self, other: &Edit) -> bool {
         match (self, other) {
-            (Edit::Router(a, n), Edit::Router(b, m)) => a == b && n == m,
-            (Edit::Virtual(a, n), Edit::Virtual(b, m)) => a == b && n == m,
-            (Edit::Link(a, b, cost), Edit::Link(c, d, other)) => a == c && b == d && cost == other,
-            (Edit::Metric(a, b, cost), Edit::Metric(c, d, other)) => {
-                a == c && b == d && cost == other
-            }
-            (Edit::Fail(a, b), Edit::Fail(c, d)) => a == c && b == d,
-            (Edit::Mend(a, b), Edit::Mend(c, d)) => a == c && b == d,
-            (Edit::Join(a, b), Edit::Join(c, d)) => a == c && b == d,
-            (Edit::Stop(a, b), Edit::Stop(c, d)) => a == c && b == d,
-            (Edit::Start(a, b), Edit::Start(c, d)) => a == c && b == d,
-            (Edit::Client(a, b, on), Edit::Client(c, d, also)) => a == c && b == d && on == also,
-            (Edit::OwnNext(a, b, on), Edit::OwnNext(c, d, also)) => a == c && b == d && on == also,
-            (Edit::Cluster(a, id), Edit::Cluster(b, other)) => a == b && id == other,
-            (Edit::MedAlways(a, always), Edit::MedAlways(b, also)) => a == b && always == also,
             (Edit::Rule(a, b, side, rule), Edit::Rule(c, d, other, another)) => {
                 a == c && b == d && side == other && rule.is_same(another)
             }
-            (Edit::Clear(a, b, side), Edit::Clear(c, d, other)) => a == c
-                && b == d
-                && side == other,
-            (Edit::Origin(a, p), Edit::Origin(b, q)) => a == b && p == q,
-            (Edit::NoOrigin(a, p), Edit::NoOrigin(b, q)) => a == b && p == q,
-            _ => false,
+            (Edit::Rule(_, _, _, _), _) => false,
+            _ => self == other,
         }
     }
 }

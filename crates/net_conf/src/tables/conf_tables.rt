@@ -335,8 +335,15 @@ impl ConfTables {
         ensures own_next { IfOk result (λ t. t.2 ≡ self.now.own_next) }
     {
         let sessions = self.sessions.share()?;
-        let clients = self.clients.share()?;
-        Ok((sessions, clients, self.own_next.share()?))
+        let Ok(clients) = self.clients.share() else {
+            drop(sessions);
+            return Err(AllocError);
+        };
+        let Ok(own_next) = self.own_next.share() else {
+            drop((sessions, clients));
+            return Err(AllocError);
+        };
+        Ok((sessions, clients, own_next))
     }
 
     fn share_policies(&self) -> Result<Policies, AllocError>
@@ -345,29 +352,71 @@ impl ConfTables {
         ensures origins { IfOk result (λ t. t.2 ≡ self.now.origins) }
     {
         let imports = self.imports.share()?;
-        let exports = self.exports.share()?;
-        Ok((imports, exports, self.origins.share()?))
+        let Ok(exports) = self.exports.share() else {
+            drop(imports);
+            return Err(AllocError);
+        };
+        let Ok(origins) = self.origins.share() else {
+            drop((imports, exports));
+            return Err(AllocError);
+        };
+        Ok((imports, exports, origins))
     }
 }
 
 impl Copied for ConfTables {
-    // The parts one after another: the prover's work grows steeply with the values that one function may have to drop.
+    // The parts one after another, each dropped whole: the prover's work grows steeply with the values that one function
+    // may have to drop.
     fn copy(&self, _alloc: Global) -> Result<ConfTables, AllocError> {
-        let (nodes, links) = self.share_interior()?;
-        let (clusters, med_always) = self.share_router_settings()?;
-        let (sessions, clients, own_next) = self.share_sessions()?;
-        let (imports, exports, origins) = self.share_policies()?;
-        Ok(ConfTables {
-            nodes,
-            links,
-            sessions,
-            clients,
-            own_next,
-            imports,
-            exports,
-            clusters,
-            med_always,
-            origins,
-        })
+        let interior = self.share_interior()?;
+        let Ok(settings) = self.share_router_settings() else {
+            drop(interior);
+            return Err(AllocError);
+        };
+        let Ok(sessions) = self.share_sessions() else {
+            drop((interior, settings));
+            return Err(AllocError);
+        };
+        let Ok(policies) = self.share_policies() else {
+            drop((interior, settings, sessions));
+            return Err(AllocError);
+        };
+        Ok(of_parts(interior, settings, sessions, policies))
+    }
+}
+
+/// The tables of these parts.
+fn of_parts(
+    interior: Interior,
+    settings: RouterSettings,
+    sessions: Sessions,
+    policies: Policies,
+) -> ConfTables
+    ensures nodes { result.nodes ≡ interior.0 }
+    ensures links { result.links ≡ interior.1 }
+    ensures clusters { result.clusters ≡ settings.0 }
+    ensures med_always { result.med_always ≡ settings.1 }
+    ensures sessions { result.sessions ≡ sessions.0 }
+    ensures clients { result.clients ≡ sessions.1 }
+    ensures own_next { result.own_next ≡ sessions.2 }
+    ensures imports { result.imports ≡ policies.0 }
+    ensures exports { result.exports ≡ policies.1 }
+    ensures origins { result.origins ≡ policies.2 }
+{
+    let (nodes, links) = interior;
+    let (clusters, med_always) = settings;
+    let (sessions, clients, own_next) = sessions;
+    let (imports, exports, origins) = policies;
+    ConfTables {
+        nodes,
+        links,
+        sessions,
+        clients,
+        own_next,
+        imports,
+        exports,
+        clusters,
+        med_always,
+        origins,
     }
 }

@@ -6,17 +6,20 @@ use sim_event::Event;
 
 /// The receivers for whom a call can put messages on their way.
 #[derive(Clone, Copy, PartialEq, Eq)]
-pub(crate) enum Receivers {
+pub enum Receivers {
+    /// Nobody.
     Nobody,
+    /// This one.
     One(Addr),
     /// Those of this sender.
     OfSender(Addr),
+    /// Any router or virtual peer.
     Everybody,
 }
 
 impl Receivers {
     /// Those for whom the event can put messages on their way.
-    pub(crate) fn by(event: &Event) -> Self {
+    pub fn by(event: &Event) -> Self {
         match event {
             Event::Ask(_) => Receivers::Nobody,
             Event::Feed(feed) => Receivers::One(feed.to),

@@ -11,16 +11,19 @@ const TURNS_TO_A_WAIT: u64 = 8;
 
 /// What a worker does between two turns.
 #[derive(Clone, Copy, PartialEq, Eq)]
-pub(crate) enum Between {
+pub enum Between {
+    /// Nothing.
     GoOn,
+    /// It sleeps till it is woken.
     BackOff,
+    /// It wakes another worker.
     WakeOne,
 }
 
 /// How a worker has found the lock since it last waited for a message or backed off, what work its last jobs were,
 /// after how many turns at once it wakes another, and the version of the configuration that it has waited for.
 #[derive(Clone, Copy)]
-pub(crate) struct Backoff {
+pub struct Backoff {
     /// How often somebody else held it.
     contended: u64,
     /// How many turns at once the worker has made.
@@ -31,7 +34,8 @@ pub(crate) struct Backoff {
 }
 
 impl Backoff {
-    pub(crate) fn new() -> Self {
+    /// That of a worker who begins.
+    pub fn new() -> Self {
         Backoff {
             contended: 0,
             turns: 0,
@@ -42,26 +46,26 @@ impl Backoff {
     }
 
     /// The worker begins anew, after it has waited or backed off.
-    pub(crate) fn reset(&mut self) {
+    pub fn reset(&mut self) {
         self.contended = 0;
         self.turns = 0;
     }
 
     /// The lock was held by somebody else, or free.
-    pub(crate) fn note_lock(&mut self, is_contended: bool) {
+    pub fn note_lock(&mut self, is_contended: bool) {
         if is_contended {
             self.contended = self.contended.saturating_add(1);
         }
     }
 
     /// The jobs were much work, or little, and so many turns at once of little work are made to a wakeup.
-    pub(crate) fn note_work(&mut self, is_much_work: bool, turns_to_a_wakeup: u64) {
+    pub fn note_work(&mut self, is_much_work: bool, turns_to_a_wakeup: u64) {
         self.is_much_work = is_much_work;
         self.turns_to_a_wakeup = turns_to_a_wakeup;
     }
 
     /// Whether the version is another than that of the last look.
-    pub(crate) fn sees_edits(&mut self, version: u64) -> bool {
+    pub fn sees_edits(&mut self, version: u64) -> bool {
         let is_new = version != self.version;
         self.version = version;
         is_new
@@ -70,7 +74,7 @@ impl Backoff {
     /// What the worker does after its turns at once. After much work it wakes another. After little it backs off where
     /// it has found the lock taken often for the turns that it made: so who has just come makes way for who has long
     /// been at work.
-    pub(crate) fn after_turns(&mut self) -> Between {
+    pub fn after_turns(&mut self) -> Between {
         self.turns = self.turns.saturating_add(1);
         if self.is_much_work {
             return Between::WakeOne;

@@ -1,7 +1,7 @@
 //! The workers at a desk, who of them waits, and what wakes them.
 
-ghost use Rattle.std.specs.Prelude.{◌≡◌, ◌<◌, length, IfOk};
-ghost use Rattle.desk.specs.Desks.{AreShards};
+ghost use Rattle.std.specs.Prelude.{◌≡◌, ◌<◌, IfOk};
+ghost use Rattle.scheduler.specs.Shards.{AreShards};
 
 use crate::backoff::BackedOff;
 use crate::shard_waits::{ShardConditions, ShardWaits};
@@ -16,9 +16,9 @@ use std::thread;
 /// How often a worker looks after an edit whether the next one is asked for, before it takes a job.
 const LOOKS_AFTER_EDITS: u64 = 64;
 
-/// The workers at the desk, and who of them waits. It lies under the lock.
+/// The workers at the desk, and who of them waits. It lies under the lock. Contracts see of how many shards they are.
 #[derive(Drop)]
-pub(crate) struct Workers {
+pub struct Workers {
     /// Whether the engineers make no more calls.
     is_finished: bool,
     /// How many workers are at the desk.
@@ -33,10 +33,18 @@ pub(crate) struct Workers {
     is_much_work: bool,
 }
 
+impl Model for Workers {
+    ghost use Rattle.std.specs.Prelude.{ℕ, length};
+
+    ghost Value = { ℕ };
+
+    ghost view = { λ w. length w.waits.shards.items };
+}
+
 impl Workers {
     /// Nobody is there, of any of so many shards.
-    pub(crate) fn new(alloc: Global, shards: u64) -> Result<Self, AllocError>
-        ensures { IfOk result (λ made. length made.waits.shards.items ≡ shards) }
+    pub fn new(alloc: Global, shards: u64) -> Result<Self, AllocError>
+        ensures { IfOk result (λ made. made ≡ shards) }
     {
         Ok(Workers {
             is_finished: false,
@@ -50,64 +58,64 @@ impl Workers {
     }
 
     /// So many workers come. Each leaves once. Whether their gate may hold one of them until another has gone on.
-    pub(crate) fn enter(&mut self, workers: usize, may_hold: bool) {
+    pub fn enter(&mut self, workers: usize, may_hold: bool) {
         self.count = self.count.wrapping_add(workers as u64);
         self.may_be_held = self.may_be_held || may_hold;
     }
 
     /// Whether the engineers make no more calls.
-    pub(crate) fn is_finished(&self) -> bool {
+    pub fn is_finished(&self) -> bool {
         self.is_finished
     }
 
     /// Whether the engineers have finished, and no message waits, or all workers are idle.
-    pub(crate) fn is_over(&self, is_quiet: bool) -> bool {
+    pub fn is_over(&self, is_quiet: bool) -> bool {
         self.is_finished && (is_quiet || self.waits.idle() >= self.count)
     }
 
     /// Whether some workers are idle.
-    pub(crate) fn is_somebody_idle(&self) -> bool {
+    pub fn is_somebody_idle(&self) -> bool {
         self.waits.idle() > 0
     }
 
     /// Whether it changes anything to make a shard ready: somebody is idle, or has been ready before and is to be woken
     /// at once.
-    pub(crate) fn can_be_made_ready(&self) -> bool {
+    pub fn can_be_made_ready(&self) -> bool {
         self.waits.idle() > 0 || (self.waits.ready() > 0 && self.wakes_at_once())
     }
 
     /// A worker of the shard has found no job.
-    pub(crate) fn add_idle(&mut self, shard: u64) {
+    pub fn add_idle(&mut self, shard: u64) {
         self.waits.add_idle(shard);
     }
 
     /// A worker of the shard who has found no job ends.
-    pub(crate) fn remove_idle(&mut self, shard: u64) {
+    pub fn remove_idle(&mut self, shard: u64) {
         self.waits.remove_idle(shard);
     }
 
     /// Whether workers of the shard are ready, and not woken yet.
-    pub(crate) fn is_ready(&self, shard: u64) -> bool {
+    pub fn is_ready(&self, shard: u64) -> bool {
         self.waits.is_ready(shard)
     }
 
     /// No message waits for the shard: its workers who are ready are idle again.
-    pub(crate) fn make_idle(&mut self, shard: u64) {
+    pub fn make_idle(&mut self, shard: u64) {
         self.waits.make_idle(shard);
     }
 
     /// Whether no worker of the shard who waits for a message is woken.
-    pub(crate) fn is_none_of_shard_woken(&self, shard: u64) -> bool {
+    pub fn is_none_of_shard_woken(&self, shard: u64) -> bool {
         self.waits.is_none_woken(shard)
     }
 
     /// A worker of the shard who waited for a message, and was woken, runs.
-    pub(crate) fn resume_of_shard(&mut self, shard: u64) {
+    pub fn resume_of_shard(&mut self, shard: u64) {
         self.waits.resume(shard);
     }
 
     /// How many workers neither wait for a message nor have backed off.
-    pub(crate) fn at_work(&self) -> u64 {
+    pub fn at_work(&self) -> u64 {
         self.count
             .saturating_sub(self.waits.idle())
             .saturating_sub(self.waits.ready())
@@ -126,44 +134,44 @@ impl Workers {
     }
 
     /// The last outcomes were much work, or little.
-    pub(crate) fn note_work(&mut self, is_much_work: bool) {
+    pub fn note_work(&mut self, is_much_work: bool) {
         self.is_much_work = is_much_work;
     }
 
     /// After how many turns at once of little work a worker wakes another.
-    pub(crate) fn turns_to_a_wakeup(&self) -> u64 {
+    pub fn turns_to_a_wakeup(&self) -> u64 {
         self.backed_off.turns_to_a_wakeup()
     }
 
     /// One more worker backs off.
-    pub(crate) fn back_off(&mut self) {
+    pub fn back_off(&mut self) {
         self.backed_off.add();
     }
 
     /// Whether no worker who has backed off is woken.
-    pub(crate) fn is_none_woken(&self) -> bool {
+    pub fn is_none_woken(&self) -> bool {
         self.backed_off.is_none_woken()
     }
 
     /// A worker who had backed off, and was woken, runs.
-    pub(crate) fn resume(&mut self) {
+    pub fn resume(&mut self) {
         self.backed_off.resume();
     }
 
     /// One more worker waits until no edit is asked for.
-    pub(crate) fn begin_to_wait_for_edits(&mut self) {
+    pub fn begin_to_wait_for_edits(&mut self) {
         self.waiting_for_edits = self.waiting_for_edits.wrapping_add(1);
     }
 
     /// It goes on.
-    pub(crate) fn end_to_wait_for_edits(&mut self) {
+    pub fn end_to_wait_for_edits(&mut self) {
         self.waiting_for_edits = self.waiting_for_edits.wrapping_sub(1);
     }
 }
 
 /// What wakes those who wait at the desk. It lies beside the lock. Contracts see how many shards there are.
 #[derive(Drop)]
-pub(crate) struct Scheduler {
+pub struct Scheduler {
     /// Wake the workers who are idle, where a message may wait for them, or where they may end.
     conditions: ShardConditions,
     /// Wakes a worker who has backed off.
@@ -177,7 +185,7 @@ pub(crate) struct Scheduler {
 
 impl Model for Scheduler {
     ghost use Rattle.std.specs.Prelude.{ℕ, ◌≡◌};
-    ghost use Rattle.desk.specs.Desks.{AreShards};
+    ghost use Rattle.scheduler.specs.Shards.{AreShards};
 
     ghost Value = { ℕ };
 
@@ -188,7 +196,7 @@ impl Model for Scheduler {
 
 impl Scheduler {
     /// For so many shards, 1 to 64.
-    pub(crate) fn new(alloc: Global, shards: u64) -> Result<Self, AllocError>
+    pub fn new(alloc: Global, shards: u64) -> Result<Self, AllocError>
         requires { AreShards shards }
         ensures { IfOk result (λ made. made ≡ shards) }
     {
@@ -203,7 +211,7 @@ impl Scheduler {
     }
 
     /// How many shards there are.
-    pub(crate) fn shards(&self) -> u64
+    pub fn shards(&self) -> u64
         ensures shards { result ≡ self.now }
         ensures allowed { AreShards result }
     {
@@ -211,37 +219,37 @@ impl Scheduler {
     }
 
     /// What wakes the workers of the shard.
-    pub(crate) fn condition(&self, shard: u64) -> &Condvar
+    pub fn condition(&self, shard: u64) -> &Condvar
         requires { shard < self.now }
     {
         self.conditions.of(shard)
     }
 
     /// What wakes a worker who has backed off.
-    pub(crate) fn backoff_ends(&self) -> &Condvar {
+    pub fn backoff_ends(&self) -> &Condvar {
         &self.backoff_ends
     }
 
     /// What wakes the workers who wait until no edit is asked for.
-    pub(crate) fn edits_end(&self) -> &Condvar {
+    pub fn edits_end(&self) -> &Condvar {
         &self.edits_end
     }
 
     /// The engineers make no more calls: the workers end once no message waits, or none that one of them could bring.
-    pub(crate) fn finish(&self, workers: &mut Workers) {
+    pub fn finish(&self, workers: &mut Workers) {
         workers.is_finished = true;
         self.conditions.wake_all(&mut workers.waits);
     }
 
     /// A worker leaves.
-    pub(crate) fn leave(&self, workers: &mut Workers) {
+    pub fn leave(&self, workers: &mut Workers) {
         workers.count = workers.count.wrapping_sub(1);
         self.conditions.wake_all(&mut workers.waits);
         self.wake_one(workers);
     }
 
     /// Wakes the workers of one shard who are ready, or else a worker who has backed off, if there are any.
-    pub(crate) fn wake_one(&self, workers: &mut Workers) {
+    pub fn wake_one(&self, workers: &mut Workers) {
         if !self.conditions.wake_one(&mut workers.waits) && workers.backed_off.wake_one() {
             self.backoff_ends.notify_one();
         }
@@ -249,7 +257,7 @@ impl Scheduler {
 
     /// A message may wait for the receiver: the workers of its shard who are idle are ready, and woken at once or
     /// later.
-    pub(crate) fn make_ready(&self, workers: &mut Workers, receiver: Addr) {
+    pub fn make_ready(&self, workers: &mut Workers, receiver: Addr) {
         let shard = u64::from(receiver.0) % self.shards;
         workers.waits.make_ready(shard);
         if workers.wakes_at_once() {
@@ -259,7 +267,7 @@ impl Scheduler {
 
     /// Messages may wait for receivers of all shards: all workers who are idle are ready. They are woken at once where
     /// each is.
-    pub(crate) fn make_all_ready(&self, workers: &mut Workers) {
+    pub fn make_all_ready(&self, workers: &mut Workers) {
         for shard in 0..self.shards {
             workers.waits.make_ready(shard);
             if workers.wakes_each() {
@@ -269,7 +277,7 @@ impl Scheduler {
     }
 
     /// No calls come and no message waits: all are woken, and end.
-    pub(crate) fn wake_all(&self, workers: &mut Workers) {
+    pub fn wake_all(&self, workers: &mut Workers) {
         self.conditions.wake_all(&mut workers.waits);
         workers.backed_off.wake_all();
         self.backoff_ends.notify_all();
@@ -277,7 +285,7 @@ impl Scheduler {
 
     /// Somebody asks for the event. Whether it is an edit: from now on no worker begins a job, which the edit would
     /// make come too late.
-    pub(crate) fn begin_call(&self, event: &Event) -> bool {
+    pub fn begin_call(&self, event: &Event) -> bool {
         let is_edit = matches!(event, Event::Edit(_));
         if is_edit {
             self.edits.fetch_add(1, Ordering::SeqCst);
@@ -286,7 +294,7 @@ impl Scheduler {
     }
 
     /// The call was made. After the last edit that was asked for the workers go on.
-    pub(crate) fn end_call(&self, workers: &Workers, is_edit: bool) {
+    pub fn end_call(&self, workers: &Workers, is_edit: bool) {
         if is_edit
             && self.edits.fetch_sub(1, Ordering::SeqCst) == 1
             && workers.waiting_for_edits > 0
@@ -296,12 +304,12 @@ impl Scheduler {
     }
 
     /// Whether an edit is asked for, and not yet made.
-    pub(crate) fn is_edit_asked_for(&self) -> bool {
+    pub fn is_edit_asked_for(&self) -> bool {
         self.edits.load(Ordering::SeqCst) > 0
     }
 
     /// A little while, in which whoever has edited may ask for the next edit.
-    pub(crate) fn yield_after_edits(&self) {
+    pub fn yield_after_edits(&self) {
         for _ in 0..LOOKS_AFTER_EDITS {
             if self.is_edit_asked_for() {
                 return;
