@@ -414,22 +414,11 @@ impl<S: Selector + Drop, T: PrefixTable<Cell<S>> + Drop, L: Ledger> Desk<S, T, L
         ensures some { IfOk result (λ jobs. 0 < length jobs) }
         ensures most { IfOk result (λ jobs. length jobs ≤ max most 1) }
     {
-        let shards = self.scheduler.shards();
         let mut guarded = self.lock_noted(rt, backoff);
         for _ in rt.forever() {
             guarded = self.when_no_edits_follow(rt, guarded, backoff);
-            let Ok(jobs) = guarded.jobs(shard, shards, most) else {
-                return Err(NoJobs::ThisTurn);
-            };
-            if !jobs.is_empty() {
+            if let Some(jobs) = self.jobs_now(&mut guarded, shard, most)? {
                 return Ok(jobs);
-            }
-            drop(jobs);
-            guarded.workers.add_idle(shard);
-            self.wake_next(&mut guarded);
-            if guarded.workers.is_over(guarded.is_quiet()) {
-                guarded.workers.remove_idle(shard);
-                return Err(NoJobs::AnyMore);
             }
             let is_finished = guarded.workers.is_finished();
             backoff.reset();
@@ -439,6 +428,35 @@ impl<S: Selector + Drop, T: PrefixTable<Cell<S>> + Drop, L: Ledger> Desk<S, T, L
             }
         }
         unreachable!()
+    }
+
+    /// The jobs of the shard that there are now, so many at most, or one. Where there is none, its worker is idle from
+    /// now on, and another is woken; or there will be no more.
+    fn jobs_now(
+        &self,
+        guarded: &mut Guarded<S, T, L>,
+        shard: u64,
+        most: usize,
+    ) -> Result<Option<Jobs<S>>, NoJobs>
+        requires { shard < self.now.shards }
+        ensures shard { IfOk result (λ found. IfSome found (All (IsOfShard shard self.now.shards))) }
+        ensures some { IfOk result (λ found. IfSome found (λ jobs. 0 < length jobs)) }
+        ensures most { IfOk result (λ found. IfSome found (λ jobs. length jobs ≤ max most 1)) }
+    {
+        let Ok(jobs) = guarded.jobs(shard, self.scheduler.shards(), most) else {
+            return Err(NoJobs::ThisTurn);
+        };
+        if !jobs.is_empty() {
+            return Ok(Some(jobs));
+        }
+        drop(jobs);
+        guarded.workers.add_idle(shard);
+        self.wake_next(guarded);
+        if guarded.workers.is_over(guarded.is_quiet()) {
+            guarded.workers.remove_idle(shard);
+            return Err(NoJobs::AnyMore);
+        }
+        Ok(None)
     }
 }
 

@@ -365,8 +365,8 @@ impl ConfTables {
 }
 
 impl Copied for ConfTables {
-    // The parts one after another, each dropped whole: the prover's work grows steeply with the values that one function
-    // may have to drop.
+    // The parts one after another, each dropped whole: the prover's work grows steeply with the values that one
+    // function may have to drop.
     fn copy(&self, _alloc: Global) -> Result<ConfTables, AllocError> {
         let interior = self.share_interior()?;
         let Ok(settings) = self.share_router_settings() else {
