@@ -1,4 +1,4 @@
-// For LD_PRELOAD: lines of standard input are tried by copies of the program, and it goes on as if it had never seen them.
+// For LD_PRELOAD: lines of standard input, a file, are tried by copies of the program, and it goes on as if it had never seen them.
 // A line `refuse N` is kept back: a copy goes on with the lines behind it, up to a line `done`, where its input ends. While it is at the
 // first of them its allocation of the number N is refused; with 0 none is. The program then tells on standard error at what byte the copy's
 // output began and ended, how many allocations that line made, whether one was refused, and the copy's wait status, and goes on behind
@@ -10,28 +10,36 @@
 #include <stdlib.h>
 #include <string.h>
 #include <sys/mman.h>
+#include <sys/stat.h>
 #include <sys/syscall.h>
 #include <sys/wait.h>
 #include <unistd.h>
-static struct { long count; int refused, ended; } *told;
+// Seen by the program and its copies alike; `given` bytes of the text are read.
+static struct { long count; int refused, ended; size_t given; } *told;
+static void *(*next_malloc)(size_t), *(*next_realloc)(void *, size_t);
 static long which;
 static int is_copy, is_first;
-static char line[1 << 21];
-static size_t at, end;
+static const char *text, *line;
+static size_t length, at, end;
 
 __attribute__((constructor)) static void begin(void) {
+    struct stat file;
+    if (fstat(0, &file) == 0) length = file.st_size;
+    text = mmap(0, length, PROT_READ, MAP_PRIVATE, 0, 0);
     told = mmap(0, sizeof *told, PROT_READ | PROT_WRITE, MAP_SHARED | MAP_ANONYMOUS, -1, 0);
 }
-// A byte at a time, so that what was not read yet is there for the program and its copies alike.
 static void next_line(void) {
-    for (at = end = 0; end < sizeof line && syscall(SYS_read, 0, line + end, 1L) == 1;)
-        if (line[end++] == '\n') return;
+    line = text + told->given;
+    const char *last = memchr(line, '\n', length - told->given);
+    at = 0;
+    end = last ? last + 1 - line : text + length - line;
+    told->given += end;
 }
 static int is_done(void) { return end == 0 || (end == 5 && !memcmp(line, "done\n", 5)); }
 static void try(void) {
     long first = lseek(1, 0, SEEK_CUR);
     int status = 0;
-    memset(told, 0, sizeof *told);
+    told->count = told->refused = told->ended = 0;
     which = strtol(line + 7, 0, 10);
     pid_t copy = fork();
     if (copy == 0) { is_copy = is_first = 1; next_line(); return; }
@@ -58,5 +66,11 @@ static int refused(void) {
     if (!is_first || __atomic_add_fetch(&told->count, 1, __ATOMIC_SEQ_CST) != which) return 0;
     return told->refused = 1, errno = ENOMEM;
 }
-void *malloc(size_t n) { void *(*next)(size_t) = dlsym(RTLD_NEXT, "malloc"); return refused() ? 0 : next(n); }
-void *realloc(void *p, size_t n) { void *(*next)(void *, size_t) = dlsym(RTLD_NEXT, "realloc"); return refused() ? 0 : next(p, n); }
+void *malloc(size_t n) {
+    if (!next_malloc) next_malloc = dlsym(RTLD_NEXT, "malloc");
+    return refused() ? 0 : next_malloc(n);
+}
+void *realloc(void *p, size_t n) {
+    if (!next_realloc) next_realloc = dlsym(RTLD_NEXT, "realloc");
+    return refused() ? 0 : next_realloc(p, n);
+}

@@ -1,6 +1,1 @@
-mod Walks
-mod Uses
-mod Teams
-mod Subcommands
-mod Getters
 mod Unopened

@@ -14,9 +14,9 @@ use Rattle.sim_text.specs.ScriptRun.{IsScriptRun}
 use Rattle.log_replay.specs.ReplayRun.{IsReplayRun}
 use Rattle.team_run.specs.Sources.{Source}
 use Rattle.team_run.specs.TeamRun.{IsTeamRun}
-use Rattle.bgpsim.specs.CommandLine.{commands, Chooses}
-use Rattle.bgpsim.specs.declared.command_line.Choice.{Choice}
-use Rattle.bgpsim.specs.declared.command_line.Choice.TheVariants.{Script, Replay, ForTeam}
+use Rattle.command_line.specs.CommandLine.{commands, Chooses}
+use Rattle.command_line.specs.declared.Choice.{Choice}
+use Rattle.command_line.specs.declared.Choice.TheVariants.{Script, Replay, ForTeam}
 
 -- ---- where nothing is asked for that is run
 

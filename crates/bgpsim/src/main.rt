@@ -1,7 +1,6 @@
 //! `bgpsim`: an interactive simulator of BGP-4 networks.
 #![tactic(auto)]
 
-mod command_line;
 mod running;
 
 ghost use Rattle.std.specs.Prelude.{◌≡◌};

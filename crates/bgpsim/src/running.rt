@@ -4,13 +4,13 @@ ghost use Rattle.std.specs.Prelude.{◌≡◌, false, length, map, string_bytes,
 ghost use Rattle.std.specs.Process.{exit_status};
 ghost use Rattle.clap.specs.Words.{kind_of};
 ghost use Rattle.reply_text.specs.Ending.{IsTold};
-ghost use Rattle.bgpsim.specs.CommandLine.{IsTeamWithin, IsWithin};
+ghost use Rattle.command_line.specs.CommandLine.{IsTeamWithin, IsWithin};
 ghost use Rattle.bgpsim.specs.Running.{shown_status, shown_text, AreNamed, IsPrinted, IsProgramRun, IsReplayed, IsRunOf, IsServed, IsShown, IsTeamPlayed};
 
-use crate::command_line::{Choice, Team, choose};
 use cell_engine::Cell;
 use clap::Error;
 use clap::error::ErrorKind;
+use command_line::{Choice, Team, choose};
 use log_replay::run_replay;
 use prefix_table::{SortedTable, TrieTable};
 use reply_text::{MISTAKEN, RunFault, SUCCESS, end_by};

@@ -1,7 +1,7 @@
 use Rattle.std.proofs.Common.{ℕ, List, Option, sym, subst}
 use Rattle.watched.specs.Streams.{Reading, Writing}
-use Rattle.bgpsim.specs.declared.command_line.Choice.{Choice}
-use Rattle.bgpsim.specs.CommandLine.{IsWithin}
+use Rattle.command_line.specs.declared.Choice.{Choice}
+use Rattle.command_line.specs.CommandLine.{IsWithin}
 use Rattle.bgpsim.specs.Running.{IsRunOf}
 use Rattle.bgpsim.proofs.running.run_choice.Goals as goal
 

@@ -4,7 +4,7 @@ use Rattle.std.specs.Prelude.{IsSome}
 use Rattle.std.specs.Str.Parse.{ParsesUnsigned}
 use Rattle.clap.specs.Matches.{ReadsOne}
 use Rattle.clap.specs.Words.{Text}
-use Rattle.bgpsim.specs.CommandLine.{IsNumber, number_of}
+use Rattle.command_line.specs.CommandLine.{IsNumber, number_of}
 
 -- a number that is there is read
 module _ {E : Type 0} (G : List ℕ → Result ℕ E → Type 0) (only : (u : List ℕ) (x : Result ℕ E) → G u x →

@@ -1,9 +1,9 @@
 use Rattle.std.proofs.Common.{rules, ap, ap₂, sym, subst, ◌∙◌, map, string_bytes}
 use Rattle.std.specs.Prelude.{IsSomeAnd}
 use Rattle.clap.specs.Words.{app_of, fault_of, is_simple_and_free, subcommand_of, takes}
-use Rattle.bgpsim.specs.CommandLine.{commands, IsChoice}
-use Rattle.bgpsim.proofs.Subcommands.{met, met_one, is_script, is_replay, script_is_met, script_is_taken, replay_is_met, replay_is_taken}
-use Rattle.bgpsim.proofs.command_line.choose.Goals as goal
+use Rattle.command_line.specs.CommandLine.{commands, IsChoice}
+use Rattle.command_line.proofs.Subcommands.{met, met_one, is_script, is_replay, script_is_met, script_is_taken, replay_is_met, replay_is_taken}
+use Rattle.command_line.proofs.choose.Goals as goal
 
 pub chosen-requires : goal.chosen-requires
 chosen-requires c =

@@ -5,9 +5,9 @@ use Rattle.clap.specs.Words.{App, Row, Rule, Text, IsUnsignedIn, all_of, kind_of
 use Rattle.clap.specs.declared.builder.value_parser.ValueParser.TheVariants.{Unsigned}
 use Rattle.clap.specs.declared.error.Error.{Error}
 use Rattle.clap.specs.declared.error.kind.ErrorKind.TheVariants.{OutOfMemory}
-use Rattle.bgpsim.specs.declared.command_line.Choice.{Choice}
-use Rattle.bgpsim.specs.declared.command_line.Choice.TheVariants.{ForTeam, Replay, Script}
-use Rattle.bgpsim.specs.declared.command_line.Team.{Team}
+use Rattle.command_line.specs.declared.Choice.{Choice}
+use Rattle.command_line.specs.declared.Choice.TheVariants.{ForTeam, Replay, Script}
+use Rattle.command_line.specs.declared.Team.{Team}
 
 -- ---- what may be said
 

@@ -7,13 +7,13 @@ use Rattle.clap.specs.Words.{App, HasMatchesOf, Row, Shape, Text, built, fault_o
 use Rattle.clap.specs.Walk.{nothing_held, walk_from, rows_after, stop_after, answers_to}
 use Rattle.clap.specs.Simple.{argument_words, entered, names_of, rows_at}
 use Rattle.clap.specs.Faults.{check_fault, entered_fault, level_fault}
-use Rattle.bgpsim.specs.CommandLine.{commands, IsChoice, IsMet}
-use Rattle.bgpsim.specs.declared.command_line.Choice.{Choice}
-use Rattle.bgpsim.specs.declared.command_line.Choice.TheVariants.{Script, Replay, ForTeam}
+use Rattle.command_line.specs.CommandLine.{commands, IsChoice, IsMet}
+use Rattle.command_line.specs.declared.Choice.{Choice}
+use Rattle.command_line.specs.declared.Choice.TheVariants.{Script, Replay, ForTeam}
 use Rattle.clap.specs.declared.parser.matches.ArgMatches.{ArgMatches}
 use Rattle.clap.proofs.OnLiterals.{clap_on_literals}
-use Rattle.bgpsim.proofs.Walks.{IsNoHelp, no_help_met, some_fault, is_word, level_free}
-use Rattle.bgpsim.proofs.Teams.{has_team}
+use Rattle.command_line.proofs.Walks.{IsNoHelp, no_help_met, some_fault, is_word, level_free}
+use Rattle.command_line.proofs.Teams.{has_team}
 
 has_one : (has : Bool) (rows : List Row) → check_fault (built commands).top rows has ≡ [] → has ≡ true
 has_one true rows e = refl

@@ -1,8 +1,8 @@
 use Rattle.std.proofs.Common.{rules, ap, ap₂, ◌∙◌, ◌≡◌, codes}
 use Rattle.std.proofs.lemmas.Result.{IfOk-weaker}
 use Rattle.clap.specs.Words.{App, app_of, new_app, shape_of, with_subcommand}
-use Rattle.bgpsim.specs.CommandLine.{bgpsim}
-use Rattle.bgpsim.proofs.command_line.program.Goals as goal
+use Rattle.command_line.specs.CommandLine.{bgpsim}
+use Rattle.command_line.proofs.program.Goals as goal
 
 pub returns : goal.returns
 returns c =

@@ -1,11 +1,12 @@
-//! The words of the command line.
+//! What the words of the command line ask for.
+#![tactic(auto)]
 
 ghost use Rattle.std.specs.Prelude.{◌≡◌, ◌∷◌, [], List, ℕ, codes, map, string_bytes, IfOk, IsSome, IsSomeAnd, Some, false, option_map};
 ghost use Rattle.clap.specs.Words.{FailsBy, all_of, app_of, fault_of, found_of, one_of, rows_of, rule_of, subcommand_rows_of};
 ghost use Rattle.clap.specs.declared.builder.command.Command.TheViews.{out-Command};
-ghost use Rattle.bgpsim.specs.CommandLine.{commands, files_rule, number_of, team_app, turns_rule, workers_rule, Chooses, HasTeam, IsChoice, IsMet, IsNumber, IsTaken, IsTeam, IsTeamWithin, IsWithin};
-ghost use Rattle.bgpsim.specs.declared.command_line.Choice.{Choice};
-ghost use Rattle.bgpsim.specs.declared.command_line.Choice.TheVariants.{Script, Replay};
+ghost use Rattle.command_line.specs.CommandLine.{commands, files_rule, number_of, team_app, turns_rule, workers_rule, Chooses, HasTeam, IsChoice, IsMet, IsNumber, IsTaken, IsTeam, IsTeamWithin, IsWithin};
+ghost use Rattle.command_line.specs.declared.Choice.{Choice};
+ghost use Rattle.command_line.specs.declared.Choice.TheVariants.{Script, Replay};
 
 use clap::{Arg, ArgMatches, Command, Error, value_parser};
 use std::alloc::{AllocError, Global};

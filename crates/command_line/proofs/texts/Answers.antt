@@ -2,8 +2,8 @@ use Rattle.std.proofs.Common.{ap, option_map, map, sym, subst, List, ℕ, Option
 use Rattle.std.specs.Prelude.{IsSome}
 use Rattle.clap.specs.Words.{found_of}
 use Rattle.clap.proofs.WalkLemmas.{raw_values-rows}
-use Rattle.bgpsim.proofs.Getters.{there}
-use Rattle.bgpsim.proofs.command_line.texts.Goals as goal
+use Rattle.command_line.proofs.Getters.{there}
+use Rattle.command_line.proofs.texts.Goals as goal
 
 pub unwrap-requires : goal.unwrap-requires
 unwrap-requires c =

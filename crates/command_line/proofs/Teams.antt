@@ -26,9 +26,9 @@ use Rattle.clap.specs.declared.parser.matches.ValueSource.{ValueSource}
 use Rattle.clap.specs.declared.parser.matches.ValueSource.TheVariants.{CommandLine, DefaultValue}
 use Rattle.clap.specs.declared.error.kind.ErrorKind.TheVariants.{ArgumentConflict, InvalidValue, MissingRequiredArgument, TooFewValues, TooManyValues, WrongNumberOfValues}
 use Rattle.clap.proofs.ValueTestLemmas.{accepts-Accepts}
-use Rattle.bgpsim.specs.CommandLine.{HasTeam, IsFromOneTo, files_rule, team_app, turns_rule, workers_rule}
-use Rattle.bgpsim.proofs.Walks.{level_free, or_else_none, some_fault}
-use Rattle.bgpsim.proofs.Uses.{IsKeptBy, settles, walks}
+use Rattle.command_line.specs.CommandLine.{HasTeam, IsFromOneTo, files_rule, team_app, turns_rule, workers_rule}
+use Rattle.command_line.proofs.Walks.{level_free, or_else_none, some_fault}
+use Rattle.command_line.proofs.Uses.{IsKeptBy, settles, walks}
 
 -- ---- rows
 

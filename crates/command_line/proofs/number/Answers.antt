@@ -2,8 +2,8 @@ use Rattle.std.proofs.Common.{◌∙◌, sym}
 use Rattle.std.specs.Str.Parse.{ParsesUnsigned, ExplainsUnsignedError, HasUnsignedDigitsIfOk}
 use Rattle.clap.specs.Words.{found_of}
 use Rattle.clap.proofs.WalkLemmas.{one_text-rows}
-use Rattle.bgpsim.proofs.Getters.{number_read}
-use Rattle.bgpsim.proofs.command_line.number.Goals as goal
+use Rattle.command_line.proofs.Getters.{number_read}
+use Rattle.command_line.proofs.number.Goals as goal
 
 pub unwrap-requires : goal.unwrap-requires
 unwrap-requires c =

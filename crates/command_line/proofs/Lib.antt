@@ -1,0 +1,5 @@
+mod Walks
+mod Uses
+mod Teams
+mod Subcommands
+mod Getters
