@@ -45,7 +45,7 @@ class Part(NamedTuple):
 
 PARTS = (
     Part("", (Root("bgpsim/src/main.rt", ("without_memory",)), Root("bgpsim/src/running.rt", ("show", "serve_script")),
-              Root("bgpsim/src/command_line.rt", ("choose",)), Root("sim_text/src/script_run.rt", ("run_script",)),
+              Root("command_line/src/lib.rt", ("choose",)), Root("sim_text/src/script_run.rt", ("run_script",)),
               Root("reference_machine/src/machine.rt", ("step",)))),
     Part("for `bgpsim replay`", (Root("bgpsim/src/running.rt", ("replay_log",)),
                                  Root("log_replay/src/replay_run.rt", ("run_replay",)))),

@@ -4,7 +4,7 @@ use Rattle.clap.specs.Words.{Text}
 use Rattle.watched.specs.Streams.{Writing}
 use Rattle.reply_text.specs.declared.ending.RunFault.TheVariants.{NoMemory}
 use Rattle.reply_text.specs.Ending.{fault_status, fault_text, IsTold}
-use Rattle.team_run.specs.Sources.{Source}
+use Rattle.script_files.specs.Sources.{Source}
 use Rattle.team_run.specs.TeamRun.{IsTeamRun}
 use Rattle.bgpsim.specs.Running.{AreNamed, IsTeamPlayed}
 

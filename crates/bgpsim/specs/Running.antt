@@ -12,7 +12,7 @@ use Rattle.reply_text.specs.declared.ending.RunFault.TheVariants.{NoMemory, Unwr
 use Rattle.reply_text.specs.Ending.{success, mistaken, fault_status, fault_text, IsTold}
 use Rattle.sim_text.specs.ScriptRun.{IsScriptRun}
 use Rattle.log_replay.specs.ReplayRun.{IsReplayRun}
-use Rattle.team_run.specs.Sources.{Source}
+use Rattle.script_files.specs.Sources.{Source}
 use Rattle.team_run.specs.TeamRun.{IsTeamRun}
 use Rattle.command_line.specs.CommandLine.{commands, Chooses}
 use Rattle.command_line.specs.declared.Choice.{Choice}

@@ -15,6 +15,7 @@ use log_replay::run_replay;
 use prefix_table::{SortedTable, TrieTable};
 use reply_text::{MISTAKEN, RunFault, SUCCESS, end_by};
 use route_select::{FilterCell, GroupCell};
+use script_files::ScriptFile;
 use sim_core::Sim;
 use sim_text::run_script;
 use std::alloc::{AllocError, Global};
@@ -27,7 +28,7 @@ use std::random::RandomSource;
 use std::sync::Wait;
 use std::sync::ledger::{Blank, Ledger};
 use std::thread::Threads;
-use team_run::{self, ScriptFile, Settings, run_team};
+use team_run::{self, Settings, run_team};
 use watched::{Input, Output};
 
 /// The machine that runs scripts: cells that keep groups of one neighbouring AS, in tries.

@@ -8,7 +8,8 @@ use Rattle.watched.specs.Streams.{Reading, Writing}
 use Rattle.watched.specs.Writing.{appends_both}
 use Rattle.reference_machine.specs.Network.{Network}
 use Rattle.sim_text.specs.declared.fault.ServeFault.TheVariants.{Read, Write}
-use Rattle.sim_text.specs.Serving.{IsAnswer, AreAnswers, AreFit, Served, IsServing, line_at, most_bytes, most_lines}
+use Rattle.watched.specs.Limits.{AreFit, most_bytes, most_lines}
+use Rattle.sim_text.specs.Serving.{IsAnswer, AreAnswers, Served, IsServing, line_at}
 use Rattle.sim_text.specs.Next.{IsUnfit}
 use Rattle.sim_text.specs.Progress.{SoFar, Reached, Ends}
 use Rattle.sim_text.specs.declared.fault.ServeFault.{ServeFault}

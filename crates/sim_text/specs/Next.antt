@@ -1,7 +1,7 @@
 -- What stands at the head of the bytes that are left. No public clause cites this module.
 use Rattle.std.specs.Prelude.{◌≡◌, ℕ, ◌<◌, ◌≤◌, ◌==◌, ◌⊎◌, List, ◌∷◌, ◌++◌, length, take, position, Some, None}
 use Rattle.std.specs.Str.Lines.{lines, strip_carriage_return}
-use Rattle.sim_text.specs.Serving.{most_bytes, most_lines}
+use Rattle.watched.specs.Limits.{most_bytes, most_lines}
 use Rattle.sim_text.specs.declared.line.Next.{Next}
 use Rattle.sim_text.specs.declared.line.Next.TheVariants.{Line, Part, Unfit}
 

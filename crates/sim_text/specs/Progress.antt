@@ -5,7 +5,8 @@ use Rattle.std.specs.Io.KnownBytes.{Appends}
 use Rattle.watched.specs.Streams.{Reading, Writing}
 use Rattle.reference_machine.specs.Network.{Network}
 use Rattle.sim_text.specs.declared.fault.ServeFault.{ServeFault}
-use Rattle.sim_text.specs.Serving.{AreAnswers, IsServing, line_feeds, most_bytes, most_lines}
+use Rattle.watched.specs.Limits.{most_bytes, most_lines}
+use Rattle.sim_text.specs.Serving.{AreAnswers, IsServing, line_feeds}
 
 -- the first k lines of the bytes were answered, and these bytes are left
 pub record SoFar (bytes left : List ℕ) (k : ℕ) (s : Network) (o : Writing) (s' : Network) (o' : Writing) : Type 0 where

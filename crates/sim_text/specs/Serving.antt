@@ -1,7 +1,8 @@
 -- What it means to serve a script (own): each line is answered in turn.
-use Rattle.std.specs.Prelude.{◌≡◌, ℕ, ◌+◌, ◌<◌, ◌≤◌, ◌==◌, Bool, true, false, ◌⊎◌, List, [], ◌∷◌, ◌++◌, length, take, filter, slice_index_or, All, Some, Result, Ok, Err}
+use Rattle.std.specs.Prelude.{◌≡◌, ℕ, ◌+◌, ◌<◌, ◌≤◌, ◌==◌, Bool, true, false, ◌⊎◌, List, [], ◌∷◌, ◌++◌, length, take, filter, slice_index_or, Some, Result, Ok, Err}
 use Rattle.std.specs.Str.Lines.{lines}
 use Rattle.std.specs.Io.KnownBytes.{Appends}
+use Rattle.watched.specs.Limits.{most_bytes, most_lines, AreFit}
 use Rattle.watched.specs.Streams.{Reading, Writing}
 use Rattle.net_conf.specs.declared.refusal.Refusal.TheVariants.{Syntax, Memory}
 use Rattle.sim_event.specs.declared.event.Event.{Event}
@@ -29,19 +30,8 @@ AreAnswers s [] text s' = (text ≡ []) × (s' ≡ s)
 AreAnswers s (line ∷ more) text s' = (mid : Network) × (first : List ℕ) × (rest : List ℕ) × IsAnswer s line first mid
     × AreAnswers mid more rest s' × (text ≡ first ++ rest)
 
--- the most bytes that a line may have, its end not counted, and the most lines (own)
-abbrev pub most_bytes : ℕ
-most_bytes = 65536
-
-abbrev pub most_lines : ℕ
-most_lines = 1000000
-
 abbrev pub line_at : List ℕ → ℕ → List ℕ
 line_at bytes k = slice_index_or (lines bytes) k []
-
--- no more lines than a script may have, and none longer than a line may be
-abbrev pub AreFit : List (List ℕ) → Type 0
-AreFit ls = (length ls ≤ most_lines) × All (λ line. length line ≤ most_bytes) ls
 
 -- the first k lines are within the limits, they were answered, and their answers were written in full
 abbrev pub Served : List ℕ → ℕ → Network → Writing → Network → Writing → Type 0

@@ -4,8 +4,8 @@ use Rattle.watched.specs.Streams.{Writing}
 use Rattle.reply_text.specs.declared.ending.RunFault.{RunFault}
 use Rattle.reply_text.specs.declared.ending.RunFault.TheVariants.{LineUnread, FileUnread, Unwritten, NoMemory, BookDiffers}
 use Rattle.reply_text.specs.Ending.{fault_status, fault_text, IsTold}
-use Rattle.team_run.specs.Sources.{Source}
-use Rattle.team_run.specs.Scripts.{IsReadingFault}
+use Rattle.script_files.specs.Sources.{Source}
+use Rattle.script_files.specs.Scripts.{IsReadingFault}
 use Rattle.team_run.specs.Playing.{IsOfPlay}
 use Rattle.team_run.specs.TeamRun.{IsCutOff, IsPlayed, IsTeamRun}
 

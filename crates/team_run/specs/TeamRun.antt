@@ -13,7 +13,7 @@ use Rattle.reply_text.specs.declared.ending.RunFault.{RunFault}
 use Rattle.reply_text.specs.declared.ending.RunFault.TheVariants.{Unwritten, NoMemory, BookDiffers}
 use Rattle.reply_text.specs.Ending.{success, read_fault, write_fault, no_memory, fault_text, unread_text, IsTold, IsWithoutMemory}
 use Rattle.log_text.specs.Logs.{log_text}
-use Rattle.team_run.specs.Sources.{Source, AreRead, IsFirstUnread}
+use Rattle.script_files.specs.Sources.{Source, AreRead, IsFirstUnread}
 
 -- ---- whose calls the log holds
 

@@ -5,8 +5,6 @@ ghost use Rattle.std.specs.Option.{option_map};
 ghost use Rattle.room.specs.Books.{is_memory};
 ghost use Rattle.team_run.specs.Playing.{HasPlayed, IsCalled};
 
-use crate::lines::{Line, Lines};
-use crate::scripts::Script;
 use crate::told::{Told, ToldLine};
 use cell_engine::Cell;
 use command_text::read_line;
@@ -14,6 +12,7 @@ use desk::{Desk, Seat};
 use net_conf::Refusal;
 use prefix_table::PrefixTable;
 use route_select::Selector;
+use script_files::{Line, Lines, Script};
 use sim_event::Reply;
 use std::alloc::Global;
 use std::io::Write;

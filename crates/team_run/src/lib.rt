@@ -3,10 +3,7 @@
 
 mod crew;
 mod engineer;
-mod lines;
-mod scripts;
 mod team;
 mod told;
 
-pub use scripts::ScriptFile;
 pub use team::{Settings, Team, run_team};

@@ -12,7 +12,6 @@ ghost use Rattle.watched.specs.Streams.{AppendsFront};
 
 use crate::crew::Crew;
 use crate::engineer::Engineer;
-use crate::scripts::{Script, ScriptFile, read_scripts};
 use crate::told::Told;
 use cell_engine::Cell;
 use desk::{Audit, Desk, OpenFault, Record, Seat};
@@ -20,6 +19,7 @@ use log_text::write_log_in_threads;
 use prefix_table::PrefixTable;
 use reply_text::{RunFault, SUCCESS, end_by};
 use route_select::Selector;
+use script_files::{Script, ScriptFile, read_scripts};
 use sim_event::Entry;
 use std::alloc::{AllocError, Global};
 use std::hash::RandomState;

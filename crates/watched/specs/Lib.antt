@@ -1,3 +1,4 @@
+pub mod Limits
 pub mod LineFeeds
 pub mod Sending
 pub mod Streams

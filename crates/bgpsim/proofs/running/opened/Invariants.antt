@@ -1,5 +1,5 @@
 use Rattle.std.proofs.Common.{◌≡◌, length, map, take}
-use Rattle.team_run.specs.Sources.{Source}
+use Rattle.script_files.specs.Sources.{Source}
 use Rattle.bgpsim.proofs.running.opened.Given as goal
 
 -- a file for each name so far, which it has

@@ -2,7 +2,7 @@ use Rattle.std.proofs.Common.{◌++◌, length, inl, inr, arith, ap, ◌∙◌, 
 use Rattle.std.specs.Str.Lines.{strip_carriage_return}
 use Rattle.std.proofs.lemmas.Bool.{eqb-false}
 use Rattle.std.proofs.lemmas.List.{length-append}
-use Rattle.sim_text.specs.Serving.{most_bytes}
+use Rattle.watched.specs.Limits.{most_bytes}
 use Rattle.watched.specs.LineFeeds.{no_cut}
 use Rattle.sim_text.proofs.LineLemmas.{lines_begin, lines_first, lines_long}
 use Rattle.sim_text.proofs.line.next_line.Goals as goal

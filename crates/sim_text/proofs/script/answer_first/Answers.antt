@@ -1,6 +1,6 @@
 use Rattle.std.proofs.Common.{◌≡◌, ◌+◌, ◌≤◌, ◌++◌, ◌∷◌, ℕ, List, length, take, drop, ap, sym, subst, ◌∙◌, arith}
 use Rattle.std.specs.Str.Lines.{lines, strip_carriage_return}
-use Rattle.sim_text.specs.Serving.{most_bytes}
+use Rattle.watched.specs.Limits.{most_bytes}
 use Rattle.sim_text.specs.Progress.{Reached}
 use Rattle.sim_text.proofs.LineLemmas.{lines_first}
 use Rattle.sim_text.proofs.AnswerLemmas.{so_far_more, reached_more, end_unwritten}

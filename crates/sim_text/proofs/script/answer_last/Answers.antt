@@ -1,6 +1,6 @@
 use Rattle.std.proofs.Common.{◌<◌, [], ◌∷◌, length, ap, sym, ◌∙◌, arith}
 use Rattle.std.proofs.lemmas.Bool.{eqb-false}
-use Rattle.sim_text.specs.Serving.{most_bytes}
+use Rattle.watched.specs.Limits.{most_bytes}
 use Rattle.watched.specs.LineFeeds.{no_cut}
 use Rattle.sim_text.proofs.LineLemmas.{lines_whole}
 use Rattle.sim_text.proofs.AnswerLemmas.{so_far_more, end_long, end_unwritten}

@@ -1,0 +1,4 @@
+mod Files
+mod Limits
+mod Reading
+mod ScriptLines
