@@ -10,8 +10,7 @@ ghost use Rattle.igp_cost.specs.Wired.{IsRising, IsFound};
 
 use crate::limits::MAX_NODES;
 use crate::metric::Metric;
-use net_prefix::Addr;
-use path_attr::Asn;
+use net_prefix::{Addr, Asn};
 
 /// Whether these are the nodes and edges of a graph. It takes one look at each node and two searches for each edge.
 pub fn is_topology(nodes: &[(Addr, Asn)], edges: &[(Addr, Addr, Metric)]) -> bool

@@ -7,8 +7,7 @@ ghost use Rattle.igp_cost.specs.Walks.{share_as};
 ghost use Rattle.igp_cost.specs.Wired.{IsRising};
 
 use crate::least_trees::link::Link;
-use net_prefix::Addr;
-use path_attr::Asn;
+use net_prefix::{Addr, Asn};
 
 /// A graph in which a tree starts: the nodes, the links between their places in the order of the nodes that they leave,
 /// where the links of each node start and where they all end, and the place of the tree's source.

@@ -12,8 +12,7 @@ ghost use Rattle.igp_cost.specs.Trees.{source_of, label_in, cost_in, first_hop_i
 ghost use Rattle.igp_cost.specs.Wired.{IsRising, AreAscending, AreBelow, row, rows_of};
 
 use crate::label::{Label, NO_WALK, known};
-use net_prefix::Addr;
-use path_attr::Asn;
+use net_prefix::{Addr, Asn};
 use seq::{Copied, SharedSeq, push_some};
 use std::alloc::{AllocError, Global};
 use std::marker::Model;

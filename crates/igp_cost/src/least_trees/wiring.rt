@@ -13,8 +13,7 @@ ghost use Rattle.igp_cost.specs.Wired.{IsRising, IsFound, IsWired};
 use crate::least_trees::conditions::place_of;
 use crate::least_trees::link::Link;
 use crate::metric::Metric;
-use net_prefix::Addr;
-use path_attr::Asn;
+use net_prefix::{Addr, Asn};
 use std::alloc::{AllocError, Global};
 
 // The links of edges, both ways, in the order of the nodes that they leave.
