@@ -1,4 +1,3 @@
-pub mod Calls
 pub mod Apart
 pub mod Deliverable
 pub mod Differing

@@ -1,4 +1,3 @@
-pub mod Written
 pub mod Books
 pub mod Closing
 pub mod Jobs

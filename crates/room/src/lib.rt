@@ -2,7 +2,6 @@
 //! right to start threads, to decide many cells, and hands it on.
 #![tactic(auto)]
 
-mod call_history;
 mod room;
 
 pub use room::{

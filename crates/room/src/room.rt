@@ -22,8 +22,8 @@ mod seat;
 mod taking;
 mod together;
 
-use crate::call_history::{Draft, History};
 use crate::room::record::{all_agree, is_each_once};
+use call_history::{Draft, History};
 use cell_engine::Cell;
 pub use commit::{CommitFault, Committed, Newer};
 pub use job::{Done, Job};

@@ -7,13 +7,13 @@ ghost use Rattle.room.specs.Jobs.{HasSite, HasVersion, IsSeenIn, head_in, outcom
 ghost use Rattle.room.specs.Commits.{HasHead, IsNewer, IsCommitted, AreCommitted, IsBrokenOff, IsDelivered, IsUnchanged, is_delivered, delivery_of};
 ghost use Rattle.room.specs.Books.{GoesOn};
 
-use crate::call_history::Draft;
 use crate::room::Room;
 use crate::room::commit::{CommitFault, Committed, Newer};
 use crate::room::job::{Done, Job};
 use crate::room::received::first_difference;
 use crate::room::seat::Seat;
 use crate::room::together::Outcomes;
+use call_history::Draft;
 use cell_engine::{Cell, Outcome};
 use net_conf::SharedSite;
 use net_prefix::{Addr, Prefix};

@@ -4,9 +4,9 @@ ghost use Rattle.std.specs.Prelude.{◌≡◌, ◌↔◌, IsTrue};
 ghost use Rattle.reference_machine.specs.Histories.{IsLegal};
 ghost use Rattle.room.specs.Closing.{times, IsEachOnce, AllAgree};
 
-use crate::call_history::History;
 use crate::room::Room;
 use crate::room::seat::Seat;
+use call_history::History;
 use cell_engine::Cell;
 use prefix_table::PrefixTable;
 use route_select::Chosen;

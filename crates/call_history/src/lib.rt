@@ -1,4 +1,5 @@
 //! What is written down of calls: the history of all, and the notes of each seat.
+#![tactic(auto)]
 
 mod agreement;
 mod draft;

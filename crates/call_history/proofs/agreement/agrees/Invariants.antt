@@ -1,7 +1,7 @@
 use Rattle.std.proofs.Common.{◌≡◌, ◌≤◌, length, drop}
 use Rattle.std.specs.Prelude.{◌↔◌}
 use Rattle.reference_machine.specs.Histories.{calls_of}
-use Rattle.room.proofs.call_history.agreement.agrees.Given as goal
+use Rattle.call_history.proofs.agreement.agrees.Given as goal
 
 -- the notes are the seat's calls where what is left of them is what is left of the history
 abbrev pub invariant-loop-index : goal.invariant-loop-index

@@ -1,7 +1,7 @@
 //! What is written down of one call.
 
 ghost use Rattle.std.specs.Prelude.{◌≡◌, IfOk};
-ghost use Rattle.room.specs.Written.{took_of};
+ghost use Rattle.call_history.specs.Written.{took_of};
 
 use seq::Copied;
 use session_queue::{Direction, Message};

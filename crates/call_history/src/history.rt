@@ -2,10 +2,10 @@
 
 ghost use Rattle.std.specs.Prelude.{◌≡◌, ◌+◌, ◌<◌, ◌≤◌, ◌∷◌, ◌++◌, ◌↔◌, ◌⊎◌, [], length, vec_len, vec_capacity, IsTrue, OnOk, OnErr};
 ghost use Rattle.reference_machine.specs.Histories.{calls_of};
-ghost use Rattle.room.specs.Written.{HistoryBook};
+ghost use Rattle.call_history.specs.Written.{HistoryBook};
 
-use crate::call_history::agreement::agrees;
-use crate::call_history::draft::Draft;
+use crate::agreement::agrees;
+use crate::draft::Draft;
 use sim_event::{Call, Entry};
 use std::alloc::{AllocError, Global};
 use std::marker::Model;
@@ -22,7 +22,7 @@ pub struct History {
 
 impl Model for History {
     ghost use Rattle.std.specs.Prelude.{◌≡◌, ◌-◌, map, min, vec_len, vec_capacity};
-    ghost use Rattle.room.specs.Written.{HistoryBook, caller_of};
+    ghost use Rattle.call_history.specs.Written.{HistoryBook, caller_of};
 
     ghost Value = { HistoryBook };
 

@@ -1,8 +1,8 @@
 use Rattle.std.proofs.Common.{◌≡◌, length, ap, ◌∙◌, arith}
 use Rattle.std.proofs.lemmas.List.{length-map}
-use Rattle.room.specs.Written.{caller_of}
-use Rattle.room.proofs.Calls.{reads_all}
-use Rattle.room.proofs.call_history.agreement.agrees.Goals as goal
+use Rattle.call_history.specs.Written.{caller_of}
+use Rattle.call_history.proofs.Calls.{reads_all}
+use Rattle.call_history.proofs.agreement.agrees.Goals as goal
 
 pub returns : goal.returns
 returns c =

@@ -2,7 +2,7 @@
 
 ghost use Rattle.std.specs.Prelude.{◌≡◌, ◌↔◌, map, IsTrue};
 ghost use Rattle.reference_machine.specs.Histories.{call_of, calls_of};
-ghost use Rattle.room.specs.Written.{caller_of};
+ghost use Rattle.call_history.specs.Written.{caller_of};
 
 use sim_event::{Call, Entry, Same};
 
