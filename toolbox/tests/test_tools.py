@@ -632,6 +632,19 @@ class Toolbox(Case):
         self.assertEqual(len(re.findall(r"^FAILED .*\(part=[02]\)$", told, re.M)), 2)
         self.assertEqual(len(re.findall("^skipped .*: not here$", told, re.M)), 1)
 
+    def test_files_are_counted_together_and_one_that_breaks_off_has_failed(self):
+        ends = {"test_a.py": (b"2 passed, 0 failed\n", 0), "test_b.py": (b"FAILED x\n1 passed, 3 failed\n", 1),
+                "test_c.py": (b"skipped y: gone\n0 passed, 0 failed\n", 0), "test_d.py": (b"", -11),
+                "test_e.py": (b"4 passed, 0 failed\n", 1)}
+        with unittest.mock.patch.object(run_toolbox_tests, "in_its_process",
+                                        lambda file: running.Ran(ends[file.name][0], b"", ends[file.name][1])):
+            status, told = called(lambda _: run_toolbox_tests.run_files(list(map(pathlib.Path, ends))))
+        self.assertEqual((status, told.split("\n")[-2]), (1, "3 passed, 5 failed"))
+        for line in ("FAILED x", "skipped y: gone", "FAILED test_d.py ended with status -11, and did not count its tests so",
+                     "FAILED test_e.py ended with status 1, and did not count its tests so"):
+            self.assertIn(line, told.split("\n"))
+        self.assertNotIn("4 passed", told)
+
 
 class Bench(Other):
     def test_a_program_that_ends_with_another_status(self):

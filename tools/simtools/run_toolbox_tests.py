@@ -1,6 +1,8 @@
 """Runs the tests of toolbox/ on the built program.
 
-    tools/run-toolbox-tests [WORD..]        the tests whose name has one of the words; without one: all
+    tools/run-toolbox-tests                 all tests, the files of them side by side
+    tools/run-toolbox-tests WORD..          the tests whose name has one of the words
+    tools/run-toolbox-tests --file NAME     those of a file (test_NAME.py)
 
 What is not installed here (dot, chromium) has its tests told as skipped. The last line is `N passed, M failed`;
 exit 1 where one failed. VERBOSE=1 tells each test with its time. PROGRAM= is another built program. CHROMIUM= is a
@@ -9,16 +11,20 @@ browser, where it is not found by its name.
 from __future__ import annotations
 
 import os
+import pathlib
+import re
 import signal
 import sys
 import time
 import unittest
-from typing import Any, Iterable, Iterator, List, Sequence
+from typing import Any, Iterable, Iterator, List, Optional, Sequence
 
 from . import commands, programs
 from .programs import TOP
+from .running import Ran, run, side_by_side
 
 TESTS = TOP / "toolbox" / "tests"
+COUNTS = re.compile(r"^([0-9]+) passed, ([0-9]+) failed\n\Z", re.M)
 
 
 def tests_in(suite: unittest.TestSuite) -> Iterator[unittest.TestCase]:
@@ -60,24 +66,71 @@ def told(result: unittest.TestResult) -> int:
     return commands.counted(result.testsRun - failed - skipped, failed, skipped)
 
 
-def run_tests(words: List[str]) -> int:
-    """Runs the tests whose name has one of the words. Missing where the program is not there."""
+def run_tests(tests: Iterable[unittest.TestCase]) -> int:
+    """Runs tests in this process."""
+    result = Telling()
+    unittest.TestSuite(tests).run(result)
+    return told(result)
+
+
+def of_file(name: str) -> List[unittest.TestCase]:
+    """The tests of a file. Missing where it is not there."""
+    if not (TESTS / ("test_%s.py" % name)).is_file():
+        raise commands.Missing("there is no toolbox/tests/test_%s.py" % name)
+    return list(tests_in(unittest.TestLoader().loadTestsFromName("test_" + name)))
+
+
+def with_words(words: Sequence[str]) -> List[unittest.TestCase]:
+    """The tests whose name has one of the words."""
+    found = tests_in(unittest.TestLoader().discover(str(TESTS)))
+    return [test for test in found if any(word in test.id() for word in words)]
+
+
+def in_its_process(file: pathlib.Path) -> Ran:
+    name = file.stem[len("test_"):]
+    return run([sys.executable, "-B", str(TOP / "tools" / "run-toolbox-tests"), "--file", name], timeout=None)
+
+
+def run_files(files: Sequence[pathlib.Path]) -> int:
+    """Runs the tests of each file in a process of its own, and prints what these print, but one last line for all."""
+    passed = failed = 0
+    for file, ran in zip(files, side_by_side(in_its_process, files)):
+        text = ran.out.decode("utf-8", "replace")
+        counts = COUNTS.search(text)
+        print(text[:counts.start() if counts else None] + ran.err.decode("utf-8", "replace"), end="", flush=True)
+        if counts and bool(ran.status) == bool(int(counts[2])):
+            passed, failed = passed + int(counts[1]), failed + int(counts[2])
+        else:
+            failed += 1
+            print("FAILED %s ended with status %d, and did not count its tests so" % (file.name, ran.status))
+    return commands.counted(passed, failed)
+
+
+def ready() -> None:
+    """Has the tests find the program, Missing where it is not there, and end by signals as in a terminal: what a shell
+    runs in the background ignores Ctrl-C, under nohup the end of the session too, and so would the tools that the
+    tests start."""
     os.environ["PROGRAM"] = programs.bgpsim()
-    # What a shell runs in the background ignores Ctrl-C, under nohup the end of the session too, and so would the tools
-    # that the tests start.
     signal.signal(signal.SIGINT, signal.default_int_handler)
     signal.signal(signal.SIGHUP, signal.SIG_DFL)
     sys.path[:0] = [str(TESTS), str(TESTS.parent)]
-    loaded = list(tests_in(unittest.TestLoader().discover(str(TESTS))))
-    result = Telling()
-    unittest.TestSuite(test for test in loaded if not words or any(word in test.id() for word in words)).run(result)
-    return told(result)
+
+
+def chosen(words: Sequence[str], file: Optional[str]) -> int:
+    """Runs the tests of the file, or with one of the words, or all."""
+    ready()
+    if file is not None:
+        return run_tests(of_file(file))
+    if words:
+        return run_tests(with_words(words))
+    return run_files(sorted(TESTS.glob("test_*.py"), key=lambda path: -path.stat().st_size))
 
 
 def main(words: Sequence[str]) -> int:
     """The command."""
     sys.dont_write_bytecode = True
     asked = commands.parser(__doc__)
+    asked.add_argument("--file", metavar="NAME")
     asked.add_argument("words", nargs="*", metavar="WORD")
-    chosen = asked.parse_args(words).words
-    return commands.as_part(lambda: run_tests(chosen))
+    given = asked.parse_args(words)
+    return commands.as_part(lambda: chosen(given.words, given.file))
