@@ -1,4 +1,4 @@
-mod Files
+mod ReadFiles
 mod Limits
 mod Reading
 mod ScriptLines

@@ -1,7 +1,7 @@
 use Rattle.std.proofs.Common.{◌≡◌, ◌∷◌, ◌++◌, [], length, rules, sym, ap, ◌∙◌, subst, append_assoc, arith}
 use Rattle.std.proofs.lemmas.List.{length_push}
 use Rattle.script_files.specs.Sources.{AreRead}
-use Rattle.script_files.proofs.Files.{read_push}
+use Rattle.script_files.proofs.ReadFiles.{read_push}
 use Rattle.script_files.proofs.files.read_scripts.Goals as goal
 
 pub loop-file-preserved : goal.loop-file-preserved
