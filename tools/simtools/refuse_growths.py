@@ -355,6 +355,8 @@ def refuse(paths: Sequence[pathlib.Path], are_all: bool) -> int:
     calls = sorted(file for path in paths for file in ([path] if path.is_file() else path.glob("*" + OF_CALLS))
                    if file.suffix == OF_CALLS)
     cases, failed = list(cases_at(path for path in paths if path not in calls and path != CALLS)), 0
+    # What takes longest comes first, and nothing waits for it alone.
+    cases.sort(key=lambda case: -len(case.lines))
     counts: Counter[str] = collections.Counter()
     refusals: Counter[str] = collections.Counter()
     with growths.library() as library, refuser() as refusing:
