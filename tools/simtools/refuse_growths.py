@@ -4,6 +4,7 @@
                                            edits that threads decide, and tools/calls: a part of the gate
     tools/refuse-growths --all             all growths of these
     tools/refuse-growths [--all] PATH..    those of cases, or folders of them, and of lists of calls (NAME.calls)
+    tools/refuse-growths --on PROGRAM ..   those on bgpsim, or on machine_scripts, alone
 
 Of each line on the program and on the three machines the first allocation is refused, then the second, until a run
 meets none. Each time the line is answered as its case wants it, or `refused 20 memory`, and so only where an
@@ -50,6 +51,8 @@ ENOUGH = 40
 TEAMS_STEP = 7
 MOST_TOLD = 5
 MEMORY = 5 << 8
+# The programs, by the names of their crates.
+BGPSIM, MACHINE_SCRIPTS = "bgpsim", "machine_scripts"
 # Of a program that ended too early.
 NO_COPY = Copy(b"", b"", 0, False, 0)
 Words = Tuple[str, ...]
@@ -73,6 +76,12 @@ class Case(NamedTuple):
             return list(range(len(self.lines)))
         last = range(len(self.lines) - LAST, len(self.lines))
         return [i for i in last if word(self.lines[i]) not in QUESTIONS]
+
+
+class Asked(NamedTuple):
+    """What the command was asked for: all growths or some, on which programs."""
+    are_all: bool
+    programs: Sequence[str]
 
 
 class Expected(NamedTuple):
@@ -325,33 +334,33 @@ def cases_at(paths: Iterable[pathlib.Path]) -> Iterator[Case]:
             yield Case(run_cases.name(path), run_cases.given(path).splitlines(keepends=True), wanted.out)
 
 
-def tries(cases: Sequence[Case], calls: Sequence[Case], are_all: bool, library: str,
+def tries(cases: Sequence[Case], calls: Sequence[Case], asked: Asked, library: str,
           refusing: Refuser) -> Iterator[Tuple[str, Try]]:
     """What is tried, by names."""
-    on: List[Words] = [(programs.bgpsim(), "script")]
+    on: List[Words] = [(programs.bgpsim(), "script")] if BGPSIM in asked.programs else []
     room: List[Words] = []
-    if not programs.is_chosen():
+    if MACHINE_SCRIPTS in asked.programs:
         on += [(programs.machine_scripts(), machine) for machine in programs.MACHINES]
         room = [(programs.machine_scripts(), programs.ROOM)]
     for words in on + room:
         yield "%s, before a line" % words[1], partial(beginning_faults, refusing, words)
     for case, words in ((case, words) for case in cases for words in on):
-        enough = None if are_all or not case.is_long() else ENOUGH
+        enough = None if asked.are_all or not case.is_long() else ENOUGH
         yield "%s, %s" % (case.name, words[1]), Growths(library, words, case, enough).faults
     short = [case for case in cases if not case.is_long()]
     for case, words in ((case, words) for case in [*calls, *short] for words in room):
         yield "%s, %s" % (case.name, words[1]), RoomGrowths(library, words, case, None).faults
-    for number, case in enumerate(short):
+    for number, case in enumerate(short if BGPSIM in asked.programs else ()):
         log = logs.log_of(b"".join(case.lines).decode("latin-1"), 3)
         yield "%s, replay" % case.name, Replay(library, log).faults
-        yield "%s, team" % case.name, partial(team_faults, refusing, case, 1 if are_all else TEAMS_STEP, number)
+        yield "%s, team" % case.name, partial(team_faults, refusing, case, 1 if asked.are_all else TEAMS_STEP, number)
 
 
 def called(named: Tuple[str, Try]) -> Came:
     return named[1]()
 
 
-def refuse(paths: Sequence[pathlib.Path], are_all: bool) -> int:
+def refuse(paths: Sequence[pathlib.Path], asked: Asked) -> int:
     calls = sorted(file for path in paths for file in ([path] if path.is_file() else path.glob("*" + OF_CALLS))
                    if file.suffix == OF_CALLS)
     cases, failed = list(cases_at(path for path in paths if path not in calls and path != CALLS)), 0
@@ -360,7 +369,7 @@ def refuse(paths: Sequence[pathlib.Path], are_all: bool) -> int:
     counts: Counter[str] = collections.Counter()
     refusals: Counter[str] = collections.Counter()
     with growths.library() as library, refuser() as refusing:
-        named = list(tries(cases, list(map(calls_in, calls)), are_all, library, refusing))
+        named = list(tries(cases, list(map(calls_in, calls)), asked, library, refusing))
         for (name, _), (wrong, ended) in zip(named, side_by_side(called, named)):
             failed += bool(wrong)
             counts.update(ended)
@@ -374,9 +383,14 @@ def refuse(paths: Sequence[pathlib.Path], are_all: bool) -> int:
 
 def main(words: Sequence[str]) -> int:
     """The command."""
-    asked = commands.parser(__doc__)
-    asked.add_argument("--all", action="store_true")
-    asked.add_argument("paths", nargs="*", type=pathlib.Path, metavar="PATH")
-    given = asked.parse_args(words)
+    parser = commands.parser(__doc__)
+    parser.add_argument("--all", action="store_true")
+    parser.add_argument("--on", choices=(BGPSIM, MACHINE_SCRIPTS), metavar="PROGRAM")
+    parser.add_argument("paths", nargs="*", type=pathlib.Path, metavar="PATH")
+    given = parser.parse_args(words)
+    if programs.is_chosen() and given.on == MACHINE_SCRIPTS:
+        parser.error("PROGRAM= is tried alone: --on machine_scripts has nothing to try")
+    both = (BGPSIM,) if programs.is_chosen() else (BGPSIM, MACHINE_SCRIPTS)
+    asked = Asked(given.all, (given.on,) if given.on else both)
     default = [CALLS] + [TOP / "cases" / name for name in WORKED + (THREADS,)]
-    return commands.as_part(lambda: refuse([path.resolve() for path in given.paths] or default, given.all))
+    return commands.as_part(lambda: refuse([path.resolve() for path in given.paths] or default, asked))

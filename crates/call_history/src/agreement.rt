@@ -4,7 +4,8 @@ ghost use Rattle.std.specs.Prelude.{◌≡◌, ◌↔◌, map, IsTrue};
 ghost use Rattle.reference_machine.specs.Histories.{call_of, calls_of};
 ghost use Rattle.call_history.specs.Written.{caller_of};
 
-use sim_event::{Call, Entry, Same};
+use crate::same::Same;
+use sim_event::{Call, Entry};
 
 /// Whether these are the calls of the seat of this number in the history, of which each entry's seat is given apart.
 pub(crate) fn agrees(entries: &[Entry], callers: &[u8], number: u8, notes: &[Call]) -> bool

@@ -4,6 +4,10 @@
 mod agreement;
 mod draft;
 mod history;
+mod same;
+mod same_event;
+mod same_reply;
 
 pub use draft::Draft;
 pub use history::History;
+pub use same::{Same, are_same};

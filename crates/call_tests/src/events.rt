@@ -1,13 +1,14 @@
 //! Copies of events and replies can be had, and are the same.
 
 use crate::common::{asn, ten};
+use call_history::Same;
 use net_conf::{Edit, Refusal};
 use net_prefix::Addr;
 use path_attr::{AsPath, Attr, Communities, ImportedAttr, Origin, SharedAttr};
 use route_select::Source;
 use seq::{Copied, Seq};
 use session_queue::MessageKind;
-use sim_event::{Ask, Event, FedRoute, Feed, Held, News, Reply, Report, Same};
+use sim_event::{Ask, Event, FedRoute, Feed, Held, News, Reply, Report};
 use std::alloc::Global;
 use std::process::Abort;
 

@@ -1,5 +1,5 @@
 use Rattle.std.proofs.Common.{◌≡◌, ◌↔◌, drop, length}
-use Rattle.sim_event.proofs.same.are_same.Given as goal
+use Rattle.call_history.proofs.same.are_same.Given as goal
 
 -- the lists are the same where what is left of them is
 abbrev pub invariant-loop-index : goal.invariant-loop-index

@@ -1,9 +1,9 @@
 //! Whether two events are the same.
 
-use crate::event::{Ask, Event, FedRoute, Feed, News};
 use crate::same::Same;
 use net_conf::Edit;
 use route_policy::{Action, Match, Rule};
+use sim_event::{Ask, Event, FedRoute, Feed, News};
 
 impl Same for Match {
     fn is_same(&self, other: &Match) -> bool {

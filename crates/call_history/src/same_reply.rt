@@ -1,7 +1,7 @@
 //! Whether two replies are the same.
 
-use crate::reply::{Held, Reply, Report, TraceEnd};
 use crate::same::Same;
+use sim_event::{Held, Reply, Report, TraceEnd};
 
 impl Same for Held {
     fn is_same(&self, other: &Held) -> bool {
