@@ -102,6 +102,11 @@ class Commands(Case):
                 ran = command(*call.split(), PROGRAM=NOWHERE)
                 self.assertEqual((ran.returncode, ran.stdout, ran.stderr), (2, "", NOT_THERE))
 
+    def test_a_chosen_program_is_no_machine(self):
+        ran = command("tools/refuse-growths", "--on", "machine_scripts", PROGRAM=NOWHERE)
+        self.assertEqual((ran.returncode, ran.stdout), (2, ""))
+        self.assertIn("PROGRAM= is tried alone", ran.stderr)
+
     def test_the_machines_that_are_not_there(self):
         with unittest.mock.patch.object(programs, "MACHINE_SCRIPTS", self.folder / "machine_scripts"):
             self.assertFalse(programs.has_machine_scripts())
@@ -114,7 +119,8 @@ class Commands(Case):
                            ("tools/random-scripts", "SEED"), ("bench/edits calm x", "expected, and not `x`"),
                            ("bench/teams reflect", "is one of mesh, mesh-heard, policies, reflect, and its N"),
                            ("bench/edits", "or --ratios"), ("tools/planted none", "crates.txt has no none"),
-                           ("tools/refuse-allocations gone.bgp", "there is no script gone.bgp")):
+                           ("tools/refuse-allocations gone.bgp", "there is no script gone.bgp"),
+                           ("tools/refuse-growths --on plain", "invalid choice: 'plain'")):
             with self.subTest(call=call):
                 ran = command(*call.split())
                 self.assertEqual((ran.returncode, ran.stdout), (2, ""))

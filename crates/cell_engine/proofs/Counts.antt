@@ -9,7 +9,7 @@ use Rattle.net_prefix.specs.Address.{same_addr}
 use Rattle.session_queue.specs.declared.direction.Direction.{Direction}
 use Rattle.session_queue.specs.Waiting.{direction_cmp, same_direction}
 use Rattle.session_queue.proofs.Places.{direction_total}
-use Rattle.cell_engine.proofs.Entries.{lookup_inserted}
+use Rattle.reference_machine.proofs.Entries.{lookup_inserted}
 use Rattle.cell_engine.proofs.Offers.{same_addr_true}
 use Rattle.cell_engine.specs.Counts.{count_at}
 

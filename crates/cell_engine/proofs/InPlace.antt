@@ -34,7 +34,7 @@ use Rattle.cell_engine.specs.Updates.{standings_after}
 use Rattle.cell_engine.specs.Senders.{AreInOrder}
 use Rattle.cell_engine.specs.InPlace.{forgotten, put_back, sends_with, set_aside, IsKnownIn}
 use Rattle.cell_engine.proofs.Effective.{effective_best, same_standings}
-use Rattle.cell_engine.proofs.Entries.{equal_from}
+use Rattle.reference_machine.proofs.Entries.{equal_from}
 use Rattle.cell_engine.proofs.StandingsAfter.{ArePeersInOrder, compares_after, peer_found, put_one, stood, taken}
 
 -- THE BEST

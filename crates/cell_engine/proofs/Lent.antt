@@ -15,7 +15,7 @@ use Rattle.net_prefix.specs.Orders.{addr_total, prefix_total, prefix_exact}
 use Rattle.prefix_table.specs.Tables.{Table}
 use Rattle.prefix_table.proofs.Entries.{T_of, first, second}
 use Rattle.cell_engine.specs.RouterTables.{AreByRouter, table_at, value_at, with_value}
-use Rattle.cell_engine.proofs.Entries.{equal_from}
+use Rattle.reference_machine.proofs.Entries.{equal_from}
 use Rattle.cell_engine.proofs.Halving.{find_below, below_less}
 
 -- ENTRIES

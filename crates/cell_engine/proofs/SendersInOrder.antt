@@ -18,7 +18,7 @@ use Rattle.session_queue.specs.declared.message.Message.{Message}
 use Rattle.session_queue.specs.declared.message.Message.TheVariants.{Update, Withdraw}
 use Rattle.cell_engine.specs.Cells.{route_of, with_news, is_up_in, kept_routes}
 use Rattle.cell_engine.specs.Senders.{AreInOrder}
-use Rattle.cell_engine.proofs.Entries.{ordered_inserted, ordered_removed, ordered_filtered, lookup_inserted}
+use Rattle.reference_machine.proofs.Entries.{ordered_inserted, ordered_removed, ordered_filtered, lookup_inserted}
 
 -- no sender is in order
 pub order_none : AreInOrder []

@@ -31,7 +31,7 @@ use Rattle.cell_engine.specs.Cells.{route_of, standing_of, standings_by, standin
 use Rattle.cell_engine.specs.Senders.{AreInOrder}
 use Rattle.cell_engine.specs.Updates.{standings_after}
 use Rattle.cell_engine.proofs.Effective.{same_standings, added_always}
-use Rattle.cell_engine.proofs.Entries.{equal_from}
+use Rattle.reference_machine.proofs.Entries.{equal_from}
 use Rattle.cell_engine.proofs.SendersInOrder.{told, route_with_news}
 
 -- THE PEERS OF A SITE

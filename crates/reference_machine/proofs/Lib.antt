@@ -5,3 +5,4 @@ pub mod Originated
 mod Onward
 mod Peers
 pub mod Ends
+pub mod Entries

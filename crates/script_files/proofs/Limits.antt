@@ -9,7 +9,8 @@ use Rattle.script_files.specs.Sources.{IsFit, IsWhole}
 use Rattle.script_files.specs.Reading.{IsMeasured, IsUnfit, is_returned}
 use Rattle.script_files.specs.declared.files.Measure.{Measure}
 use Rattle.watched.specs.Limits.{most_bytes, most_lines}
-use Rattle.script_files.proofs.ScriptLines.{lines_begin, lines_cut, lines_long, lines_whole, strip_shorter}
+use Rattle.watched.proofs.Lines.{lines_begin, lines_cut, lines_long, lines_whole}
+use Rattle.script_files.proofs.ScriptLines.{strip_shorter}
 
 -- ---- what no script has
 

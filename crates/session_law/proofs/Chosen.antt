@@ -39,7 +39,8 @@ use Rattle.reference_machine.specs.declared.rows.RouteKey.{RouteKey}
 use Rattle.reference_machine.specs.Network.{Network}
 use Rattle.reference_machine.specs.Decision.{own_candidate, own_standings, is_originated, exclusion, peer_candidate, standing_by, peer_standing, route_from, standing_over, standing_from as stands_over, routes_at, added, standings, best}
 use Rattle.session_law.specs.RouteLaws.{NeighbourLaw, EachHasItsSource, OneIsChosen}
-use Rattle.session_law.proofs.Lists.{equal_from, everywhere, each_joined, each_mapped}
+use Rattle.reference_machine.proofs.Entries.{equal_from}
+use Rattle.session_law.proofs.Lists.{everywhere, each_joined, each_mapped}
 
 -- WHAT HOLDS OF EACH STANDING
 

@@ -21,7 +21,7 @@ use Rattle.route_policy.specs.declared.rule.Rule.{Rule}
 use Rattle.net_conf.specs.Configuration.{Configuration, node_at, has_node, as_of, is_external, ends_of, ends_cmp, link_between, session_between, has_session}
 use Rattle.net_conf.specs.Costs.{session_up, is_connected, is_up}
 use Rattle.net_conf.specs.Edits.{first_of, tests_of, refusal_of, edited, lacks_node, repeats_node, has_one_end, is_inside, lacks_session, repeats_session, with_link_changed, with_rule_of, without_rules_of, with_session}
-use Rattle.session_law.proofs.Lists.{lookup_inserted}
+use Rattle.reference_machine.proofs.Entries.{lookup_inserted}
 use Rattle.session_law.proofs.Keys.{same_addr_true, same_addr_itself}
 
 -- WHAT IS NOT REFUSED

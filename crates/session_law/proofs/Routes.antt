@@ -26,7 +26,7 @@ use Rattle.reference_machine.specs.Network.{route_cmp}
 use Rattle.reference_machine.specs.Decision.{route_from}
 use Rattle.reference_machine.specs.Machine.{received_after, is_kept}
 use Rattle.session_law.specs.SessionLaw.{after_message}
-use Rattle.session_law.proofs.Lists.{equal_from, ordered_inserted, ordered_removed, ordered_filtered, lookup_inserted}
+use Rattle.reference_machine.proofs.Entries.{equal_from, ordered_inserted, ordered_removed, ordered_filtered, lookup_inserted}
 use Rattle.session_law.proofs.Keys.{same_ends, route_tied, route_total, route_exact, same_addr_true}
 
 -- what was received is in the order of its keys

@@ -1,3 +1,4 @@
 mod Appending
 mod BufferLemmas
 mod FirstByte
+pub mod Lines

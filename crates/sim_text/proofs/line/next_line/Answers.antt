@@ -4,7 +4,8 @@ use Rattle.std.proofs.lemmas.Bool.{eqb-false}
 use Rattle.std.proofs.lemmas.List.{length-append}
 use Rattle.watched.specs.Limits.{most_bytes}
 use Rattle.watched.specs.LineFeeds.{no_cut}
-use Rattle.sim_text.proofs.LineLemmas.{lines_begin, lines_first, lines_long}
+use Rattle.watched.proofs.Lines.{lines_begin, lines_long}
+use Rattle.sim_text.proofs.LineLemmas.{lines_first}
 use Rattle.sim_text.proofs.line.next_line.Goals as goal
 
 pub returns-then-not-is_empty : goal.returns-then-not-is_empty

@@ -2,7 +2,7 @@ use Rattle.std.proofs.Common.{◌<◌, [], ◌∷◌, length, ap, sym, ◌∙◌
 use Rattle.std.proofs.lemmas.Bool.{eqb-false}
 use Rattle.watched.specs.Limits.{most_bytes}
 use Rattle.watched.specs.LineFeeds.{no_cut}
-use Rattle.sim_text.proofs.LineLemmas.{lines_whole}
+use Rattle.watched.proofs.Lines.{lines_whole}
 use Rattle.sim_text.proofs.AnswerLemmas.{so_far_more, end_long, end_unwritten}
 use Rattle.sim_text.proofs.script.answer_last.Goals as goal
 

@@ -5,7 +5,7 @@ use Rattle.net_prefix.specs.Address.{addr_cmp}
 use Rattle.net_prefix.specs.Orders.{addr_total}
 use Rattle.path_attr.specs.declared.attr.Attr.{Attr}
 use Rattle.cell_engine.specs.Senders.{AreInOrder}
-use Rattle.cell_engine.proofs.Entries.{ordered_inserted, ordered_removed}
+use Rattle.reference_machine.proofs.Entries.{ordered_inserted, ordered_removed}
 use Rattle.cell_engine.proofs.route_cell.received_routes.ReceivedRoutes.take.Goals as goal
 
 either : {A E : Type 0} (r : Result A E) (xs old new : List (Addr × Attr)) → OnOk r (xs ≡ new) → OnErr r (xs ≡ old) →

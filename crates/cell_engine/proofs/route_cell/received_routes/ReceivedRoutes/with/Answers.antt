@@ -1,7 +1,7 @@
 use Rattle.std.proofs.Common.{sym, subst}
 use Rattle.net_prefix.specs.Orders.{addr_total}
 use Rattle.cell_engine.specs.Senders.{AreInOrder}
-use Rattle.cell_engine.proofs.Entries.{ordered_inserted}
+use Rattle.reference_machine.proofs.Entries.{ordered_inserted}
 use Rattle.cell_engine.proofs.route_cell.received_routes.ReceivedRoutes.with.Goals as goal
 
 pub invariant_of-result : goal.invariant_of-result

@@ -3,7 +3,7 @@ use Rattle.std.specs.BTreeMap.{is_at}
 use Rattle.net_prefix.specs.Address.{addr_cmp}
 use Rattle.net_prefix.specs.Orders.{addr_total}
 use Rattle.cell_engine.specs.Senders.{AreInOrder}
-use Rattle.cell_engine.proofs.Entries.{ordered_removed}
+use Rattle.reference_machine.proofs.Entries.{ordered_removed}
 use Rattle.cell_engine.proofs.route_cell.received_routes.ReceivedRoutes.without.Goals as goal
 
 pub invariant_of-result : goal.invariant_of-result
