@@ -51,8 +51,8 @@ ENOUGH = 40
 TEAMS_STEP = 7
 MOST_TOLD = 5
 MEMORY = 5 << 8
-# The programs, by the names of their crates.
-BGPSIM, MACHINE_SCRIPTS = "bgpsim", "machine_scripts"
+# Which programs growths are refused on, by the names of their crates.
+ON_PROGRAM, ON_MACHINES = "bgpsim", "machine_scripts"
 # Of a program that ended too early.
 NO_COPY = Copy(b"", b"", 0, False, 0)
 Words = Tuple[str, ...]
@@ -337,9 +337,9 @@ def cases_at(paths: Iterable[pathlib.Path]) -> Iterator[Case]:
 def tries(cases: Sequence[Case], calls: Sequence[Case], asked: Asked, library: str,
           refusing: Refuser) -> Iterator[Tuple[str, Try]]:
     """What is tried, by names."""
-    on: List[Words] = [(programs.bgpsim(), "script")] if BGPSIM in asked.programs else []
+    on: List[Words] = [(programs.bgpsim(), "script")] if ON_PROGRAM in asked.programs else []
     room: List[Words] = []
-    if MACHINE_SCRIPTS in asked.programs:
+    if ON_MACHINES in asked.programs:
         on += [(programs.machine_scripts(), machine) for machine in programs.MACHINES]
         room = [(programs.machine_scripts(), programs.ROOM)]
     for words in on + room:
@@ -350,7 +350,7 @@ def tries(cases: Sequence[Case], calls: Sequence[Case], asked: Asked, library: s
     short = [case for case in cases if not case.is_long()]
     for case, words in ((case, words) for case in [*calls, *short] for words in room):
         yield "%s, %s" % (case.name, words[1]), RoomGrowths(library, words, case, None).faults
-    for number, case in enumerate(short if BGPSIM in asked.programs else ()):
+    for number, case in enumerate(short if ON_PROGRAM in asked.programs else ()):
         log = logs.log_of(b"".join(case.lines).decode("latin-1"), 3)
         yield "%s, replay" % case.name, Replay(library, log).faults
         yield "%s, team" % case.name, partial(team_faults, refusing, case, 1 if asked.are_all else TEAMS_STEP, number)
@@ -385,12 +385,12 @@ def main(words: Sequence[str]) -> int:
     """The command."""
     parser = commands.parser(__doc__)
     parser.add_argument("--all", action="store_true")
-    parser.add_argument("--on", choices=(BGPSIM, MACHINE_SCRIPTS), metavar="PROGRAM")
+    parser.add_argument("--on", choices=(ON_PROGRAM, ON_MACHINES), metavar="PROGRAM")
     parser.add_argument("paths", nargs="*", type=pathlib.Path, metavar="PATH")
     given = parser.parse_args(words)
-    if programs.is_chosen() and given.on == MACHINE_SCRIPTS:
+    if programs.is_chosen() and given.on == ON_MACHINES:
         parser.error("PROGRAM= is tried alone: --on machine_scripts has nothing to try")
-    both = (BGPSIM,) if programs.is_chosen() else (BGPSIM, MACHINE_SCRIPTS)
-    asked = Asked(given.all, (given.on,) if given.on else both)
+    every = (ON_PROGRAM,) if programs.is_chosen() else (ON_PROGRAM, ON_MACHINES)
+    asked = Asked(given.all, (given.on,) if given.on else every)
     default = [CALLS] + [TOP / "cases" / name for name in WORKED + (THREADS,)]
     return commands.as_part(lambda: refuse([path.resolve() for path in given.paths] or default, asked))
