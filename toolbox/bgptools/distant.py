@@ -8,6 +8,7 @@ import threading
 from typing import Any, Callable, Dict, Optional
 
 from .mistakes import Mistake
+from .session import tokens
 
 Message = Dict[str, Any]
 
@@ -16,12 +17,14 @@ class Distant:
     """A connection to a share, with a seat there. `hear` is given each event, by another thread.
 
     Mistake where there is none at this path, or it has no seat for the name. A request that was stopped midway, as by
-    Ctrl-C, does no harm: its answer is not taken for another's."""
+    Ctrl-C, does no harm: its answer is not taken for another's. `untold` says why the token of the name could not be
+    kept; it is empty where it was."""
 
     def __init__(self, path: str, name: str, hear: Callable[[Message], None]) -> None:
         self.path, self.name, self.hear = path, name, hear
         self.number = 0
         self.is_torn = False
+        self.token, self.untold = tokens.stored(path, name), ""
         self.seat = self._connect()
 
     def ask(self, do: str, **more: Any) -> Message:
@@ -43,7 +46,16 @@ class Distant:
             raise Mistake("there is no share: %s" % (error.strerror or error), self.path) from None
         self.answers: "queue.Queue[Optional[Message]]" = queue.Queue()
         threading.Thread(target=self._read, args=(self.line, self.answers), daemon=True).start()
-        seat: int = self._ask("enter", {"as": self.name})["seat"]
+        return self._enter()
+
+    def _enter(self) -> int:
+        """Enters under the name, with its token where one is known: the seat."""
+        known = {} if self.token is None else {"token": self.token}
+        told = self._ask("enter", {"as": self.name, **known})
+        if told["token"] != self.token:
+            self.token = told["token"]
+            self.untold = tokens.store(self.path, self.name, told["token"])
+        seat: int = told["seat"]
         return seat
 
     def _ask(self, do: str, more: Message) -> Message:

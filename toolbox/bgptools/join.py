@@ -56,6 +56,9 @@ def main(words: Optional[List[str]] = None) -> int:
     if isinstance(sys.stdin, io.TextIOWrapper):
         sys.stdin.reconfigure(errors="surrogateescape")
     typed = Joined(chosen.socket, name, shown)
+    if typed.distant.untold:
+        print("the token of %s cannot be kept, so the name cannot be entered again: %s" % (name, typed.distant.untold),
+              file=sys.stderr)
     if is_terminal:
         print("joined at seat %d: `?` lists the commands, `quit` ends." % typed.distant.seat)
         complete_by(Completion(WORDS, typed.fresh, typed.waiting))

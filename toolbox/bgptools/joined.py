@@ -7,12 +7,13 @@ import time
 from typing import Any, Callable, Dict, Iterable, List, Optional
 
 from . import communities
-from .connection import bytes_of, shown
+from .session.messages import bytes_of, shown
 from .distant import Distant, Message
 from .language import FORMS, Form, escaped, readable, words_of
 from .mistakes import Mistake
 from .names import Names
 from .network import Direction, Network
+from .proposals import LONGEST_NAME
 from .prompt import OWN, PAD, Prompt, expect, path_of
 from .run import Run
 from .script import Line, read
@@ -36,7 +37,8 @@ WORDS = tuple(form for form in OWN if form.words[0] not in CHANGED) + tuple(
         ("propose FILE", "show all what the commands of the file would do"),
         ("accept [COUNT]", "make the proposal of another one, which has this number where there are several"),
         ("decline [COUNT]", "take a proposal away"),
-        ("check", "give the log so far to `bgpsim replay`")))
+        ("check", "give the log so far to `bgpsim replay`"),
+        ("free NAME", "let whoever comes next have a name, where its owner has lost it")))
 WATCHED = {"edits": "what others edit is shown", "all": "what others edit is shown, and what is delivered",
            "off": "nothing is shown"}
 # A settle by hand ends after so many deliveries.
@@ -128,6 +130,8 @@ class Joined(Prompt):
         self.answer: Message = {}
         self.watches = "off"
         self.seat: Optional[int] = None
+        # Of each proposal that was shown, for how many edits it was.
+        self.seen: Dict[int, int] = {}
         self.mirror = Mirror(Network())
         self.distant = Distant(path, name, self._hear)
         self.seat = self.distant.seat
@@ -137,7 +141,7 @@ class Joined(Prompt):
         self.own.update({
             "watch": self.watch, "who": self.who, "blame": self.blame, "pause": self.pause, "step": self.step,
             "go": self.go, "pace": self.pace, "wait": self.wait, "propose": self.propose, "accept": self.accept,
-            "decline": self.decline, "check": self.check})
+            "decline": self.decline, "check": self.check, "free": self.free})
         self.sync()
 
     def _played(self, lines: List[str]) -> Run:
@@ -289,12 +293,15 @@ class Joined(Prompt):
         """Shows all what a change would do."""
         expect(words, 2, 2, "propose FILE")
         given = [line.text + _marked(line) for line in read(path_of(words[1]))]
-        self.ask("propose", name=readable(words[1]), lines=list(map(shown, given)))
+        self.ask("propose", name=readable(words[1])[-LONGEST_NAME:], lines=list(map(shown, given)))
 
     def accept(self, words: List[str]) -> None:
         """Makes the proposal of another one."""
         expect(words, 1, 2, "accept [COUNT]")
-        self.ask("accept", number=_count(words[1]) if words[1:] else None)
+        number = _count(words[1]) if words[1:] else None
+        # What is accepted is what was seen.
+        seen = self.seen.get(number) if number is not None else None
+        self.ask("accept", number=number, edits=seen)
 
     def decline(self, words: List[str]) -> None:
         """Takes a proposal away."""
@@ -307,11 +314,18 @@ class Joined(Prompt):
         calls = "%d call%s" % (told["calls"], _s(told["calls"]))
         self._tell(["the log has %s, and `replay` says: %s" % (calls, told["verdict"])])
 
+    def free(self, words: List[str]) -> None:
+        """Lets whoever comes next have a name."""
+        expect(words, 2, 2, "free NAME")
+        self._tell([self.ask("free", name=readable(words[1]))["text"]])
+
     # What happens
 
     def _hear(self, event: Message) -> None:
         """Shows an event, by another thread."""
         names = self.mirror.network.names
+        if event["event"] == "proposal":
+            self.seen[event["number"]] = event["edits"]
         for each in event.get("changes", []):
             names.take(bytes_of(each["line"]))
         self.shown.tell([PAD + line for line in _TOLD.get(event["event"], _text)(event, self.seat, names)])

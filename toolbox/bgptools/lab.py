@@ -4,73 +4,70 @@ from __future__ import annotations
 import argparse
 import contextlib
 import os
+import resource
+import shutil
+import signal
 import sys
 import tempfile
-import threading
-from typing import List, Optional
+from typing import TYPE_CHECKING, List, Optional, Tuple
 
+from . import libraries
 from .lesson import notes_of
 from .mistakes import Mistake
-from .pages import LOOK, WORK, Lab
 from .script import Line, read
-from .serving import Hub, listening
-from .share import MOST_WORKERS, concluded, opened
+from .session import hub
+from .session.roles import LOOK, TEACH, WORK
+from .session.sockets import listening
+from .share import BESIDE_SOCKET, MOST_WORKERS, add_log, concluded, opened
 from .shared import Shared
-from .web import Server
+
+if TYPE_CHECKING:
+    from .web.server import Server
+
+# So many files may be open, where the system allows it: three roles' connections, and some.
+DESCRIPTORS = 4096
 
 
 def parser() -> argparse.ArgumentParser:
     """The words of the command line."""
     made = argparse.ArgumentParser(prog="lab", description=(
-        "Serves a page on this machine alone, and prints its address: the picture of SCRIPT's network, in which what "
+        "Serves a page on this machine alone, and prints its addresses: the picture of SCRIPT's network, in which what "
         "is clicked offers its commands, a router's tables, and a slider over all steps. Pages and `join` at the socket "
         "see one network. Ctrl-C ends it, and gives the log to `bgpsim replay`."),
-        epilog="Whoever has the address can work on the network: it has a secret in it, and the server binds to "
-               "127.0.0.1. Exit status: 0 `replay` says that the log is one of this machine; 1 it says something else; "
-               "2 a mistake, or the log cannot be written.")
+        epilog="There is one address for who teaches, one for who works, and with --present one for who looks. Each has "
+               "a secret in it, and the server binds to 127.0.0.1. Exit status: 0 `replay` says that the log is one of "
+               "this machine; 1 it says something else; 2 a mistake, or the log cannot be written.")
     made.add_argument("script", nargs="?", metavar="SCRIPT",
                       help="a script that makes the network; - is standard input")
     made.add_argument("--port", type=int, default=0, metavar="N", help="the port (a free one)")
     made.add_argument("--present", action="store_true",
-                      help="print another address, whose pages follow what the others show, and change nothing")
+                      help="print another address, whose pages follow what the teacher shows, and change nothing")
     made.add_argument("--at", metavar="SOCKET", help="where the socket for `join` is made (in a folder that goes)")
-    made.add_argument("--log", metavar="FILE", help="the log; one that is there is taken up (a new one, SOCKET.log)")
     made.add_argument("--workers", type=int, default=1, metavar="N",
                       help="so many workers deliver, when they are let go (1, at most %d)" % MOST_WORKERS)
-    made.add_argument("--most", type=int, metavar="N", help=(
-        "workers pause after so many deliveries without an edit (ten thousand and more, by the size of the network)"))
+    add_log(made)
     return made
 
 
-def _say(chosen: argparse.Namespace, server: Server) -> None:
-    """Says where the page is, and the socket."""
-    print("lab: %s" % server.address(WORK))
-    if chosen.present:
-        print("to look: %s" % server.address(LOOK))
-    print("`join %s --as NAME` joins it; Ctrl-C ends it" % chosen.at)
-    sys.stdout.flush()
-
-
-def _serve(chosen: argparse.Namespace, server: Server, shared: Shared, lines: List[Line]) -> int:
+def _serve(chosen: argparse.Namespace, port: "Server", shared: Shared, lines: List[Line]) -> int:
     """Serves pages and terminals until a signal comes: its number."""
+    from .web.lab import Lab
     shared.workers.is_going = False
-    hub = Hub(shared)
-    lab = server.lab = Lab(hub, notes_of(lines, shared.run.lines), chosen.present)
-    thread = threading.Thread(target=server.serve_forever, daemon=True)
+    held = hub.Hub(shared)
+    lab = Lab(held, notes_of(lines, shared.run.lines), chosen.present)
 
-    def ready() -> None:
-        thread.start()
-        _say(chosen, server)
+    async def ready() -> None:
+        port.start(lab)
+        for name, role in [("lab", TEACH), ("to work", WORK)] + ([("to look", LOOK)] if chosen.present else []):
+            print("%s: %s" % (name, port.address(role)))
+        print("`join %s --as NAME` joins it; Ctrl-C ends it" % chosen.at)
+        sys.stdout.flush()
     try:
         with listening(chosen.at) as line:
-            number = hub.serve(line, ready)
-        return number
+            return hub.run(held, line, ready)
     finally:
         with contextlib.suppress(FileNotFoundError):
             os.unlink(chosen.at)
-        if thread.is_alive():
-            server.shutdown()
-        lab.viewer.close()
 
 
 def _checked(chosen: argparse.Namespace) -> argparse.Namespace:
@@ -81,28 +78,59 @@ def _checked(chosen: argparse.Namespace) -> argparse.Namespace:
     return chosen
 
 
-def _run(chosen: argparse.Namespace, lines: List[Line]) -> int:
-    """All from the first to the last: the exit status."""
-    with contextlib.ExitStack() as stack:
-        is_kept = chosen.at is not None or chosen.log is not None
-        if chosen.at is None:
-            chosen.at = os.path.join(stack.enter_context(tempfile.TemporaryDirectory(prefix="lab-")), "socket")
-        server = stack.enter_context(Server(chosen.port))
-        if not is_kept:
-            print("the log goes when the lab ends: `--log FILE` keeps it, and so does `record` in the page",
-                  file=sys.stderr)
+def _place(chosen: argparse.Namespace) -> Optional[str]:
+    """Where socket and log are, where they were not named: a new folder, which goes in the end."""
+    if chosen.at is not None:
+        return None
+    folder = tempfile.mkdtemp(prefix="lab-")
+    chosen.at = os.path.join(folder, "socket")
+    if chosen.log is None:
+        print("the log goes when the lab ends: `--log FILE` keeps it, and so does `record` in the page",
+              file=sys.stderr)
+    return folder
+
+
+def _clear(folder: str, log: Optional[str], is_asked: bool) -> None:
+    """Takes the folder away that was made for this run. Where nobody asked for the end the record stays, which is
+    told."""
+    record = os.path.join(folder, "socket" + BESIDE_SOCKET)
+    if is_asked or log is not None or not os.path.exists(record):
+        shutil.rmtree(folder, ignore_errors=True)
+    else:
+        print("the record is kept: %s (`lab --log %s` goes on with it)" % (record, record), file=sys.stderr)
+
+
+def _more_descriptors() -> None:
+    soft, hard = resource.getrlimit(resource.RLIMIT_NOFILE)
+    wanted = DESCRIPTORS if hard == resource.RLIM_INFINITY else min(DESCRIPTORS, hard)
+    if soft != resource.RLIM_INFINITY and soft < wanted:
+        resource.setrlimit(resource.RLIMIT_NOFILE, (wanted, hard))
+
+
+def _run(chosen: argparse.Namespace, lines: List[Line]) -> Tuple[int, int]:
+    """All from the first to the last: the exit status, and the signal that ended it."""
+    from .web.server import Server
+    with contextlib.closing(Server(chosen.port)) as port:
         shared = opened(chosen, lines)
         try:
-            number = _serve(chosen, server, shared, lines)
+            number = _serve(chosen, port, shared, lines)
         except BaseException:
             shared.close()
             raise
-        status = concluded(shared, number)
-    return status
+        return concluded(shared, number), number
 
 
 def main(words: Optional[List[str]] = None) -> int:
     """The tool."""
     chosen = _checked(parser().parse_args(words))
     lines = [] if chosen.script is None else read(chosen.script)
-    return _run(chosen, lines)
+    libraries.need("tornado", "lab")
+    _more_descriptors()
+    folder = _place(chosen)
+    number = None
+    try:
+        status, number = _run(chosen, lines)
+        return status
+    finally:
+        if folder is not None:
+            _clear(folder, chosen.log, number == signal.SIGINT)

@@ -27,6 +27,7 @@ class Proposal:
     given: List[str]
     edits: int = 0
     text: str = ""
+    is_showing: bool = False
 
     @property
     def lines(self) -> List[Line]:

@@ -12,11 +12,14 @@ from . import replaying
 from .mistakes import CHANGED, Mistake
 from .script import Line, read
 from .seats import BESIDE
-from .serving import Hub, listening
+from .session import hub
+from .session.sockets import listening
 from .shared import Shared
 
 BESIDE_SOCKET = ".log"
 MOST_WORKERS = 64
+# A log has so many bytes where no other bound is given, and at least so many.
+MOST_LOG, LEAST_LOG = 1000000000, 1000
 
 
 def parser() -> argparse.ArgumentParser:
@@ -33,11 +36,18 @@ def parser() -> argparse.ArgumentParser:
     made.add_argument("--at", metavar="SOCKET", required=True, help="where the socket is made")
     made.add_argument("--workers", type=int, default=0, metavar="N",
                       help="so many workers deliver what waits (0, at most %d)" % MOST_WORKERS)
+    add_log(made)
+    return made
+
+
+def add_log(made: argparse.ArgumentParser) -> None:
+    """The words about the log, and about deliveries."""
     made.add_argument("--log", metavar="FILE",
                       help="the log; one that is there is taken up (a new one, SOCKET%s)" % BESIDE_SOCKET)
+    made.add_argument("--most-log", type=int, default=MOST_LOG, metavar="BYTES", help=(
+        "the log has at most so many bytes: from then on edits are refused, and all stays (%d)" % MOST_LOG))
     made.add_argument("--most", type=int, metavar="N", help=(
         "workers pause after so many deliveries without an edit (ten thousand and more, by the size of the network)"))
-    return made
 
 
 def _told(text: str) -> None:
@@ -46,9 +56,11 @@ def _told(text: str) -> None:
 
 def opened(chosen: argparse.Namespace, lines: List[Line]) -> Shared:
     """The network, with its log taken up or its script played. A new log of a script that cannot be played goes."""
+    if chosen.most_log < LEAST_LOG:
+        raise Mistake("--most-log %d: a number of at least %d is expected" % (chosen.most_log, LEAST_LOG))
     path = chosen.at + BESIDE_SOCKET if chosen.log is None else chosen.log
-    is_there = os.path.exists(path)
-    shared = Shared(path, chosen.workers, chosen.log is None, chosen.most, _told)
+    is_there = os.path.lexists(path)
+    shared = Shared(path, chosen.workers, chosen.log is None, chosen.most, _told, most_log=chosen.most_log)
     try:
         if chosen.script is not None and shared.ledger.entries:
             raise Mistake("it has %d calls already: no script is played into it" % shared.ledger.entries, path)
@@ -88,8 +100,11 @@ def main(words: Optional[List[str]] = None) -> int:
     with listening(chosen.at) as line:
         try:
             shared = opened(chosen, [] if chosen.script is None else read(chosen.script))
+
+            async def ready() -> None:
+                _say(chosen.at, shared)
             try:
-                number = Hub(shared).serve(line, lambda: _say(chosen.at, shared))
+                number = hub.run(hub.Hub(shared), line, ready)
             except BaseException:
                 shared.close()
                 raise

@@ -8,6 +8,9 @@ const FORMS = { router: ["origin", "noorigin", "med", "cluster", "trace", "route
   peer: ["feed", "link", "join"], link: ["fail", "mend", "metric", "join"],
   session: ["stop", "start", "client", "self", "rule", "clear", "queue", "in", "out", "deliver"] };
 const MOST = 500, KEPT = 40;
+// So often something is asked again of a server that has much to do, and after so many milliseconds.
+const TRIES = 4, RETRY = 1000;
+const LONGEST_NAME = 80;
 // These questions are about nothing that is to be seen.
 const UNSEEN = new Set(["quiet", "queue", "cost"]);
 // After these lines all that was made before may stand elsewhere.
@@ -15,11 +18,13 @@ const PLACING = /^ *(#|(router|virtual|link|join) )/;
 // `step` is the one that is shown; nothing stands for the last one there is. `chosen` is what was clicked last, and
 // `isOwn` says that prefix and packet are a person's, not the lesson's.
 const now = { step: null, steps: [], first: {}, prefix: "", from: "", to: "", chosen: null, isOwn: false, blames: false,
-  page: "", name: "", role: "work", isGoing: false, drawing: false, again: false, drawn: -1, isSlow: false };
+  page: "", name: "", role: "work", isLost: false, isGoing: false, drawing: false, again: false, drawn: -1, isSlow: false };
 const waiting = new Map(), pictures = new Map();
 let forms = [], number = 0, events = null, isSettling = false;
 const picture = new Picture(clicked);
-const proposals = new Proposals(at("proposals"), async (what, number) => answer(await ask(what, { number })));
+// What is accepted is what was seen: the proposal as it was shown for so many edits.
+const proposals = new Proposals(at("proposals"), async (what, { number, edits }) =>
+  answer(await ask(what, what === "accept" ? { number, edits } : { number })));
 
 // The server
 
@@ -32,23 +37,48 @@ function ask(what, more) {
   return found;
 }
 
+const pause = (milliseconds) => new Promise((done) => setTimeout(done, milliseconds));
+
+// A server that has much to do says so, and is asked again.
 async function get(path, values) {
-  const given = new URLSearchParams(Object.entries(values).filter(([, value]) => value !== "" && value !== null));
-  return (await fetch(path + "?" + given)).json();
+  const asked = { ...values, page: now.page };
+  const given = new URLSearchParams(Object.entries(asked).filter(([, value]) => value !== "" && value !== null));
+  for (let tries = 1; ; tries += 1) {
+    const told = await fetch(path + "?" + given);
+    if (tries === TRIES || (told.status !== 503 && told.status !== 429)) return told.status === 429 ? { error: await told.text() } : told.json();
+    await pause(RETRY * tries);
+  }
 }
+
+// A name is entered again by the token that it was given; it is kept in this browser.
+const tokenOf = (name) => sessionStorage.getItem("token " + name) || localStorage.getItem("token " + name);
 
 function joined() {
   if (events) events.close();
-  events = new EventSource("events?as=" + encodeURIComponent(at("name").value || "page"));
+  const name = at("name").value.trim(), token = tokenOf(name);
+  events = new EventSource("events?" + new URLSearchParams({ as: name, ...(token ? { token } : {}) }));
   events.onmessage = (message) => heard(JSON.parse(message.data));
-  events.onerror = () => log("the lab is not there", true);
+  events.onerror = lost;
+}
+
+// The connection was lost: what was asked has no answer, and the page joins again, with the token that it has by now.
+function lost() {
+  events.close();
+  if (!now.isLost) log("the lab is not there: the page tries again", true);
+  now.isLost = true;
+  for (const [id, done] of [...waiting]) {
+    waiting.delete(id);
+    done({ id, error: "the connection was lost: look whether it was done" });
+  }
+  setTimeout(joined, RETRY);
 }
 
 const heards = {
   page: (told) => {
-    Object.assign(now, { page: told.page, role: told.role, first: told.first || {} });
-    document.documentElement.classList.toggle("looks", told.role !== "work");
-    proposals.isOnlySeen = told.role !== "work";
+    if (now.isLost) log("the lab is back");
+    Object.assign(now, { page: told.page, role: told.role, first: told.first || {}, isLost: false });
+    document.documentElement.classList.toggle("looks", told.role === "look");
+    proposals.isOnlySeen = told.role === "look";
     proposals.all([], now.name);
     catchUp();
   },
@@ -62,7 +92,7 @@ const heards = {
   },
   workers: (told) => { going(told); log(told.text); },
   shown: (told) => {
-    if (now.role === "work" || told.step === null) return;
+    if (now.role !== "look" || told.step === null) return;
     Object.assign(now, { step: told.step, prefix: told.prefix || "", from: (told.way || [""])[0], to: (told.way || ["", ""])[1],
       chosen: told.router ? ["router", told.router] : null, isOwn: true });
     if (told.step > now.steps.length) catchUp();
@@ -76,6 +106,7 @@ const heards = {
     if (told.closes) proposals.close(told.closes, now.name);
     log(told.text);
   },
+  missed: () => catchUp(),
 };
 
 function heard(told) {
@@ -83,12 +114,17 @@ function heard(told) {
   else if (waiting.has(told.id)) {
     waiting.get(told.id)(told);
     waiting.delete(told.id);
-  } else if (told.error) log(told.error, true);
-  else if (told.workers) entered(told);
+  } else if (told.error) {
+    log(told.error, true);
+    if (told.id === 0) answer(told);
+  } else if (told.workers) entered(told);
 }
 
 async function entered(told) {
   now.name = told.name;
+  at("name").value = told.name;
+  sessionStorage.setItem("name", told.name);
+  for (const store of [sessionStorage, localStorage]) store.setItem("token " + told.name, told.token);
   going(told.workers);
   const open = await ask("proposals", {});
   proposals.all(open.proposals || [], now.name);
@@ -100,8 +136,12 @@ function going(workers) {
 }
 
 async function catchUp() {
-  const told = await get("steps", { from: 0 });
-  told.steps.forEach((each, step) => { now.steps[step] = { ...now.steps[step], ...each }; });
+  let from = 0, told;
+  do {
+    told = await get("steps", { from });
+    told.steps.forEach((each, place) => { now.steps[from + place] = { ...now.steps[from + place], ...each }; });
+    from += told.steps.length;
+  } while (told.steps.length && from < told.step);
   pictures.clear();
   headings();
   show();
@@ -185,7 +225,9 @@ async function draw() {
 async function drawn(step) {
   const view = viewOf(step), told = await pictured(step, view);
   if (told.error) {
-    log(told.error, true);
+    // A newer picture took the place of this one while it waited.
+    if (told.error.startsWith("another picture")) now.again = true;
+    else log(told.error, true);
     return;
   }
   const before = now.drawn;
@@ -202,7 +244,7 @@ async function drawn(step) {
   if (now.isSlow && !now.again && step === before + 1 && what === "deliver") moving.move(picture.element, from, to, told.reply);
   await tabled(step, told, view);
   const way = view.from && view.to ? [view.from, view.to] : null;
-  if (now.role === "work") ask("show", { step, prefix: view.prefix, way, router: view.router });
+  if (now.role === "teach") ask("show", { step, prefix: view.prefix, way, router: view.router });
   const next = step + (step < before ? -1 : 1);
   if (!now.again && next >= 0 && next <= now.steps.length) pictured(next, viewOf(next)).catch(() => {});
 }
@@ -214,7 +256,7 @@ async function tabled(step, told, view) {
     const found = await get("table", { step, router: view.router, prefix });
     if (!found.error) parts.push(...tables(found));
   }
-  if (now.blames && about && now.role === "work") {
+  if (now.blames && about && now.role !== "look") {
     const found = await ask("blame", { router: about });
     if (!found.error) parts.unshift(...blamed(about, found.edits, go));
   }
@@ -231,7 +273,7 @@ function words() {
   at("says").textContent = each.says || "";
   at("line").textContent = each.line || "";
   at("asks").replaceChildren(...(each.asks || []).flatMap(asked));
-  at("follow").hidden = !now.isOwn || now.role !== "work" || !each.view;
+  at("follow").hidden = !now.isOwn || now.role === "look" || !each.view;
   const begun = marks().filter(([first]) => first <= step).pop();
   at("headings").value = begun ? String(begun[0]) : "0";
 }
@@ -300,7 +342,7 @@ async function call(line) {
 
 function clicked(about) {
   if (about[0] === "queue") {
-    if (now.role === "work") call("deliver " + about[1] + " " + about[2]);
+    if (now.role !== "look") call("deliver " + about[1] + " " + about[2]);
     return;
   }
   now.chosen = about;
@@ -345,7 +387,7 @@ async function propose() {
   const lines = at("change").value.split(/\r?\n/);
   while (lines.length && !lines[lines.length - 1].trim()) lines.pop();
   answer({ text: "it is tried what it would do .." });
-  const told = await ask("propose", { name: at("title").value.trim() || "a change", lines });
+  const told = await ask("propose", { name: at("title").value.trim().slice(0, LONGEST_NAME) || "a change", lines });
   answer(told.error ? told : { text: "proposal " + told.number + " is shown to all: another one accepts it" });
   if (!told.error) at("change").value = "";
 }
@@ -385,7 +427,7 @@ at("headings").addEventListener("change", () => go(Number(at("headings").value))
 at("prefix").addEventListener("change", () => { const value = at("prefix").value; own(); now.prefix = value; show(); });
 at("from").addEventListener("change", () => { const value = at("from").value; own(); now.from = value; show(); });
 at("to").addEventListener("change", () => { const value = at("to").value.trim(); own(); now.to = value; show(); });
-at("name").addEventListener("change", () => { sessionStorage.setItem("name", at("name").value); joined(); });
+at("name").addEventListener("change", () => joined());
 at("asked").addEventListener("submit", (event) => { event.preventDefault(); call(at("command").value); });
 at("propose").addEventListener("submit", (event) => { event.preventDefault(); propose(); });
 at("file").addEventListener("change", opened);
@@ -393,9 +435,9 @@ document.addEventListener("keydown", (key) => {
   const typed = key.target instanceof Element && key.target.closest(TYPED);
   if (key.key === "Escape" && typed) typed.blur();
   if (typed || key.ctrlKey || key.altKey || key.metaKey || !keys[key.key]) return;
-  if (now.role !== "work" && WORKING.has(key.key)) return;
+  if (now.role === "look" && WORKING.has(key.key)) return;
   key.preventDefault();
   keys[key.key]();
 });
-at("name").value = sessionStorage.getItem("name") || "page";
+at("name").value = sessionStorage.getItem("name") || "";
 get("forms", {}).then((told) => { forms = told; joined(); });

@@ -50,7 +50,7 @@ export class Proposals {
     made.append(element("h2", "", nameOf(proposal)), lines, does,
       ...acts.map(([name, text]) => {
         const button = element("button", name, text);
-        button.addEventListener("click", () => this.act(name, proposal.number));
+        button.addEventListener("click", () => this.act(name, proposal));
         return button;
       }), ...(isOwn ? [element("span", "", "another one accepts it")] : []));
     return made;

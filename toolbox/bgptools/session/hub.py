@@ -1,0 +1,321 @@
+"""The event loop of a shared network: who is joined, whose turn it is, and what everybody is told.
+
+One request is served at a time, that of the person whose requests took least of late. What goes wrong in one request
+ends that request. The server ends by a signal, or by a fault of its log or of a socket, and by nothing else."""
+from __future__ import annotations
+
+import asyncio
+import contextlib
+import signal
+import socket
+import time
+from typing import Any, Awaitable, Callable, List, Optional, Set, Tuple, Union
+
+from ..happening import Event
+from ..jobs import Pool
+from ..lasting import Lost
+from ..mistakes import Mistake
+from ..record import Unkept
+from ..shared import Shared
+from .answering import Answer, Answering
+from .faults import Faults, described
+from .member import Member
+from .messages import MISSED, UNANSWERED, encoded, shown
+from .requests import Malformed, request_in
+from .sockets import SocketMember
+
+# Requests are served for so many seconds before the loop looks for new ones.
+SLICE = 0.02
+# After a fault of a turn the next one is due so many seconds later.
+REST = 0.1
+# Where the program could not be run anew, it is tried again after so many seconds.
+AGAIN = 1.0
+# What is to be sent at the end has so many seconds.
+FAREWELL = 0.1
+
+
+class Hub:
+    """All who are joined, and what they share."""
+
+    def __init__(self, shared: Shared) -> None:
+        self.shared, self.faults = shared, Faults()
+        self.members: List[Member] = []
+        self.pool = Pool(lambda: self.shared.run.lines)
+        self.answering = Answering(shared, self.pool, self._quiet)
+        # Others than the members who hear what happens.
+        self.hearers: List[Callable[[Event], None]] = []
+        self.answers: List[Tuple[Member, bytes]] = []
+        self.tasks: "Set[asyncio.Task[None]]" = set()
+        self.waiting: "List[asyncio.Future[Answer]]" = []
+        self.is_awake = self.is_closing = False
+        self.timer: Optional[asyncio.TimerHandle] = None
+        self.ending: "Optional[asyncio.Future[int]]" = None
+
+    async def serve(self, at: socket.socket, ready: Callable[[], Awaitable[None]]) -> int:
+        """Serves at this socket until a signal comes: its number. Says when it is ready for both. Raises the fault that
+        ended it."""
+        loop = asyncio.get_running_loop()
+        loop.set_exception_handler(self.faults.of_loop)
+        self.ending = loop.create_future()
+        for number in (signal.SIGINT, signal.SIGTERM, signal.SIGHUP):
+            if number == signal.SIGINT or signal.getsignal(number) != signal.SIG_IGN:
+                loop.add_signal_handler(number, self.end, number)
+        server = await loop.create_unix_server(self._member, sock=at)
+        try:
+            await ready()
+            self.wake()
+            return await self.ending
+        finally:
+            await self._close(server)
+
+    def end(self, how: Union[int, BaseException]) -> None:
+        """Ends the server, by a signal or by a fault."""
+        if self.ending and not self.ending.done():
+            if isinstance(how, BaseException):
+                self.ending.set_exception(how)
+            else:
+                self.ending.set_result(how)
+
+    def _member(self) -> SocketMember:
+        return SocketMember(self.members.append, self.gone, self.wake)
+
+    async def _close(self, server: asyncio.AbstractServer) -> None:
+        """Ends everything. What goes wrong here hides nothing of why it ended."""
+        self.is_closing = True
+        server.close()
+        for task in list(self.tasks):
+            task.cancel()
+        farewell = encoded({"event": "told", "text": "the share has ended"})
+        for member in list(self.members):
+            with contextlib.suppress(Exception):
+                member.is_gone = True
+                member.end(farewell)
+        try:
+            await asyncio.sleep(FAREWELL)
+            await self.pool.close()
+        except Exception as fault:  # pylint: disable=broad-except
+            self.faults.tell("the end of the worker processes", fault)
+
+    # Turns
+
+    def wake(self) -> None:
+        """A turn is due."""
+        if not self.is_awake and not self.is_closing:
+            self.is_awake = True
+            asyncio.get_running_loop().call_soon(self._turn)
+
+    def _turn(self) -> None:
+        self.is_awake = False
+        try:
+            self._serve_some()
+            self._work()
+            self._spread()
+            self._again()
+        except Unkept as fault:
+            self.end(fault)
+        except Exception as fault:  # pylint: disable=broad-except
+            self.faults.tell("a turn", fault)
+            self._wake_after(REST)
+
+    def _serve_some(self) -> None:
+        """Serves one request of each who has one, until the time is up: first of those who took least."""
+        began = now = time.monotonic()
+        ready = [member for member in self.members if member.wait(now) == 0]
+        for member in sorted(ready, key=lambda each: each.cost(began)):
+            if not member.lines:
+                continue
+            self._serve(member, now)
+            now, before = time.monotonic(), now
+            member.spent(now - before)
+            if now - began > SLICE:
+                break
+
+    def _serve(self, member: Member, now: float) -> None:
+        """Serves the next request of one. Whatever goes wrong ends this request alone."""
+        number: Any = None
+        try:
+            request = request_in(member.take(now))
+            number = request.get("id")
+            with self.shared.guarded():
+                answer = self.answering.answer(member, request)
+        except Malformed as mistake:
+            answer, number = {"error": str(mistake)}, mistake.number
+        except Unkept:
+            raise
+        except Mistake as mistake:
+            answer = {"error": str(mistake)}
+        except Exception as fault:  # pylint: disable=broad-except
+            self.faults.tell("a request", fault)
+            answer = {"error": "an error came up in the server (%s): the request was not done" % described(fault)}
+        if isinstance(answer, dict):
+            self._answer(member, number, answer)
+        else:
+            member.pending += 1
+            self._begin(self._later(member, number, answer))
+
+    def _answer(self, member: Member, number: Any, answer: Answer) -> None:
+        """Has an answer sent behind what happened until now."""
+        try:
+            message = encoded({"id": number, **answer})
+        except Exception as fault:  # pylint: disable=broad-except
+            self.faults.tell("an answer", fault)
+            message = UNANSWERED
+        self.answers.append((member, message))
+
+    def _send(self, member: Member, message: bytes, is_answer: bool = False) -> None:
+        """Sends a message to one. Where that cannot be done he is let go, and the others are not concerned."""
+        try:
+            member.send(message, is_answer)
+        except Exception as fault:  # pylint: disable=broad-except
+            self.faults.tell("sending", fault)
+            with contextlib.suppress(Exception):
+                member.let_go("a message could not be sent, for a fault of the server")
+
+    # What takes long
+
+    def _begin(self, work: Awaitable[None]) -> None:
+        task = asyncio.ensure_future(work)
+        self.tasks.add(task)
+        task.add_done_callback(self.tasks.discard)
+
+    async def _later(self, member: Member, number: Any, work: Awaitable[Answer]) -> None:
+        """Answers a request whose answer comes later, or never, where who asked has gone."""
+        try:
+            answer = await work
+        except asyncio.CancelledError:
+            member.pending -= 1
+            raise
+        except Unkept as fault:
+            self.end(fault)
+            return
+        except Mistake as mistake:
+            answer = {"error": str(mistake)}
+        except Exception as fault:  # pylint: disable=broad-except
+            self.faults.tell("a request that takes long", fault)
+            answer = {"error": "an error came up in the server (%s): the request was not done" % described(fault)}
+        member.pending -= 1
+        self._answer(member, number, answer)
+        self.wake()
+
+    async def _quiet(self) -> Answer:
+        """Waits until all queues are empty."""
+        found: "asyncio.Future[Answer]" = asyncio.get_running_loop().create_future()
+        self.waiting.append(found)
+        self.wake()
+        try:
+            return await found
+        finally:
+            if found in self.waiting:
+                self.waiting.remove(found)
+
+    # Deliveries
+
+    def _work(self) -> None:
+        now = time.monotonic()
+        if self.shared.deliveries.due(now) == 0:
+            try:
+                with self.shared.guarded():
+                    self.shared.deliveries.work(now)
+            except Unkept:
+                raise
+            except Mistake as mistake:
+                self.faults.tell("deliveries", mistake)
+        with contextlib.suppress(Lost):
+            self._answer_waiting()
+
+    def _answer_waiting(self) -> None:
+        """Answers those who wait until all queues are empty, where they are, or nobody delivers."""
+        self.waiting = [each for each in self.waiting if not each.done()]
+        if not self.waiting:
+            return
+        if self.shared.program.is_quiet():
+            for each in self.waiting:
+                each.set_result({"quiet": True, "step": self.shared.ledger.step})
+        elif not self.shared.workers.is_going:
+            for each in self.waiting:
+                each.set_exception(Mistake("messages wait, and %s" % self.shared.workers.told()))
+
+    # What happens
+
+    def _spread(self) -> None:
+        """Tells what happened, and then the answers."""
+        for event in self.shared.happening.taken():
+            try:
+                self._tell(event)
+            except Exception as fault:  # pylint: disable=broad-except
+                self.faults.tell("what happened", fault)
+                for member in list(self.members):
+                    if member.seat is not None and member.watches != "off":
+                        self._send(member, MISSED)
+        answers, self.answers = self.answers, []
+        for member, message in answers:
+            self._send(member, message, True)
+
+    def _tell(self, event: Event) -> None:
+        for hear in self.hearers:
+            hear(event)
+        if event["event"] == "changes":
+            changes = [dict(each, line=shown(each["line"])) for each in event["changes"]]
+            edits = [each for each in changes if not each["line"].startswith("deliver ")]
+            self._tell_those({"event": "changes", "changes": changes}, ("all",))
+            self._tell_those({"event": "changes", "changes": edits}, ("edits",) if edits else ())
+        else:
+            self._tell_those(event, ("all", "edits") if event["event"] == "people" else ("all", "edits", "off"))
+
+    def _tell_those(self, event: Event, watching: Tuple[str, ...]) -> None:
+        """Tells an event to those who watch so."""
+        found = [each for each in self.members if each.seat is not None and each.watches in watching]
+        message = encoded(event) if found else b""
+        for member in found:
+            self._send(member, message)
+
+    def _again(self) -> None:
+        """When the next turn is."""
+        now = time.monotonic()
+        for member in [each for each in self.members if each.is_done]:
+            member.is_gone = True
+            member.finish()
+        waits = [found for found in (member.wait(now) for member in self.members) if found is not None]
+        due = self.shared.deliveries.due(now)
+        waits += [] if due is None else [due]
+        if self.waiting and due is None:
+            waits.append(AGAIN)
+        if waits:
+            self._wake_after(min(waits))
+
+    def _wake_after(self, seconds: float) -> None:
+        if self.timer:
+            self.timer.cancel()
+            self.timer = None
+        if seconds <= 0:
+            self.wake()
+        elif not self.is_closing:
+            self.timer = asyncio.get_running_loop().call_later(seconds, self.wake)
+
+    # People
+
+    def come(self, member: Member) -> None:
+        """One has come."""
+        self.members.append(member)
+
+    def gone(self, member: Member) -> None:
+        """One has gone."""
+        member.is_gone = True
+        if member in self.members:
+            self.members.remove(member)
+        if member.seat is not None:
+            seat, member.seat = member.seat, None
+            try:
+                with self.shared.guarded():
+                    self.shared.leave(seat, member.why)
+            except Unkept as fault:
+                self.end(fault)
+            except Mistake as mistake:
+                self.faults.tell("a leave", mistake)
+        if not self.is_closing:
+            self.wake()
+
+
+def run(hub: Hub, at: socket.socket, ready: Callable[[], Awaitable[None]]) -> int:
+    """Runs a hub in a loop of its own until it ends: the number of the signal. Raises the fault that ended it."""
+    return asyncio.run(hub.serve(at, ready))

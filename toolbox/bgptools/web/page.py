@@ -1,0 +1,48 @@
+"""One open page: a member whose requests come by POST, and to whom messages go as server-sent events."""
+from __future__ import annotations
+
+import asyncio
+from typing import Callable, Optional
+
+from ..session.member import Member
+
+# Of a page that holds more bytes than this no further request is served.
+FULL = 1 << 18
+
+
+class PageMember(Member):
+    """One page. `key` is a secret between this page and the server, by which its requests name it."""
+
+    def __init__(self, key: str, role: str, wake: Callable[[], None]) -> None:
+        super().__init__(role, wake)
+        self.key = key
+        self.has_more = asyncio.Event()
+        self.last: Optional[bytes] = None
+
+    @property
+    def is_full(self) -> bool:
+        return self.size > FULL
+
+    def flush(self) -> None:
+        self.has_more.set()
+
+    def end(self, last: bytes) -> None:
+        self.last = last
+        self.has_more.set()
+
+    async def next(self, seconds: float) -> Optional[bytes]:
+        """The next message; nothing where none comes within some seconds, and an empty one at the end."""
+        while not self.outgoing:
+            if self.last is not None:
+                last, self.last = self.last, b""
+                return last
+            self.has_more.clear()
+            try:
+                await asyncio.wait_for(self.has_more.wait(), seconds)
+            except asyncio.TimeoutError:
+                return None
+        was_full = self.is_full
+        message = self.next_message()
+        if was_full and not self.is_full:
+            self.wake()
+        return message
