@@ -75,7 +75,7 @@ class Lab:
             raise AssertionError("%s: %d %s" % (path, status, body))
         return json.loads(body)
 
-    def page(self, name="page", key=None):
+    def page(self, name="", key=None):
         return Page(self, name, key or self.key)
 
     def end(self):
@@ -147,7 +147,7 @@ class AtServer(Case):
         self.lab = Lab(self.folder, script, *self.words)
         self.addCleanup(self.lab.close)
 
-    def page(self, name="page", key=None):
+    def page(self, name="", key=None):
         made = self.lab.page(name, key)
         self.addCleanup(made.close)
         return made

@@ -24,16 +24,18 @@ LINES = ("metric 1.0.0.1 2.0.0.1 %d", "origin 1.0.0.1 10.%d.0.0/16", "noorigin 1
 
 
 class Person:
-    """One at the socket of a share, who sends and reads lines of JSON. Events are in `events`."""
+    """One at the socket of a share, who sends and reads lines of JSON. Events are in `events`. A person who enters by a
+    name again needs its token."""
 
-    def __init__(self, path, name=None):
+    def __init__(self, path, name=None, token=None):
         self.line = socket.socket(socket.AF_UNIX)
         self.line.settimeout(30)
         self.line.connect(str(path))
         self.read = self.line.makefile("rb")
         self.events, self.number = [], 0
         if name:
-            self.seat = self.ask("enter", **{"as": name})["seat"]
+            told = self.ask("enter", **{"as": name}, **({"token": token} if token else {}))
+            self.seat, self.token = told["seat"], told["token"]
 
     def send(self, do, **more):
         self.number += 1
@@ -80,6 +82,7 @@ class AtSocket(Case):
     def setUp(self):
         super().setUp()
         self.path, self.log = self.folder / "net", self.folder / "net.log"
+        self.tokens = {}
 
     def start(self, *words, wanted="shared at "):
         """A share; it is served when this returns."""
@@ -112,8 +115,11 @@ class AtSocket(Case):
         return process.returncode, out.decode()
 
     def join(self, name=None):
-        person = Person(self.path, name)
+        """A person who joins: by a name that was entered before, with its token."""
+        person = Person(self.path, name, self.tokens.get(name))
         self.addCleanup(person.close)
+        if name:
+            self.tokens[name] = person.token
         return person
 
     def entries(self):
@@ -213,18 +219,18 @@ class Served(AtSocket):
             self.assertIn(told, person.hear()["error"])
         person.ask("enter", **{"as": "anna"})
         for do, more, told in (("jump", {}, "there is no request `jump`"),
-                               ("call", {"line": 5}, "`line` of the request has to be a text"),
+                               ("call", {"line": 5}, "`line` of the request `call` is expected to be one line"),
                                ("call", {"line": "\ud800"}, "`line` of the request"),
                                ("ask", {"line": "router 1.0.0.1 1"}, "is no question"),
-                               ("script", {"from": -1}, "`from` of the request has to be a number"),
-                               ("watch", {"what": "me"}, "`what` is all, edits or off"),
+                               ("script", {"from": -1}, "`from` of the request `script` is expected to be a whole number from 0"),
+                               ("watch", {"what": "me"}, "is expected to be `all`, `edits` or `off`"),
                                ("pace", {"a_second": 5}, "there are no workers"),
                                ("step", {"count": True}, "`count` of the request"),
                                ("enter", {"as": "ben"}, "you have a seat already"),
                                ("accept", {"number": 1}, "there is no proposal 1"),
                                ("accept", {}, "no proposal is open"),
                                ("propose", {"name": "x", "lines": ["# none"]}, "it has no command"),
-                               ("propose", {"name": "x", "lines": "quiet"}, "`lines` of the request have to be texts"),
+                               ("propose", {"name": "x", "lines": "quiet"}, "is expected to be a list of at most 65536 lines"),
                                ("blame", {"router": "1.0.0.1"}, "there is no router"),
                                ("undo", {}, "there is nothing of yours to undo")):
             with self.subTest(do=do, more=more):
@@ -292,7 +298,7 @@ class Served(AtSocket):
         self.assertEqual(anna.ask("accept", number=2)["error"], "proposal 2 is your own: another one accepts it")
         self.assertEqual(ben.call("origin 2.0.0.1 198.18.0.0/15"), ["ok"])
         self.assertEqual(ben.ask("accept")["error"],
-                         "the network was edited since proposal 2 was shown: it is shown anew")
+                         "the network was edited since proposal 2 was shown: it is shown again")
         self.assertEqual(ben.until("proposal")["number"], 2)
         text = "ben accepts proposal 2 of anna, lost.change: 3 commands made"
         self.assertEqual(ben.ask("accept")["text"], text)
@@ -353,7 +359,7 @@ class Crowded(AtSocket):
         with contextlib.suppress(OSError):
             long.line.sendall(b"x" * 10000000)
         self.assertEqual(anna.call("quiet"), ["no"])
-        self.assertEqual(long.until("told")["text"], "you are let go: a request of more than 1048576 bytes")
+        self.assertEqual(long.until("told")["text"], "the server ended the connection: a request has at most 1048576 bytes, and this one had more")
         # Who reads nothing asks for much, and is not served further; his edits come before those of nobody.
         deaf = self.join("deaf")
         deaf.ask("watch", what="edits")
@@ -376,10 +382,10 @@ class Crowded(AtSocket):
         # More happens than is held for him: he is let go.
         for _ in range(1150):
             self.assertEqual(anna.call("# name 1.0.0.1 %s" % ("n" * 4000)), [])
-        while not any("deaf has gone: it read nothing of" in each.get("text", "") for each in anna.events):
+        while not any("deaf has gone: " in each.get("text", "") for each in anna.events):
             anna.events.append(anna.hear())
         texts = [each.get("text") for each in anna.events]
-        self.assertIn("long has gone: a request of more than 1048576 bytes", texts)
+        self.assertIn("long has gone: a request has at most 1048576 bytes, and this one had more", texts)
         self.assertIn("gone has gone", texts)
         self.assertEqual(self.end(process)[0], 0)
 

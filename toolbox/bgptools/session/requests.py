@@ -71,7 +71,7 @@ def _is_pace(value: Any) -> bool:
 
 LINE = Field("one line of at most %d bytes, without control characters" % LONGEST_READ,
              lambda value: is_text(value, LONGEST_READ))
-LINES = Field("a list of at most %d such lines" % MOST_LINES, _is_lines)
+LINES = Field("a list of at most %d lines without control characters" % MOST_LINES, _is_lines)
 PACE = Field("a number, or null for as fast as can be", _is_pace)
 WATCHED = Field("`all`, `edits` or `off`", lambda value: value in ("all", "edits", "off"))
 WAY = Field("a list of two addresses, or null", _is_way, False)
