@@ -78,8 +78,10 @@ class Answering:
         if each.seat is not None:
             raise Mistake("you have a seat already")
         name = text_in(request, "as")
-        each.seat = self.shared.enter(name)
-        return {"seat": each.seat, "name": name, "step": self.step, "version": VERSION,
+        given = request.get("token")
+        found = self.shared.enter(name, None if given is None else text_in(request, "token"))
+        each.seat, name = found.seat, found.name
+        return {"seat": each.seat, "name": name, "token": found.token, "step": self.step, "version": VERSION,
                 "workers": self.shared.deliveries.now()}
 
     def _watch(self, each: Connection, _: int, request: Request) -> Dict[str, Any]:

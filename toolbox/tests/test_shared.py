@@ -54,7 +54,7 @@ class Held(Case):
         """A shared network, with these lines by its first person, anna."""
         made = Shared(str(self.log), workers, **more)
         self.addCleanup(made.close)
-        anna = made.enter("anna")
+        anna = made.enter("anna", token).seat
         for answer in made.calling.calls((anna, line) for line in lines):
             self.assertEqual((answer.reply, answer.error), (["ok"], ""))
         return made, anna
