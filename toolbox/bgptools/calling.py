@@ -2,18 +2,24 @@
 from __future__ import annotations
 
 import contextlib
+import re
 from dataclasses import dataclass
 from typing import Iterable, List, Optional, Tuple
 
-from .language import LONGEST, QUESTIONS, is_silent, words_of
+from .language import LONGEST, QUESTIONS, escaped, is_silent, words_of
 from .lasting import AT_ONCE, Lasting, Lost
-from .ledger import Ledger
-from .names import MARK
-from .program import LONGEST_READ
+from .ledger import BESIDE_LINE, Ledger
+from .mistakes import Mistake
+from .names import MARK, Names
+from .program import one_line
 from .record import Entry
 from .refusals import sentence
 from .replies import refusal
 from .telling import kept_back
+
+
+# All but a tab, which the program refuses with a word on it.
+CONTROL = re.compile("[\x00-\x08\x0a-\x1f\x7f]")
 
 
 @dataclass
@@ -62,27 +68,42 @@ class Calling:
         if self.ledger.take(entry, at, by, undoes):
             self.program.take(entry)
 
-    def name(self, line: str, seat: Optional[int]) -> None:
-        """A comment, which may name a router."""
-        if self.program.name(line):
-            self.ledger.name(line, seat)
+    def name(self, line: str, seat: Optional[int] = None) -> None:
+        """A comment, which may name a router. It is noted where it is somebody's; else it was."""
+        if not Names().take(line):
+            return
+        if seat is not None:
+            self.ledger.note_name(line, seat)
+        self.program.name(line)
+        self.ledger.name(line, seat)
 
-    def fault(self, line: str) -> str:
-        """Why a line is not given to the program; empty where it is."""
-        if "\n" in line or not line.isascii() and max(line) > "\xff":
-            return "one line is expected, of the bytes of a script"
-        if len(line) > LONGEST_READ:
-            return "a line of %d bytes; the program reads at most %d" % (len(line), LONGEST_READ)
-        if self.program.is_full and not is_silent(line) and QUESTIONS.isdisjoint(words_of(line)[:1]):
+    def fault(self, line: str, more: int = 0) -> str:
+        """Why a line is not given to the program; empty where it is. So many bytes more are to be written before."""
+        try:
+            check_line(line)
+        except Mistake as mistake:
+            return mistake.text
+        is_change = bool(MARK.fullmatch(line)) if is_silent(line) else QUESTIONS.isdisjoint(words_of(line)[:1])
+        if not is_change:
+            return ""
+        if self.program.is_full:
             told = "{:,} lines have been made; one network holds no more, and questions alone are answered"
             return told.format(len(self.program.lines))
-        return ""
+        return self.ledger.full(more + _size(line))
+
+    def _faults(self, lines: List[str]) -> List[str]:
+        """Why each line is not given to the program: together they may be more than the log takes."""
+        faults, more = [], 0
+        for line in lines:
+            faults.append(self.fault(line, more))
+            more += 0 if faults[-1] else _size(line)
+        return faults
 
     def _calls(self, given: List[Tuple[int, str]], by: Optional[int] = None, undoes: bool = False) -> List[Answer]:
         if not given:
             return []
         lines = [_normal(line) for _, line in given]
-        errors = list(map(self.fault, lines))
+        errors = self._faults(lines)
         asked = [line for line, error in zip(lines, errors) if not error and not is_silent(line)]
         try:
             replies = iter(self.program.asked(asked))
@@ -109,6 +130,22 @@ class Calling:
         with contextlib.suppress(Lost), self.program.renewing():
             return kept_back(self.program.run, words_of(entry.line), entry.reply)
         return []
+
+
+def check_line(line: str) -> str:
+    """The line, if a script can have it. Mistake where it cannot: a line end or another control character is in it, it
+    is too long, or has characters that are no bytes."""
+    one_line(line)
+    odd = CONTROL.search(line)
+    if odd:
+        raise Mistake("a line has no control characters, and this has %s: `%s`" % (ascii(odd.group()), escaped(line[:80])))
+    return line
+
+
+def _size(line: str) -> int:
+    """At least so many bytes as a change takes in the log and beside it."""
+    # A comment stands in the notes, where a byte may take six.
+    return BESIDE_LINE + len(line) * (6 if is_silent(line) else 1)
 
 
 def _normal(line: str) -> str:

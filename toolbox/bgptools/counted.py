@@ -9,7 +9,7 @@ from typing import Iterable, List, Optional
 
 from .language import is_silent
 from .mistakes import Mistake
-from .program import Program
+from .program import Program, ProgramEnded
 
 MOST_LINES = 1000000
 NEAR, PART = 0.9, 4096
@@ -85,9 +85,16 @@ class Counted(Program):
         """Another process, given what was accepted."""
         if len(self.accepted) >= MOST_LINES:
             told = "with its deliveries the script has {:,} lines and more, and one run of the program reads no more"
-            raise Mistake(told.format(MOST_LINES))
+            raise ProgramEnded(told.format(MOST_LINES))
         fresh = Program()
-        _check_again(self.accepted, fresh.pour(self.accepted))
+        try:
+            _check_again(self.accepted, fresh.pour(self.accepted))
+        except BaseException as fault:
+            fresh.is_torn = True
+            fresh.close()
+            if isinstance(fault, Mistake):
+                raise ProgramEnded(fault.text, fault.file, fault.line) from None
+            raise
         self.close()
         self.process, self.given, self.told = fresh.process, fresh.given, fresh.told
         self.count = len(self.accepted)

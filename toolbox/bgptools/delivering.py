@@ -28,32 +28,39 @@ class Deliveries:
         self.program, self.ledger, self.fault = calling.program, calling.ledger, calling.fault
         self.workers, self.happening = workers, happening
         self.round: List[Direction] = []
+        # Whether workers deliver just now.
+        self.is_working = False
         self.program.renewed = self.round.clear
 
     # By workers
 
     def work(self, now: float) -> int:
         """What workers do in one go, at this time: how many messages they took, or looked for where none is."""
-        room = 0 if self.program.is_full else self.workers.room(now, PART)
+        self.is_working = True
+        full = self.fault("deliver")
+        if full and self.workers.is_going:
+            self.pause_for(full)
+        room = self.workers.room(now, PART)
         try:
             tried, entries = self._deliver(room, self.workers.seat_of) if room else (0, [])
         except Unkept:
             raise
         except Mistake as mistake:
-            self._pause_for(str(mistake))
-            return 0
+            self.pause_for(str(mistake))
+            tried, entries = 0, []
         self.workers.spent(len(entries))
         # The limit is never lower, and takes a while to count.
         count, most = self.ledger.since_edit, self.program.most
         if count >= (LIMIT if most is None else most) and count >= self.program.settler.limit():
-            self._pause_for("after %d deliveries without an edit it is not quiet" % count)
+            self.pause_for("after %d deliveries without an edit it is not quiet" % count)
+        self.is_working = False
         return tried
 
     def due(self, now: float) -> Optional[float]:
         """After how many seconds `work` has something to do; nothing where it has not before something is done."""
         settler = self.program.settler
         waits = bool(self.round or settler.waiting.most or settler.is_unsure)
-        return self.workers.due(now) if waits and not self.program.is_full else None
+        return self.workers.due(now) if waits else None
 
     def steps(self, seat: int, count: int) -> List[Entry]:
         """Somebody lets the workers deliver so many messages, and pauses them. Mistake where there are none."""
@@ -62,7 +69,7 @@ class Deliveries:
         self.workers.is_going = False
         found: List[Entry] = []
         tried = 1
-        while tried and len(found) < count:
+        while tried and len(found) < count and not self.fault("deliver"):
             tried, entries = self._deliver(min(PART, count - len(found)), self.workers.seat_of)
             found += entries
         self._tell(seat, "lets the workers deliver %d, and pauses them" % len(found))
@@ -75,8 +82,9 @@ class Deliveries:
         self._tell(seat, "pauses the workers")
 
     def go(self, seat: int) -> None:
-        """The workers deliver again."""
+        """The workers deliver again. Mistake where there are none, or nothing can be delivered any more."""
         self._check_workers()
+        self._check_room()
         self.workers.is_going, self.ledger.since_edit = True, 0
         self._tell(seat, "lets the workers go")
 
@@ -97,7 +105,8 @@ class Deliveries:
     def _tell(self, seat: int, text: str) -> None:
         self.happening.tell("workers", "%s %s" % (self.ledger.seats.name_of(seat), text), self.now())
 
-    def _pause_for(self, why: str) -> None:
+    def pause_for(self, why: str) -> None:
+        """The workers deliver nothing more, and all are told why."""
         self.workers.is_going, self.ledger.since_edit = False, 0
         self.happening.tell("workers", "the workers pause: %s" % why, self.now())
 
@@ -116,8 +125,9 @@ class Deliveries:
         return entries[0] if entries else None
 
     def _check_room(self) -> None:
-        if self.program.is_full:
-            raise Mistake(self.fault("deliver"))
+        full = self.fault("deliver")
+        if full:
+            raise Mistake(full)
 
     # All of them
 

@@ -9,67 +9,115 @@ from .counted import is_accepted
 from .happening import Happening
 from .history import Edit, History
 from .language import words_of
+from .meter import Meter
 from .mistakes import Mistake
 from .network import Network
-from .record import Entry, Log
+from .notes import Notes
+from .record import Entry, Log, text_of
 from .replies import refusal
-from .seats import Notes, Seats
+from .seats import Seats
 from .settling import MEMORY
 
 SYNTAX = 1
 # What is left of a log for changes when questions are no more recorded: two lines for each.
 RESERVE = 3000000
+# The part of a log's bytes up to which questions are recorded.
+QUESTIONS_PART = 0.75
+# The most bytes that a log and its notes have, where nothing else is said; and what a change takes beside its line.
+MOST_LOG, BESIDE_LINE = 1000000000, 200
 Clock = Callable[[], float]
 
 
 class Ledger:
-    """The log that is written, with what stands beside it. Mistake where it cannot be opened, or is none.
+    """The log that is written, with what stands beside it.
 
     `entries` are the calls in it, `step` the last step, `made` the calls of each seat, and `since_edit` the deliveries
-    since the last edit. Times are those of `clock`."""
+    since the last edit. `clock` has the times of edits, in seconds since 1970, and `even` goes on evenly, in seconds.
+    From `most_log` bytes on nothing can be changed."""
 
-    def __init__(self, path: str, is_new: bool, network: Network, happening: Happening,
-                 clock: Clock = time.time) -> None:
-        self.happening, self.clock = happening, clock
-        self.log, self.notes = Log(path, is_new), Notes(path)
+    def __init__(self, log: Log, notes: Notes, network: Network, happening: Happening, most_log: int = MOST_LOG,
+                 clock: Clock = time.time, even: Clock = time.monotonic) -> None:
+        self.log, self.notes, self.happening = log, notes, happening
+        self.most_log, self.clock, self.even = most_log, clock, even
         self.seats, self.history = Seats(), History(network)
         self.made: "Counter[int]" = Counter()
+        self.meters: Dict[int, Meter] = {}
         self.step = self.entries = self.since_edit = 0
         self.is_noting = True
 
-    def seat(self, name: str) -> int:
-        """The seat of a name, which is noted where it is new. Mistake where none is left."""
-        is_known = name in self.seats.numbers
+    # Seats
+
+    def seat(self, name: str, digest: str = "") -> int:
+        """The seat of a name, which is noted where it is new; with a digest it is entered by its token from now on.
+        Mistake where none is left."""
         seat = self.seats.of(name)
-        if seat is None:
-            raise Mistake("no seat is left for %s: a log has 256" % name)
-        if not is_known:
-            self.notes.add([{"seat": seat, "name": name}])
+        note: Dict[str, Any] = {"seat": seat}
+        note.update({} if name in self.seats.numbers else {"name": name})
+        note.update({"token": digest} if digest else {})
+        if len(note) > 1:
+            self.notes.add([note])
+            self.seats.give(seat, name)
+        if digest:
+            self.seats.lock(seat, digest)
         return seat
+
+    def free(self, seat: int) -> None:
+        """The token of a seat is forgotten."""
+        self.notes.add([{"seat": seat, "token": ""}])
+        self.seats.lock(seat, "")
 
     # What is written
 
+    @property
+    def size(self) -> int:
+        """How many bytes the log has, with what stands beside it."""
+        return self.log.size + self.notes.size
+
+    def full(self, more: int = 0) -> str:
+        """Why so many bytes of changes more are not written; empty where they are."""
+        if self.size + more <= self.most_log:
+            return ""
+        told = "the log has {:,} bytes of at most {:,}: nothing can be changed any more, and questions alone are answered"
+        return told.format(self.size, self.most_log)
+
+    def written(self, seat: int, now: Optional[float] = None) -> int:
+        """How many bytes were written for a seat in the last minute, at a time by `even`; now where none is given."""
+        meter = self.meters.get(seat)
+        return 0 if meter is None else meter.total(self.even() if now is None else now)
+
     def keep(self, entries: List[Entry], by: Optional[int] = None, undoes: bool = False) -> List[Entry]:
         """Writes what is to stand in the log, and when it was: the entries. `by` is the seat that accepted them, and
-        `undoes` says that they take another edit back. Raises Unkept where it cannot."""
+        `undoes` says that they take another edit back. Raises Unkept where it cannot.
+
+        Notes come first: those of entries that are not there are left out when the log is taken up."""
         kept = self._in_log(entries)
-        self.log.add(kept)
         now = self.clock()
         more = {name: value for name, value in (("by", by), ("undoes", undoes or None)) if value is not None}
-        self.notes.add([{"entry": number, "at": now, **more} for number, entry in enumerate(kept, self.entries + 1)
+        self.notes.add([{"entry": number, "at": now, **more} for number, entry in enumerate(kept, self.log.count + 1)
                         if entry.reply == ["ok"]])
+        self.log.add(kept)
+        self._measure(kept)
         return kept
+
+    def _measure(self, entries: List[Entry]) -> None:
+        now = self.even()
+        for entry in entries:
+            self.meters.setdefault(entry.seat, Meter()).add(now, len(text_of([entry])))
 
     def _in_log(self, entries: List[Entry]) -> List[Entry]:
         """The calls that stand in the log: they spelled a command, and memory was there. Near the end of a log only
         changes do."""
-        kept, lines = [], self.log.lines
+        kept, lines, size = [], self.log.lines, self.size
         for entry in entries:
             if not entry.reply or refusal(entry.reply) in (SYNTAX, MEMORY):
                 continue
-            if is_accepted(entry.reply) or self.log.has_room(lines + entry.count + RESERVE):
+            more = len(text_of([entry]))
+            has_room = self.log.has_room(lines + entry.count + RESERVE) and \
+                size + more <= QUESTIONS_PART * self.most_log
+            if is_accepted(entry.reply) or has_room:
                 kept.append(entry)
                 lines += entry.count
+                size += more
             elif self.is_noting:
                 self.is_noting = False
                 told = "the log has {:,} lines: from here on changes alone stand in it"
@@ -92,11 +140,20 @@ class Ledger:
         self._changed(entry.seat, entry.line, entry.reply[0])
         return True
 
+    def note_name(self, line: str, seat: int) -> None:
+        """Writes that a comment names a router, before anything has the name."""
+        count = self.notes.add([{"router": line, "behind": self.entries}])
+        self.meters.setdefault(seat, Meter()).add(self.even(), count)
+
     def name(self, line: str, seat: Optional[int]) -> None:
         """A comment that names a router: a step without an entry."""
         self.step += 1
-        self.notes.add([{"router": line}])
         self._changed(seat, line, "")
+
+    def note_back(self, seat: int) -> None:
+        """The last edit of a seat, which changed nothing, is taken back without an entry."""
+        self.notes.add([{"back": seat, "behind": self.entries}])
+        self.history.take_back(seat)
 
     def _changed(self, seat: Optional[int], line: str, reply: str) -> None:
         who = None if seat is None else self.seats.name_of(seat)

@@ -14,6 +14,12 @@ from .mistakes import Mistake
 LONGEST_READ = 65536
 # Fewer bytes than any pipe holds: so much is written before its replies are read.
 AT_ONCE = 8192
+# So many seconds a program that answers nothing more has to end.
+PATIENCE = 10
+
+
+class ProgramEnded(Mistake):
+    """The program ended, or cannot be run again: it answers nothing more."""
 
 
 class Program:
@@ -52,7 +58,7 @@ class Program:
         replies: List[List[str]] = []
         part: List[str] = []
         size = 0
-        for line in map(_one_line, list(lines)):
+        for line in map(one_line, list(lines)):
             if part and size + len(line) >= AT_ONCE:
                 replies += self._exchange(part)
                 part, size = [], 0
@@ -64,7 +70,7 @@ class Program:
         """The reply to each line that has one, where it is one line: to edits, feeds and deliveries.
 
         Lines are written while replies are read, so that the program never waits: the fastest way to play many."""
-        spoken = [line for line in map(_one_line, lines) if not is_silent(line)]
+        spoken = [line for line in map(one_line, lines) if not is_silent(line)]
         content = "".join(map(ended, spoken)).encode("latin-1")
         self.before()
         self.is_torn = True
@@ -93,11 +99,13 @@ class Program:
 
     def _exchange(self, lines: List[str]) -> List[List[str]]:
         self.before()
+        content = "".join(map(ended, lines)).encode("latin-1")
         self.is_torn = True
         try:
-            self.given.write("".join(map(ended, lines)).encode("latin-1"))
+            self.given.write(content)
             self.given.flush()
-        except BrokenPipeError:
+        except (OSError, ValueError):
+            # A pipe whose reader has gone, or one that was closed when the program had ended.
             raise self._gone() from None
         replies = list(map(self._reply, lines))
         self.is_torn = False
@@ -126,11 +134,16 @@ class Program:
             raise self._gone()
         return line[:-1].decode("latin-1")
 
-    def _gone(self) -> Mistake:
+    def _gone(self) -> ProgramEnded:
         self._end_input()
-        status = self.process.wait()
+        try:
+            status = self.process.wait(PATIENCE)
+        except subprocess.TimeoutExpired:
+            # It has closed its end, and goes on.
+            os.killpg(self.process.pid, signal.SIGKILL)
+            status = self.process.wait()
         how = "with status %d" % status if status >= 0 else "by signal %d, %s" % (-status, signal.strsignal(-status))
-        return Mistake("the program ended before it had answered, " + how, self.path)
+        return ProgramEnded("the program ended before it had answered, " + how, self.path)
 
     def _end_input(self) -> None:
         try:
@@ -139,8 +152,8 @@ class Program:
             pass
 
 
-def _one_line(line: str) -> str:
-    """The line, if it is one and the program reads it."""
+def one_line(line: str) -> str:
+    """The line, if it is one and the program reads it. Mistake where it is not, or has characters that are no bytes."""
     if "\n" in line:
         raise Mistake("one line is expected, and this has a line end inside: `%s`" % escaped(line[:80]))
     if len(line) > LONGEST_READ:

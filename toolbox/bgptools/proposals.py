@@ -6,7 +6,7 @@ import subprocess
 import sys
 import tempfile
 from dataclasses import dataclass
-from typing import Callable, List
+from typing import Callable, FrozenSet, List
 
 from . import where
 from .journal import content_of
@@ -27,6 +27,7 @@ class Proposal:
     given: List[str]
     edits: int = 0
     text: str = ""
+    owners: FrozenSet[int] = frozenset()
     is_showing: bool = False
 
     @property

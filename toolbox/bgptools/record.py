@@ -4,12 +4,14 @@ docs/LANGUAGE.md has its form. A log that is open is locked, and the system take
 writer."""
 from __future__ import annotations
 
+import contextlib
 import os
 import re
 from dataclasses import dataclass
-from typing import BinaryIO, Iterator, List, Optional
+from typing import BinaryIO, Callable, Iterator, List, Optional
 
 from .journal import can_lock
+from .kept_file import opened_to_write
 from .language import REPORTS, readable
 from .mistakes import Mistake
 
@@ -48,32 +50,38 @@ def text_of(entries: List[Entry]) -> bytes:
 
 
 class Unkept(Mistake):
-    """Nothing more can be answered: the log cannot be written, or the network not be run. The log has what was."""
+    """Nothing more can be answered, since the log cannot be written or read. It has what was answered."""
 
 
 class Log:
-    """A log that is open to be written, and locked. Mistake where it cannot be opened, or another has it."""
+    """A log that is open to be written, and locked. `tell` gets a word where others may read it. Mistake where it cannot
+    be opened, is no regular file, or another has it."""
 
-    def __init__(self, path: str, is_new: bool) -> None:
+    def __init__(self, path: str, is_new: bool, tell: Callable[[str], None] = lambda _: None) -> None:
         self.path = path
         self.count, self.lines, self.size = 0, 0, 0
         try:
-            self.file: BinaryIO = open(path, "x+b" if is_new else "a+b", buffering=0)
+            self.file: BinaryIO = opened_to_write(path, is_new, tell)
         except FileExistsError:
             there = "it is there already: `--log %s` takes it up, or another name makes another one" % path
             raise Mistake(there, path) from None
-        except OSError as error:
-            raise Mistake("it cannot be opened: %s" % error.strerror, path) from None
+        except (OSError, ValueError) as error:
+            raise Mistake("it cannot be opened: %s" % (getattr(error, "strerror", None) or error), path) from None
         if not can_lock(self.file):
             self.file.close()
             raise Mistake("it is the log of a `share` that still runs", path)
+
+    def content(self) -> BinaryIO:
+        """What it has, to be read from its begin, by the handle that holds the lock. OSError where it cannot be."""
+        file = os.fdopen(os.dup(self.file.fileno()), "rb")
+        file.seek(0)
+        return file
 
     def begin(self, reading: "Reading") -> None:
         """Goes on behind the last whole entry of what was read: what stands behind it goes."""
         self.count, self.lines, self.size = reading.count, reading.whole_lines, reading.whole
         try:
             os.ftruncate(self.file.fileno(), self.size)
-            self.file.seek(self.size)
         except OSError as error:
             raise Unkept("it cannot be written: %s" % error.strerror, self.path) from None
         if not self.size:
@@ -92,6 +100,8 @@ class Log:
             try:
                 self._write(b"end %d\n" % self.count, 1)
                 os.fsync(self.file.fileno())
+            except OSError as error:
+                raise Unkept("it cannot be written: %s" % error.strerror, self.path) from None
             finally:
                 self.file.close()
 
@@ -100,15 +110,22 @@ class Log:
         return lines < MOST_LINES
 
     def _write(self, content: bytes, lines: int) -> None:
-        left = content
-        try:
-            while left:
-                left = left[self.file.write(left):]
-        except OSError as error:
-            os.ftruncate(self.file.fileno(), self.size)
-            raise Unkept("it cannot be written: %s" % error.strerror, self.path) from None
+        write_all(self.file, content, self.size, self.path)
         self.size += len(content)
         self.lines += lines
+
+
+def write_all(file: BinaryIO, content: bytes, size: int, path: str) -> None:
+    """Writes content behind so many bytes of a file that is written at its end. Raises Unkept where it cannot, and takes
+    away what was written of it, if the system lets it."""
+    left = content
+    try:
+        while left:
+            left = left[file.write(left):]
+    except (OSError, ValueError) as error:
+        with contextlib.suppress(OSError, ValueError):
+            os.ftruncate(file.fileno(), size)
+        raise Unkept("it cannot be written: %s" % (getattr(error, "strerror", None) or error), path) from None
 
 
 class Reading:

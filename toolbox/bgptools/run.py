@@ -23,11 +23,12 @@ class Run(Answers):
     """A program, what it was told, and where messages may wait.
 
     With `tries_others` a network that does not settle in the order of the run is tried in others. The program is
-    another one then."""
+    another one then. A new program is started where none is given."""
 
-    def __init__(self, order: Optional[Order] = None, most: Optional[int] = None, tries_others: bool = False) -> None:
+    def __init__(self, order: Optional[Order] = None, most: Optional[int] = None, tries_others: bool = False,
+                 program: Optional[Counted] = None) -> None:
         self.network = Network()
-        self.program = Counted()
+        self.program = program or Counted()
         self.order, self.most = order or Order(), most
         self.settler = Settler(self.program, self.network, self.order, most)
         self.tries_others, self.has_tried_all = tries_others, False

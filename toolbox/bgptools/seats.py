@@ -1,104 +1,42 @@
-"""What a log has no place for, in a file beside it: whose each seat is, names of routers, and when each edit was made.
-
-It is a JSON value a line. Without it a log is taken up all the same: its seats have numbers then, and its edits no
-times."""
+"""Whose each seat of a log is, and the tokens by which people enter by their names."""
 from __future__ import annotations
 
-import json
-import os
+import hashlib
+import hmac
 import re
-from typing import Any, BinaryIO, Dict, List, Optional, Tuple
+from typing import Dict, List, Optional, Set
 
+from .language import escaped
 from .mistakes import Mistake
-from .record import SEATS, Unkept
+from .record import SEATS
 
 BESIDE = ".seats"
 SCRIPT = "the script"
 WORKER = "worker %d"
-# No space, so that no name is that of the script, of a worker, or of a seat whose name is not known.
-USABLE = re.compile(r"[^\s\x00-\x20\x7f-\x9f]{1,32}")
-
-Note = Dict[str, Any]
-
-
-class Notes:
-    """The file beside a log. What stands behind its last line end is left out."""
-
-    def __init__(self, log: str) -> None:
-        self.path = log + BESIDE
-        self.file: Optional[BinaryIO] = None
-
-    def read(self) -> List[Note]:
-        """What was noted; nothing where there is no such file."""
-        try:
-            with open(self.path, "rb") as file:
-                content = file.read()
-        except FileNotFoundError:
-            return []
-        except OSError as error:
-            raise Mistake("it cannot be read: %s" % error.strerror, self.path) from None
-        return [self._note(number, line) for number, line in enumerate(content.split(b"\n")[:-1], 1)]
-
-    def _note(self, number: int, line: bytes) -> Note:
-        try:
-            note = json.loads(line)
-        except ValueError:
-            note = None
-        if not isinstance(note, dict):
-            expected = "a note of a log is expected; without this file the log can be taken up, too"
-            raise Mistake(expected, self.path, number)
-        return note
-
-    def begin(self, notes: List[Note]) -> None:
-        """Writes these notes in the place of all others, and goes on behind them."""
-        part = self.path + ".part"
-        try:
-            with open(part, "wb") as file:
-                file.write(_text_of(notes))
-            os.replace(part, self.path)
-            self.file = open(self.path, "ab", buffering=0)
-        except OSError as error:
-            raise Unkept("it cannot be written: %s" % error.strerror, self.path) from None
-
-    def add(self, notes: List[Note]) -> None:
-        """Writes notes. Raises Unkept where it cannot."""
-        left = _text_of(notes)
-        try:
-            while left and self.file:
-                left = left[self.file.write(left):]
-        except OSError as error:
-            raise Unkept("it cannot be written: %s" % error.strerror, self.path) from None
-
-    def close(self) -> None:
-        if self.file:
-            self.file.close()
-
-
-def _text_of(notes: List[Note]) -> bytes:
-    return "".join(json.dumps(note) + "\n" for note in notes).encode("ascii")
-
-
-def entry_of(note: Note) -> int:
-    """The entry of the log that a note is about; 0 where it is about none."""
-    found = note.get("entry")
-    return found if isinstance(found, int) else 0
-
-
-def edit_of(note: Note) -> Tuple[Optional[float], Optional[int], bool]:
-    """When an edit was made, the seat that accepted it, and whether it takes another one back."""
-    at, by = note.get("at"), note.get("by")
-    return at if isinstance(at, (int, float)) else None, by if isinstance(by, int) else None, bool(note.get("undoes"))
+# No space, so that no name is that of the script, of a worker, or of a seat whose name is not known; and none of the
+# letters that look like one.
+USABLE = re.compile(r"[^\s\x00-\x20\x7f-\x9f\u115f\u1160\u2800\u3164\uffa0]{1,32}")
+OWN = re.compile(r"the script|(worker|seat) (0|[1-9][0-9]{0,9})")
+# Who gives no name is called so, and the next ones as well, with a number.
+NAMELESS = "page"
+LONGEST_TOKEN = 200
 
 
 class Seats:
-    """Whose each seat is: a name has one seat, however often it comes."""
+    """Whose each seat is: a name has one seat, however often it comes. A person enters by a name with its token, of which
+    only the SHA-256 is kept. Seats that were entered with one token are one person's."""
 
     def __init__(self) -> None:
         self.names: Dict[int, str] = {}
         self.numbers: Dict[str, int] = {}
+        self.digests: Dict[int, str] = {}
 
     def give(self, seat: int, name: str) -> None:
-        """The seat is that of the name."""
+        """The seat is that of the name. Mistake where it is another one's, or the name has another seat."""
+        if self.names.get(seat, name) != name or self.numbers.get(name, seat) != seat:
+            told = "seat %d is that of %s, and cannot be that of %s, too" if seat in self.names else \
+                "%s has seat %d, and cannot have another one"
+            raise Mistake(told % ((seat, self.names[seat], name) if seat in self.names else (name, self.numbers[name])))
         self.names[seat], self.numbers[name] = name, seat
 
     def taken(self, seat: int) -> None:
@@ -110,17 +48,54 @@ class Seats:
         """Whose the seat is, as it is shown."""
         return self.names.get(seat, "seat %d" % seat)
 
-    def of(self, name: str) -> Optional[int]:
-        """The seat of a name: a new one where it has none. Nothing where all are taken."""
-        if name not in self.numbers:
-            free = next((seat for seat in range(SEATS) if seat not in self.names), None)
-            if free is None:
-                return None
-            self.give(free, name)
-        return self.numbers[name]
+    def of(self, name: str) -> int:
+        """The seat of a name, or the one that it would have. Mistake where all are taken."""
+        if name in self.numbers:
+            return self.numbers[name]
+        free = next((seat for seat in range(SEATS) if seat not in self.names), None)
+        if free is None:
+            raise Mistake("no seat is left for %s: a log has %d" % (name, SEATS))
+        return free
+
+    def nameless(self, here: Set[int]) -> str:
+        """A name for who gives none: one that nobody has a token of, and nobody is here by."""
+        number, name = 1, NAMELESS
+        while name in self.numbers and (self.numbers[name] in self.digests or self.numbers[name] in here):
+            number += 1
+            name = "%s%d" % (NAMELESS, number)
+        return name
+
+    # Tokens
+
+    def lock(self, seat: int, digest: str) -> None:
+        """From now on the seat is entered with the token of this digest; with any where it is empty."""
+        self.digests.pop(seat, None)
+        if digest:
+            self.digests[seat] = digest
+
+    def with_token(self, token: Optional[str]) -> List[int]:
+        """The seats that a token is for."""
+        given = "" if token is None else digest_of(token)
+        return [seat for seat, digest in self.digests.items() if hmac.compare_digest(digest, given)]
+
+
+def digest_of(token: str) -> str:
+    """What is kept of a token. Mistake where it is no text, or too long."""
+    if not isinstance(token, str) or len(token) > LONGEST_TOKEN:
+        raise Mistake("a token is a text of at most %d characters" % LONGEST_TOKEN)
+    return hashlib.sha256(token.encode("utf-8", "surrogatepass")).hexdigest()
+
+
+def is_name(name: str) -> bool:
+    """Whether a name can be that of a seat: of a person, the script, a worker, or by its number."""
+    return bool(OWN.fullmatch(name)) or _is_usable(name)
 
 
 def check_name(name: str) -> None:
     """Mistake where a name cannot be that of a person."""
-    if not USABLE.fullmatch(name) or not name.isprintable():
-        raise Mistake("a name is 1 to 32 characters without a space, and `%s` is none" % name[:80])
+    if not isinstance(name, str) or not _is_usable(name):
+        raise Mistake("a name is 1 to 32 characters without a space, and `%s` is none" % escaped(str(name)[:80]))
+
+
+def _is_usable(name: str) -> bool:
+    return bool(USABLE.fullmatch(name)) and name.isprintable()

@@ -4,24 +4,44 @@ There are no sockets and no threads here: `serving` is a server of terminals aro
 as well."""
 from __future__ import annotations
 
+import contextlib
+import gc
+import secrets
 import time
 from collections import Counter
-from typing import Any, Callable, Dict, List, Optional
+from dataclasses import dataclass
+from typing import Any, Callable, Dict, Iterator, List, Optional
 
 from .calling import Calling
 from .delivering import Deliveries
-from .happening import Happening
+from .happening import NOTHING_TOLD, Happening
+from .history import History
+from .language import escaped
 from .lasting import Lasting
-from .ledger import Clock, Ledger
+from .ledger import MOST_LOG, Clock, Ledger
 from .mistakes import Mistake
+from .network import Network
+from .notes import Notes
 from .proposing import Proposals
-from .record import Log
+from .record import Log, Unkept
+from .recovery import Broken, Interrupted, Kept, Recovered, described
 from .replies import refusal
 from .run import Run
 from .script import Line
-from .seats import SCRIPT, WORKER, check_name
+from .seats import SCRIPT, WORKER, check_name, digest_of
 from .taking_up import parts, take_up
 from .workers import Workers
+
+# After an error recovery is tried so often, after so many seconds each.
+PAUSES = (0.0, 0.05, 0.2)
+
+
+@dataclass(frozen=True)
+class Entered:
+    """Who has come: the seat, and the token by which alone the name is entered again; and the name, for who gave none."""
+    seat: int
+    token: str
+    name: str
 
 
 class Shared:
@@ -29,30 +49,40 @@ class Shared:
 
     What it does is in its parts: `program` is what questions are asked, `calling` what makes calls, `deliveries` what
     workers and people deliver, `proposals` what is proposed, `ledger` what was done, `happening` what is to be told.
+    A request that may change something is made within `guarded`. The parts are others after an error, so nobody else
+    holds them.
 
     Mistake where the log cannot be opened, is none, or is not what the program answers. `tell` gets a word on what was
-    cut off. Times in the log's notes are those of `clock`; those that are given to deliveries are of another, which
-    goes on evenly."""
+    cut off, and where others may read the log. Times in the log's notes are those of `clock`; those that are given to
+    deliveries are of another, which goes on evenly. The log and its notes have at most about `most_log` bytes."""
 
     def __init__(self, path: str, workers: int = 0, is_new: bool = False, most: Optional[int] = None,
-                 tell: Callable[[str], None] = lambda _: None, clock: Clock = time.time) -> None:
-        self.happening = Happening()
+                 tell: Callable[[str], None] = lambda _: None, clock: Clock = time.time,
+                 most_log: int = MOST_LOG) -> None:
+        self.happening = Happening(NOTHING_TOLD)
         self.program = Lasting(most, self.happening)
         try:
-            self.ledger = Ledger(path, is_new, self.program.network, self.happening, clock)
+            log = Log(path, is_new, tell)
         except BaseException:
             self.program.close()
             raise
+        self.ledger = Ledger(log, Notes(path), self.program.network, self.happening, most_log, clock)
         self.calling = Calling(self.program, self.ledger)
-        self.proposals = Proposals(self.calling, self.happening)
         self.here: "Counter[int]" = Counter()
+        # The seat that somebody enters for the first time just now, whose token he has not yet.
+        self.entering: Optional[int] = None
         try:
-            take_up(self.calling, tell)
+            take_up(self.calling, self.ledger.notes.read(tell), tell)
             names = [SCRIPT] + [WORKER % (number + 1) for number in range(workers)]
             seats = list(map(self.ledger.seat, names))
+        except OSError as error:
+            self.close()
+            raise Mistake("it cannot be read: %s" % error.strerror, path) from None
         except BaseException:
             self.close()
             raise
+        self.happening.known = 0
+        self.proposals = Proposals(self.calling, self.happening)
         self.deliveries = Deliveries(self.calling, Workers(seats[1:]), self.happening)
 
     @property
@@ -72,19 +102,45 @@ class Shared:
 
     # People
 
-    def enter(self, name: str) -> int:
-        """The seat of somebody who comes: the same for the same name. Mistake where the name cannot be one, or no seat
-        is left."""
+    def enter(self, name: Optional[str], token: Optional[str] = None) -> Entered:
+        """Who comes has the seat of the name: the same for the same name, and a name that is free where none is given.
+        The first one who enters by a name gets its token; from then on the name is entered with that alone.
+
+        Mistake where the name cannot be one or needs its token, or no seat is left."""
+        with self.guarded():
+            return self._enter(name, token)
+
+    def _enter(self, given: Optional[str], token: Optional[str]) -> Entered:
+        seats = self.ledger.seats
+        known = seats.with_token(token)
+        name = given or next((seats.names[seat] for seat in known), "") or seats.nameless(set(+self.here))
         check_name(name)
-        seat = self.ledger.seat(name)
+        seat = seats.of(name)
+        if seat not in seats.digests:
+            token = secrets.token_urlsafe(18)
+            self.entering = seat
+            self.ledger.seat(name, digest_of(token))
+        elif seat not in known or token is None:
+            raise Mistake("the name %s is taken: enter with its token, or by another name" % name)
+        self.proposals.people.join([seat, *known])
         self.here[seat] += 1
         self.happening.tell("people", "%s has come, seat %d" % (name, seat))
-        return seat
+        return Entered(seat, token, name)
+
+    def free(self, name: str) -> None:
+        """Forgets the token of a name: the next one who enters by it gets a new one. Mistake where it has none."""
+        seats = self.ledger.seats
+        seat = seats.numbers.get(name)
+        if seat not in seats.digests or seat is None:
+            raise Mistake("nobody has entered by the name %s" % escaped(str(name)[:80]))
+        self.ledger.free(seat)
+        self.proposals.people.part(seat)
+        self.happening.tell("people", "the name %s is free" % name)
 
     def leave(self, seat: int, why: str = "") -> None:
         """Somebody goes."""
-        self.here[seat] -= 1
         self.happening.tell("people", "%s has gone%s" % (self.ledger.seats.name_of(seat), why and ": " + why))
+        self.here[seat] -= 1
 
     def who(self) -> Dict[str, Any]:
         """Who is there or was, what the workers do, and whether anything waits."""
@@ -112,7 +168,7 @@ class Shared:
             whose = self.ledger.seats.name_of(other.seat)
             raise Mistake("`%s` cannot be undone exactly: `%s` of %s came since" % (edit.line, other.line, whose))
         if not line:
-            history.take_back(seat)
+            self.ledger.note_back(seat)
             return "undone: %s, which changed nothing" % edit.line
         answer = self.calling.call(seat, line, undoes=True)
         if answer.error or refusal(answer.reply):
@@ -122,8 +178,97 @@ class Shared:
     def blame(self, router: str) -> List[Dict[str, Any]]:
         """Who edited what about a router or virtual peer, and when. Mistake where it is not there."""
         if router not in self.program.network.nodes:
-            raise Mistake("there is no router or virtual peer %s" % router)
+            raise Mistake("there is no router or virtual peer %s" % escaped(str(router)[:80]))
         return self.ledger.blame(router)
+
+    # Errors that nobody expects
+
+    @contextlib.contextmanager
+    def guarded(self) -> Iterator[None]:
+        """While a request may change something. Where an error comes up that is no Mistake the network is recovered from
+        its log, and Interrupted raised, a Mistake that says what of the request stands in it. Raises Unkept where it
+        cannot be recovered."""
+        kept = self._kept()
+        self.entering = None
+        try:
+            yield
+        except Mistake:
+            raise
+        except Exception as error:  # pylint: disable=broad-except
+            raise Interrupted(error, self.recover(described(error), kept)) from error
+
+    def recover(self, reason: str, kept: Optional[Kept] = None) -> Recovered:
+        """Makes all anew from what stands in the log and its notes, as after a start, whatever state it is in. Who is
+        here, proposals, and what the workers do are as they were when it was `kept`; now where that is not given.
+
+        `reason` is told to all. How many calls the log had, and has. Raises Unkept where it cannot be done."""
+        kept, broken = kept or self._kept(), self._broken()
+        fault: BaseException = Unkept("no try was made")
+        for pause in PAUSES:
+            time.sleep(pause)
+            try:
+                gc.collect()
+                return self._recover("an error came up (%s)" % reason, kept, broken)
+            except Exception as error:  # pylint: disable=broad-except
+                fault = error
+        why = str(fault) if isinstance(fault, Mistake) else described(fault)
+        raise Unkept("an error came up (%s), and the network cannot be made anew from its log: %s" % (reason, why))
+
+    def _kept(self) -> Kept:
+        """What stands in no log."""
+        workers, proposals = self.workers, self.proposals
+        return Kept(self.log.count, self.ledger.step, self.here.copy(), proposals.open.copy(), proposals.count,
+                    self.happening.mark(), workers.is_going, workers.pace, workers.paid, self.ledger.since_edit)
+
+    def _broken(self) -> Broken:
+        """What was being done, and what outlasts it."""
+        return Broken(self.entering, self.proposals.making, self.deliveries.is_working, self.ledger.is_noting,
+                      self.ledger.meters, self.proposals.people, self.proposals.count)
+
+    def _recover(self, reason: str, kept: Kept, broken: Broken) -> Recovered:
+        """One try, which may come after another one that failed anywhere."""
+        old, most = self.ledger, self.program.most
+        # What it holds may be what is wanting.
+        self.program.drop(reason)
+        old.history = History(Network())
+        happening = Happening(kept.step)
+        program = Lasting(most, happening, reason)
+        ledger = Ledger(old.log, old.notes, program.network, happening, old.most_log, old.clock, old.even)
+        ledger.meters, ledger.is_noting = broken.meters, broken.is_noting
+        calling = Calling(program, ledger)
+        take_up(calling, old.notes.read(), lambda _: None, is_checked=False)
+        ledger.since_edit = min(ledger.since_edit, kept.since_edit)
+        if broken.entering in ledger.seats.digests and broken.entering is not None:
+            ledger.free(broken.entering)
+        proposals = self._proposals_again(calling, kept, broken)
+        workers = Workers(self.workers.seats)
+        workers.is_going, workers.pace, workers.paid = kept.is_going, kept.pace, kept.paid
+        deliveries = Deliveries(calling, workers, happening)
+        if broken.is_working and workers.is_going:
+            deliveries.pause_for(reason)
+        self.happening.back(kept.mark)
+        self.happening.events += happening.events
+        program.happening = ledger.happening = proposals.happening = deliveries.happening = self.happening
+        self.program, self.ledger, self.calling = program, ledger, calling
+        self.proposals, self.deliveries, self.here = proposals, deliveries, kept.here.copy()
+        # Where it cannot be run now, the next request tries again.
+        with contextlib.suppress(Exception):
+            program.revive()
+        return Recovered(kept.calls, ledger.entries, kept.step, ledger.step)
+
+    def _proposals_again(self, calling: Calling, kept: Kept, broken: Broken) -> Proposals:
+        """The proposals that still are what they were; one of which a part was made goes, which is told."""
+        made = Proposals(calling, calling.ledger.happening, broken.people)
+        made.count = max(broken.count, kept.count)
+        for number, each in kept.proposals.items():
+            if number == broken.making and calling.ledger.entries > kept.calls:
+                made.closed(each, "proposal %d goes: an error came up when it was made, and calls %d to %d were done" % (
+                    number, kept.calls + 1, calling.ledger.entries))
+            elif each.edits <= len(calling.ledger.history.edits):
+                made.open[number] = each
+            else:
+                made.closed(each, "proposal %d goes: the log has lost what it was shown for" % number)
+        return made
 
     # The beginning and the end
 

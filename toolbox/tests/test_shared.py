@@ -9,15 +9,15 @@ import sys
 import unittest.mock
 
 from bgptools import counted, ledger, record, replaying, where
+from bgptools.lasting import Lost
 from bgptools.mistakes import Mistake
 from bgptools.record import Unkept
 from bgptools.script import lines_of
 from bgptools.shared import Shared
 from bgptools.workers import Workers
-from common import TOOLBOX, TOP, Case, program
+from common import TOOLBOX, TOP, program
+from held import PEER, TWO, Held
 
-TWO = ("router 1.0.0.1 1", "router 2.0.0.1 2", "link 1.0.0.1 2.0.0.1 1", "join 1.0.0.1 2.0.0.1")
-PEER = ("router 1.0.0.1 1", "virtual 7.0.0.1 7", "link 1.0.0.1 7.0.0.1 1", "join 1.0.0.1 7.0.0.1")
 TAKES = ("deliver 7.0.0.1 1.0.0.1",)
 THREE = TOP / "toolbox" / "lessons" / "three-ases.bgp"
 # A log of replies of one line each that ends behind a whole entry.
@@ -43,45 +43,11 @@ for line in sys.stdin.buffer:
 """
 
 
-class Held(Case):
-    """A test with networks that are shared without a socket."""
-
-    def setUp(self):
-        super().setUp()
-        self.log = self.folder / "net.log"
-
-    def shared(self, *lines, workers=0, **more):
-        """A shared network, with these lines by its first person, anna."""
-        made = Shared(str(self.log), workers, **more)
-        self.addCleanup(made.close)
-        anna = made.enter("anna")
-        for answer in made.calling.calls((anna, line) for line in lines):
-            self.assertEqual((answer.reply, answer.error), (["ok"], ""))
-        return made, anna
-
-    def ended(self, shared):
-        """Ends it: what replay says of its log."""
-        shared.end()
-        return replaying.verdict(str(self.log), shared.log.size, b"")
-
-    def said(self, shared, seat, line):
-        """The reply to one line."""
-        return shared.calling.calls([(seat, line)])[0].reply
-
-    def settled(self, shared):
-        """Lets the workers deliver until they have nothing to do."""
-        for _ in range(1000):
-            if shared.deliveries.due(0.0) != 0:
-                return
-            shared.deliveries.work(0.0)
-        self.fail("they never end")
-
-
 class Logs(Held):
     def test_each_call_is_an_entry_with_its_seat(self):
         """But no line that spells no command, no comment and no question of a tool; spaces are one."""
         shared, anna = self.shared(*TWO)
-        ben = shared.enter("ben")
+        ben = self.enter(shared, "ben")
         lines = [(ben, "origin  1.0.0.1   10.0.0.0/8 "), (anna, "rooter 1.0.0.1 1"), (anna, "# a comment"), (ben, ""),
                  (ben, "metric 1.0.0.1 3.0.0.1 5"), (anna, "queue 1.0.0.1 2.0.0.1"), (anna, "deliver 1.0.0.1 2.0.0.1")]
         replies = [answer.reply for answer in shared.calling.calls(lines)]
@@ -166,7 +132,7 @@ class TakenUp(Held):
                 self.addCleanup(again.close)
                 self.assertEqual(again.ledger.entries, count)
                 self.assertEqual(not told, bool(WHOLE.fullmatch(content[:size])), told)
-                self.assertEqual(self.said(again, again.enter("anna"), "quiet"), ["no" if count > 4 else "yes"])
+                self.assertEqual(self.said(again, self.enter(again, "anna"), "quiet"), ["no" if count > 4 else "yes"])
                 self.assertEqual(self.ended(again), "ok %d" % (count + 1))
 
     def test_a_report_that_is_cut(self):
@@ -202,7 +168,7 @@ class TakenUp(Held):
 
     def test_seats_names_times_and_undo_are_there_again(self):
         shared, anna = self.shared(*TWO, workers=2, clock=lambda: 1000.0)
-        ben = shared.enter("ben")
+        ben = self.enter(shared, "ben")
         shared.calling.calls([(ben, "metric 1.0.0.1 2.0.0.1 7"), (ben, "# name 1.0.0.1 K\xc3\xb6ln"),
                               (anna, "metric 1.0.0.1 2.0.0.1 8")])
         shared.undo(anna)
@@ -210,7 +176,7 @@ class TakenUp(Held):
         shared.close()
         again = Shared(str(self.log), workers=2, clock=lambda: 2000.0)
         self.addCleanup(again.close)
-        self.assertEqual((again.enter("ben"), again.enter("anna"), again.enter("carl")), (ben, anna, ben + 1))
+        self.assertEqual(tuple(self.enter(again, name) for name in ("ben", "anna", "carl")), (ben, anna, ben + 1))
         self.assertEqual(again.run.network.names.of, {"1.0.0.1": "Köln"})
         self.assertEqual([(each["who"], each["at"], each["line"]) for each in again.blame("2.0.0.1")],
                          [(each["who"], each["at"], each["line"]) for each in before])
@@ -269,17 +235,17 @@ class TakenUp(Held):
 class Seated(Held):
     def test_a_name_has_one_seat(self):
         shared, anna = self.shared(workers=2)
-        self.assertEqual((anna, shared.enter("ben"), shared.enter("anna")), (3, 4, 3))
-        for name in ("", "two words", "the script", "worker 1", "x" * 33, "a\x1b[2J", "a\u202e"):
+        self.assertEqual((anna, self.enter(shared, "ben"), self.enter(shared, "anna")), (3, 4, 3))
+        for name in ("two words", "the script", "worker 1", "x" * 33, "a\x1b[2J", "a\u202e"):
             with self.subTest(name=name):
                 self.assertRaisesRegex(Mistake, "a name is 1 to 32 characters without a space", shared.enter, name)
 
     def test_a_log_has_256_seats(self):
         shared, _ = self.shared()
         for number in range(254):
-            shared.enter("p%d" % number)
+            self.enter(shared, "p%d" % number)
         self.assertRaisesRegex(Mistake, "no seat is left for one", shared.enter, "one")
-        self.assertEqual((shared.enter("p253"), shared.enter("anna")), (255, 1))
+        self.assertEqual((self.enter(shared, "p253"), self.enter(shared, "anna")), (255, 1))
         self.said(shared, 255, "quiet")
         self.assertEqual(self.ended(shared), "ok 1")
 
@@ -288,7 +254,7 @@ class Undone(Held):
     def undone(self, lines, *more):
         """What undo tells a person who gives the last of these lines, and what the program then says to more."""
         shared, anna = self.shared(*lines[:-1])
-        ben = shared.enter("ben")
+        ben = self.enter(shared, "ben")
         self.assertEqual(self.said(shared, ben, lines[-1]), ["ok"])
         try:
             told = shared.undo(ben)
@@ -359,7 +325,7 @@ class Undone(Held):
 
     def test_not_where_another_edit_of_the_same_came_since(self):
         shared, anna = self.shared(*PEER)
-        ben = shared.enter("ben")
+        ben = self.enter(shared, "ben")
         for line, other in (("metric 1.0.0.1 7.0.0.1 5", "metric 7.0.0.1 1.0.0.1 6"),
                             ("rule 1.0.0.1 7.0.0.1 in any deny", "rule 1.0.0.1 7.0.0.1 in any permit"),
                             ("fail 1.0.0.1 7.0.0.1", "mend 1.0.0.1 7.0.0.1"),
@@ -378,7 +344,7 @@ class Undone(Held):
 
     def test_one_after_another(self):
         shared, anna = self.shared(*TWO)
-        ben = shared.enter("ben")
+        ben = self.enter(shared, "ben")
         for metric in (5, 6, 7):
             self.said(shared, ben, "metric 1.0.0.1 2.0.0.1 %d" % metric)
         self.said(shared, anna, "origin 1.0.0.1 10.0.0.0/8")
@@ -393,7 +359,7 @@ class Blamed(Held):
     def test_who_edited_what_about_a_router_and_when(self):
         times = iter(range(100, 1000))
         shared, _ = self.shared(*TWO, clock=lambda: next(times))
-        ben = shared.enter("ben")
+        ben = self.enter(shared, "ben")
         lines = ("metric 2.0.0.1 1.0.0.1 5", "origin 2.0.0.1 20.0.0.0/8", "routes 2.0.0.1", "fail 1.0.0.1 9.0.0.1",
                  "cluster 2.0.0.1 1.0.0.1")
         shared.calling.calls((ben, line) for line in lines)
@@ -500,9 +466,9 @@ class Limits(Held):
             answers = [shared.calling.calls([(anna, "metric 1.0.0.1 2.0.0.1 %d" % number)])[0]
                        for number in range(1, 98)]
             self.assertEqual([answer.error[:19] for answer in answers], [""] * 95 + ["99 lines have been "] * 2)
-            shared.deliveries.go(anna)
+            for word in (shared.deliveries.go, shared.deliveries.next):
+                self.assertRaisesRegex(Mistake, "99 lines have been made", word, anna)
             self.assertIsNone(shared.deliveries.due(0.0))
-            self.assertRaisesRegex(Mistake, "99 lines have been made", shared.deliveries.next, anna)
             replies = [self.said(shared, anna, "cost 1.0.0.1 2.0.0.1") for _ in range(4)]
             self.assertEqual(replies, [["95 via 2.0.0.1"]] * 4)
         self.assertIn("of the 100 lines are used", told.getvalue())
@@ -557,8 +523,11 @@ class Limits(Held):
             self.assertEqual(shared.program.waiting(), [("1.0.0.1", "2.0.0.1")])
             here.write_text("quiet")
             path.chmod(0)
-            with self.assertRaisesRegex(Unkept, "and it cannot be run anew: .*Permission denied"):
-                shared.calling.calls([(anna, "quiet")])
-        shared.program.run = Shared(str(self.folder / "other")).run
-        self.addCleanup(shared.run.close)
-        self.assertEqual(self.ended(shared), "ok 11")
+            # Where it cannot be run at all, it is tried again at the next request, but not at once.
+            why = "with status 7; and it cannot be run anew: .*Permission denied; the next request tries again"
+            self.assertRegex(shared.calling.calls([(anna, "quiet")])[0].error, why)
+            path.chmod(0o755)
+            self.assertRaisesRegex(Lost, why, shared.program.is_quiet)
+            shared.program.clock = lambda: shared.program.again_at
+            self.assertEqual(self.said(shared, anna, "best 1.0.0.1 30.0.0.0/8")[0][:24], "30.0.0.0/8 from self pat")
+        self.assertEqual(self.ended(shared), "ok 12")
