@@ -4,8 +4,20 @@ A server that holds a log and sockets makes one `Pool` and awaits its answers; i
 other processes (worker.py), each with its own limits, and none of them is told a name that a participant chose."""
 from __future__ import annotations
 
-from .limits import Limits
-from .pool import Pool
-from .request import Asker, Busy
+import importlib
+from typing import TYPE_CHECKING
+
+if TYPE_CHECKING:
+    from .limits import Limits
+    from .pool import Pool
+    from .request import Asker, Busy
 
 __all__ = ["Asker", "Busy", "Limits", "Pool"]
+_MODULES = {"Asker": "request", "Busy": "request", "Limits": "limits", "Pool": "pool"}
+
+if not TYPE_CHECKING:
+    def __getattr__(name: str) -> object:
+        """A name of the interface. A worker is of this package, too, and begins without the modules of the server."""
+        if name in _MODULES:
+            return getattr(importlib.import_module("." + _MODULES[name], __name__), name)
+        raise AttributeError("module %r has no attribute %r" % (__name__, name))

@@ -16,6 +16,8 @@ class Limits:
     picture_time: float = 20.0
     # By the clock. A what-if plays the whole base, and a check reads the whole log: a million lines take a minute.
     long_time: float = 120.0
+    # More of both for each line of the script, which a slow build plays so fast.
+    line_time: float = 0.0002
     # Processor time for one request, of the worker and of each program: a loop ends also where the clock stands still.
     processor_time: int = 120
     # Resident memory of a worker and its programs together, looked at 20 times a second. A program that was built
