@@ -6,9 +6,9 @@ from typing import Optional, Tuple
 
 from .request import Shown
 
-# How many lines placed things, and what is shown.
-Key = Tuple[int, Shown]
-# What Python takes for an entry, with its key of two numbers and at most three addresses.
+# The version of the script, and what is shown.
+Key = Tuple[Tuple[int, int], Shown]
+# What Python takes for an entry, with its key of three numbers and at most three addresses.
 BESIDE = 1024
 
 

@@ -76,8 +76,8 @@ class Executor:
             kind, content = END, ("an error in it, %s: %s" % (type(fault).__name__, fault)).encode("utf-8", "replace")
         if kind == ANSWER and self.watch.is_large():
             kind = LAST
-        self._tell(kind, content)
         self.watch.end()
+        self._tell(kind, content)
         if kind in (END, LAST):
             confinement.end_all()
 

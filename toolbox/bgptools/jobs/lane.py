@@ -49,8 +49,8 @@ def answer_of(kind: int, content: bytes) -> bytes:
 class Lane:
     """Answers so many requests at once, each in a task."""
 
-    def __init__(self, limits: Limits, places: int) -> None:
-        self.limits, self.places = limits, places
+    def __init__(self, limits: Limits, token: str, places: int) -> None:
+        self.limits, self.token, self.places = limits, token, places
         self.queue = Queue(limits)
         self.running: "Dict[Request, asyncio.Task[None]]" = {}
         self.cancelled: Set[Request] = set()
@@ -92,13 +92,13 @@ class Lane:
 
     async def _start(self, niceness: int, files: Sequence[int]) -> Process:
         """A worker."""
-        worker = await Process.start(self.limits, niceness, files)
+        worker = await Process.start(self.limits, self.token, niceness, files)
         self.workers.add(worker)
         return worker
 
-    async def _end(self, worker: Process) -> None:
+    async def _end(self, worker: Process, is_orderly: bool = False) -> None:
         """Ends a worker. Where that is interrupted, `close` ends it."""
-        await worker.end()
+        await worker.end(is_orderly)
         self.workers.discard(worker)
 
     def _left(self, request: Request) -> None:
@@ -159,12 +159,14 @@ class LongLane(Lane):
 
     async def serve(self, request: Request) -> bytes:
         files = [] if request.file is None else [request.file]
-        worker = await self._start(0, files)
+        worker, is_orderly = await self._start(0, files), False
         try:
             seconds = self.limits.long_time + self.limits.line_time * len(request.base)
-            return answer_of(*await within(seconds, self._exchange(worker, request)))
+            kind, content = await within(seconds, self._exchange(worker, request))
+            is_orderly = kind != END
+            return answer_of(kind, content)
         finally:
-            await self._end(worker)
+            await self._end(worker, is_orderly)
 
     async def _exchange(self, worker: Process, request: Request) -> Tuple[int, bytes]:
         await worker.send_lines(request.base, 0, len(request.base))
@@ -175,9 +177,9 @@ class LongLane(Lane):
 class ViewLane(Lane):
     """Pictures and tables: one worker, which keeps the script. An answer to one picture is one to all equal ones."""
 
-    def __init__(self, limits: Limits, niceness: int, script: Script, cache: Cache,
-                 others: "Callable[[], List[ViewLane]]") -> None:
-        super().__init__(limits, 1)
+    def __init__(self, limits: Limits, token: str, niceness: int, script: Script, cache: Cache,
+                 others: Callable[[], List[ViewLane]]) -> None:
+        super().__init__(limits, token, 1)
         self.niceness, self.script, self.cache, self.others = niceness, script, cache, others
         self.worker: Optional[Process] = None
         self.round = 0
@@ -191,14 +193,14 @@ class ViewLane(Lane):
         await self.script.count_lines()
         key = None
         if request.shown is not None:
-            request.placing = self.script.placing
-            key = (request.placing, request.shown)
+            request.version = self.script.version
+            key = (request.version, request.shown)
             kept = self.cache.get(key)
             if kept is not None:
                 return kept
             self.script.mark()
         answer = await self._answer(request)
-        if key is not None and key[0] == self.script.placing:
+        if key is not None and key[0] == self.script.version:
             self.cache.put(key, answer)
         return answer
 
@@ -219,7 +221,7 @@ class ViewLane(Lane):
             await self._end_worker()
             raise
         if kind == LAST:
-            await self._end_worker()
+            await self._end_worker(is_orderly=True)
         return answer
 
     async def _exchange(self, worker: Process, request: Request, count: int, marks: List[int]) -> Tuple[int, bytes]:
@@ -242,7 +244,7 @@ class ViewLane(Lane):
         for lane in self.others():
             lane.pump()
 
-    async def _end_worker(self) -> None:
+    async def _end_worker(self, is_orderly: bool = False) -> None:
         worker, self.worker = self.worker, None
         if worker is not None:
-            await self._end(worker)
+            await self._end(worker, is_orderly)

@@ -9,6 +9,7 @@ from ..mistakes import Mistake
 from .cache import Cache
 from .lane import LongLane, ViewLane
 from .limits import Limits
+from .process import end_strays, new_token
 from .request import LOOK, TEACH, WORK, Asker, Request
 from .script import Script
 
@@ -28,10 +29,10 @@ class Pool:
     def __init__(self, lines: Callable[[], Sequence[str]], limits: Limits = Limits()) -> None:
         self.lines, self.limits = lines, limits
         self.script, self.cache = Script(lines), Cache(limits.cache)
-        self.placing = 0
-        self.work = ViewLane(limits, 0, self.script, self.cache, self._views)
-        self.look = ViewLane(limits, limits.niceness, self.script, self.cache, self._views)
-        self.long = LongLane(limits, limits.long_workers)
+        self.version, self.token = self.script.version, new_token()
+        self.work = ViewLane(limits, self.token, 0, self.script, self.cache, self._views)
+        self.look = ViewLane(limits, self.token, limits.niceness, self.script, self.cache, self._views)
+        self.long = LongLane(limits, self.token, limits.long_workers)
 
     def _views(self) -> List[ViewLane]:
         return [self.work, self.look]
@@ -46,16 +47,16 @@ class Pool:
         if way is not None:
             way = (_address(way[0]), _address(way[1]))
         await self.script.count_lines()
-        if self.placing != self.script.placing:
+        if self.version != self.script.version:
             # Things stand elsewhere, so that no picture that is kept is asked for again.
             self.cache.clear()
-            self.placing = self.script.placing
+            self.version = self.script.version
         shown = (step, prefix, way)
-        kept = self.cache.get((self.placing, shown))
+        kept = self.cache.get((self.version, shown))
         if kept is not None:
             return kept
         request = Request(asker, {"do": "picture", "step": step, "prefix": prefix, "way": way})
-        request.shown, request.placing = shown, self.placing
+        request.shown, request.version = shown, self.version
         return await self._lane(asker).ask(request)
 
     async def table(self, asker: Asker, step: int, router: str, prefix: str) -> bytes:
@@ -97,6 +98,7 @@ class Pool:
             lane.is_closed = True
         for lane in (self.work, self.look, self.long):
             await lane.close()
+        await end_strays(self.token)
         self.cache.clear()
 
     def _lane(self, asker: Asker) -> ViewLane:

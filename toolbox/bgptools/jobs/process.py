@@ -21,10 +21,15 @@ from .limits import Limits
 WORKER = str(pathlib.Path(__file__).resolve().parent / "worker.py")
 # What of the environment a worker is given; PROGRAM as an absolute path. `./bgpsim` of the repository reads the second.
 KEPT = ("PATH", "BGPSIM_UNPROVED", "LANG", "LC_ALL", "LC_CTYPE")
-# A process is found by this variable wherever it has gone.
+# By this variable a process is found wherever it has gone.
 TOKEN = "BGPSIM_JOB"
 # How often it is looked whether a process has ended, and how long the last ones are waited for, in seconds.
 SOON, PATIENCE = 0.002, 5.0
+
+
+def new_token() -> str:
+    """A value of TOKEN that no other pool has."""
+    return secrets.token_hex(16) + "-"
 
 
 def environment(token: str) -> Dict[str, str]:
@@ -43,9 +48,9 @@ class Ended(Exception):
 class Process:
     """A worker that was started. `lines` and `marks` are how many it was given. It is ended by `end` alone."""
 
-    def __init__(self, limits: Limits, niceness: int, files: Sequence[int]) -> None:
+    def __init__(self, limits: Limits, token: str, niceness: int, files: Sequence[int]) -> None:
         self.limits, self.niceness = limits, niceness
-        self.token = secrets.token_hex(16)
+        self.token = token + new_token()
         self.lines = self.marks = 0
         self.last_error = ""
         self.errors = cast(BinaryIO, tempfile.TemporaryFile())
@@ -60,7 +65,7 @@ class Process:
 
     def _started(self, files: Sequence[int]) -> "subprocess.Popen[bytes]":
         """The process. It stands in a folder of its own that is gone when this returns: nothing can be put there."""
-        folder = tempfile.mkdtemp(prefix="bgpsim-")
+        folder = tempfile.mkdtemp(prefix="bgpsim-worker-")
         try:
             return subprocess.Popen([sys.executable, "-I", "-B", WORKER], stdin=subprocess.PIPE, stdout=subprocess.PIPE,
                                     stderr=self.errors, cwd=folder, env=environment(self.token), pass_fds=files,
@@ -69,10 +74,11 @@ class Process:
             os.rmdir(folder)
 
     @classmethod
-    async def start(cls, limits: Limits, niceness: int = 0, files: Sequence[int] = ()) -> "Process":
-        """A worker that was given its limits. Mistake where none can be started."""
+    async def start(cls, limits: Limits, token: str, niceness: int = 0, files: Sequence[int] = ()) -> "Process":
+        """A worker that was given its limits. By the token, which no other pool has, `end_strays` finds it and all that
+        it starts. Mistake where none can be started."""
         try:
-            made = cls(limits, niceness, files)
+            made = cls(limits, token, niceness, files)
         except OSError as error:
             raise Mistake("a worker process cannot be started: %s" % (error.strerror or error)) from None
         try:
@@ -134,8 +140,9 @@ class Process:
         told = self.last_error
         return "it ended with status %d%s" % (status, told and ": " + told)
 
-    async def end(self) -> None:
-        """Kills it with all that it started, and waits until all have ended."""
+    async def end(self, is_orderly: bool = False) -> None:
+        """Kills it with all that it started, and waits until all have ended. Where it answered as it should, nothing
+        is looked for beyond its process group."""
         if self.process.returncode is None:
             # Until it is waited for, no other process gets its number.
             _kill_group(self.process.pid)
@@ -146,10 +153,8 @@ class Process:
                 pipe.close()
         while self.process.poll() is None:
             await asyncio.sleep(SOON)
-        loop = asyncio.get_running_loop()
-        last = loop.time() + PATIENCE
-        while loop.time() < last and _kill(strays(self.process.pid, self.token)):
-            await asyncio.sleep(SOON)
+        if not is_orderly:
+            await end_strays(self.token)
         if not self.errors.closed:
             self.last_error = _last_line(self.errors, self.limits.errors)
             self.errors.close()
@@ -160,30 +165,23 @@ def _kill_group(group: int) -> None:
         os.killpg(group, signal.SIGKILL)
 
 
-def _kill(processes: List[int]) -> bool:
-    """Kills these; whether there are any."""
-    for process in processes:
-        with contextlib.suppress(ProcessLookupError, PermissionError):
-            os.kill(process, signal.SIGKILL)
-    return bool(processes)
+async def end_strays(token: str) -> None:
+    """Kills the processes that were started with a value of TOKEN that begins so, and waits until they have ended."""
+    loop = asyncio.get_running_loop()
+    last = loop.time() + PATIENCE
+    found = _strays(token)
+    while found and loop.time() < last:
+        for process in found:
+            with contextlib.suppress(ProcessLookupError, PermissionError):
+                os.kill(process, signal.SIGKILL)
+        await asyncio.sleep(SOON)
+        found = _strays(token)
 
 
-def strays(group: int, token: str) -> List[int]:
-    """The processes that still run and are of the group, or were started with the token."""
+def _strays(token: str) -> List[int]:
     wanted = ("%s=%s" % (TOKEN, token)).encode()
-    found = []
-    for name in os.listdir("/proc") if os.path.isdir("/proc") else ():
-        if name.isdigit():
-            with contextlib.suppress(OSError, IndexError):
-                state, _, its_group = _stat(name)[:3]
-                if state not in ("Z", "X") and (int(its_group) == group or wanted in _environment(name)):
-                    found.append(int(name))
-    return found
-
-
-def _stat(process: str) -> List[str]:
-    with open("/proc/%s/stat" % process, encoding="latin-1") as file:
-        return file.read().rpartition(")")[2].split()
+    names = [name for name in os.listdir("/proc") if name.isdigit()] if os.path.isdir("/proc") else []
+    return [int(name) for name in names if any(each.startswith(wanted) for each in _environment(name))]
 
 
 def _environment(process: str) -> List[bytes]:

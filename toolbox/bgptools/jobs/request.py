@@ -28,8 +28,8 @@ class Busy(Mistake):
 class Request:
     """What somebody asks of the workers.
 
-    `job` is what a worker is told. `shown` is set for a picture alone, `placing` is how many lines placed things when
-    it was asked for; `base` is the script of a what-if; `file` is a descriptor that the worker inherits, and is closed by
+    `job` is what a worker is told. `shown` is set for a picture alone, `version` is that of the script when it was
+    asked for; `base` is the script of a what-if; `file` is a descriptor that the worker inherits, and is closed by
     `release`."""
 
     def __init__(self, asker: Asker, job: Dict[str, Any], size: int = 0) -> None:
@@ -37,7 +37,7 @@ class Request:
         # With what Python itself takes for it.
         self.size = size + 1024
         self.shown: Optional[Shown] = None
-        self.placing = 0
+        self.version: Tuple[int, int] = (0, 0)
         self.base: Sequence[str] = ()
         self.file: Optional[int] = None
         # What came of it, also where nobody waits any more.
@@ -46,7 +46,7 @@ class Request:
 
     def is_answered_by(self, other: "Request") -> bool:
         """Whether the answer to another request is one to this."""
-        return self.shown is not None and self.shown == other.shown and self.placing <= other.placing
+        return self.shown is not None and self.shown == other.shown and self.version <= other.version
 
     def share(self, other: "Request") -> None:
         """What came of this comes of another one, too."""

@@ -2,7 +2,7 @@
 from __future__ import annotations
 
 import asyncio
-from typing import Callable, List, Sequence
+from typing import Callable, List, Sequence, Tuple
 
 from ..language import is_silent, words_of
 from ..viewing import MAKING
@@ -41,6 +41,11 @@ class Script:
             self.placing += sum(map(_places, part))
             if self.count < len(lines):
                 await asyncio.sleep(0)
+
+    @property
+    def version(self) -> Tuple[int, int]:
+        """Where things stand: pictures of an equal version have all in the same places."""
+        return self.round, self.placing
 
     def mark(self) -> None:
         """A picture is made of the lines that were looked at."""

@@ -15,19 +15,22 @@ class Watch:
 
     def __init__(self, limits: Dict[str, int], tell: Callable[[str], None]) -> None:
         self.limits, self.tell = limits, tell
-        self.is_working = threading.Event()
-        self.idle = threading.Event()
+        self.is_working, self.is_idle = threading.Event(), threading.Event()
+        # Who holds it knows that the worker does not begin or end to work meanwhile.
+        self.lock = threading.Lock()
         threading.Thread(target=self._watch, daemon=True).start()
 
     def begin(self) -> None:
         """The worker begins to work."""
-        self.idle.clear()
-        self.is_working.set()
+        with self.lock:
+            self.is_idle.clear()
+            self.is_working.set()
 
     def end(self) -> None:
-        """The worker waits for more."""
-        self.is_working.clear()
-        self.idle.set()
+        """The worker has its answer, and tells it next."""
+        with self.lock:
+            self.is_working.clear()
+            self.is_idle.set()
 
     def is_large(self) -> bool:
         """Whether the worker has grown so much that a new one should take its place."""
@@ -46,7 +49,8 @@ class Watch:
         while True:
             self.is_working.wait()
             found = self.excess()
-            if found is not None:
-                self.tell(found)
-                confinement.end_all()
-            self.idle.wait(EVERY)
+            with self.lock:
+                if found is not None and self.is_working.is_set():
+                    self.tell(found)
+                    confinement.end_all()
+            self.is_idle.wait(EVERY)
