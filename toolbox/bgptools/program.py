@@ -5,7 +5,7 @@ import os
 import signal
 import subprocess
 import threading
-from typing import Callable, Iterable, List
+from typing import Any, Callable, Dict, Iterable, List
 
 from . import where
 from .language import REPORTS, ended, escaped, is_silent, words_of
@@ -25,9 +25,12 @@ class ProgramEnded(Mistake):
 class Program:
     """A run of `bgpsim script`; PROGRAM= names another built program.
 
-    It has a session of its own, so that Ctrl-C is for the tool alone. `before` is called before lines are given, where
+    It has a session of its own, so that Ctrl-C is for the tool alone: `beginning` are the words of `subprocess.Popen`
+    for that, and a worker process (jobs/) has others. `before` is called before lines are given, where
     no reply is due; it may raise. `heard` is told each line with its reply. `is_torn` says that lines were given whose
     replies were not all read: what stopped that, as Ctrl-C may, leaves a program that can only be closed."""
+
+    beginning: Dict[str, Any] = {"start_new_session": True}
 
     def __init__(self) -> None:
         self.before: Callable[[], None] = lambda: None
@@ -37,8 +40,8 @@ class Program:
         # Until the child has its session, Ctrl-C would be for it, too.
         mask = signal.pthread_sigmask(signal.SIG_BLOCK, {signal.SIGINT})
         try:
-            self.process = subprocess.Popen([self.path, "script"], stdin=subprocess.PIPE, stdout=subprocess.PIPE,
-                                            bufsize=-1, start_new_session=True)
+            self.process: "subprocess.Popen[bytes]" = subprocess.Popen(
+                [self.path, "script"], stdin=subprocess.PIPE, stdout=subprocess.PIPE, bufsize=-1, **self.beginning)
         except OSError as error:
             raise Mistake("the program cannot be run: %s" % error.strerror, self.path) from None
         finally:
@@ -86,7 +89,10 @@ class Program:
     def close(self) -> None:
         """Ends the input and waits for the program."""
         if self.is_torn and self.process.poll() is None:
-            os.killpg(self.process.pid, signal.SIGKILL)
+            if self.beginning.get("start_new_session"):
+                os.killpg(self.process.pid, signal.SIGKILL)
+            else:
+                self.process.kill()
         self._end_input()
         self.told.close()
         self.process.wait()

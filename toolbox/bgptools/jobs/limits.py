@@ -1,0 +1,57 @@
+"""What a worker process may take, and what the queues before the workers may hold."""
+from __future__ import annotations
+
+from dataclasses import dataclass
+from typing import Dict
+
+MIB = 1 << 20
+
+
+@dataclass(frozen=True)
+class Limits:
+    """All limits of a pool. Times are seconds, sizes bytes.
+
+    The first group holds for each worker, with every process that it starts; past it the request ends with a Mistake."""
+    # By the clock. A picture of 200 routers takes under 2 s on a slow build; the first one after a restart reads all.
+    picture_time: float = 20.0
+    # By the clock. A what-if plays the whole base, and a check reads the whole log: a million lines take a minute.
+    long_time: float = 120.0
+    # More of both for each line of the script, which a slow build plays so fast.
+    line_time: float = 0.0002
+    # Processor time for one request, of the worker and of each program: a loop ends also where the clock stands still.
+    processor_time: int = 120
+    # Resident memory of a worker and its programs together, looked at 20 times a second. A program that was built
+    # without proofs reserves terabytes of addresses and uses few, so its addresses cannot be limited.
+    memory: int = 2048 * MIB
+    # Address space of the worker's Python alone: what it asks for at once fails before the system is short of memory.
+    address_space: int = 4096 * MIB
+    # A worker writes no file; the program writes none either.
+    file_size: int = MIB
+    # Four programs with two pipes each, and what Python itself holds open.
+    open_files: int = 128
+    # Processes of one worker: it has four programs, and one that ends.
+    processes: int = 16
+    # An answer. A picture of 200 routers has under 1 MB.
+    answer: int = 16 * MIB
+    # What a worker writes to standard error; more is read and dropped.
+    errors: int = 4096
+    # How much a worker that serves those who look gives way to all others, as by nice(1).
+    niceness: int = 10
+
+    # Processes for what-ifs and checks at once: two leave processors for pictures and for the server.
+    long_workers: int = 2
+    # Requests of one person that wait: a page asks for a picture and a table, and then waits for them.
+    waiting_of_one: int = 4
+    # Requests of all that wait for the same workers: twice the pages that a lab has.
+    waiting: int = 1024
+    # What these requests hold.
+    waiting_bytes: int = 64 * MIB
+    # A lower rank is served after so many requests of higher ones, so that nobody starves.
+    patience: int = 8
+    # Pictures that are kept, with their keys.
+    cache: int = 64 * MIB
+
+    def of_worker(self) -> Dict[str, int]:
+        """Those that a worker sets for itself, as it is told them."""
+        names = ("processor_time", "memory", "address_space", "file_size", "open_files", "processes", "answer")
+        return {name: getattr(self, name) for name in names}
