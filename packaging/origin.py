@@ -62,8 +62,8 @@ def version_of(path: pathlib.Path) -> str:
 
 def commit() -> Commit:
     """The commit of this tree. Mistake where git tells none."""
-    told = _git("log", "-1", "--format=%H%n%ct%n%an <%ae>").split("\n")
-    return Commit(told[0], int(told[1]), told[2], bool(_git("status", "--porcelain").strip()))
+    told = git("log", "-1", "--format=%H%n%ct%n%an <%ae>").split("\n")
+    return Commit(told[0], int(told[1]), told[2], bool(git("status", "--porcelain").strip()))
 
 
 def proved(of: Commit) -> str:
@@ -109,7 +109,8 @@ def _kit() -> str:
     return found.group(0)
 
 
-def _git(*words: str) -> str:
+def git(*words: str) -> str:
+    """What git prints of this repository. Mistake where it fails."""
     return _said(["git", "-C", str(TOP), *words])
 
 

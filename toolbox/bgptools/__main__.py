@@ -4,6 +4,7 @@ from __future__ import annotations
 import sys
 from typing import List
 
+from . import libraries
 from .mistakes import ended
 from .tools import TOOLS, run, sentence_of
 
@@ -22,6 +23,7 @@ def main(words: List[str]) -> int:
     if not words or words[0] in ("-h", "--help"):
         print(listed())
         return 0
+    libraries.restart(words[0], ["-m", "bgptools", *words])
     return run(words[0], "%s %s" % (CALLED, words[0]), words[1:])
 
 

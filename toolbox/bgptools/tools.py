@@ -8,6 +8,7 @@ import sys
 from types import ModuleType
 from typing import List
 
+from . import libraries
 from .mistakes import Mistake, ended
 
 # Each is the name of a launcher in toolbox/, a copy of `launch`, and with `_` for `-` of the module with its `parser`
@@ -47,7 +48,14 @@ def run(name: str, called: str, words: List[str]) -> int:
 
 def launched() -> int:
     """The exit status of the tool as which this was called: by its name, as `bgpsim-settle`, or by a link to it."""
-    return ended(lambda words: run(_tool_at(sys.argv[0]), os.path.basename(sys.argv[0]), words))
+    return ended(lambda words: _run_at(sys.argv[0], words))
+
+
+def _run_at(path: str, words: List[str]) -> int:
+    """Runs the tool that a launcher is named for, under a Python that has its libraries if there is one."""
+    name = _tool_at(path)
+    libraries.restart(name, [path, *words])
+    return run(name, os.path.basename(path), words)
 
 
 def _tool_at(path: str) -> str:

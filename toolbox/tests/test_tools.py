@@ -634,9 +634,35 @@ class Toolbox(Case):
         result = run_toolbox_tests.Telling()
         unittest.TestSuite(map(Tests, ("test_parts", "test_all", "test_none"))).run(result)
         status, told = called(lambda _: run_toolbox_tests.told(result))
-        self.assertEqual((status, told.split("\n")[-2]), (1, "1 passed, 1 failed"))
+        name = Tests("test_none").id()
+        self.assertEqual((status, told.split("\n")[-3:-1]), (1, ["1 skipped: " + name, "1 passed, 1 failed"]))
         self.assertEqual(len(re.findall(r"^FAILED .*\(part=[02]\)$", told, re.M)), 2)
         self.assertEqual(len(re.findall("^skipped .*: not here$", told, re.M)), 1)
+
+    def test_skipped_tests_fail_if_that_is_asked_for(self):
+        for asked, last, wanted in (("", "3 passed, 0 failed", 0), ("fail", "3 passed, 2 failed", 1)):
+            with unittest.mock.patch.dict(os.environ, {"SKIPPED": asked}):
+                status, told = called(lambda _: run_toolbox_tests.counted(3, 0, ["test_a.A.b", "test_a.A.c"]))
+            self.assertEqual((status, told), (wanted, "2 skipped: test_a.A.b, test_a.A.c\n%s\n" % last))
+
+    def test_skipped_tests_of_all_files_stand_in_one_line(self):
+        ends = {"test_a.py": b"skipped a.A.b: no dot\n1 skipped: a.A.b\n2 passed, 0 failed\n",
+                "test_b.py": b"2 skipped: b.B.c, b.B.d\n0 passed, 0 failed\n"}
+        for asked, last, wanted in (("", "2 passed, 0 failed", 0), ("fail", "2 passed, 3 failed", 1)):
+            with unittest.mock.patch.object(run_toolbox_tests, "in_its_process",
+                                            lambda file: running.Ran(ends[file.name], b"", 0)), \
+                    unittest.mock.patch.dict(os.environ, {"SKIPPED": asked}):
+                status, told = called(lambda _: run_toolbox_tests.run_files(list(map(pathlib.Path, ends))))
+            lines = ["skipped a.A.b: no dot", "3 skipped: a.A.b, b.B.c, b.B.d", last]
+            self.assertEqual((status, told.split("\n")[:-1]), (wanted, lines))
+
+    def test_a_skipped_test_of_a_file_is_counted_once(self):
+        """With SKIPPED=fail: by the process of the file, which leaves its judgement to that of all files."""
+        file = self.file("test_gone.py", "import unittest\n\n\nclass Gone(unittest.TestCase):\n"
+                         "    @unittest.skip('gone')\n    def test_it(self):\n        pass\n")
+        with unittest.mock.patch.dict(os.environ, {"SKIPPED": "fail"}), \
+                unittest.mock.patch.object(run_toolbox_tests, "run", lambda words, **more: more["env"]):
+            self.assertNotIn("SKIPPED", run_toolbox_tests.in_its_process(file))
 
     def test_files_are_counted_together_and_one_that_breaks_off_has_failed(self):
         ends = {"test_a.py": (b"2 passed, 0 failed\n", 0), "test_b.py": (b"FAILED x\n1 passed, 3 failed\n", 1),

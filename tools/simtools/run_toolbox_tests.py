@@ -4,9 +4,10 @@
     tools/run-toolbox-tests WORD..          the tests whose name has one of the words
     tools/run-toolbox-tests --file NAME     those of a file (test_NAME.py)
 
-What is not installed here (dot, chromium) has its tests told as skipped. The last line is `N passed, M failed`;
-exit 1 where one failed. VERBOSE=1 tells each test with its time. PROGRAM= is another built program. CHROMIUM= is a
-browser, where it is not found by its name.
+The tests run under .venv/bin/python, if tools/setup has made it. A test that lacks something (dot, chromium, a Python
+library) is skipped. The line before the last one is `K skipped: NAMES` if tests were skipped. The last line is
+`N passed, M failed`. Exit status 1 if a test failed. With SKIPPED=fail a skipped test has failed. VERBOSE=1 shows each
+test with its time. PROGRAM= is another built program. CHROMIUM= is a browser that has another name.
 """
 from __future__ import annotations
 
@@ -24,7 +25,10 @@ from .programs import TOP
 from .running import Ran, run, side_by_side
 
 TESTS = TOP / "toolbox" / "tests"
-COUNTS = re.compile(r"^([0-9]+) passed, ([0-9]+) failed\n\Z", re.M)
+# The end of what the tests of a file print: how many were skipped, if any were, with their names; and how many passed.
+COUNTS = re.compile(r"^(?:[0-9]+ skipped: (?P<skipped>[^\n]*)\n)?(?P<passed>[0-9]+) passed, (?P<failed>[0-9]+) failed\n\Z",
+                    re.M)
+PYTHON = TOP / ".venv" / "bin" / "python"
 
 
 def tests_in(suite: unittest.TestSuite) -> Iterator[unittest.TestCase]:
@@ -62,8 +66,17 @@ def told(result: unittest.TestResult) -> int:
     for test, why in result.skipped:
         print("skipped %s: %s" % (test.id(), why))
     failed = count(test for test, _ in wrong) + len(result.unexpectedSuccesses)
-    skipped = count(test for test, _ in result.skipped)
-    return commands.counted(result.testsRun - failed - skipped, failed, skipped)
+    skipped = sorted({getattr(test, "test_case", test).id() for test, _ in result.skipped})
+    return counted(result.testsRun - failed - len(skipped), failed, skipped)
+
+
+def counted(passed: int, failed: int, skipped: Sequence[str]) -> int:
+    """Prints the skipped tests and the last line; the exit status. With SKIPPED=fail a skipped test has failed."""
+    if skipped:
+        print("%d skipped: %s" % (len(skipped), ", ".join(skipped)))
+    if os.environ.get("SKIPPED") == "fail":
+        return commands.counted(passed, failed + len(skipped))
+    return commands.counted(passed, failed, len(skipped))
 
 
 def run_tests(tests: Iterable[unittest.TestCase]) -> int:
@@ -87,23 +100,27 @@ def with_words(words: Sequence[str]) -> List[unittest.TestCase]:
 
 
 def in_its_process(file: pathlib.Path) -> Ran:
+    """A run of the tests of a file. What it prints of skipped tests is counted here, and so is SKIPPED=."""
     name = file.stem[len("test_"):]
-    return run([sys.executable, "-B", str(TOP / "tools" / "run-toolbox-tests"), "--file", name], timeout=None)
+    given = {key: value for key, value in os.environ.items() if key != "SKIPPED"}
+    return run([sys.executable, "-B", str(TOP / "tools" / "run-toolbox-tests"), "--file", name], timeout=None, env=given)
 
 
 def run_files(files: Sequence[pathlib.Path]) -> int:
     """Runs the tests of each file in a process of its own, and prints what these print, but one last line for all."""
     passed = failed = 0
+    skipped: List[str] = []
     for file, ran in zip(files, side_by_side(in_its_process, files)):
         text = ran.out.decode("utf-8", "replace")
         counts = COUNTS.search(text)
         print(text[:counts.start() if counts else None] + ran.err.decode("utf-8", "replace"), end="", flush=True)
-        if counts and bool(ran.status) == bool(int(counts[2])):
-            passed, failed = passed + int(counts[1]), failed + int(counts[2])
+        skipped += counts["skipped"].split(", ") if counts and counts["skipped"] else []
+        if counts and bool(ran.status) == bool(int(counts["failed"])):
+            passed, failed = passed + int(counts["passed"]), failed + int(counts["failed"])
         else:
             failed += 1
             print("FAILED %s ended with status %d, and did not count its tests so" % (file.name, ran.status))
-    return commands.counted(passed, failed)
+    return counted(passed, failed, skipped)
 
 
 def ready() -> None:
@@ -114,6 +131,12 @@ def ready() -> None:
     signal.signal(signal.SIGINT, signal.default_int_handler)
     signal.signal(signal.SIGHUP, signal.SIG_DFL)
     sys.path[:0] = [str(TESTS), str(TESTS.parent)]
+
+
+def restart(words: Sequence[str]) -> None:
+    """Replaces this process by one under .venv/bin/python. Does nothing if this is it, or if there is none."""
+    if pathlib.Path(sys.prefix) != PYTHON.parent.parent and os.access(str(PYTHON), os.X_OK):
+        os.execv(str(PYTHON), [str(PYTHON), "-B", str(TOP / "tools" / "run-toolbox-tests"), *words])
 
 
 def chosen(words: Sequence[str], file: Optional[str]) -> int:
@@ -133,4 +156,5 @@ def main(words: Sequence[str]) -> int:
     asked.add_argument("--file", metavar="NAME")
     asked.add_argument("words", nargs="*", metavar="WORD")
     given = asked.parse_args(words)
+    restart(words)
     return commands.as_part(lambda: chosen(given.words, given.file))

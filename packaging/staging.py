@@ -1,0 +1,75 @@
+"""A folder of which dpkg-buildpackage makes the package: the files of the repository, the program, and what it is."""
+from __future__ import annotations
+
+import os
+import pathlib
+import shutil
+import subprocess
+import textwrap
+import time
+from typing import List
+
+from bgptools.mistakes import Mistake
+from origin import TOP, Commit, git
+
+# What goes into the package, and what makes it.
+PARTS = ("debian", "docs", "examples", "toolbox", "README.md")
+NEEDED = ("dpkg-buildpackage", "dh", "dh_python3", "help2man", "shtab")
+ENTRY = """\
+bgpsim (%s) unstable; urgency=medium
+
+  * Commit %s.
+
+ -- %s  %s
+
+"""
+
+
+def files() -> List[pathlib.Path]:
+    """The files of PARTS as they lie here, from the top of the repository: all but those that .gitignore names."""
+    names = git("ls-files", "-z", "--cached", "--others", "--exclude-standard", "--", *PARTS).split("\0")
+    paths = (pathlib.Path(name) for name in names if name)
+    return sorted(path for path in paths if (TOP / path).is_file())
+
+
+def stage(folder: pathlib.Path, program: pathlib.Path, version: str, commit: Commit, proved: str) -> None:
+    """Fills the folder. The first entry of its debian/changelog has the version and the time of the commit."""
+    for path in files():
+        target = folder / path
+        target.parent.mkdir(parents=True, exist_ok=True)
+        shutil.copyfile(TOP / path, target)
+        target.chmod(0o755 if os.access(TOP / path, os.X_OK) else 0o644)
+    shutil.copyfile(program, folder / "program")
+    (folder / "program").chmod(0o755)
+    changelog = folder / "debian" / "changelog"
+    day = time.strftime("%a, %d %b %Y %H:%M:%S +0000", time.gmtime(commit.seconds))
+    entry = ENTRY % (version, commit, _maintainer(folder), day)
+    changelog.write_text(entry + changelog.read_text(encoding="utf-8"), encoding="utf-8")
+    lines = textwrap.wrap(proved, 76, break_long_words=False, break_on_hyphens=False)
+    (folder / "debian" / "origin").write_text("${Newline}".join(lines), encoding="utf-8")
+
+
+def _maintainer(folder: pathlib.Path) -> str:
+    control = (folder / "debian" / "control").read_text(encoding="utf-8")
+    return next(line[12:] for line in control.split("\n") if line.startswith("Maintainer: "))
+
+
+def build(folder: pathlib.Path) -> pathlib.Path:
+    """The package that dpkg-buildpackage makes of the folder; it lies beside the folder.
+
+    Raises Mistake if a Debian tool is missing, or if the build fails: then with the end of what it printed."""
+    missing = [name for name in NEEDED if not shutil.which(name)]
+    if missing:
+        raise Mistake("not installed: %s. `tools/setup` installs what a package is made with" % ", ".join(missing))
+    # (Nothing is compiled: no compiler has to be installed, which the check of build dependencies asks for.)
+    words = ["dpkg-buildpackage", "--unsigned-source", "--unsigned-changes", "--build=binary", "--no-check-builddeps"]
+    surroundings = {**os.environ, "PROGRAM": str(folder / "program"), "LC_ALL": "C.UTF-8"}
+    # (dpkg-buildpackage takes the time from the changelog)
+    surroundings.pop("SOURCE_DATE_EPOCH", None)
+    ran = subprocess.run(words, cwd=str(folder), env=surroundings, stdin=subprocess.DEVNULL, stdout=subprocess.PIPE,
+                         stderr=subprocess.STDOUT)
+    made = sorted(folder.parent.glob("bgpsim_*.deb"))
+    if ran.returncode or len(made) != 1:
+        end = ran.stdout.decode("utf-8", "replace").strip().split("\n")[-12:]
+        raise Mistake("it ended with status %d:\n%s" % (ran.returncode, "\n".join(end)), "dpkg-buildpackage")
+    return made[0]

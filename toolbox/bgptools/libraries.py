@@ -1,0 +1,97 @@
+"""The Python libraries that some tools need, and what a user types to get one that is missing.
+
+`need("tornado", "lab")` stands at the start of a tool's `main`. A launcher calls `restart` before: it runs the tool
+under the repository's `.venv`, which tools/setup makes, if that has the libraries and the running Python has not.
+"""
+from __future__ import annotations
+
+import importlib.util
+import os
+import pathlib
+import re
+import sys
+from dataclasses import dataclass
+from typing import List, Mapping, Optional, Tuple
+
+from .mistakes import Mistake
+
+HERE = pathlib.Path(__file__).resolve().parent
+
+
+@dataclass(frozen=True)
+class Library:
+    """A library: the least version that will do, and the Debian package that has it."""
+    least: Tuple[int, ...]
+    package: str
+
+
+LIBRARIES: Mapping[str, Library] = {"tornado": Library((6, 1), "python3-tornado")}
+# What each tool needs. An extra of pyproject.toml, as `bgptools[lab]`, has the libraries of its name.
+TOOLS: Mapping[str, Tuple[str, ...]] = {"lab": ("tornado",), "share": ("tornado",)}
+
+
+def need(name: str, extra: str) -> None:
+    """Raises Mistake if the library is missing or too old. `extra` is the extra of pyproject.toml that has it.
+
+    The message says in one line what to type to install it."""
+    fault = _fault(name)
+    if fault:
+        raise Mistake("%s, and %s has %s: type %s" % (_wanted(name), sys.executable, fault, _remedy(name, extra)))
+
+
+def restart(tool: str, words: List[str]) -> None:
+    """Replaces this process by `.venv/bin/python WORDS` if a library of the tool is missing here.
+
+    Does nothing if none is missing, if there is no `.venv`, or if this is its Python."""
+    python = _environment()
+    if python and any(_fault(name) for name in TOOLS.get(tool, ())):
+        sys.stdout.flush()
+        os.execv(python, [python, *(["-B"] if sys.dont_write_bytecode else []), *words])
+
+
+def _fault(name: str) -> Optional[str]:
+    """What is there instead of the library; None if it will do."""
+    if importlib.util.find_spec(name) is None:
+        return "none"
+    # This module takes some time to load, and most tools have no library.
+    from importlib import metadata
+    try:
+        version = metadata.version(name)
+    except metadata.PackageNotFoundError:
+        return None
+    return None if _numbers(version) >= LIBRARIES[name].least else "version %s" % version
+
+
+def _numbers(version: str) -> Tuple[int, ...]:
+    """The numbers at the start of a version: (6, 2) of 6.2b1."""
+    found = re.match(r"\d+(?:\.\d+)*", version)
+    return tuple(map(int, found.group(0).split("."))) if found else ()
+
+
+def _wanted(name: str) -> str:
+    return "this tool needs the Python library %s %s or later" % (name, ".".join(map(str, LIBRARIES[name].least)))
+
+
+def _remedy(name: str, extra: str) -> str:
+    """What the user types: it depends on how these tools came here."""
+    top = _repository()
+    if top:
+        return "`%s`" % (top / "tools" / "setup")
+    if HERE.parent.name == "bgpsim":
+        return "`apt-get install %s`" % LIBRARIES[name].package
+    return "`pip install 'bgptools[%s]'`" % extra
+
+
+def _repository() -> Optional[pathlib.Path]:
+    """The top of the repository, if this is its toolbox/bgptools."""
+    top = HERE.parent.parent
+    return top if HERE.parent.name == "toolbox" and (top / "tools" / "setup").is_file() else None
+
+
+def _environment() -> Optional[str]:
+    """The Python of `.venv`, if there is one and it is not the running one."""
+    top = _repository()
+    if top is None or pathlib.Path(sys.prefix) == top / ".venv":
+        return None
+    python = top / ".venv" / "bin" / "python"
+    return str(python) if os.access(str(python), os.X_OK) else None
