@@ -27,7 +27,7 @@ class Library:
 
 LIBRARIES: Mapping[str, Library] = {"tornado": Library((6, 1), "python3-tornado")}
 # What each tool needs. An extra of pyproject.toml, as `bgptools[lab]`, has the libraries of its name.
-TOOLS: Mapping[str, Tuple[str, ...]] = {"lab": ("tornado",), "share": ("tornado",)}
+TOOLS: Mapping[str, Tuple[str, ...]] = {"lab": ("tornado",)}
 
 
 def need(name: str, extra: str) -> None:
