@@ -57,7 +57,7 @@ def name_of(lesson):
 
 def frame():
     """The lines of the file that all lessons have in common."""
-    return ["%s %s" % (digest((TOOLBOX / "bgptools" / name).read_text()), name) for name in FRAME]
+    return ["%s %s" % (digest((TOOLBOX / "bgptools" / "web" / "static" / name).read_text()), name) for name in FRAME]
 
 
 def ends(steps):

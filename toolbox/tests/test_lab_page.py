@@ -141,11 +141,11 @@ class Together(InABrowser):
         self.assertIn("Sessions that went down", self.text(".proposal .does"))
         self.assertEqual(self.browser.value("document.querySelectorAll('b, img, script:not([src])').length"), 0)
         self.assertEqual(self.browser.value("document.title"), "lab")
-        # Somebody edits meanwhile: it is shown anew, and accepted when it was.
+        # Somebody edits meanwhile: it is shown again, and accepted when it was.
         self.assertEqual(ben.ask("call", line="metric 1.0.0.1 2.0.0.1 8")["reply"], ["ok"])
         self.at(self.last + 1)
         self.browser.click(".proposal .accept")
-        self.browser.until("document.getElementById('answer').textContent.includes('it is shown anew')")
+        self.browser.until("document.getElementById('answer').textContent.includes('it is shown again')")
         ben.until(lambda told: told.get("event") == "proposal")
         ben.until(lambda told: told.get("event") == "proposal")
         self.browser.click(".proposal .accept")
@@ -244,7 +244,7 @@ class ForEverybody(InABrowser):
 
     def test_colors_are_told_apart_by_the_colour_blind(self):
         """Lines of the picture that mean something else differ in color for everybody, or in how they are drawn."""
-        source = (TOOLBOX / "bgptools" / "drawn.js").read_text()
+        source = (TOOLBOX / "bgptools" / "web" / "static" / "drawn.js").read_text()
         colors = dict(re.findall(r'"(#[0-9a-f]{6})": "(#[0-9a-f]{6})"', source[source.index("const COLORS"):source.index("};", source.index("const COLORS"))]))
         internal, external, forwards, way, delivered = (colors[each] for each in ("#2b6cb0", "#c05621", "#2f855a", "#d53f8c", "#6b46c1"))
         for name, rows in BLIND.items():

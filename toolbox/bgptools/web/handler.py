@@ -295,6 +295,7 @@ class Handler(RequestHandler):
     async def _events(self) -> None:
         """What happens, until the page or the lab goes."""
         page = self.opened = self.lab.open(self.role, self.query.get("as", ""), self.query.get("token"))
+        page.cut = self._stream.close
         self.set_header("Content-Type", "text/event-stream; charset=utf-8")
         self.set_header("Connection", "close")
         while True:
@@ -319,7 +320,7 @@ class Handler(RequestHandler):
             self.connections.answered(connection)
         page, self.opened = self.opened, None
         if page is not None:
-            page.is_gone = True
+            page.is_gone, page.cut = True, lambda: None
             page.end(b"")
             self.lab.close(page)
 

@@ -8,16 +8,20 @@ from ..session.member import Member
 
 # Of a page that holds more bytes than this no further request is served.
 FULL = 1 << 18
+# A page that does not read is cut off so many seconds after the last word to it.
+CUT_SECONDS = 2.0
 
 
 class PageMember(Member):
-    """One page. `key` is a secret between this page and the server, by which its requests name it."""
+    """One page. `key` is a secret between this page and the server, by which its requests name it, and `cut` ends its
+    connection, whatever waits to be sent."""
 
     def __init__(self, key: str, role: str, wake: Callable[[], None]) -> None:
         super().__init__(role, wake)
         self.key = key
         self.has_more = asyncio.Event()
         self.last: Optional[bytes] = None
+        self.cut: Callable[[], None] = lambda: None
 
     @property
     def is_full(self) -> bool:
@@ -29,6 +33,7 @@ class PageMember(Member):
     def end(self, last: bytes) -> None:
         self.last = last
         self.has_more.set()
+        asyncio.get_running_loop().call_later(CUT_SECONDS, self.cut)
 
     async def next(self, seconds: float) -> Optional[bytes]:
         """The next message; nothing where none comes within some seconds, and an empty one at the end."""
