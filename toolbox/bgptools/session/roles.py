@@ -32,7 +32,7 @@ class Quota:
 QUOTAS = {TEACH: Quota(500, 100, 500, 1000, 64 << 20), WORK: Quota(1000, 200, 200, 400, 16 << 20),
           LOOK: Quota(600, 200, 20, 60, 0)}
 # Connections from which no request with a secret came yet: so many at once, and for so many seconds.
-UNPROVEN, UNPROVEN_SECONDS = 64, 10.0
+UNPROVEN, UNPROVEN_SECONDS = 512, 10.0
 # Requests of all who look together, a second and at once, so that they leave the server time for the others.
 LOOKING, LOOKING_BURST = 300.0, 600.0
 # An allowance that was taken ahead of time is made up for in so many seconds at most.
