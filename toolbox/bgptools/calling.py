@@ -83,8 +83,7 @@ class Calling:
             check_line(line)
         except Mistake as mistake:
             return mistake.text
-        is_change = bool(MARK.fullmatch(line)) if is_silent(line) else QUESTIONS.isdisjoint(words_of(line)[:1])
-        if not is_change:
+        if not _is_change(line):
             return ""
         if self.program.is_full:
             told = "{:,} lines have been made; one network holds no more, and questions alone are answered"
@@ -96,7 +95,7 @@ class Calling:
         faults, more = [], 0
         for line in lines:
             faults.append(self.fault(line, more))
-            more += 0 if faults[-1] else _size(line)
+            more += 0 if faults[-1] or not _is_change(line) else _size(line)
         return faults
 
     def _calls(self, given: List[Tuple[int, str]], by: Optional[int] = None, undoes: bool = False) -> List[Answer]:
@@ -140,6 +139,11 @@ def check_line(line: str) -> str:
     if odd:
         raise Mistake("a line has no control characters, and this has %s: `%s`" % (ascii(odd.group()), escaped(line[:80])))
     return line
+
+
+def _is_change(line: str) -> bool:
+    """Whether a line may change something, as a comment does that names a router."""
+    return bool(MARK.fullmatch(line)) if is_silent(line) else QUESTIONS.isdisjoint(words_of(line)[:1])
 
 
 def _size(line: str) -> int:
