@@ -216,9 +216,9 @@ class Interrupts(Held):
         def within():
             with shared.guarded():
                 next(work, None)
+        found = None
         try:
             fault.during(within)
-            found = None
         except Interrupted as interrupted:
             found = interrupted
             self.assertTrue(str(found).startswith("an error came up (MemoryError): "), found)
