@@ -68,11 +68,11 @@ class Calling:
         if self.ledger.take(entry, at, by, undoes):
             self.program.take(entry)
 
-    def name(self, line: str, seat: Optional[int] = None) -> None:
-        """A comment, which may name a router. It is noted where it is somebody's; else it was."""
+    def name(self, line: str, seat: Optional[int], is_noted: bool = False) -> None:
+        """A comment, which may name a router. It is noted, if it is not already."""
         if not Names().take(line):
             return
-        if seat is not None:
+        if seat is not None and not is_noted:
             self.ledger.note_name(line, seat)
         self.program.name(line)
         self.ledger.name(line, seat)
@@ -115,7 +115,7 @@ class Calling:
         for entry, error in zip(entries, errors):
             told = [] if error else self._told(entry)
             if id(entry) in kept:
-                self.take(entry, self.ledger.clock(), by, undoes)
+                self.take(entry, self.ledger.at, by, undoes)
             elif not error and not entry.reply:
                 self.name(entry.line, entry.seat)
             answers.append(Answer(entry.reply, told, self.ledger.step, error))

@@ -59,7 +59,7 @@ _VALUES: Dict[str, Tuple[Callable[[object], bool], str]] = {
     "back": (lambda found: _is_whole(found, 0, SEATS - 1), "a seat, 0 to %d" % (SEATS - 1))}
 # What a note is about comes first, then what it must have, and what it may have.
 SHAPES: Dict[str, Tuple[List[str], List[str]]] = {
-    "seat": ([], ["name", "token"]), "entry": ([], ["at", "by", "undoes"]), "router": ([], ["behind"]),
+    "seat": ([], ["name", "token"]), "entry": ([], ["at", "by", "undoes"]), "router": ([], ["behind", "by"]),
     "back": (["behind"], [])}
 
 

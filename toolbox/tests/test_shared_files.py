@@ -167,13 +167,15 @@ class Notes(Held):
 
     def test_where_a_router_was_named_it_is_named_again(self):
         """Each step has its line after a start, too."""
-        shared, anna = self.shared("router 1.0.0.1 1", "router 2.0.0.1 2")
+        shared, anna = self.shared()
+        for line in ("# name 1.0.0.1 before", "router 1.0.0.1 1", "router 2.0.0.1 2"):
+            self.said(shared, anna, line)
         lines = ("# name 1.0.0.1 one", "link 1.0.0.1 2.0.0.1 1", "quiet", "# name 2.0.0.1 two", "# name 1.0.0.1 first",
                  "join 1.0.0.1 2.0.0.1")
         for line in lines:
             self.said(shared, anna, line)
         before = list(shared.run.lines)
-        self.assertEqual(before[2:], [line for line in lines if line != "quiet"])
+        self.assertEqual(before[3:], [line for line in lines if line != "quiet"])
         for _ in range(2):
             shared.close()
             shared, anna = self.shared()
