@@ -68,11 +68,11 @@ class Calling:
         if self.ledger.take(entry, at, by, undoes):
             self.program.take(entry)
 
-    def name(self, line: str, seat: Optional[int] = None) -> None:
-        """A comment, which may name a router. It is noted where it is somebody's; else it was."""
+    def name(self, line: str, seat: Optional[int], is_noted: bool = False) -> None:
+        """A comment, which may name a router. It is noted, if it is not already."""
         if not Names().take(line):
             return
-        if seat is not None:
+        if seat is not None and not is_noted:
             self.ledger.note_name(line, seat)
         self.program.name(line)
         self.ledger.name(line, seat)
@@ -83,8 +83,7 @@ class Calling:
             check_line(line)
         except Mistake as mistake:
             return mistake.text
-        is_change = bool(MARK.fullmatch(line)) if is_silent(line) else QUESTIONS.isdisjoint(words_of(line)[:1])
-        if not is_change:
+        if not _is_change(line):
             return ""
         if self.program.is_full:
             told = "{:,} lines have been made; one network holds no more, and questions alone are answered"
@@ -96,7 +95,7 @@ class Calling:
         faults, more = [], 0
         for line in lines:
             faults.append(self.fault(line, more))
-            more += 0 if faults[-1] else _size(line)
+            more += 0 if faults[-1] or not _is_change(line) else _size(line)
         return faults
 
     def _calls(self, given: List[Tuple[int, str]], by: Optional[int] = None, undoes: bool = False) -> List[Answer]:
@@ -116,7 +115,7 @@ class Calling:
         for entry, error in zip(entries, errors):
             told = [] if error else self._told(entry)
             if id(entry) in kept:
-                self.take(entry, self.ledger.clock(), by, undoes)
+                self.take(entry, self.ledger.at, by, undoes)
             elif not error and not entry.reply:
                 self.name(entry.line, entry.seat)
             answers.append(Answer(entry.reply, told, self.ledger.step, error))
@@ -140,6 +139,11 @@ def check_line(line: str) -> str:
     if odd:
         raise Mistake("a line has no control characters, and this has %s: `%s`" % (ascii(odd.group()), escaped(line[:80])))
     return line
+
+
+def _is_change(line: str) -> bool:
+    """Whether a line may change something, as a comment does that names a router."""
+    return bool(MARK.fullmatch(line)) if is_silent(line) else QUESTIONS.isdisjoint(words_of(line)[:1])
 
 
 def _size(line: str) -> int:

@@ -19,6 +19,7 @@ from .workers import Workers
 # So many messages are delivered at once.
 PART = 32
 LIMIT = 10000
+LONGEST = "deliver 255.255.255.255 255.255.255.255"
 
 
 class Deliveries:
@@ -37,7 +38,7 @@ class Deliveries:
     def work(self, now: float) -> int:
         """What workers do in one go, at this time: how many messages they took, or looked for where none is."""
         self.is_working = True
-        full = self.fault("deliver")
+        full = self.fault(LONGEST)
         if full and self.workers.is_going:
             self.pause_for(full)
         room = self.workers.room(now, PART)
@@ -69,7 +70,7 @@ class Deliveries:
         self.workers.is_going = False
         found: List[Entry] = []
         tried = 1
-        while tried and len(found) < count and not self.fault("deliver"):
+        while tried and len(found) < count and not self.fault(LONGEST):
             tried, entries = self._deliver(min(PART, count - len(found)), self.workers.seat_of)
             found += entries
         self._tell(seat, "lets the workers deliver %d, and pauses them" % len(found))
@@ -125,7 +126,7 @@ class Deliveries:
         return entries[0] if entries else None
 
     def _check_room(self) -> None:
-        full = self.fault("deliver")
+        full = self.fault(LONGEST)
         if full:
             raise Mistake(full)
 

@@ -60,6 +60,7 @@ class History:
         self.network = network
         self.edits: List[Edit] = []
         self.own: Dict[int, List[Edit]] = {}
+        self.by_router: Dict[str, List[Edit]] = {}
         self.last: Dict[Thing, Optional[Edit]] = {}
         # What virtual peers have told since their sessions came up.
         self.fed: Dict[Pair, Dict[Cell, str]] = {}
@@ -68,6 +69,8 @@ class History:
         """Notes an accepted edit, before the network has it."""
         words = words_of(edit.line)
         self.edits.append(edit)
+        for router in dict.fromkeys(about(words)):
+            self.by_router.setdefault(router, []).append(edit)
         if is_undoing:
             self.take_back(edit.seat)
         else:
@@ -90,7 +93,7 @@ class History:
 
     def of(self, router: str) -> List[Edit]:
         """The edits that are about a router, in order."""
-        return [edit for edit in self.edits if router in about(words_of(edit.line))]
+        return self.by_router.get(router, [])
 
     def _feeds(self, words: List[str], line: str) -> None:
         if words[0] in ("stop", "fail"):

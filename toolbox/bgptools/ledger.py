@@ -13,7 +13,7 @@ from .meter import Meter
 from .mistakes import Mistake
 from .network import Network
 from .notes import Notes
-from .record import Entry, Log, text_of
+from .record import Entry, Log
 from .replies import refusal
 from .seats import Seats
 from .settling import MEMORY
@@ -43,6 +43,8 @@ class Ledger:
         self.made: "Counter[int]" = Counter()
         self.meters: Dict[int, Meter] = {}
         self.step = self.entries = self.since_edit = 0
+        # When the last entries were written.
+        self.at = 0.0
         self.is_noting = True
 
     # Seats
@@ -91,7 +93,7 @@ class Ledger:
 
         Notes come first: those of entries that are not there are left out when the log is taken up."""
         kept = self._in_log(entries)
-        now = self.clock()
+        now = self.at = self.clock()
         more = {name: value for name, value in (("by", by), ("undoes", undoes or None)) if value is not None}
         self.notes.add([{"entry": number, "at": now, **more} for number, entry in enumerate(kept, self.log.count + 1)
                         if entry.reply == ["ok"]])
@@ -102,7 +104,7 @@ class Ledger:
     def _measure(self, entries: List[Entry]) -> None:
         now = self.even()
         for entry in entries:
-            self.meters.setdefault(entry.seat, Meter()).add(now, len(text_of([entry])))
+            self.meters.setdefault(entry.seat, Meter()).add(now, entry.size)
 
     def _in_log(self, entries: List[Entry]) -> List[Entry]:
         """The calls that stand in the log: they spelled a command, and memory was there. Near the end of a log only
@@ -111,7 +113,7 @@ class Ledger:
         for entry in entries:
             if not entry.reply or refusal(entry.reply) in (SYNTAX, MEMORY):
                 continue
-            more = len(text_of([entry]))
+            more = entry.size
             has_room = self.log.has_room(lines + entry.count + RESERVE) and \
                 size + more <= QUESTIONS_PART * self.most_log
             if is_accepted(entry.reply) or has_room:
@@ -142,7 +144,7 @@ class Ledger:
 
     def note_name(self, line: str, seat: int) -> None:
         """Writes that a comment names a router, before anything has the name."""
-        count = self.notes.add([{"router": line, "behind": self.entries}])
+        count = self.notes.add([{"router": line, "behind": self.entries, "by": seat}])
         self.meters.setdefault(seat, Meter()).add(self.even(), count)
 
     def name(self, line: str, seat: Optional[int]) -> None:
@@ -159,11 +161,12 @@ class Ledger:
         who = None if seat is None else self.seats.name_of(seat)
         self.happening.changed({"step": self.step, "seat": seat, "who": who, "line": line, "reply": reply})
 
-    def blame(self, router: str) -> List[Dict[str, Any]]:
-        """Who edited what about a router or virtual peer, and when."""
-        name_of = self.seats.name_of
+    def blame(self, router: str, most: Optional[int] = None) -> List[Dict[str, Any]]:
+        """Who edited what about a router or virtual peer, and when: the last edits, where there are more than `most`."""
+        name_of, edits = self.seats.name_of, self.history.of(router)
+        edits = edits if most is None else edits[max(0, len(edits) - most):]
         return [{"step": edit.step, "entry": edit.entry, "who": name_of(edit.seat), "at": edit.at, "line": edit.line,
-                 "by": None if edit.by is None else name_of(edit.by)} for edit in self.history.of(router)]
+                 "by": None if edit.by is None else name_of(edit.by)} for edit in edits]
 
     def close(self) -> None:
         """Lets the log be as it is, as a crash would: it can be taken up."""

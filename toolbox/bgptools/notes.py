@@ -14,7 +14,7 @@ import tempfile
 from typing import Any, BinaryIO, Callable, Dict, Iterator, List, Optional, Tuple
 
 from .kept_file import OTHERS, opened_to_read
-from .language import LONGEST
+from .language import LONGEST, escaped
 from .mistakes import Mistake
 from .names import Names
 from .program import one_line
@@ -59,7 +59,7 @@ _VALUES: Dict[str, Tuple[Callable[[object], bool], str]] = {
     "back": (lambda found: _is_whole(found, 0, SEATS - 1), "a seat, 0 to %d" % (SEATS - 1))}
 # What a note is about comes first, then what it must have, and what it may have.
 SHAPES: Dict[str, Tuple[List[str], List[str]]] = {
-    "seat": ([], ["name", "token"]), "entry": ([], ["at", "by", "undoes"]), "router": ([], ["behind"]),
+    "seat": ([], ["name", "token"]), "entry": ([], ["at", "by", "undoes"]), "router": ([], ["behind", "by"]),
     "back": (["behind"], [])}
 
 
@@ -74,7 +74,7 @@ def fault_of(note: object) -> str:
         return "`%s` is missing beside `%s`" % (missing[0], about[0])
     odd = [name for name in note if name not in (about[0], *needed, *free)]
     if odd:
-        return "`%s` has no place beside `%s`" % (ascii(odd[0])[1:33], about[0])
+        return "`%s` has no place beside `%s`" % (escaped(odd[0][:32]), about[0])
     wrong = [name for name in note if not _VALUES[name][0](note[name])]
     return "`%s` has to be %s" % (wrong[0], _VALUES[wrong[0]][1]) if wrong else ""
 

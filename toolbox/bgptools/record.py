@@ -36,6 +36,11 @@ class Entry:
         """How many lines of a log it is."""
         return 1 + len(self.reply)
 
+    @property
+    def size(self) -> int:
+        """How many bytes of a log it is."""
+        return len("@%d \n" % self.seat) + len(self.line) + sum(len(line) + len("= \n") for line in self.reply)
+
 
 def is_whole(line: str, reply: List[str]) -> bool:
     """Whether these are all lines of the reply to a command."""

@@ -4,13 +4,14 @@ from __future__ import annotations
 import contextlib
 from collections import Counter
 from dataclasses import dataclass
-from typing import Dict, NamedTuple, Optional
+from typing import Dict, List, NamedTuple, Optional
 
 from .happening import Mark
 from .meter import Meter
 from .mistakes import Mistake
 from .proposals import Proposal
 from .proposing import People
+from .record import Entry
 
 
 @dataclass(frozen=True)
@@ -43,19 +44,20 @@ class Broken:
 
 
 class Recovered(NamedTuple):
-    """How many calls the log had before the request, and has now; and how many steps."""
+    """How many calls the log had before the request, and has now; how many steps; and the calls that are new."""
     calls_before: int
     calls: int
     steps_before: int
     steps: int
+    entries: List[Entry]
 
 
 class Interrupted(Mistake):
     """An error that nobody expected came up in the midst of a request. The network is as its log has it: with the calls
-    `first` to `last` of the request, or with none where `last` is before `first`."""
+    `first` to `last` of the request, which are `entries`, or with none where `last` is before `first`."""
 
     def __init__(self, error: BaseException, found: Recovered) -> None:
-        self.first, self.last = found.calls_before + 1, found.calls
+        self.first, self.last, self.entries = found.calls_before + 1, found.calls, found.entries
         super().__init__("an error came up (%s): %s" % (described(error), _done(self.first, self.last, found)))
 
 

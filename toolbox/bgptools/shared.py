@@ -138,7 +138,7 @@ class Shared:
         self.happening.tell("people", "the name %s is free" % name)
 
     def leave(self, seat: int, why: str = "") -> None:
-        """Somebody goes."""
+        """Somebody goes. Where that is interrupted, he is still here."""
         self.happening.tell("people", "%s has gone%s" % (self.ledger.seats.name_of(seat), why and ": " + why))
         self.here[seat] -= 1
 
@@ -175,11 +175,12 @@ class Shared:
             raise Mistake("%s: %s" % (line, answer.error or answer.reply[0]))
         return "undone: %s, by `%s`" % (edit.line, line)
 
-    def blame(self, router: str) -> List[Dict[str, Any]]:
-        """Who edited what about a router or virtual peer, and when. Mistake where it is not there."""
+    def blame(self, router: str, most: Optional[int] = None) -> List[Dict[str, Any]]:
+        """Who edited what about a router or virtual peer, and when: the last edits, where there are more than `most`.
+        Mistake where it is not there."""
         if router not in self.program.network.nodes:
             raise Mistake("there is no router or virtual peer %s" % escaped(str(router)[:80]))
-        return self.ledger.blame(router)
+        return self.ledger.blame(router, most)
 
     # Errors that nobody expects
 
@@ -188,8 +189,12 @@ class Shared:
         """While a request may change something. Where an error comes up that is no Mistake the network is recovered from
         its log, and Interrupted raised, a Mistake that says what of the request stands in it. Raises Unkept where it
         cannot be recovered."""
-        kept = self._kept()
-        self.entering = None
+        try:
+            kept = self._kept()
+            self.entering = None
+        except Exception as error:  # pylint: disable=broad-except
+            calls, steps = self.log.count, self.ledger.step
+            raise Interrupted(error, Recovered(calls, calls, steps, steps, [])) from error
         try:
             yield
         except Mistake:
@@ -202,7 +207,8 @@ class Shared:
         here, proposals, and what the workers do are as they were when it was `kept`; now where that is not given.
 
         `reason` is told to all. How many calls the log had, and has. Raises Unkept where it cannot be done."""
-        kept, broken = kept or self._kept(), self._broken()
+        broken = self._broken(None if kept is None else self.entering)
+        kept = kept or self._kept()
         fault: BaseException = Unkept("no try was made")
         for pause in PAUSES:
             time.sleep(pause)
@@ -220,9 +226,9 @@ class Shared:
         return Kept(self.log.count, self.ledger.step, self.here.copy(), proposals.open.copy(), proposals.count,
                     self.happening.mark(), workers.is_going, workers.pace, workers.paid, self.ledger.since_edit)
 
-    def _broken(self) -> Broken:
+    def _broken(self, entering: Optional[int]) -> Broken:
         """What was being done, and what outlasts it."""
-        return Broken(self.entering, self.proposals.making, self.deliveries.is_working, self.ledger.is_noting,
+        return Broken(entering, self.proposals.making, self.deliveries.is_working, self.ledger.is_noting,
                       self.ledger.meters, self.proposals.people, self.proposals.count)
 
     def _recover(self, reason: str, kept: Kept, broken: Broken) -> Recovered:
@@ -236,7 +242,7 @@ class Shared:
         ledger = Ledger(old.log, old.notes, program.network, happening, old.most_log, old.clock, old.even)
         ledger.meters, ledger.is_noting = broken.meters, broken.is_noting
         calling = Calling(program, ledger)
-        take_up(calling, old.notes.read(), lambda _: None, is_checked=False)
+        entries = take_up(calling, old.notes.read(), lambda _: None, is_checked=False, known=kept.calls)
         ledger.since_edit = min(ledger.since_edit, kept.since_edit)
         if broken.entering in ledger.seats.digests and broken.entering is not None:
             ledger.free(broken.entering)
@@ -254,7 +260,7 @@ class Shared:
         # Where it cannot be run now, the next request tries again.
         with contextlib.suppress(Exception):
             program.revive()
-        return Recovered(kept.calls, ledger.entries, kept.step, ledger.step)
+        return Recovered(kept.calls, ledger.entries, kept.step, ledger.step, entries)
 
     def _proposals_again(self, calling: Calling, kept: Kept, broken: Broken) -> Proposals:
         """The proposals that still are what they were; one of which a part was made goes, which is told."""

@@ -4,6 +4,7 @@ When a share starts the program has to answer all calls as it did. After an erro
 log of the same run: then the program is given what was accepted when it is asked the next time."""
 from __future__ import annotations
 
+import math
 from typing import Any, Callable, Dict, Iterable, Iterator, List
 
 from .calling import Calling
@@ -18,20 +19,24 @@ from .record import Entry, Reading
 LAST = 1 << 62
 
 
-def take_up(calling: Calling, notes: List[Note], tell: Callable[[str], None], is_checked: bool = True) -> None:
-    """Takes up the log, from its whole entries, with these notes. `tell` gets a word on what was cut off. Mistake where
-    it is none or, if `is_checked`, is not what the program answers. OSError where it cannot be read."""
-    ledger = calling.ledger
+def take_up(calling: Calling, notes: List[Note], tell: Callable[[str], None], is_checked: bool = True,
+            known: float = math.inf) -> List[Entry]:
+    """Takes up the log, from its whole entries, with these notes: the entries behind so many that are `known`. `tell`
+    gets a word on what was cut off. Mistake where it is none or, if `is_checked`, is not what the program answers.
+    OSError where it cannot be read."""
+    ledger, new = calling.ledger, []  # type: Ledger, List[Entry]
     _take_seats(ledger, notes)
     made = {entry_of(note): note for note in notes if "entry" in note}
     between = [note for note in notes if "router" in note or "back" in note]
     # Where it is not known when a router was named, it has its name at the end, and from then on there.
     between.sort(key=lambda note: note.get("behind", LAST))
     between.reverse()
+    _take_notes(calling, between, 0)
     with ledger.log.content() as file:
         reading = Reading(file, ledger.log.path)
         for part in _parts(reading.entries(), ledger, between):
             _replay(calling, part, made, is_checked)
+            new += part[max(0, len(part) - ledger.entries + int(known)):] if ledger.entries > known else []
             _take_notes(calling, between, ledger.entries)
     if reading.cut:
         cut = "the last entry was cut off, and is left out: `%s`" % readable(reading.cut[:80])
@@ -39,6 +44,7 @@ def take_up(calling: Calling, notes: List[Note], tell: Callable[[str], None], is
     _take_notes(calling, between, LAST)
     ledger.log.begin(reading)
     ledger.notes.begin(_lasting(notes, reading.count))
+    return new
 
 
 def _take_seats(ledger: Ledger, notes: List[Note]) -> None:
@@ -87,7 +93,7 @@ def _take_notes(calling: Calling, between: List[Note], entries: int) -> None:
         note = between.pop()
         note["behind"] = min(note.get("behind", LAST), calling.ledger.entries)
         if "router" in note:
-            calling.name(note["router"])
+            calling.name(note["router"], note.get("by"), is_noted=True)
         else:
             calling.ledger.history.take_back(note["back"])
 

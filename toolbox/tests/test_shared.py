@@ -368,6 +368,7 @@ class Blamed(Held):
             ("anna", TWO[0]), ("anna", TWO[2]), ("anna", TWO[3]), ("ben", "metric 2.0.0.1 1.0.0.1 5")])
         self.assertEqual([each["step"] for each in found], [1, 3, 4, 5])
         self.assertTrue(all(100 <= each["at"] < 1000 for each in found))
+        self.assertEqual((shared.blame("1.0.0.1", 1), shared.blame("1.0.0.1", 9)), (found[-1:], found))
         self.assertRaisesRegex(Mistake, "there is no router or virtual peer 9.0.0.1", shared.blame, "9.0.0.1")
 
 
