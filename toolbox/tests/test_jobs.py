@@ -70,6 +70,16 @@ class Pooled(Case, unittest.IsolatedAsyncioTestCase):
         self.addAsyncCleanup(made.close)
         return made
 
+    @contextlib.contextmanager
+    def limited(self, pool, **limits):
+        """Within, what is asked of the pool has other limits."""
+        lanes = (pool.work, pool.look, pool.long)
+        for each in lanes:
+            each.limits = Limits(**limits)
+        yield
+        for each in lanes:
+            each.limits = pool.limits
+
     def stand_in(self, *body):
         """Has a program in the place of bgpsim: these lines of Python."""
         begin = ["#!%s" % sys.executable, "import os, time",
@@ -252,7 +262,8 @@ class Confined(Pooled):
         self.assertEqual(words, [sys.executable, "-I", "-B", str(TOOLBOX / "bgptools" / "jobs" / "worker.py")])
         for each in [about] + [pathlib.Path("/proc/%d" % child) for child in children(number)]:
             names = {line.split("=")[0] for line in each.joinpath("environ").read_text().split("\0")[:-1]}
-            self.assertLessEqual(names, {"PATH", "PROGRAM", "LANG", "LC_ALL", "LC_CTYPE", "BGPSIM_UNPROVED", "BGPSIM_JOB"})
+            self.assertLessEqual(names, {"PATH", "PROGRAM", "LANG", "LC_ALL", "LC_CTYPE", "BGPSIM_UNPROVED",
+                                         "BGPSIM_JOB"})
             self.assertTrue(os.readlink(each / "cwd").endswith(" (deleted)"))
             self.assertEqual(os.listdir(each / "cwd"), [])
             self.assertEqual(os.getpgid(int(each.name)), number)
@@ -299,22 +310,23 @@ class Misbehaving(Pooled):
         self.assertIn("Nothing", await pool.what_if(WORKER, ring(3), []))
 
     async def test_a_program_that_hangs(self):
-        pool = self.pool(ring(3), picture_time=1, long_time=1)
-        with self.stand_in("time.sleep(600)"):
+        pool = self.pool(ring(3))
+        with self.stand_in("time.sleep(600)"), self.limited(pool, picture_time=1, long_time=1):
             asked = [pool.picture(WORKER, 3, None, None), pool.what_if(WORKER, ring(3), []),
                      pool.picture(LOOKER, 2, None, None)]
             for told in await asyncio.gather(*map(self.mistake, asked)):
                 self.assertIn("the worker process failed, and there is no answer: it took more than 2 seconds", told)
-            numbers = await self.noted(3)
-        self.assertEqual(list(map(is_gone, numbers)), [True] * len(numbers))
+        numbers = await self.noted(0)
+        self.assertEqual([each for each in numbers if not is_gone(each)], [])
         await self.next_is_answered(pool)
 
     async def test_a_worker_that_is_stopped(self):
-        pool = self.pool(ring(3), picture_time=1)
+        pool = self.pool(ring(3))
         await pool.picture(WORKER, 1, None, None)
         stopped = pool.work.worker.process.pid
         os.kill(stopped, signal.SIGSTOP)
-        self.assertIn("more than 2 seconds", await self.mistake(pool.picture(WORKER, 2, None, None)))
+        with self.limited(pool, picture_time=1):
+            self.assertIn("more than 2 seconds", await self.mistake(pool.picture(WORKER, 2, None, None)))
         self.assertTrue(is_gone(stopped))
         await self.next_is_answered(pool)
 
@@ -330,12 +342,13 @@ class Misbehaving(Pooled):
 
     async def test_one_that_hides_from_its_group(self):
         """It is ended all the same, by what it was started with."""
-        pool = self.pool(ring(3), picture_time=1)
+        pool = self.pool(ring(3))
         with self.stand_in("if os.fork() == 0:", "    os.setsid()", "    if os.fork() == 0:", "        note()",
                            "        time.sleep(600)", "    os._exit(0)", "time.sleep(600)"):
             asked = asyncio.ensure_future(self.mistake(pool.picture(WORKER, 3, None, None)))
             numbers = await self.noted(2)
-            await asked
+            pool.work.worker.process.kill()
+            self.assertIn("it ended by signal 9", await asked)
         self.assertEqual([each for each in numbers if not is_gone(each)], [])
         await self.next_is_answered(pool)
 
@@ -348,14 +361,15 @@ class Misbehaving(Pooled):
         await self.next_is_answered(pool)
 
     async def test_one_that_takes_processor_time(self):
-        pool = self.pool(ring(3), processor_time=1)
-        with self.stand_in("while True: pass"):
-            self.assertIn("by signal %d" % signal.SIGXCPU, await self.mistake(pool.what_if(WORKER, ring(3), [])))
-        with self.stand_in("time.sleep(600)"):
-            asked = asyncio.ensure_future(self.mistake(pool.picture(WORKER, 3, None, None)))
-            await self.noted(2)
-            os.kill(pool.work.worker.process.pid, signal.SIGXCPU)
-            self.assertIn("it took more than 1 seconds of processor time", await asked)
+        pool = self.pool(ring(3))
+        with self.limited(pool, processor_time=1):
+            with self.stand_in("while True: pass"):
+                self.assertIn("by signal %d" % signal.SIGXCPU, await self.mistake(pool.what_if(WORKER, ring(3), [])))
+            with self.stand_in("time.sleep(600)"):
+                asked = asyncio.ensure_future(self.mistake(pool.picture(WORKER, 3, None, None)))
+                await self.noted(2)
+                pool.work.worker.process.send_signal(signal.SIGXCPU)
+                self.assertIn("it took more than 1 seconds of processor time", await asked)
         await self.next_is_answered(pool)
 
     async def test_a_program_that_ends_or_writes_too_much(self):
