@@ -101,9 +101,11 @@ def _children(folder: str, thread: str) -> List[str]:
 
 
 def resident(processes: List[int]) -> int:
-    """The resident memory of these processes and this one, in bytes."""
-    total = 0
-    for process in processes + [os.getpid()]:
+    """The resident memory of these processes and this one, in bytes.
+
+    A program that is about to begin is still a copy of this process, whose memory it shares, and is left out."""
+    total, own = 0, _command_line(os.getpid())
+    for process in [os.getpid()] + [each for each in processes if _command_line(each) != own]:
         try:
             with open("/proc/%d/statm" % process, encoding="ascii") as file:
                 total += int(file.read().split()[1]) * PAGE
@@ -111,6 +113,14 @@ def resident(processes: List[int]) -> int:
             # It has ended.
             pass
     return total
+
+
+def _command_line(process: int) -> bytes:
+    try:
+        with open("/proc/%d/cmdline" % process, "rb") as file:
+            return file.read()
+    except OSError:
+        return b""
 
 
 def end_all() -> None:

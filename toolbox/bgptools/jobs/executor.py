@@ -11,7 +11,7 @@ from typing import Any, BinaryIO, Dict, List, Optional, Tuple
 from ..mistakes import Mistake
 from ..program import Program
 from . import confinement
-from .frames import ANSWER, END, HEAD, JOB, LAST, LINES, MISTAKE, Garbage, head_of, lines_in, read_head
+from .frames import ANSWER, END, HEAD, JOB, LAST, LINES, MISTAKE, head_of, lines_in, read_head
 from .watch import Watch
 
 # A frame to a worker has at most so many lines, each of at most 64 KB.
@@ -36,7 +36,7 @@ class Executor:
         self.views: Optional[Any] = None
 
     def run(self) -> None:
-        """Works until the server ends it."""
+        """Works until the server ends it, or has ended."""
         while True:
             kind, content = self.frames.get()
             if kind == LINES:
@@ -49,7 +49,8 @@ class Executor:
             while True:
                 kind, size = read_head(self._exactly(HEAD.size), LARGEST)
                 self.frames.put((kind, self._exactly(size)))
-        except (EOFError, OSError, Garbage):
+        finally:
+            # There is no more, or it cannot be read.
             confinement.end_all()
 
     def _exactly(self, size: int) -> bytes:

@@ -3,6 +3,7 @@ from __future__ import annotations
 
 import asyncio
 import functools
+import math
 from typing import Awaitable, Callable, Dict, List, Optional, Sequence, Set, Tuple, TypeVar
 
 from ..mistakes import Mistake
@@ -25,7 +26,7 @@ async def within(seconds: float, work: Awaitable[T]) -> T:
     try:
         done, _ = await asyncio.wait({task}, timeout=seconds)
         if not done:
-            raise Ended("it took more than %d seconds" % seconds)
+            raise Ended("it took more than %d seconds" % math.ceil(seconds))
         return task.result()
     finally:
         if not task.done():
@@ -115,6 +116,10 @@ class Lane:
             request.failed(Mistake(FAILED % why))
         except Exception as fault:  # pylint: disable=broad-except
             request.failed(Mistake("it cannot be done: %s" % fault))
+        self.share(request)
+
+    def share(self, request: Request) -> None:
+        """What came of a request comes of all that wait for the same. Who asks after that asks anew."""
 
     def _ended(self, request: Request, task: "asyncio.Task[None]") -> None:
         """The task of a request has ended."""
@@ -162,6 +167,7 @@ class LongLane(Lane):
         worker, is_orderly = await self._start(0, files), False
         try:
             seconds = self.limits.long_time + self.limits.line_time * len(request.base)
+            seconds += self.limits.byte_time * request.job.get("size", 0)
             kind, content = await within(seconds, self._exchange(worker, request))
             is_orderly = kind != END
             return answer_of(kind, content)
@@ -234,12 +240,14 @@ class ViewLane(Lane):
         await worker.send(JOB, json_out(job))
         return await worker.receive()
 
-    def _ended(self, request: Request, task: "asyncio.Task[None]") -> None:
+    def share(self, request: Request) -> None:
         if request.shown is not None:
             for lane in self.others():
                 for other in [other for other in lane.queue if other.is_answered_by(request)]:
                     lane.queue.remove(other)
                     request.share(other)
+
+    def _ended(self, request: Request, task: "asyncio.Task[None]") -> None:
         super()._ended(request, task)
         for lane in self.others():
             lane.pump()

@@ -12,12 +12,13 @@ class Limits:
     """All limits of a pool. Times are seconds, sizes bytes.
 
     The first group holds for each worker, with every process that it starts; past it the request ends with a Mistake."""
-    # By the clock. A picture of 200 routers takes under 2 s on a slow build; the first one after a restart reads all.
+    # By the clock. A picture of 200 routers takes a few seconds on a slow build, where nothing was asked before.
     picture_time: float = 20.0
-    # By the clock. A what-if plays the whole base, and a check reads the whole log: a million lines take a minute.
+    # By the clock. A what-if whose change makes many routers choose anew may take a minute.
     long_time: float = 120.0
-    # More of both for each line of the script, which a slow build plays so fast.
-    line_time: float = 0.0002
+    # More for each line of the script, and for each byte of a log that is checked: several times what they take.
+    line_time: float = 0.0005
+    byte_time: float = 0.00001
     # Processor time for one request, of the worker and of each program: a loop ends also where the clock stands still.
     processor_time: int = 120
     # Resident memory of a worker and its programs together, looked at 20 times a second. A program that was built

@@ -1,7 +1,9 @@
 """The pool: what a server asks, and the workers that answer."""
 from __future__ import annotations
 
+import contextlib
 import os
+import tempfile
 from typing import Any, Callable, List, Optional, Sequence, Tuple
 
 from .. import language
@@ -28,6 +30,9 @@ class Pool:
 
     def __init__(self, lines: Callable[[], Sequence[str]], limits: Limits = Limits()) -> None:
         self.lines, self.limits = lines, limits
+        with contextlib.suppress(OSError):
+            # It is found while there is a descriptor for that.
+            tempfile.gettempdir()
         self.script, self.cache = Script(lines), Cache(limits.cache)
         self.version, self.token = self.script.version, new_token()
         self.work = ViewLane(limits, self.token, 0, self.script, self.cache, self._views)
