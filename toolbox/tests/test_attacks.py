@@ -14,6 +14,7 @@ import time
 
 from attackers import SOON, TWO, Attack, Until, answers, asked, entries, more_files, one_status, readable, soon, statuses
 from common import TOOLBOX, TOP
+from http_attacks import get, odd_heads, odd_targets, post, smuggled
 
 # A worker is told this much of its surroundings.
 WORKER_ENVIRONMENT = {"PATH", "LANG", "LC_ALL", "LC_CTYPE", "BGPSIM_UNPROVED", "PROGRAM", "BGPSIM_JOB",
@@ -158,3 +159,33 @@ class Asked(Attack):
         self.assertEqual(server.program(), program)
         self.assertNotIn(b"quiet\nquiet", (self.folder / "socket.log").read_bytes())
         self.assert_well(server, anna, ben)
+
+
+class OverHttp(Attack):
+    """Requests of HTTP that no browser sends: a defined answer, nothing in the log, no fault."""
+
+    def attacked(self, made):
+        """Sends each of the requests that are made for a lab and the key of a page."""
+        lab = self.lab(self.file("net.bgp", "\n".join(TWO)))
+        page = self.page(lab, "ben")
+        size = (self.folder / "log").stat().st_size
+        for name, content, fits in made(lab, page.page):
+            with self.subTest(name=name):
+                self.assertIn(statuses(lab, content), fits)
+                self.assertEqual((self.folder / "log").stat().st_size, size)
+        self.assertEqual(page.until(lambda told: "what" in told)["what"], "all")
+        page.heard.clear()
+        # A request that was smuggled would have the same number.
+        self.assertEqual(page.ask("call", line="quiet")["reply"], ["yes"])
+        self.assertEqual([told for told in page.heard if "reply" in told or told.get("event") == "changes"], [])
+        self.assertTrue(lab.is_alive())
+        self.assertEqual(lab.told(), "")
+
+    def test_smuggled_requests_do_nothing(self):
+        self.attacked(smuggled)
+
+    def test_odd_targets_hosts_methods_and_versions_are_refused(self):
+        self.attacked(lambda lab, _: odd_targets(lab))
+
+    def test_heads_and_bodies_that_are_too_long_or_odd_are_refused(self):
+        self.attacked(odd_heads)
