@@ -7,7 +7,7 @@ from __future__ import annotations
 import time
 from collections import Counter, OrderedDict
 from dataclasses import dataclass, field
-from typing import Dict, Optional
+from typing import Dict, Optional, Set
 
 from tornado.iostream import IOStream
 
@@ -29,13 +29,14 @@ class Connection:
 
 
 class Connections:
-    """All connections of a server. `lookers` is what all who look may ask together, and `sending` counts the whole
-    files that are being sent, by role."""
+    """All connections of a server. `lookers` is what all who look may ask together, `sending` counts the whole files
+    that are being sent, by role, and over those of `ending` nothing more is served."""
 
     def __init__(self) -> None:
         self.count = 0
         self.lookers = Allowance(LOOKING, LOOKING_BURST)
         self.sending: "Counter[str]" = Counter()
+        self.ending: Set[IOStream] = set()
         self.unproven: "OrderedDict[IOStream, Connection]" = OrderedDict()
         # Of each role, those first that did nothing for the longest time.
         self.proven: "Dict[str, OrderedDict[IOStream, Connection]]" = {role: OrderedDict() for role in QUOTAS}
@@ -77,6 +78,7 @@ class Connections:
 
     def gone(self, stream: IOStream) -> None:
         """One that was closed."""
+        self.ending.discard(stream)
         self.unproven.pop(stream, None)
         for others in self.proven.values():
             others.pop(stream, None)

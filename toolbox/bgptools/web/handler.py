@@ -10,6 +10,7 @@ import contextlib
 import json
 import os
 import pkgutil
+import re
 import time
 from typing import Any, Awaitable, Callable, Dict, Iterator, Optional, Tuple
 
@@ -42,6 +43,8 @@ LONGEST_BODY, PIECE = 1 << 16, 1 << 16
 # So many whole records or scripts are sent at once to those of a role.
 WHOLE = 4
 Query = Dict[str, str]
+# The name of a line of a head, and what its value has none of.
+NAME, BREAKS = re.compile(r"[!#$%&'*+.^_`|~0-9A-Za-z-]+"), re.compile("[\0\r\n]")
 
 
 class Denied(Exception):
@@ -74,6 +77,7 @@ class Handler(RequestHandler):
     def prepare(self) -> None:
         """Who asks is looked at before anything of a body is read."""
         try:
+            self._check_head()
             self.role, self.path_in = self._role()
             self.connection = self.connections.prove(self._stream, self.role)
             if self.connection is None:
@@ -87,6 +91,14 @@ class Handler(RequestHandler):
     @property
     def _stream(self) -> Any:
         return self.request.connection.stream  # type: ignore[union-attr]
+
+    def _check_head(self) -> None:
+        """Denied where another reader might find other lines in this head, or the connection is about to close."""
+        if self._stream in self.connections.ending:
+            self._stream.close()
+            raise Denied(400, "nothing is served behind a request that was refused")
+        if any(not NAME.fullmatch(name) or BREAKS.search(value) for name, value in self.request.headers.get_all()):
+            raise Denied(400, "a line of the head is expected to be NAME: VALUE, without control characters")
 
     def _role(self) -> Tuple[str, str]:
         """The role whose secret the address has, and the path behind it."""
@@ -312,6 +324,15 @@ class Handler(RequestHandler):
 
     def on_finish(self) -> None:
         self._ended()
+        if self.get_status() >= 400:
+            self._close()
+
+    def _close(self) -> None:
+        """Closes the connection once the answer has gone. What else came over it is not served."""
+        stream = self._stream
+        self.connections.ending.add(stream)
+        with contextlib.suppress(StreamClosedError):
+            stream.write(b"").add_done_callback(lambda _: stream.close())
 
     def _ended(self) -> None:
         """The request is over: its page goes, and its connection is idle."""

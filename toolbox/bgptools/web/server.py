@@ -66,7 +66,7 @@ class Server:
             logging.getLogger(name).addHandler(logging.NullHandler())
             logging.getLogger(name).propagate = False
         given = {"lab": lab, "connections": self.connections, "here": "%s:%d" % (ADDRESS, self.port)}
-        application = Application([(r"/.*", Handler, given)], log_function=lambda _: None)
+        application = Application([(r".*", Handler, given)], log_function=lambda _: None)
         self.tornado = Tornado(application, max_header_size=LONGEST_HEAD, max_body_size=LONGEST,
                                max_buffer_size=4 * LONGEST, idle_connection_timeout=IDLE_SECONDS,
                                body_timeout=BODY_SECONDS)

@@ -1,0 +1,403 @@
+"""Attacks on share and lab. docs/reference/security.md has a row for each."""
+import contextlib
+import json
+import os
+import pathlib
+import re
+import resource
+import signal
+import socket
+import subprocess
+import sys
+import threading
+import time
+
+from attackers import SOON, TWO, Attack, Until, answers, asked, entries, more_files, one_status, readable, soon, statuses
+from common import TOOLBOX, TOP, inside
+from http_attacks import get, odd_heads, odd_targets, post, smuggled
+
+# A worker is told this much of its surroundings.
+WORKER_ENVIRONMENT = {"PATH", "LANG", "LC_ALL", "LC_CTYPE", "BGPSIM_UNPROVED", "PROGRAM", "BGPSIM_JOB",
+                      # these are the shell's own
+                      "PWD", "OLDPWD", "SHLVL", "_"}
+ODD_IDS = ("[" * 980 + "]" * 980, '{"a": {"b": 1}}', "true", "[1]", "1e400", "NaN", "1" * 400, '"%s"' % ("x" * 65),
+           '"\\u0000"', '"\\ud800"', '"a\\nb"', "-9223372036854775809", "[" * 100000, '{"id": ' * 3000)
+
+
+class Proposed(Attack):
+    """What a proposal is named, and what is in its lines."""
+
+    def tree(self):
+        """All files below the test's folder, but for what the server has to write."""
+        return {str(path.relative_to(self.folder)) for path in self.folder.rglob("*")
+                if path.name not in ("seen", "socket.log", "socket.log.seats")}
+
+    def test_a_name_of_a_module_runs_nothing(self):
+        """Python in the lines of proposals that are named as modules: nothing runs, and nothing is written."""
+        marker, seen = self.folder / "marker", self.folder / "seen"
+        code = "import pathlib; pathlib.Path(%r).write_text('here')" % str(marker)
+        program = self.slow('(env; echo "CWD=$(pwd)") >> %s' % seen, 0)
+        server = self.share(self.file("net.bgp", "\n".join(TWO)), PROGRAM=program, SECRET_OF_SERVER="s3cret",
+                            PYTHONPATH=str(self.folder))
+        anna = self.join(server, "anna")
+        seen.write_text("")
+        before = self.tree()
+        for name in ("bgptools.py", "json.py", "sitecustomize.py", "usercustomize.py", "encodings.py", "../x",
+                     "../../cwd/json.py", str(self.folder / "x"), "__main__.py", "bgptools/__init__.py", "x.pth"):
+            for lines in ([code, "fail 1.0.0.1 2.0.0.1"], ["# " + code, "fail 1.0.0.1 2.0.0.1"]):
+                with self.subTest(name=name, lines=lines):
+                    told = anna.ask("propose", name=name, lines=lines)
+                    if lines[0] == code:
+                        self.assertRegex(told["error"], r"refused 1 |control characters")
+                    else:
+                        self.assertIn("Sessions that went down\n  1.0.0.1 and 2.0.0.1\n", told.get("text", told))
+                        anna.ask("decline", number=told["number"])
+                    self.assertFalse(marker.exists())
+        self.assertEqual(self.tree(), before)
+        given = dict(line.split("=", 1) for line in seen.read_text().splitlines() if "=" in line)
+        self.assertEqual(set(given) - {"CWD"} - WORKER_ENVIRONMENT, set())
+        self.assertIn("BGPSIM_JOB", given)
+        # Its working directory is gone, or an empty one of its own.
+        self.assertFalse(given["CWD"].startswith(str(TOP)) or (pathlib.Path(given["CWD"]) / "json.py").exists())
+        self.assert_well(server, anna)
+
+    def test_odd_names_of_proposals_are_refused_or_harmless(self):
+        """The what-if is that of the lines, whatever the name is; no answer shows a path of the server."""
+        server = self.share(self.file("net.bgp", "\n".join(TWO)))
+        anna = self.join(server, "anna")
+        good, bad = ["fail 1.0.0.1 2.0.0.1"], ["fail 1.0.0.1 9.9.9.9"]
+        wanted = anna.ask("propose", name="usual", lines=good)["text"]
+        self.assertIn("Sessions that went down\n", wanted)
+        anna.ask("decline")
+        for name in ("network.bgp", "proposed.change", "--help", "-", "--", "", ".", "..", "/", "~", "$HOME", "%s%n",
+                     "n" * 80, "\u202e", "caf\u00e9 \udce9", "n" * 10000, "a\nb", "a\0b", "a\rb", "\x1b[2J", "\ud800", "a\u2028b"):
+            with self.subTest(name=name[:20]):
+                told = anna.ask("propose", name=name, lines=good)
+                if "error" in told:
+                    self.assertIn("`name` of the request `propose` is expected to be a text of at most 80", told["error"])
+                else:
+                    self.assertEqual(told["text"], wanted)
+                    anna.ask("decline")
+                    failed = anna.ask("propose", name=name, lines=bad)
+                    self.assertIn("refused 2 no-router", failed["error"])
+                    told.update(failed)
+                for secret in (str(TOP), str(self.folder), "/tmp", ".py", "Traceback"):
+                    self.assertNotIn(secret, json.dumps(told))
+        self.assert_well(server, anna)
+
+    def test_clicks_on_accept_of_a_stale_proposal_show_it_once(self):
+        """Sixty-four of them, over sixteen connections: at most two what-ifs run, and it is shown once more."""
+        server = self.share(self.file("net.bgp", "\n".join(TWO)), PROGRAM=self.slow())
+        anna = self.join(server, "anna")
+        others = [self.join(server, "p%d" % number) for number in range(16)]
+        made = anna.ask("propose", name="x", lines=["metric 1.0.0.1 2.0.0.1 5"])
+        edits = others[0].until("proposal").get("edits")
+        self.assertEqual(others[0].call("metric 1.0.0.1 2.0.0.1 9"), ["ok"])
+        for each in others:
+            for _ in range(4):
+                each.send("accept", number=made["number"], edits=edits)
+        most = 0
+        with Until(lambda: [answers(each, 4) for each in others]) as told:
+            while told.is_waiting(0.02):
+                most = max(most, server.workers())
+        told = [each.get("error", "accepted") for some in told.found for each in some]
+        self.assertEqual(len(told), 64)
+        self.assertEqual(set(told) - {"the network was edited since proposal 1 was shown: it is shown again",
+                                      "the network was edited since proposal 1 was shown: it is being shown again",
+                                      "proposal 1 was shown anew since you saw it: look at it again"}, set())
+        self.assertIn(most, (1, 2))
+        anna.ask("who")
+        # The first one is her own, when it was proposed.
+        self.assertEqual([each["event"] for each in anna.events].count("proposal"), 2)
+        self.assertEqual(len(entries(self.folder / "socket.log", anna.seat)), 0)
+        self.assert_well(server, anna, *others)
+
+
+class Asked(Attack):
+    """Requests that nobody makes."""
+
+    def test_odd_ids_end_their_own_request_alone(self):
+        """By both transports and at any moment: an error for that one, and the others go on."""
+        lab = self.lab(self.file("net.bgp", "\n".join(TWO)))
+        anna, page = self.join(lab, "anna"), self.page(lab, "ben")
+        token = self.join(lab, "new").token
+        for odd in ODD_IDS:
+            with self.subTest(id=odd[:20]):
+                line = b'{"id": %s, "do": "who"}' % odd.encode()
+                new = self.join(lab)
+                for _ in range(2):
+                    new.line.sendall(line + b"\n")
+                    self.assertIn("error", new.hear())
+                self.assertIn("seat", new.ask("enter", **{"as": "new", "token": token}))
+                anna.line.sendall(line + b"\n")
+                told = anna.hear()
+                while "event" in told:
+                    told = anna.hear()
+                self.assertEqual((told["id"], "error" in told), (None, True))
+                if len(line) < 65536:
+                    self.assertEqual(lab.post(page.page, line, lab.keys["to work"]), 200)
+                    self.assertIn("error", page.until(lambda told: "id" in told and told["id"] is None))
+        self.assertEqual(page.ask("call", line="quiet")["reply"], ["yes"])
+        self.assert_well(lab, anna)
+
+    def test_a_line_with_a_line_feed_or_too_many_bytes_restarts_nothing(self):
+        """The shared program has the number that it had, and others are answered."""
+        server = self.share(self.file("net.bgp", "\n".join(TWO)))
+        anna, ben = self.join(server, "anna"), self.join(server, "ben")
+        program = server.program()
+        for line in ("quiet\nquiet", "quiet\n", "\nquiet", "quiet\r\nquiet", "quiet\0", "quiet\x0b", "quiet\x85",
+                     "quiet\u2028quiet", "x" * 65536, "x" * 65537, "routes " + "1" * 70000, "\u00e9" * 40000, "\ud800",
+                     "quiet " * 100000, "# name 1.0.0.1 a\nquiet", "trace 1.0.0.1 \n1.0.0.1"):
+            for do, more in (("ask", {"line": line}), ("call", {"line": line}), ("propose", {"name": "x", "lines": [line]})):
+                with self.subTest(do=do, line=line[:20]):
+                    sent = anna.send(do, **more)
+                    began = time.monotonic()
+                    self.assertEqual(ben.call("quiet"), ["yes"])
+                    self.assertLess(time.monotonic() - began, SOON)
+                    told = anna.answer(sent)
+                    self.assertTrue("error" in told or told["reply"][0].startswith("refused 1 "), told)
+        self.assertEqual(server.program(), program)
+        self.assertNotIn(b"quiet\nquiet", (self.folder / "socket.log").read_bytes())
+        self.assert_well(server, anna, ben)
+
+
+class OverHttp(Attack):
+    """Requests of HTTP that no browser sends: a defined answer, nothing in the log, no fault."""
+
+    def attacked(self, made):
+        """Sends each of the requests that are made for a lab and the key of a page."""
+        lab = self.lab(self.file("net.bgp", "\n".join(TWO)))
+        page = self.page(lab, "ben")
+        size = (self.folder / "log").stat().st_size
+        for name, content, fits in made(lab, page.page):
+            with self.subTest(name=name):
+                self.assertIn(statuses(lab, content), fits)
+                self.assertEqual((self.folder / "log").stat().st_size, size)
+        self.assertEqual(page.until(lambda told: "what" in told)["what"], "all")
+        page.heard.clear()
+        # A request that was smuggled would have the same number.
+        self.assertEqual(page.ask("call", line="quiet")["reply"], ["yes"])
+        self.assertEqual([told for told in page.heard if "reply" in told or told.get("event") == "changes"], [])
+        self.assertTrue(lab.is_alive())
+        self.assertEqual(lab.told(), "")
+
+    def test_smuggled_requests_do_nothing(self):
+        self.attacked(smuggled)
+
+    def test_odd_targets_hosts_methods_and_versions_are_refused(self):
+        self.attacked(lambda lab, _: odd_targets(lab))
+
+    def test_heads_and_bodies_that_are_too_long_or_odd_are_refused(self):
+        self.attacked(odd_heads)
+
+
+class Kept(Attack):
+    """The log and what stands beside it."""
+
+    def refused(self, *words, is_inside=True):
+        """The one line that a share tells which cannot begin: one in this process, or of its own."""
+        if is_inside:
+            ran = inside("share", "--at", self.folder / "socket", *words)
+            self.assertEqual((ran.returncode, ran.stdout, ran.stderr.count("\n")), (2, "", 1), ran.stderr)
+            return ran.stderr
+        called = [sys.executable, "-B", str(TOOLBOX / "share"), "--at", str(self.folder / "socket"), *map(str, words)]
+        ran = subprocess.run(called, capture_output=True, timeout=60, stdin=subprocess.DEVNULL)
+        self.assertEqual((ran.returncode, ran.stdout), (2, b""), ran.stderr)
+        told = ran.stderr.decode()
+        self.assertEqual((told.count("\n"), told[-1:]), (1, "\n"), told)
+        self.assertLess(len(told), 1000)
+        self.assertTrue(told.isprintable() or told[:-1].isprintable(), told)
+        return told
+
+    def test_odd_notes_beside_a_log_are_refused_in_one_line(self):
+        log, notes = self.folder / "log", self.folder / "log.seats"
+        log.write_text("bgpsim log 2\n@2 router 1.0.0.1 1\n= ok\n")
+        log.chmod(0o600)
+        for odd in (b"\xff\xfe\n", b"\0\n", b"{\n", b"[" * 100000 + b"\n", b'{"seat": ' * 50000 + b"\n", b"null\n", b"5\n", b"[]\n",
+                    b'"x"\n', b"{}\n", b'{"seat": "2"}\n', b'{"seat": 2, "name": 5}\n', b'{"seat": true, "name": "a"}\n',
+                    b'{"seat": 1e400, "name": "a"}\n', b'{"seat": 256, "name": "a"}\n', b'{"seat": -1, "name": "a"}\n',
+                    b'{"seat": ' + b"1" * 5000 + b', "name": "a"}\n', b'{"seat": 2, "name": "a\\nb"}\n',
+                    b'{"seat": 2, "name": "\\u001b[2J"}\n', b'{"seat": 2, "name": "the script"}\n{"seat": 0, "name": "the script"}\n',
+                    b'{"seat": 2, "name": "a"}\n{"seat": 3, "name": "a"}\n', b'{"seat": 2, "name": "a", "token": "x"}\n',
+                    b'{"seat": 2, "name": "a", "token": []}\n', b'{"entry": 1, "at": "now"}\n', b'{"entry": 1, "at": NaN}\n',
+                    b'{"entry": 1, "at": 1e999}\n', b'{"entry": 1, "at": 1, "by": {}}\n', b'{"router": "router 1.0.0.1 1", "behind": 0}\n',
+                    b'{"router": "# name 1.0.0.1 a\\nb", "behind": 0}\n', b'{"seat": 2, "entry": 1}\n', b"x" * 10000000):
+            with self.subTest(odd=odd[:60]):
+                notes.write_bytes(odd)
+                notes.chmod(0o600)
+                self.assertIn("log.seats", self.refused("--log", log, is_inside=odd[:1] != b"["))
+                self.assertEqual(notes.read_bytes(), odd)
+        self.assertEqual(log.read_text(), "bgpsim log 2\n@2 router 1.0.0.1 1\n= ok\n")
+
+    def test_a_log_that_is_no_file_is_refused_in_one_line(self):
+        os.mkfifo(self.folder / "fifo")
+        (self.folder / "dir").mkdir()
+        (self.folder / "dangling").symlink_to(self.folder / "nothing")
+        (self.folder / "device").symlink_to("/dev/full")
+        with socket.socket(socket.AF_UNIX) as made:
+            made.bind(str(self.folder / "bound"))
+        for name in ("fifo", "dir", "bound", "dangling", "device", "/dev/full", "/dev/null", "/dev/zero", "/dev/tty", "no/such",
+                     "", "x" * 300):
+            with self.subTest(log=name[:20]):
+                self.refused("--log", name if not name or name.startswith("/") else self.folder / name,
+                             is_inside=name not in ("fifo", "/dev/tty", "/dev/zero"))
+        (self.folder / "ok").write_text("bgpsim log 2\n")
+        (self.folder / "ok").chmod(0o600)
+        os.mkfifo(self.folder / "ok.seats")
+        self.refused("--log", self.folder / "ok")
+
+    def test_log_and_notes_are_for_their_owner_alone(self):
+        """With no mask at all, also when they were there before and others could write them."""
+        share = self.share(limits={"mask": 0})
+        self.join(share, "anna").call("router 1.0.0.1 1")
+        names = ("socket", "socket.log", "socket.log.seats")
+        self.assertEqual([oct((self.folder / name).stat().st_mode & 0o777) for name in names], ["0o600"] * 3)
+        self.assertEqual(share.end()[0], 0)
+        for name in names[1:]:
+            (self.folder / name).chmod(0o666)
+        share = self.share("--log", self.folder / "socket.log", limits={"mask": 0})
+        self.assertEqual([oct((self.folder / name).stat().st_mode & 0o777) for name in names], ["0o600"] * 3)
+        self.assertEqual(share.told().count("others may read or write it"), 2)
+
+    def test_a_link_that_was_planted_is_not_followed(self):
+        """Beside the log, at each name that something may be written by first."""
+        other = self.file("other", "precious\n")
+        other.chmod(0o600)
+        log = self.folder / "log"
+        for name in ("log.seats.part", "log.part", "log.seats.tmp", "log.seats"):
+            (self.folder / name).symlink_to(other)
+            with contextlib.suppress(AssertionError):
+                share = self.share("--log", log)
+                anna = self.join(share, "anna")
+                self.assertEqual(anna.call("router 1.0.0.1 1"), ["ok"])
+                share.end()
+            self.assertEqual(other.read_text(), "precious\n")
+            for each in self.folder.glob("log*"):
+                each.unlink()
+        (self.folder / "log").symlink_to(other)
+        self.assertIn("bgpsim log 2", self.refused("--log", log))
+        self.assertEqual(other.read_text(), "precious\n")
+
+
+class Loaded(Attack):
+    """The disk gets full, the program dies, files are used up, while many work."""
+
+    def writers(self, server, count=25):
+        """So many people who write until the server goes: what each was answered."""
+        people = [self.join(server, "p%d" % number) for number in range(count)]
+        found = [[] for _ in people]
+
+        def write(number):
+            with contextlib.suppress(OSError, TypeError, KeyError, ValueError):
+                person = people[number]
+                for step in range(100000):
+                    line = "metric 1.0.0.1 2.0.0.1 %d" % (step % 1000 + 1 + number)
+                    found[number].append((line, person.ask("call", line=line)["reply"]))
+        threads = [threading.Thread(target=write, args=(number,)) for number in range(count)]
+        for each in threads:
+            each.start()
+        for each in threads:
+            each.join(100)
+        return {person.seat: some for person, some in zip(people, found)}
+
+    def assert_kept(self, log, answered):
+        """Each call that was answered is in the log, with its answer."""
+        self.assertGreater(sum(map(len, answered.values())), 100)
+        for seat, calls in answered.items():
+            there = entries(log, seat)
+            self.assertEqual(there[:len(calls)], calls)
+            # One more may have been written whose answer did not go out any more.
+            self.assertLessEqual(len(there), len(calls) + 1)
+
+    def full(self, tool, *words, log=None, told="", **more):
+        """A server whose disk gets full while 25 write, and that ends with the true reason."""
+        server = self.served(tool, self.file("net.bgp", "\n".join(TWO)), *words, **more)
+        log = log or next(iter(sorted(self.folder.rglob("*.log"))))
+        answered = self.writers(server)
+        self.assertEqual(server.ended()[0], 2)
+        self.assertIn("it cannot be written: " + told, server.told())
+        self.assertNotIn("Traceback", server.told())
+        self.assert_kept(log, answered)
+        return server, log
+
+    def test_a_file_of_the_largest_size_ends_a_share_with_the_reason(self):
+        self.full("share", limits={"file_size": 100000}, told="File too large")
+
+    def test_a_full_disk_ends_a_lab_with_the_reason_and_the_record_stays(self):
+        place = self.folder / "small"
+        place.mkdir()
+        ran = subprocess.run(["mount", "-t", "tmpfs", "-o", "size=128k", "none", str(place)], capture_output=True)
+        if ran.returncode:
+            self.skipTest("no small file system can be mounted here")
+        self.addCleanup(subprocess.run, ["umount", "-l", str(place)], check=True)
+        self.full("lab", "--log", place / "log", log=place / "log", told="No space left on device")
+
+    def test_a_lab_that_ends_so_keeps_its_record_and_says_where(self):
+        """A lab that was given no place for its log."""
+        server, tool = None, [sys.executable, "-B", str(TOOLBOX / "lab"), str(self.file("net.bgp", "\n".join(TWO)))]
+        with open(self.folder / "stderr", "wb") as error:
+            server = subprocess.Popen(tool, stdout=subprocess.PIPE, stderr=error, env=dict(os.environ, TMPDIR=str(self.folder)),
+                                      preexec_fn=lambda: resource.setrlimit(resource.RLIMIT_FSIZE, (60000, 60000)))
+        self.addCleanup(server.stdout.close)
+        self.addCleanup(server.kill)
+        line = b""
+        while not line.startswith(b"`join "):
+            line = server.stdout.readline()
+            self.assertTrue(line)
+        self.socket = line.split()[1].decode()
+        answered = self.writers(self)
+        self.assertEqual(server.wait(60), 2)
+        told = (self.folder / "stderr").read_text()
+        found = re.search(r"the record is kept: (\S+) \(", told)
+        self.assertIn("it cannot be written: File too large", told)
+        self.assert_kept(pathlib.Path(found.group(1)), answered)
+
+    def test_a_log_at_a_full_device_is_refused(self):
+        ran = subprocess.run([sys.executable, "-B", str(TOOLBOX / "share"), "--at", str(self.folder / "s"), "--log", "/dev/full"],
+                             capture_output=True, timeout=60)
+        self.assertEqual((ran.returncode, ran.stderr.count(b"\n")), (2, 1), ran.stderr)
+
+    def test_a_program_that_is_killed_again_and_again_is_run_anew(self):
+        """Twice in a row, and ten times: calls are answered, and all that was answered is in the log."""
+        share = self.share(self.file("net.bgp", "\n".join(TWO)), "--workers", 1)
+        anna = self.join(share, "anna")
+        done = []
+        for number in range(10):
+            os.kill(share.program(), signal.SIGKILL)
+            if number < 2:
+                told = asked(anna, "ask", line="quiet")
+                self.assertTrue(isinstance(told, str) or told["reply"], told)
+                os.kill(share.program(), signal.SIGKILL)
+            line = "origin 1.0.0.1 10.%d.0.0/16" % number
+            for _ in range(20):
+                told = anna.ask("call", line=line)
+                if "reply" in told:
+                    break
+            self.assertEqual(told["reply"], ["ok"])
+            done.append((line, ["ok"]))
+        self.assertEqual(entries(self.folder / "socket.log", anna.seat), done)
+        told = anna.ask("wait")
+        self.assertTrue(told.get("quiet"), told)
+        status, out = share.end()
+        self.assertEqual((status, "replay: ok " in out), (0, True))
+
+    def test_used_up_descriptors_are_told_in_few_bytes_and_it_recovers(self):
+        lab = self.lab(self.file("net.bgp", "\n".join(TWO)), limits={"files": 64})
+        anna = self.join(lab, "anna")
+        held = []
+        self.addCleanup(lambda: [each.close() for each in held])
+        for number in range(150):
+            made = socket.socket(socket.AF_UNIX if number % 2 else socket.AF_INET)
+            held.append(made)
+            made.settimeout(0.5)
+            with contextlib.suppress(OSError):
+                made.connect(lab.socket if number % 2 else ("127.0.0.1", lab.port))
+        time.sleep(5)
+        self.assertLess(len(lab.told()), 10000)
+        self.assertNotIn("Traceback", lab.told())
+        self.assertEqual(anna.call("quiet"), ["yes"])
+        for each in held:
+            each.close()
+        self.join(lab, "ben").call("quiet")
+        soon(lab)
+        self.assertTrue(lab.is_alive())
