@@ -21,8 +21,8 @@ def opened_to_read(path: str) -> BinaryIO:
 
 
 def opened_to_write(path: str, is_new: bool, tell: Callable[[str], None]) -> BinaryIO:
-    """A file to be read, and written at its end, for this user alone. One that is there is opened unless `is_new`; where
-    others may read or write it, `tell` gets a word, and they may no more where it is this user's.
+    """A file to be read, and written at its end, for this user alone. One that is there is opened unless `is_new`.
+    Where others may read or write it, `tell` gets a word, and where it is this user's they may no more.
 
     FileExistsError where it is there and `is_new`, OSError where it cannot be opened, Mistake where it is no regular
     file, or a link to nothing or to another user's file."""

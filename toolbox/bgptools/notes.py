@@ -1,5 +1,5 @@
-"""The file beside a log, for what a log has no place for: whose each seat is, by which token, names of routers, and when
-each edit was made.
+"""The file beside a log, for what a log has no place for: whose each seat is, by which token, names of routers, and
+when each edit was made.
 
 It is a JSON value a line, and each has one of the shapes of `SHAPES`. Without the file a log is taken up all the same:
 its seats have numbers then, its names no tokens, and its edits no times."""
@@ -49,7 +49,7 @@ def _is_naming(found: object) -> bool:
 _VALUES: Dict[str, Tuple[Callable[[object], bool], str]] = {
     "seat": (lambda found: _is_whole(found, 0, SEATS - 1), "a seat, 0 to %d" % (SEATS - 1)),
     "name": (lambda found: isinstance(found, str) and is_name(found), "a name of 1 to 32 characters without a space"),
-    "token": (lambda found: isinstance(found, str) and bool(DIGEST.fullmatch(found)), "64 digits of a SHA-256, or none"),
+    "token": (lambda found: isinstance(found, str) and bool(DIGEST.fullmatch(found)), "64 hexadecimal digits"),
     "entry": (lambda found: _is_whole(found, 1, MOST_ENTRY), "the number of an entry, 1 or more"),
     "at": (lambda found: found is None or _is_time(found), "a time in seconds since 1970, or null"),
     "by": (lambda found: _is_whole(found, 0, SEATS - 1), "a seat, 0 to %d" % (SEATS - 1)),
