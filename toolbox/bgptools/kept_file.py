@@ -34,7 +34,7 @@ def opened_to_write(path: str, is_new: bool, tell: Callable[[str], None]) -> Bin
             if os.path.islink(path):
                 raise Mistake("it is a link to a file that is not there: give the name of a file", path) from None
         else:
-            _keep_to_owner(file, path, tell)
+            keep_to_owner(file, path, tell)
             return file
     made = os.open(path, flags | os.O_CREAT | os.O_EXCL, 0o600)
     return os.fdopen(made, "r+b", buffering=0)
@@ -50,7 +50,7 @@ def _regular(handle: int, path: str, mode: str) -> BinaryIO:
     return cast(BinaryIO, os.fdopen(handle, mode, buffering=0))
 
 
-def _keep_to_owner(file: BinaryIO, path: str, tell: Callable[[str], None]) -> None:
+def keep_to_owner(file: BinaryIO, path: str, tell: Callable[[str], None]) -> None:
     """Takes away what others may do with a file. Mistake where a link leads to another user's."""
     found = os.fstat(file.fileno())
     is_own = found.st_uid == os.geteuid()

@@ -13,7 +13,7 @@ import re
 import tempfile
 from typing import Any, BinaryIO, Callable, Dict, Iterator, List, Optional, Tuple
 
-from .kept_file import OTHERS, opened_to_read
+from .kept_file import keep_to_owner, opened_to_read
 from .language import LONGEST, escaped
 from .mistakes import Mistake
 from .names import Names
@@ -92,10 +92,7 @@ class Notes:
         with its line, where a note is none."""
         try:
             with opened_to_read(self.path) as file:
-                mode = os.fstat(file.fileno()).st_mode & 0o777
-                if mode & OTHERS:
-                    told = "others may read or write it (mode %04o): from now on its owner alone may" % mode
-                    tell(str(Mistake(told, self.path)))
+                keep_to_owner(file, self.path, tell)
                 with os.fdopen(os.dup(file.fileno()), "rb") as buffered:
                     return list(self._notes(buffered))
         except FileNotFoundError:

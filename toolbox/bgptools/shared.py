@@ -186,7 +186,7 @@ class Shared:
 
     @contextlib.contextmanager
     def guarded(self) -> Iterator[None]:
-        """While a request may change something. After an error that is no Mistake the network is recovered from its log,
+        """While a request may change something. After an error that is no Mistake the network is recovered from its
         and Interrupted raised: a Mistake that says what of the request stands in the log. Raises Unkept where it
         cannot be recovered."""
         try:
