@@ -137,7 +137,8 @@ def check_line(line: str) -> str:
     one_line(line)
     odd = CONTROL.search(line)
     if odd:
-        raise Mistake("a line has no control characters, and this has %s: `%s`" % (ascii(odd.group()), escaped(line[:80])))
+        told = "a line has no control characters, and this has %s: `%s`"
+        raise Mistake(told % (ascii(odd.group()), escaped(line[:80])))
     return line
 
 

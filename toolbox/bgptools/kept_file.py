@@ -21,8 +21,8 @@ def opened_to_read(path: str) -> BinaryIO:
 
 
 def opened_to_write(path: str, is_new: bool, tell: Callable[[str], None]) -> BinaryIO:
-    """A file to be read, and written at its end, for this user alone. One that is there is opened unless `is_new`; where
-    others may read or write it, `tell` gets a word, and they may no more where it is this user's.
+    """A file to be read, and written at its end, for this user alone. One that is there is opened unless `is_new`.
+    Where others may read or write it, `tell` gets a word, and where it is this user's they may no more.
 
     FileExistsError where it is there and `is_new`, OSError where it cannot be opened, Mistake where it is no regular
     file, or a link to nothing or to another user's file."""
@@ -34,7 +34,7 @@ def opened_to_write(path: str, is_new: bool, tell: Callable[[str], None]) -> Bin
             if os.path.islink(path):
                 raise Mistake("it is a link to a file that is not there: give the name of a file", path) from None
         else:
-            _keep_to_owner(file, path, tell)
+            keep_to_owner(file, path, tell)
             return file
     made = os.open(path, flags | os.O_CREAT | os.O_EXCL, 0o600)
     return os.fdopen(made, "r+b", buffering=0)
@@ -50,7 +50,7 @@ def _regular(handle: int, path: str, mode: str) -> BinaryIO:
     return cast(BinaryIO, os.fdopen(handle, mode, buffering=0))
 
 
-def _keep_to_owner(file: BinaryIO, path: str, tell: Callable[[str], None]) -> None:
+def keep_to_owner(file: BinaryIO, path: str, tell: Callable[[str], None]) -> None:
     """Takes away what others may do with a file. Mistake where a link leads to another user's."""
     found = os.fstat(file.fileno())
     is_own = found.st_uid == os.geteuid()

@@ -79,7 +79,8 @@ class Ledger:
         """Why so many bytes of changes more are not written; empty where they are."""
         if self.size + more <= self.most_log:
             return ""
-        told = "the log has {:,} bytes of at most {:,}: nothing can be changed any more, and questions alone are answered"
+        told = ("the log has {:,} bytes of at most {:,}: nothing can be changed any more, "
+                "and questions alone are answered")
         return told.format(self.size, self.most_log)
 
     def written(self, seat: int, now: Optional[float] = None) -> int:
@@ -162,7 +163,7 @@ class Ledger:
         self.happening.changed({"step": self.step, "seat": seat, "who": who, "line": line, "reply": reply})
 
     def blame(self, router: str, most: Optional[int] = None) -> List[Dict[str, Any]]:
-        """Who edited what about a router or virtual peer, and when: the last edits, where there are more than `most`."""
+        """Who edited what about a router or virtual peer, and when: of more than `most` edits the last ones."""
         name_of, edits = self.seats.name_of, self.history.of(router)
         edits = edits if most is None else edits[max(0, len(edits) - most):]
         return [{"step": edit.step, "entry": edit.entry, "who": name_of(edit.seat), "at": edit.at, "line": edit.line,

@@ -1,5 +1,5 @@
-"""The file beside a log, for what a log has no place for: whose each seat is, by which token, names of routers, and when
-each edit was made.
+"""The file beside a log, for what a log has no place for: whose each seat is, by which token, names of routers, and
+when each edit was made.
 
 It is a JSON value a line, and each has one of the shapes of `SHAPES`. Without the file a log is taken up all the same:
 its seats have numbers then, its names no tokens, and its edits no times."""
@@ -13,7 +13,7 @@ import re
 import tempfile
 from typing import Any, BinaryIO, Callable, Dict, Iterator, List, Optional, Tuple
 
-from .kept_file import OTHERS, opened_to_read
+from .kept_file import keep_to_owner, opened_to_read
 from .language import LONGEST, escaped
 from .mistakes import Mistake
 from .names import Names
@@ -49,7 +49,7 @@ def _is_naming(found: object) -> bool:
 _VALUES: Dict[str, Tuple[Callable[[object], bool], str]] = {
     "seat": (lambda found: _is_whole(found, 0, SEATS - 1), "a seat, 0 to %d" % (SEATS - 1)),
     "name": (lambda found: isinstance(found, str) and is_name(found), "a name of 1 to 32 characters without a space"),
-    "token": (lambda found: isinstance(found, str) and bool(DIGEST.fullmatch(found)), "64 digits of a SHA-256, or none"),
+    "token": (lambda found: isinstance(found, str) and bool(DIGEST.fullmatch(found)), "64 hexadecimal digits"),
     "entry": (lambda found: _is_whole(found, 1, MOST_ENTRY), "the number of an entry, 1 or more"),
     "at": (lambda found: found is None or _is_time(found), "a time in seconds since 1970, or null"),
     "by": (lambda found: _is_whole(found, 0, SEATS - 1), "a seat, 0 to %d" % (SEATS - 1)),
@@ -92,10 +92,7 @@ class Notes:
         with its line, where a note is none."""
         try:
             with opened_to_read(self.path) as file:
-                mode = os.fstat(file.fileno()).st_mode & 0o777
-                if mode & OTHERS:
-                    told = "others may read or write it (mode %04o): from now on its owner alone may" % mode
-                    tell(str(Mistake(told, self.path)))
+                keep_to_owner(file, self.path, tell)
                 with os.fdopen(os.dup(file.fileno()), "rb") as buffered:
                     return list(self._notes(buffered))
         except FileNotFoundError:

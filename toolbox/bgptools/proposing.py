@@ -99,9 +99,9 @@ class Proposals:
         return self.open[number]
 
     def accept(self, seat: int, number: int, edits: Optional[int] = None) -> str:
-        """Makes a proposal of another person, as calls of who proposed it: what is told. A line that is refused, and not
-        marked so, ends it. `edits` says which showing was seen: how many edits the network had then, as it was told with
-        the proposal; where none is given, that is the last one.
+        """Makes a proposal of another person, as calls of who proposed it: what is told. A line that is refused, and
+        not marked so, ends it. `edits` says which showing was seen: how many edits the network had then, as it was told
+        with the proposal. Where none is given, that is the last one.
 
         Mistake where it is one's own; Stale where the network was edited since it was shown, or it was shown anew since
         it was seen."""

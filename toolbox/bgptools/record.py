@@ -59,8 +59,8 @@ class Unkept(Mistake):
 
 
 class Log:
-    """A log that is open to be written, and locked. `tell` gets a word where others may read it. Mistake where it cannot
-    be opened, is no regular file, or another has it."""
+    """A log that is open to be written, and locked. `tell` gets a word where others may read it. Mistake where it
+    cannot be opened, is no regular file, or another has it."""
 
     def __init__(self, path: str, is_new: bool, tell: Callable[[str], None] = lambda _: None) -> None:
         self.path = path
@@ -121,8 +121,8 @@ class Log:
 
 
 def write_all(file: BinaryIO, content: bytes, size: int, path: str) -> None:
-    """Writes content behind so many bytes of a file that is written at its end. Raises Unkept where it cannot, and takes
-    away what was written of it, if the system lets it."""
+    """Writes content behind so many bytes of a file that is written at its end. Raises Unkept where it cannot, and
+    takes away what was written of it, if the system lets it."""
     left = content
     try:
         while left:

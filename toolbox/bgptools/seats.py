@@ -23,8 +23,8 @@ LONGEST_TOKEN = 200
 
 
 class Seats:
-    """Whose each seat is: a name has one seat, however often it comes. A person enters by a name with its token, of which
-    only the SHA-256 is kept. Seats that were entered with one token are one person's."""
+    """Whose each seat is: a name has one seat, however often it comes. A person enters by a name with its token, of
+    which only the SHA-256 is kept, in `digests` by seat."""
 
     def __init__(self) -> None:
         self.names: Dict[int, str] = {}

@@ -38,7 +38,7 @@ PAUSES = (0.0, 0.05, 0.2)
 
 @dataclass(frozen=True)
 class Entered:
-    """Who has come: the seat, and the token by which alone the name is entered again; and the name, for who gave none."""
+    """Who has come: the seat, the token with which alone the name is entered again, and the name, for who gave none."""
     seat: int
     token: str
     name: str
@@ -176,7 +176,7 @@ class Shared:
         return "undone: %s, by `%s`" % (edit.line, line)
 
     def blame(self, router: str, most: Optional[int] = None) -> List[Dict[str, Any]]:
-        """Who edited what about a router or virtual peer, and when: the last edits, where there are more than `most`.
+        """Who edited what about a router or virtual peer, and when: of more than `most` edits the last ones.
         Mistake where it is not there."""
         if router not in self.program.network.nodes:
             raise Mistake("there is no router or virtual peer %s" % escaped(str(router)[:80]))
@@ -186,8 +186,8 @@ class Shared:
 
     @contextlib.contextmanager
     def guarded(self) -> Iterator[None]:
-        """While a request may change something. Where an error comes up that is no Mistake the network is recovered from
-        its log, and Interrupted raised, a Mistake that says what of the request stands in it. Raises Unkept where it
+        """While a request may change something. After an error that is no Mistake the network is recovered from its
+        and Interrupted raised: a Mistake that says what of the request stands in the log. Raises Unkept where it
         cannot be recovered."""
         try:
             kept = self._kept()
@@ -268,8 +268,8 @@ class Shared:
         made.count = max(broken.count, kept.count)
         for number, each in kept.proposals.items():
             if number == broken.making and calling.ledger.entries > kept.calls:
-                made.closed(each, "proposal %d goes: an error came up when it was made, and calls %d to %d were done" % (
-                    number, kept.calls + 1, calling.ledger.entries))
+                told = "proposal %d goes: an error came up when it was made, and calls %d to %d were done"
+                made.closed(each, told % (number, kept.calls + 1, calling.ledger.entries))
             elif each.edits <= len(calling.ledger.history.edits):
                 made.open[number] = each
             else:

@@ -9,6 +9,7 @@ from bgptools.calling import check_line
 from bgptools.mistakes import Mistake
 from bgptools.record import Unkept
 from bgptools.shared import Shared
+from common import tool
 from held import TWO, Held
 
 
@@ -113,6 +114,27 @@ class Owned(Held):
                 self.notes().unlink()
 
 
+class Told(Held):
+    def test_the_tool_ends_with_status_2_at_once(self):
+        """And leaves what is there as it is."""
+        os.mkfifo(str(self.folder / "pipe"))
+        (self.folder / "folder").mkdir()
+        for log, why in (("pipe", "it is a pipe"), ("folder", "it cannot be opened: Is a directory"),
+                         ("/dev/full", "it is a device")):
+            with self.subTest(log=log):
+                path = os.path.join(str(self.folder), log)
+                ran = tool("share", "--at", self.folder / "socket", "--log", path, status=2)
+                self.assertEqual((ran.stdout, ran.stderr.count("\n")), ("", 1))
+                self.assertTrue(ran.stderr.startswith("%s: %s" % (path, why)), ran.stderr)
+        self.assertEqual(sorted(os.listdir(str(self.folder))), ["folder", "pipe"])
+
+    def test_odd_notes_are_a_mistake_with_file_and_line(self):
+        notes = self.file("net.log.seats", "[" * 24000 + "\n")
+        notes.chmod(0o600)
+        ran = tool("share", "--at", self.folder / "socket", "--log", self.log, status=2)
+        self.assertRegex(ran.stderr, "^.*/net.log.seats:1: a note of a log is expected, [^\n]*\n$")
+
+
 class Notes(Held):
     def refused(self, line):
         """What is said of notes in which this line is the second one."""
@@ -123,18 +145,22 @@ class Notes(Held):
         return str(found.exception).replace(str(self.folder) + os.sep, "")
 
     def test_a_note_that_is_none(self):
-        for line in (b"no note", b"[]", b"7", b"\xff\xfe", b"{}", b"", b"[" * 20000, b'{"a":' * 4000, b"{\"seat\": 1, \"entry\": 1}",
-                     b'{"seat": 1}\x00', "{\"seat\": \u0661}".encode(), b"[" * 24000 + b"]" * 24000):
+        for line in (b"no note", b"[]", b"7", b"\xff\xfe", b"{}", b"", b"[" * 20000, b'{"a":' * 4000,
+                     b'{"seat": 1, "entry": 1}', b'{"seat": 1}\x00', "{\"seat\": \u0661}".encode(),
+                     b"[" * 24000 + b"]" * 24000):
             with self.subTest(line=line[:20]):
-                self.assertRegex(self.refused(line), "^net.log.seats:2: (a note of a log is expected|a line of more than)")
+                expected = "^net.log.seats:2: (a note of a log is expected|a line of more than)"
+                self.assertRegex(self.refused(line), expected)
 
     def test_a_value_that_cannot_be(self):
         for line, why in (
                 (b'{"seat": 256}', "`seat` has to be a seat, 0 to 255"), (b'{"seat": -1}', "`seat` has to be"),
                 (b'{"seat": true}', "`seat` has to be"), (b'{"seat": 1.0}', "`seat` has to be"),
-                (b'{"seat": 1, "name": "two words"}', "`name` has to be"), (b'{"seat": 1, "name": "\\ud800"}', "`name`"),
-                (b'{"seat": 1, "name": "a\\u202e"}', "`name` has to be"), (b'{"seat": 1, "name": 5}', "`name` has to be"),
-                (b'{"seat": 1, "name": "anna", "token": "aa"}', "`token` has to be 64 digits"),
+                (b'{"seat": 1, "name": "two words"}', "`name` has to be"),
+                (b'{"seat": 1, "name": "\\ud800"}', "`name`"),
+                (b'{"seat": 1, "name": "a\\u202e"}', "`name` has to be"),
+                (b'{"seat": 1, "name": 5}', "`name` has to be"),
+                (b'{"seat": 1, "name": "anna", "token": "aa"}', "`token` has to be 64 hexadecimal digits"),
                 (b'{"entry": 0}', "`entry` has to be"), (b'{"entry": 1e400}', "`entry` has to be"),
                 (b'{"entry": 1, "at": 1e400}', "`at` has to be a time"), (b'{"entry": 1, "at": NaN}', "`at` has to be"),
                 (b'{"entry": 1, "at": -1}', "`at` has to be"), (b'{"entry": 1, "at": 1e13}', "`at` has to be"),
@@ -184,7 +210,8 @@ class Notes(Held):
 
 
 class Texts(Held):
-    WRONG = ("quiet\nquiet", "quiet \u20ac", "x" * 65537, "quiet\x1b[2J", "quiet\0", "qu\x7fiet", "quiet\r", "quiet \ud800")
+    WRONG = ("quiet\nquiet", "quiet \u20ac", "x" * 65537, "quiet\x1b[2J", "quiet\0", "qu\x7fiet", "quiet\r",
+             "quiet \ud800")
 
     def test_a_text_that_is_no_line_changes_nothing(self):
         shared, anna = self.shared(*TWO)
@@ -229,15 +256,17 @@ class Bounds(Held):
         for number in range(200):
             answers = shared.calling.calls([(anna, "quiet"), (anna, "metric 1.0.0.1 2.0.0.1 %d" % (number + 1))] * 2)
         self.assertEqual([each.reply for each in answers], [["yes"], [], ["yes"], []])
-        self.assertRegex(answers[1].error, "^the log has [0-9,]+ bytes of at most 20,000: nothing can be changed any more, ")
+        why = "nothing can be changed any more"
+        self.assertRegex(answers[1].error, "^the log has [0-9,]+ bytes of at most 20,000: %s, " % why)
         size = self.log.stat().st_size + (self.folder / "net.log.seats").stat().st_size
         self.assertEqual(size, shared.ledger.size)
         self.assertTrue(19500 < size <= 20000, size)
         told = [event["text"] for event in shared.happening.taken() if event["event"] == "told"]
         self.assertRegex(told[0], "^the log has [0-9]+ lines: from here on changes alone stand in it$")
         self.assertEqual(len(told), 1)
-        for word in (shared.deliveries.next, shared.deliveries.go, lambda seat: shared.deliveries.steps(seat, 1), shared.undo):
-            self.assertRaisesRegex(Mistake, "nothing can be changed any more", word, anna)
+        hands = shared.deliveries
+        for word in (hands.next, hands.go, lambda seat: hands.steps(seat, 1), shared.undo):
+            self.assertRaisesRegex(Mistake, why, word, anna)
         self.assertIn("bytes of at most", shared.calling.calls([(anna, "# name 1.0.0.1 west")])[0].error)
         self.assertEqual(shared.run.network.names.of, {})
         self.assertEqual(shared.program.ask(["cost 1.0.0.1 2.0.0.1"])[0][0][-12:], " via 2.0.0.1")
@@ -296,7 +325,8 @@ class Bounds(Held):
     def test_a_meter_counts_by_the_second(self):
         """Against a list of all that came, with a clock that stands, leaps and is behind."""
         made, all_that_came = meter.Meter(), []
-        for number, now in enumerate((0, 0.5, 1, 59.9, 60, 60.1, 61, 200, 199, 230, 259.99, 260, 1e9, 1e9 + 59, 1e9 + 60)):
+        times = (0, 0.5, 1, 59.9, 60, 60.1, 61, 200, 199, 230, 259.99, 260, 1e9, 1e9 + 59, 1e9 + 60)
+        for number, now in enumerate(times):
             made.add(now, number + 1)
             all_that_came.append((max([int(now)] + [second for second, _ in all_that_came]), number + 1))
             last = all_that_came[-1][0]

@@ -19,10 +19,11 @@ class Tokens(Held):
         shared, _ = self.shared(*TWO)
         ben = shared.enter("ben")
         self.assertRegex(ben.token, "^[A-Za-z0-9_-]{24}$")
-        for wrong in (None, "", ben.token[:-1], ben.token + "a", self.tokens["anna"], "\ud800", "x" * 10000, "K\u00f6ln"):
+        why = "the name ben is taken: enter with its token, or by another name|a token is"
+        for wrong in (None, "", ben.token[:-1], ben.token + "a", self.tokens["anna"], "\ud800", "x" * 10000,
+                      "K\u00f6ln"):
             with self.subTest(wrong=str(wrong)[:30].encode("ascii", "backslashreplace")):
-                self.assertRaisesRegex(Mistake, "the name ben is taken: enter with its token, or by another name|a token is",
-                                       shared.enter, "ben", wrong)
+                self.assertRaisesRegex(Mistake, why, shared.enter, "ben", wrong)
         again = shared.enter("ben", ben.token)
         self.assertEqual((again.seat, again.token, again.name), (ben.seat, ben.token, "ben"))
         self.assertEqual(shared.here[ben.seat], 2)
@@ -105,8 +106,9 @@ class Proposed(Held):
         ben = self.enter(shared, "ben")
         for maker, own in ((anna, (other.seat, third.seat, anna)), (third.seat, (anna, other.seat))):
             made = self.proposed(shared, maker)
+            accept = shared.proposals.accept
             for seat in own:
-                self.assertRaisesRegex(Mistake, "is your own: another one accepts it", shared.proposals.accept, seat, made.number)
+                self.assertRaisesRegex(Mistake, "is your own: another one accepts it", accept, seat, made.number)
             self.assertIn("1 command made", shared.proposals.accept(ben, made.number))
 
     def test_who_gets_a_freed_name_is_another_person_from_then_on(self):
@@ -124,14 +126,15 @@ class Proposed(Held):
         shared, anna = self.shared(*TWO)
         ben = self.enter(shared, "ben")
         made = self.proposed(shared, anna)
-        seen = shared.happening.taken()[-1]
+        seen, accept = shared.happening.taken()[-1], shared.proposals.accept
         self.assertEqual((seen["event"], seen["edits"]), ("proposal", 4))
         self.said(shared, ben, "metric 1.0.0.1 2.0.0.1 3")
-        self.assertRaisesRegex(Stale, "the network was edited since", shared.proposals.accept, ben, made.number, seen["edits"])
+        self.assertRaisesRegex(Stale, "the network was edited since", accept, ben, made.number, seen["edits"])
         shared.proposals.shown(made, len(shared.ledger.history.edits), "it does something else")
-        self.assertRaisesRegex(Stale, "shown anew since you saw it", shared.proposals.accept, ben, made.number, seen["edits"])
+        self.assertRaisesRegex(Stale, "shown anew since you saw it", accept, ben, made.number, seen["edits"])
         self.assertEqual(self.said(shared, ben, "cost 1.0.0.1 2.0.0.1"), ["3 via 2.0.0.1"])
-        self.assertIn("1 command made", shared.proposals.accept(ben, made.number, shared.happening.taken()[-1]["edits"]))
+        seen = shared.happening.taken()[-1]
+        self.assertIn("1 command made", accept(ben, made.number, seen["edits"]))
 
     def test_its_lines_are_those_that_were_proposed(self):
         shared, anna = self.shared(*TWO)
