@@ -146,12 +146,13 @@ class Answers(Pooled):
             lines.append("metric 10.0.1.1 10.0.2.1 %d" % (at + 2))
             self.assertEqual(await pool.picture(TEACHER, len(lines), NINE, None),
                              viewer.picture(list(lines), len(lines), NINE, None).encode())
-        wanted = viewer.picture(list(lines), 20, None, None).encode()
-        self.assertEqual(await pool.picture(LOOKER, 20, None, None), wanted)
         os.kill(pool.work.worker.process.pid, signal.SIGKILL)
         await self.until(lambda: pool.work.worker.has_ended)
-        wanted = viewer.picture(list(lines), 30, None, None).encode()
-        self.assertEqual(await pool.picture(WORKER, 30, None, None), wanted)
+        with self.counted():
+            for step, asker in ((20, LOOKER), (30, WORKER)):
+                wanted = viewer.picture(list(lines), step, None, None).encode()
+                self.assertEqual(await pool.picture(asker, step, None, None), wanted)
+        self.assertEqual([each["marks"] for each in self.sent], [[], []])
         alone = Viewer()
         self.addCleanup(alone.close)
         self.assertNotEqual(alone.picture(list(lines), 30, None, None).encode(), wanted)

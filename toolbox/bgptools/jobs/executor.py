@@ -11,7 +11,7 @@ from typing import Any, BinaryIO, Dict, List, Optional, Tuple
 from ..mistakes import Mistake
 from ..program import Program
 from . import confinement
-from .frames import ANSWER, END, HEAD, JOB, LAST, LINES, MISTAKE, head_of, lines_in, read_head
+from .frames import ANSWER, END, HEAD, JOB, LAST, LINES, MISTAKE, PLACES, head_of, json_out, lines_in, read_head
 from .watch import Watch
 
 # A frame to a worker has at most so many lines, each of at most 64 KB.
@@ -32,7 +32,10 @@ class Executor:
         Program.beginning = self.beginning = confinement.confine(self.limits)
         os.nice(self.limits["niceness"])
         self.watch = Watch(self.limits, lambda why: self._tell(END, why.encode()))
+        # The lines that it has, and those that came since the last job; where things stand at another worker.
         self.lines: List[str] = []
+        self.came: List[str] = []
+        self.places: Optional[Dict[str, Any]] = None
         self.views: Optional[Any] = None
 
     def run(self) -> None:
@@ -40,7 +43,9 @@ class Executor:
         while True:
             kind, content = self.frames.get()
             if kind == LINES:
-                self.lines = self.lines + lines_in(content)
+                self.came += lines_in(content)
+            elif kind == PLACES:
+                self.places = json.loads(content)
             elif kind == JOB:
                 self._serve(json.loads(content))
 
@@ -94,18 +99,32 @@ class Executor:
 
     def _do(self, job: Dict[str, Any]) -> bytes:
         """Does what a job says. What one kind needs is loaded for it alone."""
+        # Another list each time: what looks at the lines keeps the one that it was given.
+        self.lines, self.came = self.lines + self.came, []
         if job["do"] == "check":
             from .checks import verdict
             return verdict(job["log"], job["size"], job["end"].encode("latin-1"), self.beginning)
         if job["do"] == "what_if":
             from .changes import what_if
             return what_if(self.lines, job["change"])
+        return self._view(job)
+
+    def _view(self, job: Dict[str, Any]) -> bytes:
+        """A picture or a table."""
         if self.views is None:
             from .views import Views
             self.views = Views()
         self.views.lines = self.lines
-        found: bytes = self.views.picture(job) if job["do"] == "picture" else self.views.table(job)
-        return found
+        if job["do"] == "table":
+            table: bytes = self.views.table(job)
+            return table
+        if self.places is not None:
+            places, self.places = self.places, None
+            self.views.take_places(places)
+        picture: bytes = self.views.picture(job)
+        if job["marks"]:
+            self._tell(PLACES, json_out(self.views.places(job["marks"][-1])))
+        return picture
 
 
 def main() -> None:

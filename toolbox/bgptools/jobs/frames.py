@@ -12,6 +12,8 @@ MARK = b"bgpJ"
 START, LINES, JOB = 1, 2, 3
 # From a worker: the answer; the answer of one that ends then; why there is none; and why it ends without one.
 ANSWER, LAST, MISTAKE, END = 4, 5, 6, 7
+# To and from a worker: where things stand after so many lines.
+PLACES = 8
 # So many lines are one frame, so that the server's loop is never held up by many.
 PART = 4096
 

@@ -8,7 +8,7 @@ from typing import Awaitable, Callable, Dict, List, Optional, Sequence, Set, Tup
 
 from ..mistakes import Mistake
 from .cache import Cache
-from .frames import ANSWER, END, JOB, LAST, MISTAKE, json_out
+from .frames import ANSWER, END, JOB, LAST, MISTAKE, PLACES, json_out
 from .limits import Limits
 from .process import Ended, Process
 from .queue import Queue
@@ -235,10 +235,19 @@ class ViewLane(Lane):
         worker.lines = count
         job = request.job
         if request.shown is not None:
+            known, places = self.script.places
+            if worker.marks < known <= len(marks):
+                await worker.send(PLACES, places)
+                worker.marks = known
             job = {**job, "marks": marks[worker.marks:]}
             worker.marks = len(marks)
         await worker.send(JOB, json_out(job))
-        return await worker.receive()
+        kind, content = await worker.receive()
+        while kind == PLACES:
+            if self.round == self.script.round and len(marks) > self.script.places[0]:
+                self.script.places = len(marks), content
+            kind, content = await worker.receive()
+        return kind, content
 
     def share(self, request: Request) -> None:
         if request.shown is not None:

@@ -11,7 +11,7 @@ MIB = 1 << 20
 class Limits:
     """All limits of a pool. Times are seconds, sizes bytes.
 
-    The first group holds for each worker, with every process that it starts; past it the request ends with a Mistake."""
+    The first group holds for each worker with the programs that it starts; past it the request ends with a Mistake."""
     # By the clock. A picture of 200 routers takes a few seconds on a slow build, where nothing was asked before.
     picture_time: float = 20.0
     # By the clock. A what-if whose change makes many routers choose anew may take a minute.
@@ -43,7 +43,7 @@ class Limits:
     long_workers: int = 2
     # Requests of one person that wait: a page asks for a picture and a table, and then waits for them.
     waiting_of_one: int = 4
-    # Requests of all that wait for the same workers: twice the pages that a lab has.
+    # Requests of all that wait for the same workers: a few of each page that a lab may have.
     waiting: int = 1024
     # What these requests hold.
     waiting_bytes: int = 64 * MIB

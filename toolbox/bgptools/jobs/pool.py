@@ -20,7 +20,10 @@ LONGEST = len("255.255.255.255/32")
 
 
 class Pool:
-    """Answers by worker processes. All coroutines belong to one loop; the pool starts its workers when they are needed.
+    """Answers by worker processes, which are started when they are needed.
+
+    All coroutines belong to one loop. Its thread has to last as long as the pool: workers end with the thread that
+    started them, whatever ends that.
 
     `lines` tells the live list of the shared script: latin-1 strings, one a line and without its end. It only grows at
     its end, or is replaced by an equal one.
@@ -46,6 +49,7 @@ class Pool:
         """The picture after a step, as JSON in ASCII: with the routes to a prefix, and the way of a packet from a
         router's address to an address. A newer picture of the same person takes the place of one that still waits,
         which then ends with the Mistake `another picture was asked for`."""
+        lane = self._lane(asker)
         self._check_step(step)
         if prefix is not None:
             _check_prefix(prefix)
@@ -62,15 +66,15 @@ class Pool:
             return kept
         request = Request(asker, {"do": "picture", "step": step, "prefix": prefix, "way": way})
         request.shown, request.version = shown, self.version
-        return await self._lane(asker).ask(request)
+        return await lane.ask(request)
 
     async def table(self, asker: Asker, step: int, router: str, prefix: str) -> bytes:
         """A router's routes to a prefix after a step, as JSON in ASCII."""
+        lane = self._lane(asker)
         self._check_step(step)
         _check_prefix(prefix)
         job = {"do": "table", "step": step, "router": _address(router), "prefix": prefix}
-        await self.script.count_lines()
-        return await self._lane(asker).ask(Request(asker, job))
+        return await lane.ask(Request(asker, job))
 
     async def what_if(self, asker: Asker, base: Sequence[str], change: Sequence[str]) -> str:
         """What a change does to the network of the base, as `what-if` tells it. Messages name `proposed.change`.

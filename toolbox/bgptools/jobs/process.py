@@ -23,6 +23,8 @@ WORKER = str(pathlib.Path(__file__).resolve().parent / "worker.py")
 KEPT = ("PATH", "BGPSIM_UNPROVED", "LANG", "LC_ALL", "LC_CTYPE")
 # By this variable a process is found wherever it has gone.
 TOKEN = "BGPSIM_JOB"
+# Where 200 routers stand takes a tenth of this, in bytes.
+LARGEST_PLACES = 1 << 20
 # How often it is looked whether a process has ended, and how long the last ones are waited for, in seconds.
 SOON, PATIENCE = 0.002, 5.0
 
@@ -122,7 +124,8 @@ class Process:
     async def receive(self) -> Tuple[int, bytes]:
         """Its next frame. Ended where there is none."""
         try:
-            kind, size = frames.read_head(await self.reader.readexactly(HEAD.size), self.limits.answer)
+            largest = max(self.limits.answer, LARGEST_PLACES)
+            kind, size = frames.read_head(await self.reader.readexactly(HEAD.size), largest)
             return kind, await self.reader.readexactly(size)
         except asyncio.IncompleteReadError:
             raise Ended(await self._why()) from None

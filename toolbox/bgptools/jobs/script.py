@@ -16,7 +16,8 @@ class Script:
 
     `count` is how many lines were looked at, and `placing` how many of these place things. `marks` are the counts of
     lines with which pictures were made after more things had come: things that come together are placed together. So
-    they are the same for all workers. `round` counts scripts that were not a longer one than before."""
+    they are the same for all workers. `places` is where things stand after so many marks, as a worker told it last, for
+    those that begin late. `round` counts scripts that were not a longer one than before."""
 
     def __init__(self, lines: Callable[[], Sequence[str]]) -> None:
         self.lines = lines
@@ -26,6 +27,7 @@ class Script:
     def _begin(self) -> None:
         self.count = self.placing = self.marked = 0
         self.marks: List[int] = []
+        self.places: Tuple[int, bytes] = (0, b"")
 
     async def count_lines(self) -> None:
         """Looks at the lines that came."""

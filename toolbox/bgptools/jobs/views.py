@@ -5,6 +5,7 @@ import contextlib
 import json
 from typing import Any, Dict, List
 
+from ..layout import Box
 from ..mistakes import Mistake
 from ..viewing import Viewer
 
@@ -16,11 +17,25 @@ class Views:
         self.viewer = Viewer()
         self.lines: List[str] = []
 
+    def take_places(self, told: Dict[str, Any]) -> None:
+        """Takes over where things stand at another worker, after the lines up to a mark."""
+        staying = self.viewer.ground.staying
+        staying.places = {name: (x, y) for name, (x, y) in told["places"].items()}
+        staying.spots = {name: Box(*box) for name, box in told["spots"].items()}
+        staying.loose = set(told["loose"])
+        self.viewer.ground.take(self.lines[:told["mark"]])
+
+    def places(self, mark: int) -> Dict[str, Any]:
+        """Where things stand after the lines up to a mark, for another worker."""
+        staying = self.viewer.ground.staying
+        spots = {name: [box.x, box.y, box.width, box.height] for name, box in staying.spots.items()}
+        return {"mark": mark, "places": staying.places, "spots": spots, "loose": sorted(staying.loose)}
+
     def picture(self, job: Dict[str, Any]) -> bytes:
         """A picture as JSON.
 
         Where things stand depends on which lines came together. So these are told as `marks`, counts of lines: all
-        workers, also those that begin late, place things alike."""
+        workers place things alike."""
         for mark in job["marks"]:
             with contextlib.suppress(Mistake):
                 self.viewer.ground.take(self.lines[:mark])
