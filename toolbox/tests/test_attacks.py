@@ -579,7 +579,7 @@ class Growing(Attack):
             told = ben.ask("call", line="origin 1.0.0.1 99.%d.%d.0/24" % divmod(number, 250))
         self.assertRegex(told["error"], "the log has [0-9,]+ bytes of at most 1,000,000")
         self.assertEqual(ben.call("cost 1.0.0.1 1.0.0.1"), ["0 via 1.0.0.1"])
-        self.assertEqual(len(ben.ask("ask", line="routes 1.0.0.1")["reply"]), 2001)
+        self.assertGreater(len(ben.ask("ask", line="routes 1.0.0.1")["reply"]), 2001)
         size = sum((self.folder / name).stat().st_size for name in ("socket.log", "socket.log.seats"))
         self.assertLessEqual(size, 1000000)
         status, out = share.end()
