@@ -11,6 +11,7 @@ import subprocess
 import sys
 import threading
 import time
+import unittest
 
 from attackers import SOON, TWO, Attack, Until, answers, asked, entries, more_files, one_status, readable, soon, statuses
 from common import TOOLBOX, TOP, inside
@@ -376,6 +377,8 @@ class Loaded(Attack):
             self.assertEqual(told["reply"], ["ok"])
             done.append((line, ["ok"]))
         self.assertEqual(entries(self.folder / "socket.log", anna.seat), done)
+        # Workers under whom it died pause, and all are told so.
+        anna.ask("go")
         told = anna.ask("wait")
         self.assertTrue(told.get("quiet"), told)
         status, out = share.end()
@@ -401,3 +404,351 @@ class Loaded(Attack):
         self.join(lab, "ben").call("quiet")
         soon(lab)
         self.assertTrue(lab.is_alive())
+
+
+class Crowds(Attack):
+    """Many connections, by those who have no secret and those who only look."""
+
+    def setUp(self):
+        super().setUp()
+        self.server = self.lab(self.file("net.bgp", "\n".join(TWO)))
+        self.held = []
+        self.addCleanup(lambda: [each.close() for each in self.held])
+
+    def crowd(self, count, content):
+        """So many more connections, each of which sends something first."""
+        for _ in range(count):
+            made = self.server.connected()
+            self.held.append(made)
+            with contextlib.suppress(OSError):
+                made.sendall(content)
+                made.setblocking(False)
+
+    def drip(self):
+        """One more byte of each; those that are closed come anew, some each time."""
+        for at, each in enumerate(self.held):
+            with contextlib.suppress(BlockingIOError):
+                try:
+                    each.send(b"x")
+                except OSError:
+                    if at % 8 == 0:
+                        each.close()
+                        self.held[at] = self.server.connected()
+                        self.held[at].setblocking(False)
+
+    def assert_served(self, page, person):
+        """Who has a secret is answered: by a connection that is new, by one that was there, at the socket."""
+        self.assertLess(soon(self.server, key=self.server.keys["to work"]), SOON)
+        for ask in (page.ask, person.ask):
+            began = time.monotonic()
+            self.assertEqual(ask("call", line="quiet")["reply"], ["yes"])
+            self.assertLess(time.monotonic() - began, SOON)
+
+    def test_connections_without_the_secret_keep_nobody_out(self):
+        """Five hundred, and then three thousand: idle, with slow heads, with slow bodies."""
+        page, person = self.page(self.server, "ben"), self.join(self.server, "anna")
+        host = b"Host: 127.0.0.1:%d\r\n" % self.server.port
+        kinds = (b"", b"GET /", b"GET / HTTP/1.1\r\nX: ", b"POST /x/do HTTP/1.1\r\n" + host + b"Content-Length: 60000\r\n\r\n",
+                 b"\x16\x03\x01")
+        for count in (500, more_files(3000) - 500):
+            for kind in kinds:
+                self.crowd(count // len(kinds), kind)
+                self.assert_served(page, person)
+            for _ in range(3):
+                self.drip()
+                self.assert_served(page, person)
+        self.assert_well(self.server, person)
+
+    def test_idle_connections_of_lookers_keep_nobody_out(self):
+        """A thousand that asked for something once, by the secret of who looks."""
+        more_files(1000)
+        page, person = self.page(self.server, "ben"), self.join(self.server, "anna")
+        asking = get(self.server, "forms", key="to look")
+        for number in range(1000):
+            made = self.server.connected()
+            self.held.append(made)
+            made.sendall(asking)
+            if number % 50 == 0:
+                self.assert_served(page, person)
+        self.assert_served(page, person)
+        self.assertLess(soon(self.server), SOON)
+        self.assert_well(self.server, person)
+
+    def test_two_hundred_and_one_streams_of_lookers_keep_the_teacher_in(self):
+        asking = get(self.server, "events", key="to look")
+        found = []
+        for _ in range(201):
+            made = self.server.connected()
+            self.held.append(made)
+            made.sendall(asking)
+            found.append(made.recv(12).split(b" ")[1])
+        self.assertEqual(found, [b"200"] * 200 + [b"400"])
+        for _ in range(2):
+            self.assertEqual(self.server.get("")[0], 200)
+            page = self.page(self.server, "", "lab")
+            self.assertEqual(page.ask("call", line="quiet")["reply"], ["yes"])
+        self.assertTrue(self.server.is_alive())
+
+    def test_long_and_ever_other_questions_of_lookers_stay_in_no_memory(self):
+        """`from` of 64 KB, hundreds of names, and thousands of values: the memory stays as it is."""
+        look = self.server.keys["to look"]
+        self.server.get("picture", key=look)
+        before = self.server.memory()
+        for number in range(500):
+            content = get(self.server, "picture?from=%s&n%d=1" % ("%05d" % number * 13000, number), key="to look")
+            with self.server.connected() as line, contextlib.suppress(OSError):
+                line.sendall(content)
+                one_status(line)
+        lines = [self.server.connected() for _ in range(40)]
+        self.held += lines
+        found = set()
+        for number in range(25):
+            for at, line in enumerate(lines):
+                odd = "%d.%d" % (number, at)
+                line.sendall(get(self.server, "picture?prefix=10.%s.0/24&from=1.0.0.1&to=10.%s.7&%s=%s" % (
+                    odd, odd, "k" * 100 + odd, "v" * 128), key="to look"))
+            found |= {one_status(line) for line in lines}
+        self.assertLessEqual(found, {200, 400, 429, 503})
+        self.assertLess(self.server.memory() - before, 24 << 20)
+        self.assert_well(self.server, self.join(self.server, "anna"))
+
+
+class Looking(Attack):
+    """What those who look ask much of."""
+
+    def test_pictures_of_lookers_wait_behind_that_of_the_teacher(self):
+        """Thirty ask for pictures of ever other steps and prefixes; the teacher's one comes before most of these."""
+        lines = TWO + ["origin 1.0.0.1 10.%d.0.0/16" % number for number in range(60)]
+        lab = self.lab(self.file("net.bgp", "\n".join(lines)), PROGRAM=self.slow("", 0.2))
+        lookers = [lab.connected() for _ in range(30)]
+        self.addCleanup(lambda: [each.close() for each in lookers])
+        for number, line in enumerate(lookers):
+            line.sendall(get(lab, "picture?step=%d&prefix=10.%d.0.0/16" % (60 - 2 * number, number), key="to look"))
+        self.assertEqual(lab.get("picture?step=50&prefix=10.1.0.0/16")[0], 200)
+        self.assertLess(sum(readable(each, 0) for each in lookers), 15)
+        self.assertEqual(one_status(lookers[0]), 200)
+
+    def test_records_and_scripts_of_many_at_once_stay_in_no_memory(self):
+        """Twenty ask for each, and read nothing, of a log of 20 MB."""
+        lines = ["router 1.0.0.1 1"] + ["origin 1.0.0.1 10.%d.%d.0/24" % (one, two) for one in range(10) for two in range(250)]
+        lab = self.lab(self.file("net.bgp", "\n".join(lines)))
+        anna = self.join(lab, "anna")
+        for _ in range(130):
+            anna.call("routes 1.0.0.1")
+        self.assertGreater((self.folder / "log").stat().st_size, 15 << 20)
+        before = lab.memory()
+        held = [lab.connected() for _ in range(40)]
+        self.addCleanup(lambda: [each.close() for each in held])
+        for number, line in enumerate(held):
+            line.sendall(get(lab, ("record", "script")[number % 2], key=("to look", "lab", "to work")[number % 3]))
+        for line in held:
+            readable(line, 20)
+        self.assertLess(lab.memory() - before, 16 << 20)
+        self.assertLess(soon(lab), SOON)
+        self.assertEqual(anna.call("quiet"), ["yes"])
+        # Who reads has all of it.
+        for line in held:
+            line.close()
+        status, _, body = lab.get("record", key=lab.keys["to work"])
+        self.assertEqual((status, len(body) > 15 << 20, body.endswith(b"\nend %d\n" % (2501 + 131))), (200, True, True))
+        self.assertEqual(lab.told(), "")
+
+
+class Growing(Attack):
+    """What writes much to the log."""
+
+    LINES = ["router 1.0.0.1 1"] + ["origin 1.0.0.1 10.%d.%d.0/24" % (one, two) for one in range(8) for two in range(250)]
+
+    def test_a_log_stays_within_its_bound(self):
+        """A short question with a long reply, in a loop; past the bound edits are refused with that reason."""
+        share = self.share(self.file("net.bgp", "\n".join(self.LINES)), "--most-log", 1000000)
+        anna, ben = self.join(share, "anna"), self.join(share, "ben")
+        for _ in range(30):
+            self.assertEqual(len(anna.call("routes 1.0.0.1")), 2001)
+        number, told = 0, {}
+        while "error" not in told:
+            number += 1
+            self.assertLess(number, 500)
+            told = anna.ask("call", line="# name 1.0.0.1 %s%d" % ("x" * 4000, number))
+        self.assertRegex(told["error"], "the log has [0-9,]+ bytes of at most 1,000,000: nothing can be changed any more")
+        # A short one still had room. Where none has, all are told so.
+        told = {}
+        while "error" not in told:
+            number += 1
+            self.assertLess(number, 1500)
+            told = ben.ask("call", line="origin 1.0.0.1 99.%d.%d.0/24" % divmod(number, 250))
+        self.assertRegex(told["error"], "the log has [0-9,]+ bytes of at most 1,000,000")
+        self.assertEqual(ben.call("cost 1.0.0.1 1.0.0.1"), ["0 via 1.0.0.1"])
+        self.assertGreater(len(ben.ask("ask", line="routes 1.0.0.1")["reply"]), 2001)
+        size = sum((self.folder / name).stat().st_size for name in ("socket.log", "socket.log.seats"))
+        self.assertLessEqual(size, 1000000)
+        status, out = share.end()
+        self.assertEqual((status, "replay: ok " in out), (0, True))
+
+    def test_one_person_writes_so_much_in_a_minute_and_not_more(self):
+        """Of those who work each has 16 MiB a minute; others are not concerned, and questions are answered."""
+        lab = self.lab(self.file("net.bgp", "\n".join(self.LINES)))
+        page, other = self.page(lab, "ben"), self.page(lab, "carl")
+        told, count = {"reply": 1}, 0
+        while "reply" in told:
+            told, count = page.ask("call", line="routes 1.0.0.1"), count + 1
+            self.assertLess(count, 400)
+            page.heard.clear()
+        self.assertIn("which is the most: wait", told["error"])
+        written = len("\n".join(line for call in entries(self.folder / "log", 2) for line in call[1]))
+        self.assertLess(written, (16 << 20) + 200000)
+        self.assertGreater(written, 10 << 20)
+        self.assertIn("which is the most", page.ask("call", line="origin 1.0.0.1 99.0.0.0/8")["error"])
+        self.assertEqual(other.ask("call", line="origin 1.0.0.1 99.0.0.0/8")["reply"], ["ok"])
+        self.assertEqual(page.ask("ask", line="cost 1.0.0.1 1.0.0.1")["reply"], ["0 via 1.0.0.1"])
+        self.assertEqual(lab.told(), "")
+
+
+# Each word of the protocol, with fields that fit.
+WORDS = {"call": {"line": "origin 1.0.0.1 66.0.0.0/8"}, "ask": {"line": "quiet"}, "script": {"from": 0}, "waiting": {}, "next": {},
+         "watch": {"what": "all"}, "who": {}, "blame": {"router": "1.0.0.1"}, "undo": {}, "pause": {}, "go": {},
+         "pace": {"a_second": 5}, "step": {"count": 5}, "wait": {}, "propose": {"name": "x", "lines": ["fail 1.0.0.1 2.0.0.1"]},
+         "proposals": {}, "accept": {"number": 1}, "decline": {"number": 1}, "check": {}, "free": {"name": "anna"},
+         "enter": {"as": "anna"}, "show": {"step": 1}}
+
+
+class Roles(Attack):
+    """What each may do, and what nobody is told."""
+
+    def setUp(self):
+        super().setUp()
+        self.net = self.file("net.bgp", "\n".join(TWO))
+
+    def heard(self, lab, path):
+        """The first answer of a stream of events, as a page begins with it: its answer to `enter`."""
+        with lab.connected() as line:
+            line.sendall(get(lab, path, key="to work"))
+            content = b""
+            while b'"id":0' not in content and line:
+                part = line.recv(65536)
+                if not part:
+                    break
+                content += part
+        return re.search(rb'data: (\{"id":0.*?\})\n', content).group(1).decode()
+
+    def test_nobody_enters_by_the_name_of_another(self):
+        """Without a token, with that of another, with odd ones, at both doors, and after a restart, too."""
+        lab = self.lab(self.net)
+        anna, ben = self.join(lab, "anna"), self.join(lab, "ben")
+        for _ in range(2):
+            for token in (None, "", ben.token, anna.token[:-1], anna.token + "a", anna.token.upper(), "x" * 64, "x" * 65, "\0", 5,
+                          True, [], {}, [anna.token]):
+                with self.subTest(token=token):
+                    told = asked(self.join(lab), "enter", **{"as": "anna", "token": token})
+                    self.assertRegex(str(told), "the name anna is taken|`token` of the request `enter` is expected")
+            for token in ("", "&token=", "&token=" + ben.token, "&token=" + anna.token[:-1]):
+                self.assertIn("the name anna is taken", self.heard(lab, "events?as=anna" + token))
+            for name in ("the script", "worker 1", "seat 0", "anna ", " anna", "anna\u200b", "\u00a0anna", "an\u00adna", "\u202eanna"):
+                told = asked(self.join(lab), "enter", **{"as": name})
+                self.assertIn("a name is 1 to 32 characters", str(told), name)
+            self.assertEqual(self.join(lab, "anna", anna.token).seat, anna.seat)
+            self.assertNotIn(anna.token, (self.folder / "log.seats").read_text())
+            lab.end()
+            lab = self.lab()
+        self.assertEqual(lab.told(), "")
+
+    def test_who_looks_can_do_nothing(self):
+        """By no word, method or path, nor by the key of another page."""
+        lab = self.lab(self.net)
+        anna, page, teacher, look = (self.join(lab, "anna"), self.page(lab, "ben"), self.page(lab, "", "lab"),
+                                     self.page(lab, "", "to look"))
+        anna.ask("propose", name="x", lines=["fail 1.0.0.1 2.0.0.1"])
+        before = (self.folder / "log").read_bytes(), (self.folder / "log.seats").read_bytes(), anna.ask("who")
+        for key in (look.page, page.page, teacher.page, "", "x"):
+            for word, more in WORDS.items():
+                body = json.dumps({"id": 9, "do": word, **more}).encode()
+                self.assertEqual(lab.post(key, body, lab.keys["to look"]), 403)
+        for method in ("PUT", "DELETE", "PATCH", "POST", "HEAD", "OPTIONS"):
+            for path in ("do?page=" + page.page, "events?as=anna&token=" + anna.token, "show", "free", "enter", "", "record"):
+                self.assertIn(lab.get(path, method, b"{}", lab.keys["to look"], Content_Type="application/json")[0], (403, 404, 405))
+        for path in ("do?page=%s&id=1&do=call&line=quiet" % page.page, "show?step=1", "call?line=quiet", "accept?number=1"):
+            self.assertEqual(lab.get(path, key=lab.keys["to look"])[0], 404)
+        # By its own address `as` and a token make nobody of who looks.
+        other = self.page(lab, "anna&token=" + anna.token, "to look")
+        self.assertEqual(lab.post(other.page, b'{"id": 1, "do": "who"}', lab.keys["to look"]), 403)
+        after = (self.folder / "log").read_bytes(), (self.folder / "log.seats").read_bytes(), anna.ask("who")
+        self.assertEqual(after[:2], before[:2])
+        self.assertEqual(after[2]["people"], before[2]["people"])
+        self.assert_well(lab, anna)
+
+    def test_who_works_neither_shows_nor_frees(self):
+        """Nor by the key of the teacher's page, nor the teacher by a key without the secret."""
+        lab = self.lab(self.net)
+        anna, page, teacher, look = (self.join(lab, "anna"), self.page(lab, "ben"), self.page(lab, "", "lab"),
+                                     self.page(lab, "", "to look"))
+        for word in ("show", "free"):
+            self.assertEqual(page.ask(word, **WORDS[word])["error"], "`%s` is not for those who work" % word)
+            self.assertEqual(lab.post(teacher.page, json.dumps({"id": 1, "do": word, **WORDS[word]}).encode(), lab.keys["to work"]), 400)
+        for key in ("to look", "lab"):
+            self.assertIn(lab.post(page.page, b'{"id": 1, "do": "who"}', lab.keys[key]), (400, 403))
+        self.assertTrue(teacher.ask("show", step=2)["shown"])
+        self.assertEqual(look.until(lambda told: told.get("step") is not None)["step"], 2)
+        self.assert_well(lab, anna)
+
+    def test_nobody_accepts_a_proposal_of_his_own(self):
+        """Nor by a second connection, nor by another name that was entered with the same token."""
+        share = self.share(self.net)
+        anna, ben = self.join(share, "anna"), self.join(share, "ben")
+        self.assertIn("is taken", str(asked(self.join(share), "enter", **{"as": "ben", "token": anna.token})))
+        again, other = self.join(share, "anna", anna.token), self.join(share)
+        other.ask("enter", **{"as": "anna2", "token": anna.token})
+        number = anna.ask("propose", name="x", lines=["fail 1.0.0.1 2.0.0.1"])["number"]
+        late = self.join(share)
+        late.ask("enter", **{"as": "anna3", "token": anna.token})
+        for each in (anna, again, other, late):
+            for more in ({"number": number}, {}, {"number": None}):
+                self.assertEqual(each.ask("accept", **more)["error"], "proposal 1 is your own: another one accepts it")
+        self.assertIn("1 command made", ben.ask("accept")["text"])
+        self.assert_well(share, anna)
+
+    def test_no_secret_of_another_is_told(self):
+        """Answers, events, pictures, mistakes, records and standard error carry no token and no address of another."""
+        lab = self.lab(self.net)
+        people = {name: self.join(lab, name) for name in ("anna", "ben")}
+        pages = {role: self.page(lab, role.replace(" ", "-"), role) for role in lab.keys}
+        for each in people.values():
+            each.ask("watch", what="all")
+        told = {name: [] for name in (*people, *pages)}
+        for word, more in sorted(WORDS.items()):
+            for name in people:
+                told[name].append(people[name].ask(word, **more))
+            for role in ("to work", "lab"):
+                told[role].append(pages[role].ask(word, **more))
+        for role, key in lab.keys.items():
+            for path in ("", "lab.js", "picture", "table?router=1.0.0.1&prefix=10.0.0.0/8", "steps", "forms", "script", "record", "nothing",
+                         "picture?step=x", "picture?from=1.0.0.1&to=1.0.0.1", "table?router=x"):
+                told[role].append(str(lab.get(path, key=key)))
+            told[role].append(str(lab.get("", key="x")))
+        for name in people:
+            told[name] += people[name].events
+        for role in pages:
+            told[role] += pages[role].heard
+        secrets = {**{name: {each.token} for name, each in people.items()}, **{role: {key, pages[role].page} for role, key in lab.keys.items()}}
+        for name, seen in told.items():
+            text = str(seen)
+            self.assertGreater(len(text), 1000)
+            for other, some in secrets.items():
+                found = {each for each in some if each in text} if other != name else set()
+                self.assertEqual(found, set(), "%s was told a secret of %s" % (name, other))
+        for text in (lab.told(), (self.folder / "log").read_text(), (self.folder / "log.seats").read_text()):
+            self.assertEqual([each for some in secrets.values() for each in some if each in text], [])
+
+
+class Table(unittest.TestCase):
+    def test_each_attack_is_in_the_table_and_each_test_of_the_table_exists(self):
+        """Rows of docs/reference/security.md name tests, by file and name."""
+        text = (TOP / "docs" / "reference" / "security.md").read_text()
+        named = set(re.findall(r"^\| [^|\n]+ \| `(test_\w+)`, `(\w+\.test_\w+)` \|$", text, re.M))
+        self.assertEqual(text.count("`test_attacks`, `"), sum(file == "test_attacks" for file, _ in named))
+        for file in {file for file, _ in named} | {"test_attacks"}:
+            found = {"%s.%s" % (type(test).__name__, test._testMethodName) for suite in
+                     unittest.TestLoader().loadTestsFromName(file) for test in suite} - {"Table." + self._testMethodName}
+            of_table = {name for each, name in named if each == file}
+            self.assertEqual(of_table - found, set(), file)
+            if file == "test_attacks":
+                self.assertEqual(found - of_table, set())
