@@ -15,6 +15,8 @@ import subprocess
 from dataclasses import dataclass
 from typing import Dict, List, Optional, Sequence
 
+from .kit import Failed
+
 PROGRAM = "bgpsim"
 UNKNOWN = "unknown"
 # What each kind of program is made of.
@@ -125,12 +127,12 @@ def write(kind: Kind, tree: Tree, began: int, made: Optional[pathlib.Path] = Non
     """Puts the program `made` in its place with its record; with none the program that stands there gets its record.
 
     The program's time is when the build began, in nanoseconds, so that a file that was changed since is newer.
-    ValueError where the program does not run."""
+    Failed where the program does not run."""
     path = kind.path(tree.top)
     program = made or path
     version = version_of(program)
     if version is None:
-        raise ValueError("%s does not print its version" % program)
+        raise Failed("the program was built, and does not run: %s --version prints no version" % program)
     record = {"version": version, "commit": commit_of(tree.top), "is_proved": kind.is_proved, "kit": kit(),
               "digest": tree.digest(ALL_PARTS), "built_from": tree.digest(kind.parts), "sha256": sum_of(program)}
     path.parent.mkdir(parents=True, exist_ok=True)
@@ -180,7 +182,7 @@ def is_current(kind: Kind, top: pathlib.Path, now: int) -> bool:
         return False
     try:
         write(kind, tree, path.stat().st_mtime_ns)
-    except ValueError:
+    except Failed:
         return False
     return True
 
