@@ -47,7 +47,7 @@ def _is_same(one: str, other: str) -> bool:
 
 
 def _of_launcher(launcher: str) -> str:
-    """The program that a launcher would run; it is asked once in a process, so that a tool has one program throughout."""
+    """The program that a launcher would run. It is asked once in a process: a tool has one program throughout."""
     with _lock:
         if launcher not in _chosen:
             _chosen[launcher] = _asked(launcher)

@@ -1,8 +1,7 @@
-"""Where a program comes from: its record, `--version` of the launcher and of each tool, and what a sweep keeps of it."""
+"""Where a program comes from: its record, `--version` of the launcher and of each tool, what a sweep keeps of it."""
 import hashlib
 import json
 import os
-import pathlib
 import shutil
 import subprocess
 import sys
@@ -38,7 +37,8 @@ class Reading(Case):
     def test_of_a_program_with_a_record(self):
         found = provenance.of(self.program(**RECORD))
         self.assertEqual(found, Provenance("0.1.0", "c0ffee", True, "rattle-kit-1 logic 2", "sources-sha256:77"))
-        self.assertEqual(found.lines(), ["commit: c0ffee", "proved: yes, by rattle-kit-1 logic 2", "digest: sources-sha256:77"])
+        self.assertEqual(found.lines(), ["commit: c0ffee", "proved: yes, by rattle-kit-1 logic 2",
+                                         "digest: sources-sha256:77"])
         self.assertEqual(found.as_json(), {**RECORD, "digest": "sources-sha256:77"})
 
     def test_of_one_that_is_not_proved(self):
@@ -46,8 +46,8 @@ class Reading(Case):
         self.assertEqual(found.lines()[1], "proved: no, compiled by rattle-kit-1 logic 2")
 
     def test_without_a_record_its_own_sum_tells_it_from_others(self):
-        found = provenance.of(self.program())
-        self.assertEqual(found, Provenance("unknown", "unknown", None, "unknown", "program-sha256:" + sum_of(SCRIPT.encode())))
+        found, digest = provenance.of(self.program()), "program-sha256:" + sum_of(SCRIPT.encode())
+        self.assertEqual(found, Provenance("unknown", "unknown", None, "unknown", digest))
         self.assertEqual(found.lines()[:2], ["commit: unknown", "proved: unknown"])
 
     def test_a_record_of_another_program_is_left_aside(self):
@@ -58,8 +58,8 @@ class Reading(Case):
         self.assertIsNone(provenance.of(path).is_proved)
 
     def test_what_is_no_record(self):
-        path = self.program()
-        for text in ("", "[]", "{}", "7", json.dumps({**RECORD, "sha256": sum_of(SCRIPT.encode()), "is_proved": "yes"})):
+        path, total = self.program(), sum_of(SCRIPT.encode())
+        for text in ("", "[]", "{}", "7", json.dumps({**RECORD, "sha256": total, "is_proved": "yes"})):
             self.file("bgpsim.json", text)
             provenance._of.cache_clear()
             self.assertEqual(provenance.of(path).commit, "unknown", text)
@@ -91,7 +91,8 @@ class Reading(Case):
         path = self.program(**RECORD)
         self.assertEqual(provenance.version_lines(path)[:2], ["bgpsim 0.1.0", "commit: c0ffee"])
         executable(self.folder / "fails", "#!/bin/sh\nexit 7\n")
-        for name, said in (("fails", "`--version` ended with status 7"), ("none", "the program cannot be run: No such file or directory")):
+        for name, said in (("fails", "`--version` ended with status 7"),
+                           ("none", "the program cannot be run: No such file or directory")):
             with self.assertRaises(Mistake) as caught:
                 provenance.version_lines(str(self.folder / name))
             self.assertEqual(str(caught.exception), "%s: %s" % (self.folder / name, said))
@@ -111,7 +112,8 @@ class Writing(Case):
 
     def git(self, *words):
         """Runs git in the repository."""
-        names = {"GIT_%s_%s" % (who, what): "a@b.example" for who in ("AUTHOR", "COMMITTER") for what in ("NAME", "EMAIL")}
+        names = {"GIT_%s_%s" % (who, what): "a@b.example"
+                 for who in ("AUTHOR", "COMMITTER") for what in ("NAME", "EMAIL")}
         ran = subprocess.run(["git", *words], cwd=str(self.here.top), env={**self.here.surroundings(), **names},
                              stdout=subprocess.PIPE, stderr=subprocess.DEVNULL, check=True)
         return ran.stdout.decode().strip()
@@ -138,11 +140,9 @@ class Writing(Case):
         self.here.write("crates/low/src/lib.rt", "without git")
         only = self.folder / "only"
         only.mkdir()
-        for folder in ("/usr/bin", "/bin", os.path.dirname(sys.executable)):
-            for path in pathlib.Path(folder).iterdir():
-                if path.name in ("bash", "sh", "env", "readlink", "find", "cat", "ls", "rm", "mv", "mkdir", "cp", "sed", "chmod",
-                                 "sleep", "flock", "python3") and not (only / path.name).exists():
-                    (only / path.name).symlink_to(path)
+        for name in "bash sh env readlink find cat ls rm mv mkdir cp chmod sleep flock".split():
+            (only / name).symlink_to(shutil.which(name))
+        (only / "python3").symlink_to(sys.executable)
         self.assertEqual(self.version(PATH="%s:%s" % (self.here.kit / "bin", only))[1], "commit: unknown")
 
     def test_a_repository_around_this_one_is_not_its_own(self):
@@ -150,10 +150,11 @@ class Writing(Case):
         self.assertEqual(build_record.commit_of(self.here.top), "unknown")
 
     def test_the_digest_is_of_sources_definitions_and_proofs(self):
-        """A document, a comment of crates.txt and a crate beside keep it; the program that is proved has the same one."""
+        """A document, a comment of crates.txt and a crate beside keep it; the proved program has the same one."""
         first = self.version()[3]
         self.assertRegex(first, "^digest: sources-sha256:[0-9a-f]{64}$")
-        for path, text in (("README.md", "words"), ("crates.txt", "low:\nbgpsim: low\n# said otherwise\n"), ("crates/other/src/lib.rt", "x")):
+        for path, text in (("README.md", "words"), ("crates.txt", "low:\nbgpsim: low\n# said otherwise\n"),
+                           ("crates/other/src/lib.rt", "x")):
             self.here.write(path, text)
             shutil.rmtree(str(self.here.out))
             self.assertEqual(self.version()[3], first, path)
@@ -181,8 +182,9 @@ class Writing(Case):
                                                            "digest: program-sha256:" + sum_of(SCRIPT.encode())])
 
     def test_the_crates_that_a_program_stands_on(self):
-        lines = build_record.crate_lines("# a\nlow may_wait=2: std_of_kit # why\nside: low\n\nbgpsim:  low  mid\nmid: low\ntop: bgpsim\n")
-        self.assertEqual(lines, {"low": "low may_wait=2: std_of_kit", "bgpsim": "bgpsim:  low  mid", "mid": "mid: low"})
+        text = "# a\nlow may_wait=2: std_of_kit # why\nside: low\n\nbgpsim:  low  mid\nmid: low\ntop: bgpsim\n"
+        self.assertEqual(build_record.crate_lines(text), {
+            "low": "low may_wait=2: std_of_kit", "bgpsim": "bgpsim:  low  mid", "mid": "mid: low"})
 
 
 class Tools(Case):
@@ -220,7 +222,8 @@ class Sweeps(Case):
         results = self.folder / "results"
         page = self.sweep("--results", results, "--html").stdout
         self.assertEqual(json.loads(results.read_text().splitlines()[0])["program"], made.as_json())
-        self.assertIn('<pre id="program">bgpsim unknown\ncommit: c0ffee\nproved: no, compiled by a kit\ndigest: sources-sha256:7</pre>', page)
+        said = "bgpsim unknown\ncommit: c0ffee\nproved: no, compiled by a kit\ndigest: sources-sha256:7"
+        self.assertIn('<pre id="program">%s</pre>' % said, page)
         self.assertEqual(json.loads(self.sweep("--json").stdout)["program"], made.as_json())
 
     def test_results_of_another_program_are_not_gone_on_with(self):
