@@ -17,7 +17,7 @@ import threading
 import zipfile
 from typing import Any, Dict, List, Optional, Tuple
 
-from . import __version__, where
+from . import __version__, provenance, where
 from .clock import Clock
 from .figures import Figures
 from .mistakes import Mistake
@@ -29,6 +29,8 @@ PACKAGE, DEBIAN = "distributed", "/usr/bin/python3"
 HOW = "apt-get install python3-distributed"
 # So long a scheduler is waited for, in seconds.
 PATIENCE = 10
+# What a worker must have alike, in the order of `version_of`.
+COMPARED = ("Python", "bgptools", "the program", "the program's sources")
 # What a worker keeps, by its threads: which part of which sweep, and what plays it.
 _kept: Dict[int, Tuple[str, Player]] = {}
 _lock = threading.Lock()
@@ -36,10 +38,14 @@ _lock = threading.Lock()
 
 # What is done on a worker
 
-def version_of(program: Optional[str]) -> Tuple[str, str, str]:
-    """The versions here of Python, this package and the program; in the place of the last what is wrong with it."""
+def version_of(program: Optional[str]) -> Tuple[str, str, str, str]:
+    """The versions here of Python, this package and the program, and the digest of the program.
+
+    In the place of the program's version stands what is wrong with it."""
+    digest = provenance.UNKNOWN
     try:
         path = program or where.program()
+        digest = provenance.of(path).digest
         ran = subprocess.run([path, "--version"], stdin=subprocess.DEVNULL, stdout=subprocess.PIPE, timeout=60)
         told = ran.stdout.decode("latin-1").split("\n")[0]
         told = told if ran.returncode == 0 else "%s ends with status %d" % (path, ran.returncode)
@@ -47,7 +53,7 @@ def version_of(program: Optional[str]) -> Tuple[str, str, str]:
         told = str(mistake)
     except (OSError, subprocess.TimeoutExpired) as error:
         told = str(error)
-    return ".".join(platform.python_version_tuple()[:2]), __version__, told
+    return ".".join(platform.python_version_tuple()[:2]), __version__, told, digest
 
 
 def settle_there(given: bytes, program: Optional[str]) -> bytes:
@@ -140,12 +146,12 @@ def _send_package(client: Any) -> None:
 
 
 def _check_versions(client: Any, address: str, program: Optional[str]) -> None:
-    """Ends with a mistake where a worker has another version of something, or lacks the program."""
+    """Ends with a mistake where a worker has another version of something, another program, or none."""
     here, there = version_of(None), client.run(version_of, program)
     if not there:
         raise Mistake("--scheduler %s: it has no workers" % address)
     for worker, found in there.items():
-        for name, one, other in zip(("Python", "bgptools", "the program"), found, here):
+        for name, one, other in zip(COMPARED, found, here):
             if one != other:
                 raise Mistake("--scheduler %s: the worker %s has another version of %s: `%s`, and here it is `%s`"
                               % (address, worker, name, one, other))

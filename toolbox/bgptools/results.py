@@ -9,18 +9,21 @@ from typing import Any, Dict, Optional, Tuple
 
 from .figures import Figures
 from .mistakes import Mistake
+from .provenance import UNKNOWN, Provenance
 
 # A part of the network, and a change.
 Task = Tuple[int, int]
 
 
 class Results:
-    """What is known of each task. With a path it is kept in that file, whose first line says what the sweep is of: by
-    `about`, a digest. Mistake where the file is one of another sweep, or is there and not to be gone on with."""
+    """What is known of each task. With a path it is kept in that file, whose first line says what the sweep is of, by
+    `about`, a digest, and which program played it. Mistake where the file is one of another sweep or another program,
+    or is there and not to be gone on with."""
 
-    def __init__(self, path: Optional[str], about: str, is_resumed: bool) -> None:
+    def __init__(self, path: Optional[str], about: str, is_resumed: bool, program: Provenance) -> None:
         self.known: Dict[Task, Figures] = {}
-        self.path, self.head = path, {"sweep": 1, "about": about}
+        self.path = path
+        self.head: Dict[str, Any] = {"sweep": 1, "about": about, "program": program.as_json()}
         self.file = -1 if path is None else self._opened(path, is_resumed)
         if self.file >= 0:
             self._begin()
@@ -66,9 +69,14 @@ class Results:
             raise Mistake("no line of a sweep's results", self.path, number) from None
 
     def _check(self, found: Dict[str, Any]) -> None:
-        if found != self.head:
+        """Takes the first line of a file of results. Programs of one digest are the same, whatever their commits."""
+        if any(found.get(name) != self.head[name] for name in ("sweep", "about")):
             raise Mistake("it has the results of another sweep: of another script, other changes or other words",
                           self.path, 1)
+        there, here = (each.get("digest", UNKNOWN) for each in (found.get("program", {}), self.head["program"]))
+        if there != here or here == UNKNOWN:
+            raise Mistake("it has the results of another program, of digest %s, and this one has %s: "
+                          "name that program by PROGRAM=, or begin another file" % (there, here), self.path, 1)
 
     def add(self, task: Task, figures: Figures) -> None:
         """A result. One that is known already is left as it is."""

@@ -6,7 +6,7 @@ import sys
 from dataclasses import dataclass, replace
 from typing import Callable, Dict, List, Optional, Tuple
 
-from . import cluster, output, sweep_table, trials
+from . import cluster, output, provenance, sweep_table, trials, where
 from .mistakes import CHANGED, WRONG, Mistake
 from .network import Network
 from .parts import Parts
@@ -163,7 +163,8 @@ def main(words: Optional[List[str]] = None) -> int:
     asked = sweep_of(chosen)
     if not asked.trials:
         raise Mistake("the network has nothing of what is to be changed", chosen.base)
-    known = Results(chosen.results, about(asked.jobs), chosen.resume)
+    program = provenance.of(where.program())
+    known = Results(chosen.results, about(asked.jobs), chosen.resume, program)
     try:
         if chosen.scheduler:
             cluster.play_by(chosen.scheduler, chosen.program, asked.jobs, known)
@@ -171,7 +172,7 @@ def main(words: Optional[List[str]] = None) -> int:
             play_here(asked.jobs, asked.quiet, known, chosen.jobs or processors())
     finally:
         known.close()
-    table = Table(chosen.base, asked.trials, rows_of(asked.jobs, known), asked.network.names)
+    table = Table(chosen.base, asked.trials, rows_of(asked.jobs, known), asked.network.names, program)
     for trial, found in (row for row in table.rows if row[1].mistake):
         print("%s: %s" % (trial.title, found.mistake), file=sys.stderr)
     form = next((form for name, form in FORMS.items() if getattr(chosen, name)), sweep_table.text_of)

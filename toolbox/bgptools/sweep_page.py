@@ -19,6 +19,7 @@ def page_of(table: Table) -> str:
     frame = (pkgutil.get_data("bgptools", "sweep.html") or b"").decode("utf-8")
     values: Dict[str, str] = {
         "TITLE": shown("Changes of " + table.base), "SUMMARY": shown("\n".join(table.summary())),
+        "PROGRAM": shown("\n".join(["bgpsim " + table.program.version, *table.program.lines()])),
         "CHANGES": "\n".join(_change(place, row) for place, row in zip(table.places, table.rows)),
         "HEAD": "".join("<th><button>%s</button></th>" % (name or "remark") for name in COLUMNS),
         "ROWS": "\n".join(_row(table, place, row) for place, row in zip(table.places, table.rows)),

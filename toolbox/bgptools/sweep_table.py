@@ -9,6 +9,7 @@ from typing import Any, Dict, List, Tuple
 from .figures import Figures
 from .language import by_address
 from .names import Names
+from .provenance import Provenance
 from .summary import count
 from .trials import ORDER, Trial
 
@@ -19,10 +20,11 @@ TITLES = ("lost", "black holes", "loops", "moved", "gained", "told", "down", "me
 
 class Table:
     """The rows of a sweep of a base, the worst first; `places` has the number of each change, from 1. Stable states are
-    numbered, those that most orders end in first."""
+    numbered, those that most orders end in first. `program` is which program played it."""
 
-    def __init__(self, base: str, trials: List[Trial], figures: List[Figures], names: Names) -> None:
-        self.base, self.names = base, names
+    def __init__(self, base: str, trials: List[Trial], figures: List[Figures], names: Names,
+                 program: Provenance) -> None:
+        self.base, self.names, self.program = base, names, program
         rows: List[Row] = list(zip(trials, figures))
         order = sorted(range(len(rows)), key=lambda at: (figures[at].rank(), at))
         self.rows, self.places = [rows[at] for at in order], [at + 1 for at in order]
@@ -112,4 +114,5 @@ def json_of(table: Table) -> str:
     """The table for a program."""
     rows = [_json_row(table, place, *row) for place, row in zip(table.places, table.rows)]
     states = [{"state": number, "orders": table.states[state]} for number, state in enumerate(table.known, 1)]
-    return json.dumps({"base": table.base, "changes": rows, "states": states, "names": table.names.of}, indent=2) + "\n"
+    return json.dumps({"base": table.base, "program": table.program.as_json(), "changes": rows, "states": states,
+                       "names": table.names.of}, indent=2) + "\n"

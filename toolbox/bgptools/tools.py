@@ -6,9 +6,9 @@ import importlib
 import os
 import sys
 from types import ModuleType
-from typing import List
+from typing import Any, List
 
-from . import libraries
+from . import libraries, provenance, where
 from .mistakes import Mistake, ended
 
 # Each is the name of a launcher in toolbox/, a copy of `launch`, and with `_` for `-` of the module with its `parser`
@@ -31,14 +31,26 @@ def sentence_of(name: str) -> str:
     return (module_of(name).__doc__ or "").strip().split("\n")[0]
 
 
+class Version(argparse.Action):
+    """Prints what `bgpsim --version` prints, of the program that the tool would run, and ends."""
+
+    def __call__(self, parser: argparse.ArgumentParser, *_: Any, **__: Any) -> None:
+        print("\n".join(provenance.version_lines(where.program())))
+        parser.exit()
+
+
 def run(name: str, called: str, words: List[str]) -> int:
-    """Runs a tool on the words of its command line; its usage and its mistakes of usage name it as it was called."""
+    """Runs a tool on the words of its command line; its usage and its mistakes of usage name it as it was called.
+
+    Each tool has --version."""
     module = module_of(name)
     parser = module.parser
 
     def named() -> argparse.ArgumentParser:
         made: argparse.ArgumentParser = parser()
         made.prog = called
+        made.add_argument("--version", action=Version, nargs=0, help=(
+            "print the version of the program, its commit, whether it was proved, and of which sources, and end"))
         return made
 
     setattr(module, "parser", named)

@@ -4,7 +4,8 @@
     bench/edits [--runs N] --ratios                  origins beside heard, a change of calm 1000 beside one of calm 30,
                                                      a change of moved 1000
 
-It builds the program first; PROGRAM= is another one. Each load is run three times each way, or N times, in turn.
+It needs the proved program (./bgpsim --prove); PROGRAM= is another one.
+Each load is run three times each way, or N times, in turn.
 The median of the processor times and of the times of a clock are printed, the least in brackets, and the median of
 what the clock's time with all processors is of that with one, pair by pair. What a change alone takes is the
 difference of two runs, of the load with its changes several times over and of the load without them, by the number
@@ -86,7 +87,7 @@ def main(words: Sequence[str]) -> int:
     if given.runs < 1 or bool(given.loads) == given.ratios:
         asked.error("loads, each KIND with its N, or --ratios; and a run at least")
     pairs = commands.pairs(asked, given.loads, edit_loads.LOADS)
-    loads = Loads(programs.built_bgpsim(), given.runs)
+    loads = Loads(programs.current_bgpsim(), given.runs)
     for kind, count in pairs:
         loads.measure(kind, count)
     if given.ratios:

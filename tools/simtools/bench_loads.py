@@ -2,7 +2,8 @@
 
     bench/loads table|reflector|ring|net|tagged N        tools/loads says what each load is
 
-It builds the program first; PROGRAM= is another one. The processor time and the memory are those of the program
+It needs the proved program (./bgpsim --prove); PROGRAM= is another one.
+The processor time and the memory are those of the program
 alone; they are taken by /usr/bin/time. After that the script is given once more, line by line, and the time until
 each reply stands is taken; that is the time of a clock.
 """
@@ -76,5 +77,5 @@ def main(words: Sequence[str]) -> int:
     asked.add_argument("kind", choices=sorted(loads.LOADS))
     asked.add_argument("count", type=commands.number, metavar="N")
     given = asked.parse_args(words)
-    measure(programs.built_bgpsim(), given.kind, given.count)
+    measure(programs.current_bgpsim(), given.kind, given.count)
     return 0

@@ -28,16 +28,17 @@ def bgpsim() -> str:
     """The path of the program: PROGRAM=, else what was built of crates/bgpsim. Missing where it is not there."""
     if is_chosen():
         return _found(os.environ["PROGRAM"], "PROGRAM= names it")
-    return _found(str(TOP / "crates" / "bgpsim" / "out" / "bgpsim"), "./bgpsim --version builds it")
+    return _found(str(TOP / "crates" / "bgpsim" / "out" / "bgpsim"), "./bgpsim --prove builds it")
 
 
-def built_bgpsim() -> str:
-    """The same, built first where it has to be; a PROGRAM= is taken as it is. Missing where that fails."""
+def current_bgpsim() -> str:
+    """The same; a PROGRAM= is taken as it is. Missing where the program is there and was built of other files."""
+    path = bgpsim()
     if not is_chosen():
-        asked = subprocess.run([str(TOP / "bgpsim"), "--version"], stdin=subprocess.DEVNULL, stdout=subprocess.DEVNULL)
-        if asked.returncode:
-            raise Missing("./bgpsim --version ended with status %d and built no program" % asked.returncode)
-    return bgpsim()
+        words = [sys.executable, "-B", str(TOP / "tools" / "build"), "--is-current", "proved"]
+        if subprocess.run(words, stdin=subprocess.DEVNULL).returncode:
+            raise Missing("%s was built of other files than are here: ./bgpsim --prove builds it" % path)
+    return path
 
 
 def machine_scripts() -> str:

@@ -2,7 +2,8 @@
 
     tools/real-routers SCRIPT...        as root, with FRR's daemons (Debian's package frr) and iproute2
 
-It builds the program first; PROGRAM= is another one. The script is played, then everything is delivered, and the
+It needs the proved program (./bgpsim --prove); PROGRAM= is another one.
+The script is played, then everything is delivered, and the
 program is asked for each router's `routes`, and `why` for each prefix. The network as it is then is built of
 network namespaces: a router is FRR's zebra and bgpd, a link a pair of devices, interior costs are the metrics of
 kernel routes, and tools/speaker stands for each virtual peer. Once its tables stay as they are, each chosen route
@@ -387,5 +388,5 @@ def main(words: Sequence[str]) -> int:
     asked = commands.parser(__doc__)
     asked.add_argument("scripts", nargs="+", metavar="SCRIPT")
     scripts = asked.parse_args(words).scripts
-    programs.built_bgpsim()
+    programs.current_bgpsim()
     return 1 if sum(map(compare, scripts)) else 0
