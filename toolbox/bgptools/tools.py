@@ -31,17 +31,21 @@ def sentence_of(name: str) -> str:
     return (module_of(name).__doc__ or "").strip().split("\n")[0]
 
 
+def parser_of(name: str, called: str) -> argparse.ArgumentParser:
+    """What reads the words of a tool, as it is called."""
+    return _named(module_of(name).parser(), called)
+
+
+def _named(made: argparse.ArgumentParser, called: str) -> argparse.ArgumentParser:
+    made.prog = called
+    return made
+
+
 def run(name: str, called: str, words: List[str]) -> int:
     """Runs a tool on the words of its command line; its usage and its mistakes of usage name it as it was called."""
     module = module_of(name)
     parser = module.parser
-
-    def named() -> argparse.ArgumentParser:
-        made: argparse.ArgumentParser = parser()
-        made.prog = called
-        return made
-
-    setattr(module, "parser", named)
+    setattr(module, "parser", lambda: _named(parser(), called))
     status: int = module.main(words)
     return status
 

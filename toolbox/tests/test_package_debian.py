@@ -1,5 +1,7 @@
 """tools/package and debian/: what is in the package, what it says of itself, and what runs from an empty root."""
 import gzip
+import hashlib
+import json
 import os
 import pathlib
 import re
@@ -29,8 +31,8 @@ STAND_IN = "#!/bin/sh\necho bgpsim 7.8\n"
 # In the place of dpkg-buildpackage: the package is a text with what that was given.
 BUILDER = """\
 #!/bin/sh
-{ echo "words $*"; echo "program $($PROGRAM)"; cat debian/changelog; echo "origin $(cat debian/origin)"; } \\
-    > ../bgpsim_1_amd64.deb
+{ echo "words $*"; echo "program $($PROGRAM)"; cat debian/changelog; echo "origin $(cat debian/origin)"
+[ -f "$PROGRAM.json" ] && echo record there || echo record none; } > ../bgpsim_1_amd64.deb
 """
 # Asks bash for the completion of its arguments, behind the script that defines it.
 ASKS = """
@@ -60,6 +62,14 @@ def packed(top, out, **surroundings):
     return told, files[0] if len(files) == 1 else None
 
 
+def recorded(program, is_proved):
+    """Puts the record of a program beside it, as a build does; its text."""
+    text = json.dumps({"version": "7.8", "commit": "0a1b", "is_proved": is_proved, "kit": "kit-9", "digest": "2c",
+                       "sha256": hashlib.sha256(program.read_bytes()).hexdigest()})
+    program.with_name(program.name + ".json").write_text(text)
+    return text
+
+
 def example_of(name):
     """The first example of docs/TOOLBOX.md that calls a tool, and its output; None where there is none."""
     found = re.search(r"```\n\$ toolbox/(%s [^\n]*)\n(.*?)```" % name, (TOP / "docs" / "TOOLBOX.md").read_text(), re.S)
@@ -77,7 +87,9 @@ class Package(Case):
         cls.addClassCleanup(kept.cleanup)
         cls.root, out = pathlib.Path(kept.name) / "root", pathlib.Path(kept.name) / "out"
         out.mkdir()
-        cls.told, cls.path = packed(TOP, out, PATH=os.environ["PATH"], PROGRAM=where.program())
+        cls.program = pathlib.Path(shutil.copy(where.program(), kept.name))
+        cls.record = recorded(cls.program, False)
+        cls.told, cls.path = packed(TOP, out, PATH=os.environ["PATH"], PROGRAM=cls.program)
         assert cls.path, cls.told
         subprocess.run(["dpkg-deb", "-x", str(cls.path), str(cls.root)], check=True, timeout=100)
         listed = alone(["dpkg-deb", "-c", cls.path], out, PATH=os.environ["PATH"], TZ="UTC").stdout.decode()
@@ -106,10 +118,13 @@ class Package(Case):
 
     def test_what_it_says_of_its_origin_is_a_paragraph(self):
         lines = fields_of(self.path)["Description"].split("\n")
-        at = next(number for number, line in enumerate(lines) if line.startswith(" The program was given by hand"))
+        at = next(number for number, line in enumerate(lines) if line.startswith(" The program is not proved."))
         self.assertEqual(lines[at - 1], " .")
         for line in lines[at:]:
             self.assertRegex(line, r"^ \S.{,78}$")
+
+    def test_it_has_the_record_of_the_program(self):
+        self.assertEqual((self.root / "usr/share/bgpsim/provenance.json").read_text(), self.record)
 
     def test_lintian_finds_nothing(self):
         self.assertTrue(shutil.which("lintian"), "lintian is not installed: tools/setup")
@@ -120,7 +135,7 @@ class Package(Case):
     def test_twice_the_same(self):
         kept = os.umask(0o077)
         try:
-            told, path = packed(TOP, self.folder, PATH=os.environ["PATH"], PROGRAM=where.program(), TZ="Asia/Tokyo")
+            told, path = packed(TOP, self.folder, PATH=os.environ["PATH"], PROGRAM=self.program, TZ="Asia/Tokyo")
         finally:
             os.umask(kept)
         self.assertTrue(path, told)
@@ -187,7 +202,7 @@ class Package(Case):
         self.assertEqual((told.stdout.decode(), told.stderr), (wanted, b""))
 
     def test_the_program_the_tools_and_the_documents_are_those_of_here(self):
-        self.assertEqual((self.root / "usr/bin/bgpsim").read_bytes(), pathlib.Path(where.program()).read_bytes())
+        self.assertEqual((self.root / "usr/bin/bgpsim").read_bytes(), self.program.read_bytes())
         scripts = [*(TOP / "examples").rglob("*.bgp"), *(TOP / "toolbox/lessons").glob("*.*")]
         for path in (TOP / "README.md", *(TOP / "docs").glob("*.md"), *scripts):
             self.assertEqual((self.root / DOCUMENTS / path.relative_to(TOP)).read_bytes(), path.read_bytes())
@@ -309,7 +324,6 @@ class Staged(Case):
         for name in MAKERS:
             self.file("bin/" + name, BUILDER).chmod(0o755)
         self.source = self.file("top/crates/sim_core/src/lib.rt", "")
-        self.file("top/README.md", "The kit (`rattle-kit-7 logic 0a1b`) is trusted.\n")
         anna = ["-c", "user.name=Anna", "-c", "user.email=anna@ex"]
         for words_of in (["init", "-q"], ["add", "-A"], [*anna, "commit", "-qm", "All"]):
             told = alone([GIT, *words_of], self.top, GIT_COMMITTER_DATE="%d +0000" % SECONDS, HOME=self.folder)
@@ -343,23 +357,35 @@ class Staged(Case):
         self.assertEqual((told.returncode, told.stdout, path), (2, b"", None))
         return told.stderr.decode()
 
-    def test_the_commit_and_the_kit(self):
-        self.file("bin/rt", "#!/bin/sh\n[ \"$*\" = version ] && echo rattle-kit-9 logic 77ff\n").chmod(0o755)
+    def test_the_commit_and_the_version(self):
         made = self.made()
-        self.assertIn("origin The program was proved and built of commit %s by rattle-kit-9 logic 77ff." % self.commit, made)
         self.assertIn(" program bgpsim 7.8 bgpsim (7.8+20231114.221320.%s) unstable; urgency=medium * Commit %s. -- "
                       % (self.commit[:9], self.commit), made)
         self.assertIn("> Tue, 14 Nov 2023 22:13:20 +0000 bgpsim (0.1.0) unstable; ", made)
         self.assertTrue(made.startswith("words --unsigned-source --unsigned-changes --build=binary "), made)
 
-    def test_the_kit_that_the_documents_name(self):
-        proved = "proved and built of commit %s by rattle-kit-7 logic 0a1b." % self.commit
-        self.assertIn(proved, self.made())
+    def test_what_the_record_of_the_program_says(self):
+        recorded(self.program, True)
+        self.assertIn("origin The program was proved and built of commit 0a1b by kit-9. record there", self.made())
+        recorded(self.program, False)
+        self.assertIn("origin The program is not proved. It was compiled of commit 0a1b by kit-9. record there", self.made())
+
+    def test_without_a_record_of_this_program_nothing_is_known(self):
+        unknown = ("origin It is not known of which commit the program was built, and whether it was proved. "
+                   "All else is of commit %s. record none" % self.commit)
+        self.assertIn(unknown, self.made())
+        recorded(self.program, True)
+        self.program.write_text(STAND_IN + "\n")
+        self.assertIn(unknown, self.made())
+        for text in ("no JSON", "[1]", "{}"):
+            self.file("top/crates/bgpsim/out/bgpsim.json", text)
+            self.assertIn(unknown, self.made())
 
     def test_local_changes(self):
         self.file("top/docs/NEW.md", "")
         made = self.made()
-        self.assertIn("proved and built of commit %s with local changes by" % self.commit, made)
+        self.assertIn("All else is of commit %s with local changes." % self.commit, made)
+        self.assertIn("* Commit %s with local changes. -- " % self.commit, made)
         self.assertIn(".%s.changed) unstable" % self.commit[:9], made)
 
     def test_files_that_are_new_or_gone(self):
@@ -372,20 +398,14 @@ class Staged(Case):
         self.assertNotIn("./docs/LAB.md", files)
         self.assertNotIn("./toolbox/build/old.py", files)
 
-    def test_a_program_that_is_given_is_not_said_to_be_proved(self):
-        made = self.made(PROGRAM=self.program)
-        unknown = "it is not known here of which commit it was built, and whether it was proved"
-        self.assertIn(unknown, made)
-        self.assertNotIn("was proved and built", made)
-
     def test_nothing_is_made_without_the_program(self):
         self.program.unlink()
-        self.assertEqual(self.refused(), "%s: there is no program: ./bgpsim --version builds it\n" % self.program)
+        self.assertEqual(self.refused(), "%s: there is no program: ./bgpsim --prove builds it\n" % self.program)
 
     def test_nothing_is_made_of_an_old_program(self):
         later = time.time() + 100
         os.utime(self.source, (later, later))
-        why = "it is newer than the program: ./bgpsim --version builds it"
+        why = "it is newer than the program: ./bgpsim --prove builds it"
         self.assertEqual(self.refused(), "crates/sim_core/src/lib.rt: %s\n" % why)
 
     def test_of_what_the_program_is_not_made_may_be_newer(self):
@@ -397,7 +417,7 @@ class Staged(Case):
 
     def test_nothing_is_made_of_a_program_of_other_crates(self):
         self.file("top/crates/bgpsim/out/bgpsim.crates", "seq:\nshared_map: seq decimal\n")
-        told = "crates.txt: it is newer than the program: ./bgpsim --version builds it\n"
+        told = "crates.txt: it is newer than the program: ./bgpsim --prove builds it\n"
         self.assertEqual(self.refused(), told)
         (self.top / "crates/bgpsim/out/bgpsim.crates").unlink()
         later = time.time() + 100
@@ -412,11 +432,6 @@ class Staged(Case):
     def test_without_a_commit_nothing_is_made(self):
         shutil.rmtree(self.top / ".git")
         self.assertRegex(self.refused(GIT_CEILING_DIRECTORIES=self.folder), "^git: .*not a git repository")
-
-    def test_without_a_kit_nothing_is_made(self):
-        for path in [self.top / "README.md", *(self.top / "docs").glob("*.md")]:
-            path.write_text(re.sub("rattle-kit-", "kit-", path.read_text()))
-        self.assertIn("it is not known which kit proved the program", self.refused())
 
     def test_without_debians_tools_nothing_is_made(self):
         alone_there = self.folder / "alone"
