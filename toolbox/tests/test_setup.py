@@ -2,6 +2,7 @@
 import re
 import shutil
 
+from bgptools import libraries
 from common import TOP, Case, alone
 
 SETUP = (TOP / "tools" / "setup").read_text()
@@ -148,6 +149,18 @@ class Setup(Case):
         said = "tools/setup: there is no Python 3.8 or later: install one, and call tools/setup again\n"
         self.assertEqual(self.setup_told(), (1, "", said))
         self.assertIn("missing: the command python3 (Debian package python3)\n", self.setup_told("--check")[1])
+
+    def test_it_has_what_tools_and_packages_need(self):
+        rows = dict(re.findall(r"(?m)^(?:command|library) (\S+) (\S+)$", SETUP))
+        text = (TOP / "packaging/staging.py").read_text()
+        makers = re.findall('"(.*?)"', re.search(r"(?m)^NEEDED = \((.*)\)$", text).group(1))
+        self.assertIn("help2man", makers)
+        self.assertLessEqual(set(makers) | set(libraries.LIBRARIES), set(rows))
+        self.assertEqual({name: rows[name] for name in libraries.LIBRARIES},
+                         {name: library.package for name, library in libraries.LIBRARIES.items()})
+        depends = (TOP / "debian/control").read_text()
+        for library in libraries.LIBRARIES.values():
+            self.assertIn(" %s (>= %s)" % (library.package, ".".join(map(str, library.least))), depends)
 
     def test_mistakes_of_a_call_and_help(self):
         self.assertEqual(self.setup_told("--chek"), (2, "", "tools/setup: `--chek` is no option: there is --check\n"))
