@@ -1,21 +1,21 @@
-"""Where a package comes from: the program that was built, its commit and its kit."""
+"""Where a package comes from: the program that was built, and the commit of the repository."""
 from __future__ import annotations
 
+import hashlib
+import json
 import os
 import pathlib
 import re
-import shutil
 import subprocess
 import time
 from dataclasses import dataclass
-from typing import List, Optional, Set
+from typing import Any, Dict, List, Optional, Set
 
 from bgptools.mistakes import Mistake
 
 TOP = pathlib.Path(__file__).resolve().parent.parent
 BUILT = TOP / "crates" / "bgpsim" / "out" / "bgpsim"
 MADE_OF = BUILT.with_name("bgpsim.crates")
-KIT = re.compile(r"rattle-kit-\w+ logic [0-9a-f]+")
 
 
 @dataclass(frozen=True)
@@ -40,10 +40,10 @@ def program() -> pathlib.Path:
     """The program to be packed: PROGRAM=, or what `./bgpsim` built. Mistake without one, or where a source is newer."""
     path = pathlib.Path(os.environ.get("PROGRAM") or BUILT).resolve()
     if not os.access(str(path), os.X_OK) or not path.is_file():
-        raise Mistake("there is no program: ./bgpsim --version builds it", str(path))
+        raise Mistake("there is no program: ./bgpsim --prove builds it", str(path))
     newer = _newer_source() if _is_built_here() else None
     if newer:
-        raise Mistake("it is newer than the program: ./bgpsim --version builds it", str(newer.relative_to(TOP)))
+        raise Mistake("it is newer than the program: ./bgpsim --prove builds it", str(newer.relative_to(TOP)))
     return path
 
 
@@ -66,12 +66,33 @@ def commit() -> Commit:
     return Commit(told[0], int(told[1]), told[2], bool(git("status", "--porcelain").strip()))
 
 
-def proved(of: Commit) -> str:
-    """Which commit was proved by which kit, in a sentence; or that it is not known."""
-    if not _is_built_here():
-        return ("The program was given by hand: it is not known here of which commit it was built, and whether it was "
-                "proved. All else is of commit %s." % of)
-    return "The program was proved and built of commit %s by %s." % (of, _kit())
+def record(path: pathlib.Path) -> Optional[pathlib.Path]:
+    """The file beside a program, as `bgpsim.json`, in which its build has said where it comes from.
+
+    None if there is none, or if it is of another program: it has the SHA-256 of its own."""
+    found = path.with_name(path.name + ".json")
+    return found if _read(found).get("sha256") == hashlib.sha256(path.read_bytes()).hexdigest() else None
+
+
+def proved(path: pathlib.Path, of: Commit) -> str:
+    """Of which commit the program is, and whether it was proved, by which kit, in a sentence; or that it is not known."""
+    found = record(path)
+    said = _read(found) if found else {}
+    if not {"commit", "is_proved", "kit"} <= set(said):
+        return ("It is not known of which commit the program was built, and whether it was proved. All else is of "
+                "commit %s." % of)
+    if said["is_proved"]:
+        return "The program was proved and built of commit %(commit)s by %(kit)s." % said
+    return "The program is not proved. It was compiled of commit %(commit)s by %(kit)s." % said
+
+
+def _read(path: pathlib.Path) -> Dict[str, Any]:
+    """The values of a file of JSON; none if it is not there, or if it is something else."""
+    try:
+        found = json.loads(path.read_text(encoding="utf-8"))
+    except (OSError, ValueError):
+        return {}
+    return found if isinstance(found, dict) else {}
 
 
 def _is_built_here() -> bool:
@@ -95,18 +116,6 @@ def _lines(path: pathlib.Path) -> Set[str]:
     """The crates of a file like crates.txt, each with what it stands on."""
     lines = (line.split("#")[0].rstrip() for line in path.read_text(encoding="utf-8").split("\n"))
     return {line for line in lines if ":" in line}
-
-
-def _kit() -> str:
-    """The kit that is installed, or the one that the documents name."""
-    if shutil.which("rt"):
-        return _said(["rt", "version"]).split("\n")[0]
-    documents: List[pathlib.Path] = [TOP / "README.md", *sorted((TOP / "docs").glob("*.md"))]
-    named = (KIT.search(path.read_text(encoding="utf-8")) for path in documents)
-    found = next((match for match in named if match), None)
-    if not found:
-        raise Mistake("it is not known which kit proved the program: rt is not on the path, and no document names one")
-    return found.group(0)
 
 
 def git(*words: str) -> str:

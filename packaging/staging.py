@@ -9,6 +9,7 @@ import textwrap
 import time
 from typing import List
 
+import origin
 from bgptools.mistakes import Mistake
 from origin import TOP, Commit, git
 
@@ -32,8 +33,9 @@ def files() -> List[pathlib.Path]:
     return sorted(path for path in paths if (TOP / path).is_file())
 
 
-def stage(folder: pathlib.Path, program: pathlib.Path, version: str, commit: Commit, proved: str) -> None:
+def stage(folder: pathlib.Path, program: pathlib.Path, version: str, commit: Commit) -> None:
     """Fills the folder. The first entry of its debian/changelog has the version and the time of the commit."""
+    proved, record = origin.proved(program, commit), origin.record(program)
     for path in files():
         target = folder / path
         target.parent.mkdir(parents=True, exist_ok=True)
@@ -41,6 +43,8 @@ def stage(folder: pathlib.Path, program: pathlib.Path, version: str, commit: Com
         target.chmod(0o755 if os.access(TOP / path, os.X_OK) else 0o644)
     shutil.copyfile(program, folder / "program")
     (folder / "program").chmod(0o755)
+    if record:
+        shutil.copyfile(record, folder / "program.json")
     changelog = folder / "debian" / "changelog"
     day = time.strftime("%a, %d %b %Y %H:%M:%S +0000", time.gmtime(commit.seconds))
     entry = ENTRY % (version, commit, _maintainer(folder), day)

@@ -39,21 +39,25 @@ class Version(argparse.Action):
         parser.exit()
 
 
+def parser_of(name: str, called: str) -> argparse.ArgumentParser:
+    """What reads the words of a tool, as it is called."""
+    return _named(module_of(name).parser(), called)
+
+
+def _named(made: argparse.ArgumentParser, called: str) -> argparse.ArgumentParser:
+    made.prog = called
+    made.add_argument("--version", action=Version, nargs=0, help=(
+        "print the version of the program, its commit, whether it was proved, and of which sources, and end"))
+    return made
+
+
 def run(name: str, called: str, words: List[str]) -> int:
     """Runs a tool on the words of its command line; its usage and its mistakes of usage name it as it was called.
 
     Each tool has --version."""
     module = module_of(name)
     parser = module.parser
-
-    def named() -> argparse.ArgumentParser:
-        made: argparse.ArgumentParser = parser()
-        made.prog = called
-        made.add_argument("--version", action=Version, nargs=0, help=(
-            "print the version of the program, its commit, whether it was proved, and of which sources, and end"))
-        return made
-
-    setattr(module, "parser", named)
+    setattr(module, "parser", lambda: _named(parser(), called))
     status: int = module.main(words)
     return status
 

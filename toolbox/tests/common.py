@@ -55,6 +55,12 @@ def alone(called, folder, given=b"", **surroundings):
     return subprocess.run(list(map(str, called)), cwd=str(folder), input=given, env=some, capture_output=True, timeout=200)
 
 
+def files_of(folder):
+    """The files of a folder, with their bytes, but for what Python keeps of modules that have run."""
+    return {path.relative_to(folder).as_posix(): path.read_bytes() for path in folder.rglob("*")
+            if path.is_file() and path.parent.name != "__pycache__"}
+
+
 def program(script):
     """The lines that the program replies to a script."""
     given = script.encode("latin-1") if isinstance(script, str) else script

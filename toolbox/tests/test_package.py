@@ -1,18 +1,18 @@
-"""The toolbox as a Python package: its tools by name, where the program is, and what pip installs without a network."""
+"""The toolbox as a Python package: its tools by name, where the program is, and what pip installs."""
 import ast
 import importlib.util
 import os
+import pathlib
+import re
+import shutil
 import sys
-import tarfile
+import tempfile
 import unittest
 import zipfile
 
 from bgptools import __version__, where
 from bgptools.tools import TOOLS, sentence_of
-from common import TOOLBOX, TOP, Case, alone
-
-sys.path.insert(0, str(TOOLBOX))
-import backend  # noqa: E402
+from common import TOOLBOX, TOP, Case, alone, files_of
 
 SCRIPT = b"""\
 router 1.0.0.1 1
@@ -83,10 +83,7 @@ class Where(Case):
 
     def copied(self, to):
         """The package's files in a folder of the test's."""
-        for name, content in backend.package_files().items():
-            path = self.folder / to / name
-            path.parent.mkdir(parents=True, exist_ok=True)
-            path.write_bytes(content)
+        shutil.copytree(TOOLBOX / "bgptools", self.folder / to / "bgptools", ignore=shutil.ignore_patterns("__pycache__"))
 
     def program_at(self, path):
         """A program that can be run, at this place."""
@@ -119,7 +116,37 @@ class Where(Case):
         self.assertRegex(self.told("site", PATH=self.folder), "^there is no program `bgpsim` on the PATH: .* PROGRAM=$")
 
 
+def copy_of_toolbox(folder):
+    """A copy of what pip reads of toolbox/, so that pip leaves nothing in the repository."""
+    ignored = shutil.ignore_patterns("__pycache__", "tests", "lessons", "build", "*.egg-info")
+    return pathlib.Path(shutil.copytree(TOOLBOX, folder / "toolbox", ignore=ignored))
+
+
+def pip(folder, *words):
+    """A run of pip that asks no network and no cache, at a fixed time. What it builds with has to be installed here."""
+    call = [sys.executable, "-m", "pip", words[0], "--no-index", "--no-build-isolation", "--no-cache-dir",
+            "--disable-pip-version-check", *words[1:]]
+    return alone(call, folder, HOME=folder, PATH=os.environ["PATH"], PYTHONDONTWRITEBYTECODE=1, SOURCE_DATE_EPOCH=1700000000)
+
+
+@unittest.skipUnless(all(map(importlib.util.find_spec, ("pip", "setuptools", "wheel"))), "no setuptools, wheel or pip")
 class Pip(Case):
+    """The package as pip builds it of toolbox/ with setuptools."""
+
+    @classmethod
+    def setUpClass(cls):
+        kept = tempfile.TemporaryDirectory()
+        cls.addClassCleanup(kept.cleanup)
+        cls.sources = copy_of_toolbox(pathlib.Path(kept.name))
+        # A subpackage and a folder of data, as they may come.
+        (cls.sources / "bgptools" / "sub" / "data").mkdir(parents=True)
+        for name in ("__init__.py", "page.html", "data/style.css", "data/table.toml", "data/list.json"):
+            (cls.sources / "bgptools" / "sub" / name).write_text("")
+        cls.wheels = pathlib.Path(kept.name) / "wheels"
+        cls.told = pip(cls.sources, "wheel", "--no-deps", "--wheel-dir", cls.wheels, cls.sources)
+        assert cls.told.returncode == 0, cls.told
+        [cls.path] = cls.wheels.iterdir()
+
     def check(self, site):
         """The package that was put into the folder has its tools, away from the repository."""
         called = [sys.executable, "-B", "-m", "bgptools", "settle", "-"]
@@ -128,19 +155,39 @@ class Pip(Case):
         asks = "import bgptools.settle; print(bgptools.settle.__file__)"
         told = alone([sys.executable, "-B", "-c", asks], self.folder, PYTHONPATH=site)
         self.assertEqual(told.stdout.decode(), "%s\n" % (site / "bgptools" / "settle.py"))
-        self.assertTrue((site / "bgptools" / "py.typed").is_file())
         asks = ("import sys; from bgptools import Network; "
                 "print(Network.from_lines(sys.stdin.read()).settle().deliveries[0].prefix)")
         called = [sys.executable, "-B", "-c", asks]
         told = alone(called, self.folder, SCRIPT, PYTHONPATH=site, PROGRAM=where.program())
         self.assertEqual((told.stdout, told.stderr), (b"10.0.0.0/8\n", b""))
 
-    @unittest.skipUnless(importlib.util.find_spec("pip"), "pip is not installed")
-    def test_pip_installs_it_without_a_network(self):
+    def test_the_wheel_has_each_file_of_the_package(self):
+        self.assertEqual(self.path.name, "bgptools-%s-py3-none-any.whl" % __version__)
+        wheel = zipfile.ZipFile(self.path)
+        self.assertIsNone(wheel.testzip())
+        about = "bgptools-%s.dist-info/" % __version__
+        files = {name: wheel.read(name) for name in wheel.namelist() if not name.startswith(about)}
+        wanted = files_of(self.sources / "bgptools")
+        self.assertLessEqual({"page.html", "py.typed", "sub/data/style.css"}, set(wanted))
+        self.assertEqual(files, {"bgptools/" + name: content for name, content in wanted.items()})
+        self.assertEqual(wheel.read(about + "LICENSE"), (TOP / "LICENSE").read_bytes())
+        record = wheel.read(about + "RECORD").decode()
+        self.assertEqual(sorted(line.split(",")[0] for line in record.splitlines()), sorted(wheel.namelist()))
+
+    def test_what_the_wheel_says(self):
+        wheel = zipfile.ZipFile(self.path)
+        said = wheel.read("bgptools-%s.dist-info/METADATA" % __version__).decode()
+        for line in ("Name: bgptools", "Version: " + __version__, "Requires-Python: >=3.8", "Provides-Extra: lab",
+                     "Classifier: License :: OSI Approved :: Apache Software License"):
+            self.assertIn("\n%s\n" % line, said)
+        self.assertEqual(re.findall("(?m)^Requires-Dist: (.*)$", said), ["tornado (>=6.1) ; extra == 'lab'"])
+        scripts = wheel.read("bgptools-%s.dist-info/entry_points.txt" % __version__).decode()
+        lines = {"bgpsim-%s = bgptools.tools:launched" % name for name in TOOLS}
+        self.assertEqual(set(filter(None, scripts.split("\n"))), {"[console_scripts]", *lines})
+
+    def test_it_is_installed_and_runs(self):
         site = self.folder / "site"
-        words = ["--no-index", "--no-cache-dir", "--disable-pip-version-check", "--target", site, TOOLBOX]
-        told = alone([sys.executable, "-m", "pip", "install", *words], self.folder,
-                     HOME=self.folder, PATH=os.environ["PATH"], PYTHONDONTWRITEBYTECODE="1")
+        told = pip(self.folder, "install", "--target", site, self.sources)
         self.assertEqual(told.returncode, 0, told.stderr)
         self.check(site)
         commands = sorted(path.name for path in (site / "bin").iterdir())
@@ -152,37 +199,30 @@ class Pip(Case):
         told = alone(called, self.folder, SCRIPT, PYTHONPATH=site, PROGRAM=where.program())
         self.assertEqual((told.returncode, told.stdout), (0, SCRIPT + DELIVERY))
 
-    def test_the_wheel_is_one_and_the_same_and_has_all(self):
-        made = [(self.folder / backend.build_wheel(str(self.folder))).read_bytes() for _ in "ab"]
-        self.assertEqual(made[0], made[1])
-        wheel = zipfile.ZipFile(self.folder / ("bgptools-%s-py3-none-any.whl" % __version__))
-        self.assertIsNone(wheel.testzip())
-        wheel.extractall(self.folder / "site")
-        self.check(self.folder / "site")
-        record = wheel.read("bgptools-%s.dist-info/RECORD" % __version__).decode()
-        self.assertEqual(sorted(line.split(",")[0] for line in record.splitlines()), sorted(wheel.namelist()))
+    def test_made_twice_it_is_the_same(self):
+        told = pip(self.folder, "wheel", "--no-deps", "--wheel-dir", self.folder, self.sources)
+        self.assertEqual(told.returncode, 0, told.stderr)
+        self.assertEqual((self.folder / self.path.name).read_bytes(), self.path.read_bytes())
 
     def test_the_sources_make_the_same_wheel(self):
-        with tarfile.open(self.folder / backend.build_sdist(str(self.folder))) as archive:
-            archive.extractall(self.folder)
-        sources = self.folder / ("bgptools-%s" % __version__)
-        told = alone([sys.executable, "-B", "-c", "import backend; print(backend.build_wheel('.'))"], sources)
-        self.assertEqual(told.stderr, b"")
-        name = backend.build_wheel(str(self.folder))
-        self.assertEqual(told.stdout.decode(), name + "\n")
-        self.assertEqual((sources / name).read_bytes(), (self.folder / name).read_bytes())
+        asks = "import sys; from setuptools import build_meta; build_meta.build_sdist(sys.argv[1])"
+        told = alone([sys.executable, "-B", "-c", asks, self.folder], self.sources)
+        self.assertEqual(told.returncode, 0, told.stderr)
+        packed = self.folder / ("bgptools-%s.tar.gz" % __version__)
+        told = pip(self.folder, "wheel", "--no-deps", "--wheel-dir", self.folder / "again", packed)
+        self.assertEqual(told.returncode, 0, told.stderr)
+        again = zipfile.ZipFile(self.folder / "again" / self.path.name)
+        wheel = zipfile.ZipFile(self.path)
+        self.assertEqual({name: again.read(name) for name in again.namelist()},
+                         {name: wheel.read(name) for name in wheel.namelist()})
 
-    def test_an_editable_wheel_leads_to_the_toolbox(self):
-        wheel = zipfile.ZipFile(self.folder / backend.build_editable(str(self.folder)))
-        self.assertEqual(wheel.read("bgptools.pth").decode(), "%s\n" % TOOLBOX)
-        commands = wheel.read("bgptools-%s.dist-info/entry_points.txt" % __version__).decode()
-        self.assertIn("\nbgpsim-settle = bgptools.tools:launched\n", commands)
 
+class Package(Case):
     def test_its_version_is_the_programs(self):
         self.assertEqual((TOP / "cases" / "command-line" / "version.out").read_text(), "bgpsim %s\n" % __version__)
 
     def test_each_function_has_its_types(self):
-        for path in (TOOLBOX / "bgptools").glob("*.py"):
+        for path in (TOOLBOX / "bgptools").rglob("*.py"):
             for made in (node for node in ast.walk(ast.parse(path.read_text())) if isinstance(node, ast.FunctionDef)):
                 untyped = {word.arg for word in made.args.args + made.args.kwonlyargs if word.annotation is None}
                 self.assertEqual(untyped - {"self", "cls"}, set(), "%s:%d" % (path, made.lineno))

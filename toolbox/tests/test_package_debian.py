@@ -1,7 +1,7 @@
-"""tools/package: what is in the package, what it says of itself, and what runs from an empty root."""
+"""tools/package and debian/: what is in the package, what it says of itself, and what runs from an empty root."""
 import gzip
 import hashlib
-import io
+import json
 import os
 import pathlib
 import re
@@ -9,68 +9,38 @@ import shlex
 import shutil
 import subprocess
 import sys
-import tarfile
 import tempfile
 import time
 import unittest
 
 from bgptools import where
 from bgptools.tools import TOOLS
-from common import TOOLBOX, TOP, Case, alone
-
-sys.path[:0] = [str(TOP / "packaging"), str(TOOLBOX)]
-import libraries  # noqa: E402
-import manual  # noqa: E402
-import words  # noqa: E402
+from common import TOOLBOX, TOP, Case, alone, files_of
 
 DOCUMENTS = "usr/share/doc/bgpsim"
 PAGES = "usr/share/man/man1"
 COMPLETION = "usr/share/bash-completion/completions"
 # What tools/package reads.
-PARTS = ("tools/package", "packaging", "docs", "examples", "toolbox", "cases/command-line",
-         "README.md", "crates.txt", ".gitignore")
+PARTS = ("tools/package", "packaging", "debian", "docs", "examples", "toolbox", "README.md", "LICENSE", "crates.txt",
+         ".gitignore")
 GIT = shutil.which("git")
+MAKERS = ("dpkg-buildpackage", "dh", "dh_python3", "help2man", "shtab")
+NEEDS_DEBIAN = unittest.skipUnless(all(map(shutil.which, MAKERS)), "no package can be made here: tools/setup")
 SECONDS = 1700000000
 STAND_IN = "#!/bin/sh\necho bgpsim 7.8\n"
+# In the place of dpkg-buildpackage: the package is a text with what that was given.
+BUILDER = """\
+#!/bin/sh
+{ echo "words $*"; echo "program $($PROGRAM)"; cat debian/changelog; echo "origin $(cat debian/origin)"
+[ -f "$PROGRAM.json" ] && echo record there || echo record none; } > ../bgpsim_1_amd64.deb
+"""
 # Asks bash for the completion of its arguments, behind the script that defines it.
 ASKS = """
 COMP_WORDS=("$@"); COMP_CWORD=$(($# - 1))
 called=$(complete -p "${1##*/}") || exit 9
-[[ $called == *"-F _bgpsim "* ]] || exit 8
-_bgpsim "$1" "${COMP_WORDS[COMP_CWORD]}" "${COMP_WORDS[COMP_CWORD - 1]}"
+[[ $called =~ -F\\ ([a-z_]+)\\  ]] || exit 8
+"${BASH_REMATCH[1]}" "$1" "${COMP_WORDS[COMP_CWORD]}" "${COMP_WORDS[COMP_CWORD - 1]}"
 printf "%s\\n" "${COMPREPLY[@]}"
-"""
-HELP = """\
-usage: bgpsim-draw [-h] X
-
-It does.
-
-options:
-  -h, --help  show this
-  --long-option-of-it FILE
-                        what stands below it
-
-Exit status: 0; 2 a mistake. More is said.
-"""
-SECTION = """\
-Call `toolbox/draw -o` of [a page](x.md):
-
-    toolbox/draw-not x
-
-- one
-  item
-- another
-
-| A | B |
-|---|---|
-| `a-b` | c |
-
-```
-.x\\n
-
-
-'y
-```
 """
 
 
@@ -79,28 +49,10 @@ def tells_commit():
     return bool(GIT) and alone([GIT, "rev-parse", "HEAD"], TOP, HOME=os.environ.get("HOME", "")).returncode == 0
 
 
-def members(content):
-    """The files of the outer archive, in order, by their names."""
-    assert content[:8] == b"!<arch>\n"
-    found, place = {}, 8
-    while place < len(content):
-        header = content[place:place + 60]
-        assert header[58:] == b"`\n"
-        size = int(header[48:58])
-        found[header[:16].decode().rstrip()] = content[place + 60:place + 60 + size]
-        place += 60 + size + size % 2
-    return found
-
-
-def opened(content, part):
-    """A part of a package, as tar has it."""
-    return tarfile.open(fileobj=io.BytesIO(gzip.decompress(members(content)[part + ".tar.gz"])))
-
-
-def said(content):
+def fields_of(path):
     """What the package says of itself, by its fields."""
-    text = opened(content, "control").extractfile("./control").read().decode()
-    return dict(re.findall(r"^([A-Z][\w-]*): (.*(?:\n .*)*)$", text, re.M))
+    told = alone(["dpkg-deb", "-f", path], path.parent, PATH=os.environ["PATH"]).stdout.decode()
+    return dict(re.findall(r"^([A-Z][\w-]*): (.*(?:\n .*)*)$", told, re.M))
 
 
 def packed(top, out, **surroundings):
@@ -110,6 +62,14 @@ def packed(top, out, **surroundings):
     return told, files[0] if len(files) == 1 else None
 
 
+def recorded(program, is_proved):
+    """Puts the record of a program beside it, as a build does; its text."""
+    text = json.dumps({"version": "7.8", "commit": "0a1b", "is_proved": is_proved, "kit": "kit-9", "digest": "2c",
+                       "sha256": hashlib.sha256(program.read_bytes()).hexdigest()})
+    program.with_name(program.name + ".json").write_text(text)
+    return text
+
+
 def example_of(name):
     """The first example of docs/TOOLBOX.md that calls a tool, and its output; None where there is none."""
     found = re.search(r"```\n\$ toolbox/(%s [^\n]*)\n(.*?)```" % name, (TOP / "docs" / "TOOLBOX.md").read_text(), re.S)
@@ -117,6 +77,7 @@ def example_of(name):
 
 
 @unittest.skipUnless(tells_commit(), "no git, or no clone")
+@NEEDS_DEBIAN
 class Package(Case):
     """The package of the program that was built, in an empty root."""
 
@@ -126,12 +87,13 @@ class Package(Case):
         cls.addClassCleanup(kept.cleanup)
         cls.root, out = pathlib.Path(kept.name) / "root", pathlib.Path(kept.name) / "out"
         out.mkdir()
-        cls.told, cls.path = packed(TOP, out, PATH=os.environ["PATH"], PROGRAM=where.program())
+        cls.program = pathlib.Path(shutil.copy(where.program(), kept.name))
+        cls.record = recorded(cls.program, False)
+        cls.told, cls.path = packed(TOP, out, PATH=os.environ["PATH"], PROGRAM=cls.program)
         assert cls.path, cls.told
-        cls.content = cls.path.read_bytes()
-        with opened(cls.content, "data") as archive:
-            archive.extractall(cls.root)
-            cls.entries = archive.getmembers()
+        subprocess.run(["dpkg-deb", "-x", str(cls.path), str(cls.root)], check=True, timeout=100)
+        listed = alone(["dpkg-deb", "-c", cls.path], out, PATH=os.environ["PATH"], TZ="UTC").stdout.decode()
+        cls.entries = [line.split(None, 5) for line in listed.splitlines()]
 
     def run_there(self, called, given=b"", **more):
         """A run of what is in the root, in the folder of its documents, with nothing else on the path: only where the
@@ -139,16 +101,45 @@ class Package(Case):
         program = (self.root / "usr/bin/bgpsim").read_bytes()
         path = [str(self.root / "usr/bin")] + ([os.environ["PATH"]] if program.startswith(b"#!") else [])
         words_of = [self.root / "usr/bin" / called[0], *called[1:]]
-        if called[0] != "bgpsim" and not os.access("/usr/bin/python3", os.X_OK):
-            words_of.insert(0, sys.executable)
         return alone(words_of, self.root / DOCUMENTS, given, PATH=os.pathsep.join(path), **more)
 
     def test_it_is_named_and_told(self):
         self.assertEqual((self.told.returncode, self.told.stderr), (0, b""))
         self.assertEqual(self.told.stdout.decode(), "%s\n" % self.path)
-        fields = said(self.content)
+        fields = fields_of(self.path)
         self.assertEqual(self.path.name, "bgpsim_%(Version)s_%(Architecture)s.deb" % fields)
-        self.assertIn("python3 (>= 3.8)", fields["Depends"].split(", "))
+        self.assertEqual((fields["Package"], fields["Section"]), ("bgpsim", "net"))
+        depends = fields["Depends"].split(", ")
+        for wanted in ("python3 (>= 3.8)", "python3-tornado (>= 6.1)"):
+            self.assertIn(wanted, depends)
+        self.assertEqual(fields["Recommends"], "graphviz")
+        if (self.root / "usr/bin/bgpsim").read_bytes().startswith(b"\x7fELF"):
+            self.assertRegex(fields["Depends"], r"\blibc6 \(>= 2\.\d+\)")
+
+    def test_what_it_says_of_its_origin_is_a_paragraph(self):
+        lines = fields_of(self.path)["Description"].split("\n")
+        at = next(number for number, line in enumerate(lines) if line.startswith(" The program is not proved."))
+        self.assertEqual(lines[at - 1], " .")
+        for line in lines[at:]:
+            self.assertRegex(line, r"^ \S.{,78}$")
+
+    def test_it_has_the_record_of_the_program(self):
+        self.assertEqual((self.root / "usr/share/bgpsim/provenance.json").read_text(), self.record)
+
+    def test_lintian_finds_nothing(self):
+        self.assertTrue(shutil.which("lintian"), "lintian is not installed: tools/setup")
+        told = alone(["lintian", "--allow-root", "--fail-on", "error,warning", self.path], self.folder,
+                     PATH=os.environ["PATH"], HOME=self.folder, LC_ALL="C.UTF-8")
+        self.assertEqual((told.returncode, told.stdout.decode(), told.stderr.decode()), (0, "", ""))
+
+    def test_twice_the_same(self):
+        kept = os.umask(0o077)
+        try:
+            told, path = packed(TOP, self.folder, PATH=os.environ["PATH"], PROGRAM=self.program, TZ="Asia/Tokyo")
+        finally:
+            os.umask(kept)
+        self.assertTrue(path, told)
+        self.assertEqual(path.read_bytes(), self.path.read_bytes())
 
     def test_a_lesson_is_answered(self):
         for name in ("hot-potato", "lessons/valley-free"):
@@ -186,18 +177,22 @@ class Package(Case):
         self.assertEqual(told.returncode, 2)
         self.assertIn(b"toolbox/lessons/refused.bgp:7: refused 13 ", told.stderr)
 
-    def test_each_tool_has_its_name_its_page_and_its_completion(self):
-        self.assertEqual((self.root / "usr/share/bgpsim/launch").read_text().split("\n")[0], "#!/usr/bin/python3")
+    def test_each_tool_has_its_name_and_its_page(self):
+        month = time.strftime("%B %Y", time.gmtime(int(alone([GIT, "log", "-1", "--format=%ct"], TOP).stdout)))
         for name in TOOLS:
             told = self.run_there(["bgpsim-" + name, "--help"])
             self.assertTrue(told.stdout.decode().startswith("usage: bgpsim-%s [-h]" % name), told)
             page = gzip.decompress((self.root / PAGES / ("bgpsim-%s.1.gz" % name)).read_bytes()).decode()
             self.assertIn("\nbgpsim-%s \\- " % name, page)
-            self.assertEqual(os.readlink(self.root / COMPLETION / ("bgpsim-" + name)), "bgpsim")
+            self.assertIn('.TH BGPSIM-%s "1" "%s" ' % (name.upper(), month), page)
+            options = set(re.findall(r"(?m)^  (-[\w-]+)", told.stdout.decode()))
+            named = set(re.findall(r"\\fB(-[\w-]+)\\fR", page.replace("\\-", "-")))
+            self.assertLessEqual(options, named, name)
+            self.assertRegex(page, r"(?m)^\.SH SYNOPSIS\n\.B bgpsim-%s\n" % name)
 
     def test_it_is_a_package_of_the_systems_python(self):
         told = alone([sys.executable, "-B", "-m", "bgptools", "settle", "-"], self.root, b"router 1.0.0.1 1\n",
-                   PYTHONPATH=self.root / "usr/lib/python3/dist-packages", PATH=os.environ["PATH"])
+                     PYTHONPATH=self.root / "usr/lib/python3/dist-packages", PATH=os.environ["PATH"])
         self.assertEqual((told.returncode, told.stdout, told.stderr), (0, b"router 1.0.0.1 1\n", b""))
 
     def test_a_study_in_python_runs_where_it_is_installed(self):
@@ -206,11 +201,12 @@ class Package(Case):
         wanted = (TOP / "toolbox" / "lessons" / "python" / "lost_links.out").read_text()
         self.assertEqual((told.stdout.decode(), told.stderr), (wanted, b""))
 
-    def test_the_program_and_the_documents_are_those_of_here(self):
-        self.assertEqual((self.root / "usr/bin/bgpsim").read_bytes(), pathlib.Path(where.program()).read_bytes())
+    def test_the_program_the_tools_and_the_documents_are_those_of_here(self):
+        self.assertEqual((self.root / "usr/bin/bgpsim").read_bytes(), self.program.read_bytes())
         scripts = [*(TOP / "examples").rglob("*.bgp"), *(TOP / "toolbox/lessons").glob("*.*")]
         for path in (TOP / "README.md", *(TOP / "docs").glob("*.md"), *scripts):
             self.assertEqual((self.root / DOCUMENTS / path.relative_to(TOP)).read_bytes(), path.read_bytes())
+        self.assertEqual(files_of(self.root / "usr/share/bgpsim/bgptools"), files_of(TOOLBOX / "bgptools"))
 
     def test_what_docs_install_names_is_there(self):
         named = re.findall(r"`/(usr/[^`]*)`", (TOP / "docs" / "INSTALL.md").read_text())
@@ -229,37 +225,22 @@ class Package(Case):
             self.assertTrue(told.stdout)
             self.assertEqual(told.stderr, b"")
 
-    def test_modes_owners_order_and_sums(self):
-        self.assertEqual(list(members(self.content)), ["debian-binary", "control.tar.gz", "data.tar.gz"])
-        self.assertEqual(members(self.content)["debian-binary"], b"2.0\n")
-        paths = [entry.name.rstrip("/") for entry in self.entries]
-        self.assertEqual(paths, sorted(paths))
-        owners = {(entry.uid, entry.gid, entry.uname, entry.gname) for entry in self.entries}
-        self.assertEqual(owners, {(0, 0, "root", "root")})
-        self.assertEqual({oct(entry.mode) for entry in self.entries if entry.isdir()}, {"0o755"})
-        programs = {entry.name for entry in self.entries if entry.isfile() and entry.mode == 0o755}
-        self.assertEqual(programs, {"./usr/bin/bgpsim", "./usr/share/bgpsim/launch"})
-        self.assertEqual({entry.mode for entry in self.entries if entry.isfile()}, {0o755, 0o644})
-        committed = alone([GIT, "log", "-1", "--format=%ct"], TOP, HOME=os.environ.get("HOME", "")).stdout
-        self.assertEqual({entry.mtime for entry in self.entries}, {int(committed)})
-        sums = opened(self.content, "control").extractfile("./md5sums").read().decode().splitlines()
-        files = sorted(entry.name[2:] for entry in self.entries if entry.isfile())
-        wanted = [(hashlib.md5((self.root / path).read_bytes()).hexdigest(), path) for path in files]
-        self.assertEqual(sums, ["%s  %s" % row for row in wanted])
+    def test_modes_owners_and_times(self):
+        self.assertEqual({entry[1] for entry in self.entries}, {"root/root"})
+        modes = {kind: {entry[0] for entry in self.entries if entry[0][0] == kind} for kind in "d-l"}
+        self.assertEqual((modes["d"], modes["l"]), ({"drwxr-xr-x"}, {"lrwxrwxrwx"}))
+        programs = {entry[5] for entry in self.entries if entry[0] == "-rwxr-xr-x"}
+        # The last one has Python compile the modules where the system gets another Python: dh_python3 puts it there.
+        self.assertEqual({name for name in programs if not name.startswith("./usr/share/doc/")},
+                         {"./usr/bin/bgpsim", "./usr/share/bgpsim/launch", "./usr/share/python3/runtime.d/bgpsim.rtupdate"})
+        committed = alone([GIT, "log", "-1", "--format=%cd", "--date=format-local:%Y-%m-%d %H:%M"], TOP, TZ="UTC").stdout
+        latest = max("%s %s" % (entry[3], entry[4]) for entry in self.entries)
+        self.assertEqual(latest, committed.decode().strip())
 
-    def test_no_licence_is_stated_as_the_copyright_file_says(self):
-        self.assertIn("states no licence", (self.root / DOCUMENTS / "copyright").read_text())
-        licences = [path.name for path in TOP.iterdir() if re.match("(?i)licen[cs]e|copying|copyright", path.name)]
-        self.assertEqual(licences, [])
-
-    @unittest.skipUnless(shutil.which("dpkg-deb"), "dpkg-deb is not installed")
-    def test_dpkg_reads_it(self):
-        other = self.folder / "root"
-        subprocess.run(["dpkg-deb", "-x", str(self.path), str(other)], check=True, timeout=100)
-        for entry in (entry for entry in self.entries if entry.isfile()):
-            self.assertEqual((other / entry.name).read_bytes(), (self.root / entry.name).read_bytes())
-        told = alone(["dpkg-deb", "-f", self.path, "Package", "Section"], self.folder, PATH=os.environ["PATH"])
-        self.assertEqual((told.stdout, told.stderr), (b"Package: bgpsim\nSection: net\n", b""))
+    def test_its_licence(self):
+        text = (self.root / DOCUMENTS / "copyright").read_text()
+        self.assertIn("\nLicense: Apache-2.0\n", text)
+        self.assertIn("Apache License\n                           Version 2.0", (TOP / "LICENSE").read_text())
 
     @unittest.skipUnless(shutil.which("man"), "man is not installed")
     def test_no_page_has_a_warning(self):
@@ -268,17 +249,8 @@ class Package(Case):
         told = alone(["man", "--warnings", "-l", *pages], self.folder, PATH=os.environ["PATH"], LC_ALL="C.UTF-8")
         self.assertEqual((told.returncode, told.stderr), (0, b""))
 
-    @unittest.skipUnless(shutil.which("sh"), "sh is not installed")
-    def test_what_python_kept_is_taken_away_with_the_package(self):
-        kept = self.folder / "usr/share/bgpsim/bgptools/__pycache__"
-        kept.mkdir(parents=True)
-        prerm = opened(self.content, "control").extractfile("./prerm").read()
-        told = alone([shutil.which("sh")], self.folder, prerm, PATH=os.environ["PATH"], DPKG_ROOT=self.folder)
-        self.assertEqual((told.returncode, told.stderr), (0, b""))
-        self.assertEqual(list(kept.parent.iterdir()), [])
 
-
-@unittest.skipUnless(tells_commit() and shutil.which("bash"), "no git, no clone, or no bash")
+@NEEDS_DEBIAN
 class Completion(Case):
     """What bash makes of a few words and the tab key."""
 
@@ -286,40 +258,50 @@ class Completion(Case):
     def setUpClass(cls):
         kept = tempfile.TemporaryDirectory()
         cls.addClassCleanup(kept.cleanup)
-        stand_in = pathlib.Path(kept.name) / "bgpsim"
-        stand_in.write_text(STAND_IN)
-        stand_in.chmod(0o755)
-        out = pathlib.Path(kept.name) / "out"
-        out.mkdir()
-        told, path = packed(TOP, out, PATH=os.environ["PATH"], PROGRAM=stand_in)
-        assert path, told
-        cls.script = opened(path.read_bytes(), "data").extractfile("./%s/bgpsim" % COMPLETION).read().decode()
+        cls.scripts = pathlib.Path(kept.name)
+        told = alone([TOP / "debian/completion", cls.scripts], cls.scripts, PYTHONPATH=TOOLBOX, PYTHONDONTWRITEBYTECODE=1)
+        assert told.returncode == 0, told
+        shutil.copy(TOP / "debian/completions/bgpsim", cls.scripts / "bgpsim")
 
     def completed(self, *typed):
         """The words that bash offers for the last one of a line, in a folder with one script and one folder."""
         self.file("anna.bgp", "")
         (self.folder / "anna's").mkdir(exist_ok=True)
-        told = alone([shutil.which("bash"), "--norc", "-c", self.script + ASKS, "bash", *typed], self.folder)
+        script = (self.scripts / typed[0].rsplit("/")[-1]).read_text()
+        told = alone([shutil.which("bash"), "--norc", "-c", script + ASKS, "bash", *typed], self.folder)
         self.assertEqual((told.returncode, told.stderr), (0, b""))
         return sorted(told.stdout.decode().split())
 
     def test_the_program(self):
         self.assertEqual(self.completed("bgpsim", "te"), ["team"])
-        all_words = ["--help", "--version", "-V", "-h", "help", "replay", "script", "team"]
-        self.assertEqual(self.completed("bgpsim", ""), all_words)
         self.assertEqual(self.completed("bgpsim", "team", "--w"), ["--workers"])
         self.assertEqual(self.completed("bgpsim", "team", "--workers", ""), [])
         self.assertEqual(self.completed("bgpsim", "team", "--workers", "2", "anna."), ["anna.bgp"])
-        self.assertEqual(self.completed("bgpsim", "script", ""), ["--help", "-h"])
+        self.assertEqual(self.completed("bgpsim", "team", "--workers", "2", "anna.bgp", "an"), ["anna's", "anna.bgp"])
+        self.assertEqual(self.completed("bgpsim", "help", "re"), ["replay"])
+
+    def test_each_word_of_the_programs_help(self):
+        """What its --help says, which cases/ has byte for byte."""
+        cases = TOP / "cases" / "command-line"
+        for typed, name in (([], "help-option"), (["script"], "script-help"), (["replay"], "replay-help"),
+                            (["team"], "team-help")):
+            rows = re.findall(r"(?m)^ {2,6}(?:(-\w), )?(--[a-z]+|[a-z]+)\b", (cases / (name + ".out")).read_text())
+            wanted = {word for row in rows for word in row if word}
+            self.assertGreater(len(wanted), 1)
+            offered = set(self.completed("bgpsim", *typed, "")) if typed != ["team"] else set()
+            self.assertEqual(offered | set(self.completed("bgpsim", *typed, "-")), wanted)
 
     def test_the_tools(self):
         self.assertEqual(self.completed("bgpsim-settle", "--a"), ["--at-end"])
         self.assertEqual(self.completed("/usr/bin/bgpsim-draw", "--pr"), ["--prefix"])
         self.assertEqual(self.completed("bgpsim-what-if", "anna"), ["anna's", "anna.bgp"])
+        self.assertEqual(self.completed("bgpsim-what-if", "anna.bgp", "anna."), ["anna.bgp"])
         self.assertEqual(self.completed("bgpsim-settle", "anna.bgp", "-o", "anna."), ["anna.bgp"])
+        self.assertEqual(self.completed("bgpsim-settle", "--order", ""), ["drawn", "fair", "router"])
         self.assertEqual(self.completed("bgpsim-settle", "--seed", ""), [])
         self.assertEqual(self.completed("bgpsim-what-if", "--trace", "1.0.0.1", ""), [])
         self.assertEqual(self.completed("bgpsim-what-if", "--trace", "1.0.0.1", "10.0.0.1", "anna."), ["anna.bgp"])
+        self.assertEqual(self.completed("bgpsim-from-frr", ""), ["anna's"])
 
     def test_each_option_of_each_tool(self):
         for name in TOOLS:
@@ -330,19 +312,18 @@ class Completion(Case):
 
 
 @unittest.skipUnless(GIT, "git is not installed")
-class Origin(Case):
-    """What the package says of its commit and its kit, of a tree of this test's own whose program is a stand-in."""
+class Staged(Case):
+    """What dpkg-buildpackage is given, of a tree of this test's own: the program and dpkg-buildpackage are stand-ins."""
 
     def setUp(self):
         super().setUp()
         self.top, self.bin, self.out = (self.folder / name for name in ("top", "bin", "out"))
         for name in PARTS:
             self.copy(name)
-        self.bin.mkdir()
         self.out.mkdir()
-        (self.bin / "git").symlink_to(GIT)
+        for name in MAKERS:
+            self.file("bin/" + name, BUILDER).chmod(0o755)
         self.source = self.file("top/crates/sim_core/src/lib.rt", "")
-        self.file("top/README.md", "The kit (`rattle-kit-7 logic 0a1b`) is trusted.\n")
         anna = ["-c", "user.name=Anna", "-c", "user.email=anna@ex"]
         for words_of in (["init", "-q"], ["add", "-A"], [*anna, "commit", "-qm", "All"]):
             told = alone([GIT, *words_of], self.top, GIT_COMMITTER_DATE="%d +0000" % SECONDS, HOME=self.folder)
@@ -350,75 +331,81 @@ class Origin(Case):
         self.commit = alone([GIT, "rev-parse", "HEAD"], self.top).stdout.decode().strip()
         self.program = self.file("top/crates/bgpsim/out/bgpsim", STAND_IN)
         self.program.chmod(0o755)
+        self.path = os.pathsep.join([str(self.bin), os.path.dirname(GIT), "/usr/bin", "/bin"])
 
     def copy(self, name):
         """A file or a folder of the repository in the test's own."""
         source, target = TOP / name, self.top / name
         target.parent.mkdir(parents=True, exist_ok=True)
+        ignored = shutil.ignore_patterns("__pycache__", "tests", "build", "*.egg-info", "built")
         if source.is_dir():
-            shutil.copytree(source, target, ignore=shutil.ignore_patterns("__pycache__", "tests"), symlinks=True)
+            shutil.copytree(source, target, ignore=ignored, symlinks=True)
         else:
             shutil.copy(source, target)
 
     def made(self, **more):
-        """The fields of the package that is made of the tree, its description as one line."""
-        told, path = packed(self.top, self.out, PATH=self.bin, **more)
+        """What the stand-in was given, as one line of words."""
+        told, path = packed(self.top, self.out, **{"PATH": self.path, **more})
         self.assertEqual((told.returncode, told.stderr), (0, b""))
-        fields = said(path.read_bytes())
+        text = path.read_text()
         path.unlink()
-        return {**fields, "Description": " ".join(fields["Description"].split())}
+        return " ".join(text.replace("${Newline}", " ").split())
 
     def refused(self, **more):
         """What is told where no package is made."""
-        told, path = packed(self.top, self.out, PATH=self.bin, **more)
+        told, path = packed(self.top, self.out, **{"PATH": self.path, **more})
         self.assertEqual((told.returncode, told.stdout, path), (2, b"", None))
         return told.stderr.decode()
 
-    def test_the_commit_and_the_kit(self):
-        self.file("bin/rt", "#!/bin/sh\n[ \"$*\" = version ] && echo rattle-kit-9 logic 77ff\n").chmod(0o755)
-        fields = self.made()
-        proved = "The program was proved and built of commit %s by rattle-kit-9 logic 77ff." % self.commit
-        self.assertIn(proved, fields["Description"])
-        self.assertEqual(fields["Version"], "7.8+20231114.221320.%s" % self.commit[:9])
-        self.assertEqual((fields["Architecture"], fields["Maintainer"]), ("all", "Anna <anna@ex>"))
-        self.assertEqual(fields["Depends"], "python3 (>= 3.8)")
+    def test_the_commit_and_the_version(self):
+        made = self.made()
+        self.assertIn(" program bgpsim 7.8 bgpsim (7.8+20231114.221320.%s) unstable; urgency=medium * Commit %s. -- "
+                      % (self.commit[:9], self.commit), made)
+        self.assertIn("> Tue, 14 Nov 2023 22:13:20 +0000 bgpsim (0.1.0) unstable; ", made)
+        self.assertTrue(made.startswith("words --unsigned-source --unsigned-changes --build=binary "), made)
 
-    def test_the_kit_that_the_documents_name(self):
-        proved = "proved and built of commit %s by rattle-kit-7 logic 0a1b." % self.commit
-        self.assertIn(proved, self.made()["Description"])
+    def test_what_the_record_of_the_program_says(self):
+        recorded(self.program, True)
+        self.assertIn("origin The program was proved and built of commit 0a1b by kit-9. record there", self.made())
+        recorded(self.program, False)
+        self.assertIn("origin The program is not proved. It was compiled of commit 0a1b by kit-9. record there", self.made())
+
+    def test_without_a_record_of_this_program_nothing_is_known(self):
+        unknown = ("origin It is not known of which commit the program was built, and whether it was proved. "
+                   "All else is of commit %s. record none" % self.commit)
+        self.assertIn(unknown, self.made())
+        recorded(self.program, True)
+        self.program.write_text(STAND_IN + "\n")
+        self.assertIn(unknown, self.made())
+        for text in ("no JSON", "[1]", "{}"):
+            self.file("top/crates/bgpsim/out/bgpsim.json", text)
+            self.assertIn(unknown, self.made())
 
     def test_local_changes(self):
         self.file("top/docs/NEW.md", "")
-        fields = self.made()
-        self.assertIn("proved and built of commit %s with local changes by" % self.commit, fields["Description"])
-        self.assertTrue(fields["Version"].endswith(self.commit[:9] + ".changed"))
+        made = self.made()
+        self.assertIn("All else is of commit %s with local changes." % self.commit, made)
+        self.assertIn("* Commit %s with local changes. -- " % self.commit, made)
+        self.assertIn(".%s.changed) unstable" % self.commit[:9], made)
 
-    def test_a_program_that_is_given_is_not_said_to_be_proved(self):
-        fields = self.made(PROGRAM=self.program)
-        unknown = "it is not known here of which commit it was built, and whether it was proved"
-        self.assertIn(unknown, fields["Description"])
-        self.assertNotIn("was proved and built", fields["Description"])
-
-    def test_twice_the_same(self):
-        made = []
-        for umask in (0o022, 0o077):
-            kept = os.umask(umask)
-            try:
-                told, path = packed(self.top, self.out, PATH=self.bin)
-                made.append(path.read_bytes())
-                path.unlink()
-            finally:
-                os.umask(kept)
-        self.assertEqual(made[0], made[1])
+    def test_files_that_are_new_or_gone(self):
+        self.file("bin/dpkg-buildpackage", "#!/bin/sh\nfind . -type f > ../bgpsim_1_amd64.deb\n").chmod(0o755)
+        self.file("top/docs/NEW.md", "")
+        self.file("top/toolbox/build/old.py", "")
+        (self.top / "docs/LAB.md").unlink()
+        files = self.made().split()
+        self.assertIn("./docs/NEW.md", files)
+        self.assertNotIn("./docs/LAB.md", files)
+        self.assertNotIn("./toolbox/build/old.py", files)
 
     def test_nothing_is_made_without_the_program(self):
         self.program.unlink()
-        self.assertEqual(self.refused(), "%s: there is no program: ./bgpsim --version builds it\n" % self.program)
+        self.assertEqual(self.refused(), "%s: there is no program: ./bgpsim --prove builds it\n" % self.program)
 
     def test_nothing_is_made_of_an_old_program(self):
         later = time.time() + 100
         os.utime(self.source, (later, later))
-        why = "it is newer than the program: ./bgpsim --version builds it"
+        why = "it is newer than the program: ./bgpsim --prove builds it"
         self.assertEqual(self.refused(), "crates/sim_core/src/lib.rt: %s\n" % why)
 
     def test_of_what_the_program_is_not_made_may_be_newer(self):
@@ -430,7 +417,7 @@ class Origin(Case):
 
     def test_nothing_is_made_of_a_program_of_other_crates(self):
         self.file("top/crates/bgpsim/out/bgpsim.crates", "seq:\nshared_map: seq decimal\n")
-        told = "crates.txt: it is newer than the program: ./bgpsim --version builds it\n"
+        told = "crates.txt: it is newer than the program: ./bgpsim --prove builds it\n"
         self.assertEqual(self.refused(), told)
         (self.top / "crates/bgpsim/out/bgpsim.crates").unlink()
         later = time.time() + 100
@@ -446,62 +433,38 @@ class Origin(Case):
         shutil.rmtree(self.top / ".git")
         self.assertRegex(self.refused(GIT_CEILING_DIRECTORIES=self.folder), "^git: .*not a git repository")
 
-    def test_without_a_kit_nothing_is_made(self):
-        for path in [self.top / "README.md", *(self.top / "docs").glob("*.md")]:
-            path.write_text(re.sub("rattle-kit-", "kit-", path.read_text()))
-        self.assertIn("it is not known which kit proved the program", self.refused())
+    def test_without_debians_tools_nothing_is_made(self):
+        alone_there = self.folder / "alone"
+        alone_there.mkdir()
+        (alone_there / "git").symlink_to(GIT)
+        (alone_there / "dh").symlink_to(self.bin / "dh")
+        said = "not installed: dpkg-buildpackage, dh_python3, help2man, shtab. `tools/setup` installs what a package is made with\n"
+        self.assertEqual(self.refused(PATH=alone_there), said)
+
+    def test_what_debians_tools_say_of_a_fault(self):
+        self.file("bin/dpkg-buildpackage", "#!/bin/sh\necho dh: no compat level; exit 3\n").chmod(0o755)
+        self.assertEqual(self.refused(), "dpkg-buildpackage: it ended with status 3:\ndh: no compat level\n")
 
     def test_without_a_folder_it_is_in_out_which_git_does_not_see(self):
         for _ in "ab":
-            told = alone([sys.executable, "-B", self.top / "tools/package"], self.folder, PATH=self.bin)
+            told = alone([sys.executable, "-B", self.top / "tools/package"], self.folder, PATH=self.path)
             self.assertEqual((told.returncode, told.stderr), (0, b""))
         [made] = (self.top / "out").iterdir()
         self.assertEqual(told.stdout.decode(), "%s\n" % made)
-        self.assertNotIn("changed", made.name)
+        self.assertNotIn("changed", made.read_text())
 
     def test_no_such_folder(self):
         called = [sys.executable, "-B", self.top / "tools/package", "-o", self.folder / "none"]
-        told = alone(called, self.folder, PATH=self.bin)
+        told = alone(called, self.folder, PATH=self.path)
         self.assertEqual((told.returncode, told.stderr.decode()), (2, "%s: it is no folder\n" % (self.folder / "none")))
 
 
-class Parts(Case):
-    """What the package is made with."""
-
-    @unittest.skipUnless(shutil.which("readelf") and shutil.which("sh"), "readelf is not installed")
-    def test_libraries_of_a_program(self):
-        path = os.path.realpath(shutil.which("sh"))
-        listed = alone([shutil.which("readelf"), "-dVW", path], self.folder, LC_ALL="C").stdout.decode()
-        content = pathlib.Path(path).read_bytes()
-        self.assertEqual(libraries.needed(content), set(re.findall(r"Shared library: \[(.*?)\]", listed)))
-        wanted = {tuple(map(int, name.split("."))) for name in re.findall(r"Name: GLIBC_([0-9.]+)", listed)}
-        self.assertEqual(libraries.c_versions(content), wanted)
-        self.assertTrue(wanted)
-
-    def test_a_program_of_another_kind(self):
-        for content in (b"MZ\x90\0", b"\x7fELF\x01\x01" + b"\0" * 60, b"\x7fELF\x02\x01" + b"\0" * 60):
-            with self.assertRaisesRegex(libraries.Mistake, "for no processor that is known here: amd64, arm64"):
-                libraries.architecture(content)
-
-    def test_rows_of_help(self):
-        told = words.read(HELP)
-        self.assertEqual((told.usage, told.before), ("bgpsim-draw [-h] X", ["It does."]))
-        self.assertEqual(told.after, ["Exit status: 0; 2 a mistake. More is said."])
-        rows = [(item.spellings, item.values, item.text) for item in told.items]
-        self.assertEqual(rows, [(["-h", "--help"], [], "show this"),
-                                (["--long-option-of-it"], ["FILE"], "what stands below it")])
-
-    def test_a_page(self):
-        page = manual.page("draw", "It draws.", words.read(HELP), SECTION, "7")
-        self.assertIn(".SH NAME\nbgpsim-draw \\- It draws\n", page)
-        self.assertIn(".SH SYNOPSIS\nbgpsim\\-draw [\\-h] X\n.SH DESCRIPTION\nIt does.\n.PP\nMore is said.\n", page)
-        self.assertIn(".TP\n\\fB\\-\\-long\\-option\\-of\\-it FILE\\fR\nwhat stands below it\n", page)
-        self.assertIn(".SH EXIT STATUS\n0; 2 a mistake.\n", page)
-        self.assertIn(".PP\nCall \\fBbgpsim\\-draw \\-o\\fR of a page:\n", page)
-        self.assertIn(".EX\n    toolbox/draw\\-not x\n.EE\n", page)
-        self.assertIn(".IP \\(bu 2\none item\n.IP \\(bu 2\nanother\n", page)
-        self.assertIn(".TP\n\\fBa\\-b\\fR\nc\n.PP\n.EX\n\\&.x\\en\n\n\n\\&'y\n.EE\n", page)
-
-    def test_a_tool_without_its_section(self):
-        with self.assertRaisesRegex(manual.Mistake, "docs/TOOLBOX.md: there is no section `## draw`"):
-            manual.section_of("# Tools\n\n## drawing\n\nx\n", "draw")
+@NEEDS_DEBIAN
+class Rules(Case):
+    def test_without_a_program_the_rules_say_so(self):
+        for name in ("debian", "toolbox"):
+            shutil.copytree(TOP / name, self.folder / name, symlinks=True,
+                            ignore=shutil.ignore_patterns("__pycache__", "tests", "build", "built"))
+        told = alone(["debian/rules", "override_dh_auto_build"], self.folder, PATH=os.environ["PATH"], PROGRAM="/none")
+        self.assertEqual(told.stderr.decode().split("\n")[0], "/none: there is no program: PROGRAM= names one")
+        self.assertEqual(told.returncode, 2)

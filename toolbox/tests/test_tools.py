@@ -639,6 +639,20 @@ class Toolbox(Case):
         self.assertEqual(len(re.findall(r"^FAILED .*\(part=[02]\)$", told, re.M)), 2)
         self.assertEqual(len(re.findall("^skipped .*: not here$", told, re.M)), 1)
 
+    def test_the_tests_start_again_under_the_environment(self):
+        python = self.file(".venv/bin/python", "")
+        with unittest.mock.patch.object(run_toolbox_tests, "PYTHON", python), \
+                unittest.mock.patch.object(os, "execv") as started:
+            run_toolbox_tests.restart(["--file", "x"])
+            self.assertFalse(started.called)
+            python.chmod(0o755)
+            with unittest.mock.patch.object(sys, "prefix", str(self.folder / ".venv")):
+                run_toolbox_tests.restart(["--file", "x"])
+            self.assertFalse(started.called)
+            run_toolbox_tests.restart(["--file", "x"])
+        command = [str(python), "-B", str(TOP / "tools/run-toolbox-tests"), "--file", "x"]
+        started.assert_called_once_with(str(python), command)
+
     def test_skipped_tests_fail_if_that_is_asked_for(self):
         for asked, last, wanted in (("", "3 passed, 0 failed", 0), ("fail", "3 passed, 2 failed", 1)):
             with unittest.mock.patch.dict(os.environ, {"SKIPPED": asked}):
