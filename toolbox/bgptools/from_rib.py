@@ -8,7 +8,7 @@ from typing import List, Optional, Set, Tuple
 from . import communities, table
 from .language import address, number, prefix
 from .mistakes import Mistake
-from .sources import lines_in
+from .sources import add_words, lines_in
 from .table import Feed
 
 FORM = "TABLE_DUMP2|time|B|peer|AS|prefix|path|origin|next hop|local preference|MED|communities|.. is expected"
@@ -92,6 +92,7 @@ def parser() -> argparse.ArgumentParser:
                "Exit status: 0; 2 a mistake.")
     made.add_argument("file", metavar="FILE", help="the table; - is standard input; a name that ends with .gz or .bz2 is unpacked")
     table.add_words(made)
+    add_words(made)
     return made
 
 
@@ -99,7 +100,7 @@ def main(words: Optional[List[str]] = None) -> int:
     """The tool."""
     chosen = parser().parse_args(words)
     reading = table.reading_for(chosen)
-    for at, text in lines_in(chosen.file):
+    for at, text in lines_in(chosen.file, chosen.most_unpacked):
         feed = feed_of(text, chosen.file, at, chosen.communities) if text.strip() else None
         reading.count_six += feed is None and bool(text.strip())
         if feed:
