@@ -357,6 +357,18 @@ class Parser:
         return Node("mask", tuple(found), line)
 
 
+def nodes_in(found: Tuple[Any, ...]) -> Iterator[Node]:
+    """All nodes of statements, those in others too."""
+    waiting = list(found)
+    while waiting:
+        each = waiting.pop()
+        if isinstance(each, Node):
+            yield each
+            waiting += each.of
+        elif isinstance(each, tuple):
+            waiting += each
+
+
 def statements_of(words: List[Word], line: Line) -> Tuple[Node, ...]:
     """The statements of a block; raises Wrong."""
     parser = Parser(words, line)

@@ -9,6 +9,7 @@ from typing import Dict, List, Optional, Set, Tuple, cast
 
 from . import bird_checks, bird_links, bird_read, output
 from .bird_config import BirdConfig, OwnRoute, Session
+from .bird_filter import nodes_in
 from .bird_layout import files_of, name_of
 from .bird_rules import Evaluation
 from .frr_config import Config, Neighbour, Origin, Prefix, Told, short
@@ -38,8 +39,7 @@ class BirdTranslation(Translation):
         world = super()._world()
         # Whether a filter prepends is not looked up for each of its ways.
         world.prepending.update(config.asn or 0 for config in self.network.routers.values()
-                                if "prepend" in str(cast(BirdConfig, config).filters) + str(
-                                    [each.policies for each in cast(BirdConfig, config).sessions()]))
+                                if _prepends(cast(BirdConfig, config)))
         return world
 
     def _routers(self) -> None:
@@ -164,6 +164,13 @@ class CountOf:
     def __call__(self, other: int) -> int:
         return len([1 for name, there in self.network.peers if self.network.asn_of(name) == self.asn
                     and self.network.asn_of(there) == other])
+
+
+def _prepends(config: BirdConfig) -> bool:
+    """Whether some filter or function puts the AS into paths."""
+    bodies = [*config.filters.values(), *(each.body for each in config.functions.values()),
+              *(policy.statements for each in config.sessions() for policy in each.policies.values())]
+    return any("prepend" in node.of for body in bodies for node in nodes_in(body))
 
 
 def _is_let(translation: BirdTranslation, name: str, other: str, each: Neighbour, where: Prefix) -> bool:

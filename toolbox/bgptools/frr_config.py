@@ -102,6 +102,16 @@ class Item:
     numbers: Tuple[int, ...] = ()
 
 
+class Entries(Dict[int, Item]):
+    """The entries of a list by their numbers; `highest` is the greatest one, and `said` what those of a community list
+    say."""
+
+    def __init__(self) -> None:
+        super().__init__()
+        self.highest = 0
+        self.said: Set[Tuple[bool, str, Tuple[int, ...]]] = set()
+
+
 @dataclass
 class Origin:
     """A `network`, or a `redistribute` of a kind of routes."""
@@ -156,10 +166,10 @@ class Config:
         self.origins: List[Origin] = []
         self.statics: List[Static] = []
         self.maps: Dict[str, Dict[int, Entry]] = {}
-        self.prefix_lists: Dict[str, Dict[int, Item]] = {}
-        self.access_lists: Dict[str, Dict[int, Item]] = {}
-        self.path_lists: Dict[str, Dict[int, Item]] = {}
-        self.community_lists: Dict[str, Dict[int, Item]] = {}
+        self.prefix_lists: Dict[str, Entries] = {}
+        self.access_lists: Dict[str, Entries] = {}
+        self.path_lists: Dict[str, Entries] = {}
+        self.community_lists: Dict[str, Entries] = {}
         self.has_ospf = self.has_isis = False
         self.ospf_networks: List[Prefix] = []
         self.areas: Dict[str, Line] = {}
