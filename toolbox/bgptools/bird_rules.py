@@ -2,12 +2,12 @@
 the router's own."""
 from __future__ import annotations
 
-import fnmatch
 from typing import Any, Callable, Dict, List, NamedTuple, Optional, Tuple
 
 from .bird_config import BirdConfig, OwnRoute, Policy, Session
 from .bird_filter import Net, Node, Span
 from .bird_values import Mask, Pair, SetOf, Symbol, always, as_told, communities_in, is_in, prefixes, reckoned, spread
+from .expressions import names_like
 from .frr_config import short
 from .frr_lines import Line
 from .frr_lists import Place, World, path_region
@@ -336,7 +336,7 @@ class Evaluation:
 
     def _of_protocol(self, wanted: str) -> Region:
         """Routes that a protocol brought: those of a session by its neighbour's AS, where no other session has it."""
-        names = fnmatch.filter(self.config.protocols, wanted)
+        names = names_like(self.config.protocols, wanted)
         found = [each for each in self.config.sessions() if each.protocol in names]
         for each in found:
             asn = int(each.remote) if each.remote.isdigit() else 0

@@ -2,10 +2,10 @@
 rules."""
 from __future__ import annotations
 
-import fnmatch
 from typing import Any, List, NamedTuple, Tuple
 
 from .bird_filter import Net, Pattern, Span
+from .expressions import is_like
 from .frr_config import NOWHERE, Item, Prefix, masked
 from .frr_lists import MOST_OF_ONE, prefix_matches
 from .frr_policy import ALL, NOTHING, Match, Region, Unsayable, is_, under
@@ -86,7 +86,7 @@ def is_in(left: Any, right: Any) -> bool:
     if isinstance(left, Net) and isinstance(right, SetOf):
         return any(_is_met(left, _pattern(each)) for each in right.elements)
     if isinstance(left, str) and isinstance(right, str):
-        return fnmatch.fnmatchcase(left, right)
+        return is_like(left, right)
     if isinstance(left, str) and isinstance(right, Net) and address(left) is not None:
         return contains(masked(*right), (address(left) or 0, 32))
     if isinstance(right, SetOf) and isinstance(left, (int, str)):

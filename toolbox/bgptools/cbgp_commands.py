@@ -11,6 +11,9 @@ from .cbgp_network import Node, Peer
 from .cbgp_reading import Context
 from .language import number
 
+# So many peers of routers are read: 256 of each of 4,096 routers.
+MOST_PEERS = 1 << 20
+
 
 class Commands(Interior):
     """Takes all commands. A line that is not known is told."""
@@ -60,6 +63,8 @@ class Commands(Interior):
             return self._enter(functools.partial(self._in_as, asn))
         inside = [node for node in self.network.routers().values() if node.asn == asn]
         if words == ["full-mesh"]:
+            if len(self.network.peers) + len(inside) ** 2 > MOST_PEERS:
+                raise self.line.mistake("more than {:,} peers of routers are read".format(MOST_PEERS))
             for one in inside:
                 for other in inside:
                     if one is not other:

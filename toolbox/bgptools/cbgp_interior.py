@@ -10,6 +10,9 @@ from .cbgp_reading import Reading
 from .language import address
 from .network import pair
 
+# So many nodes are read. Those on which BGP runs, or of an AS, are fewer.
+MOST_NODES = 65536
+
 
 class Interior(Reading):
     """Takes them."""
@@ -53,6 +56,8 @@ class Interior(Reading):
         where = self._address(self._wanted(plain, 1, "net add node A")[0])
         if where in self.network.nodes:
             raise self.line.mistake("there is a node %s already" % where)
+        if len(self.network.nodes) == MOST_NODES:
+            raise self.line.mistake("there are {:,} nodes, and no more are read".format(MOST_NODES))
         self.network.nodes[where] = Node(where, self.line)
 
     def _add_link(self, words: List[str]) -> None:

@@ -10,6 +10,7 @@ from .mistakes import Mistake
 
 SPACE = "http://graphml.graphdrawing.org/xmlns"
 # What stands beside nodes and edges and says nothing of routes.
+MOST_DEPTH = 100
 DESCRIPTIONS = ("desc", "locator", "port")
 
 
@@ -71,6 +72,8 @@ class Reader:
         if not self.open and known != "graphml":
             raise self.graph.mistake("`graphml` is expected first, and not `%s`" % plain[:60], self.line)
         self.open.append(known)
+        if len(self.open) > MOST_DEPTH:
+            raise self.graph.mistake("elements are nested more than %d deep" % MOST_DEPTH, self.line)
         if not self.left_from:
             self._take(known, given, self.open[-2] if len(self.open) > 1 else "")
 
@@ -89,7 +92,7 @@ class Reader:
             is_directed = {"true": True, "false": False}.get(given.get("directed", ""), self.is_directed)
             source, target = (self._wanted(name, given, each) for each in ("source", "target"))
             edge = Edge(source, target, self.line, is_directed)
-            self.graph.edges.append(edge)
+            self.graph.add_edge(edge)
             self.here.append(edge.attributes)
         elif name == "data" or name == "default" and around == "key":
             self.key = self._wanted(name, given, "key") if name == "data" else self.key
