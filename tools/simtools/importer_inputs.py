@@ -2,6 +2,7 @@
 from __future__ import annotations
 
 import pathlib
+import re
 from typing import Dict, Iterator, List, NamedTuple, Optional, Sequence
 
 from .programs import TOP
@@ -31,8 +32,8 @@ def _folder(importer: str, folder: pathlib.Path) -> Input:
 
 def _file(importer: str, path: pathlib.Path, *words: str) -> Input:
     """A file, and what it includes beside it."""
-    beside = {other.name: other.read_bytes() for other in sorted(path.parent.glob("*.cli")) if importer == "from-cbgp"
-              and other != path}
+    names = re.findall(r'^include "?([^"\s]+)', path.read_text(), re.M) if importer == "from-cbgp" else []
+    beside = {name: (path.parent / name).read_bytes() for name in names}
     name = " ".join([str(path.relative_to(TOP)), *words])
     return Input(importer, name, {path.name: path.read_bytes(), **beside}, [path.name, *words])
 
