@@ -59,11 +59,31 @@ def static(config: BirdConfig, item: Item, name: str, inside: List[Item]) -> Non
 def _own_channel(config: BirdConfig, item: Item) -> None:
     """The channel of a protocol that is not BGP's: all that it has is taken."""
     for each in items_of(item.body or []):
-        if each.said == "import all" or each.said.startswith("export") or each.said == "table master4":
+        if each.said in ("import all", "table master4") or each.texts[0] == "export" and is_policy(each):
             config.count("settings of other protocols")
         else:
             config.tell(each.line, "%s: it may keep routes of this protocol from the table, or change them; here all "
                         "are taken" % short(each.line.text))
+
+
+def is_policy(item: Item) -> bool:
+    """Whether an item is `import` or `export` with all, none, a condition or a filter; what that says is not read."""
+    what, rest = item.texts[1:2], item.texts[2:]
+    if item.texts[:1] not in (["import"], ["export"]) or not what:
+        return False
+    if what[0] == "filter":
+        return len(rest) == 1 and item.body is None or not rest and item.body is not None
+    return what[0] in ("all", "none") and not rest or what[0] == "where" and bool(rest)
+
+
+def _leads(words: List[Word]) -> bool:
+    """Whether the words behind the prefix of a static route say where it leads."""
+    if len(words) == 1:
+        return words[0].text in _DEST
+    is_known = len(words) > 1 and words[0].text in ("via", "recursive") and words[1].kind in ("address", "string", "name")
+    is_address = is_known and (words[1].kind != "address" or address(words[1].text) is not None)
+    behind = " ".join(word.kind if word.kind in ("string", "number") else word.text for word in words[2:])
+    return is_address and re.fullmatch(r"(% string)?( ?onlink| ?weight number| ?bfd( on| off)?)*", behind) is not None
 
 
 def _route(config: BirdConfig, item: Item, name: str) -> None:
@@ -74,8 +94,7 @@ def _route(config: BirdConfig, item: Item, name: str) -> None:
         return
     where = loose_prefix("".join(words[1:4])) if words[2:3] == ["/"] else None
     rest = words[4:]
-    leads = bool(rest) and (rest[0] in _DEST or rest[0] in ("via", "recursive") and len(rest) > 1)
-    if where is None or not leads:
+    if where is None or not _leads(item.head[4:]):
         config.tell(item.line, "%s: from-bird does not know this form of a static route" % short(item.line.text))
         return
     if item.body:
@@ -106,7 +125,19 @@ def kernel(config: BirdConfig, item: Item, name: str, inside: List[Item]) -> Non
         return
     config.count("settings of other protocols")
     for each in inside:
-        leave(config, "bird kernel", each)
+        if each.texts[:1] == ["ipv4"]:
+            _kernel_channel(config, each)
+        else:
+            leave(config, "bird kernel", each)
+
+
+def _kernel_channel(config: BirdConfig, item: Item) -> None:
+    """What the kernel is given: here packets follow the chosen routes."""
+    for each in items_of(item.body or []):
+        if is_policy(each) or each.said == "table master4":
+            config.count("settings of other protocols")
+        else:
+            leave(config, "bird kernel", each)
 
 
 # OSPF
@@ -137,7 +168,10 @@ def _ospf_channel(config: BirdConfig, item: Item) -> None:
     """What OSPF gets from the table: its external routes."""
     for each in items_of(item.body or []):
         said = set(each.texts) | {word.text for word in each.body or []}
-        if each.texts[:1] != ["export"] or each.said == "export none":
+        if is_policy(each) and (each.texts[0] == "import" or each.said == "export none"):
+            config.count("OSPF settings")
+            continue
+        if not is_policy(each):
             leave(config, "bird ospf channel", each)
             continue
         kinds = {"static": "RTS_STATIC", "connected": "RTS_DEVICE"}

@@ -40,10 +40,9 @@ frr_known.COUNTED.update({
         ("disabled|description|debug|mrtdump|vrf|check link|preference", "settings of other protocols")),
     "bird kernel": frr_known.table(
         ("learn|persist|scan time|ipv4|ipv6|kernel table|metric|graceful restart|merge paths|device routes|netlink rx "
-         "buffer|disabled|description|debug|mrtdump|vrf|preference|import|export|table", "settings of other "
-         "protocols")),
+         "buffer|disabled|description|debug|mrtdump|vrf|preference", "settings of other protocols")),
     "bird ospf channel": frr_known.table(
-        ("import|export|table|preference|debug|import keep filtered", "OSPF settings")),
+        ("table|preference|debug|import keep filtered", "OSPF settings")),
     "bird ospf": frr_known.table(
         ("ipv4|ipv6|tick|instance id|graceful restart|graceful restart aware|graceful restart time|debug|mrtdump|"
          "description|vrf default|disabled", "OSPF settings")),

@@ -13,6 +13,9 @@ from .frr_sessions import ROLES
 from .language import address, number
 
 _ADDRESS = r"([0-9]+(?:\.[0-9]+){3})"
+# How a protocol begins: its name, where it has one.
+_HEAD = re.compile(r"(?:protocol|template) \S+(?: v[23])?(?: (?!from(?: |$)|v[0-9]+(?: |$))([A-Za-z_][A-Za-z0-9_.:-]*))?"
+                   r"(?: from [A-Za-z_][A-Za-z0-9_.:-]*)?")
 _TYPES = "|".join((*TYPES, "set"))
 _ROLES = {"rs_server": "rs-server", "rs_client": "rs-client"}
 
@@ -25,6 +28,9 @@ def read(path: str, included: Set[str]) -> BirdConfig:
     for item in items:
         if item.texts[:1] != ["template"]:
             _take(config, item, templates)
+        elif item.texts[1:2] != ["bgp"] or len(item.texts) < 3:
+            config.tell(item.line, "%s: from-bird knows templates of `protocol bgp` alone; it is left out" % short(
+                item.line.text))
     return config
 
 
@@ -123,10 +129,14 @@ def _policy(config: BirdConfig, item: Item) -> Optional[Policy]:
 # Protocols
 
 def _protocol(config: BirdConfig, item: Item, templates: Dict[str, Item]) -> None:
-    kind, names = item.texts[1], [text for text in item.texts[2:] if text not in ("v2", "v3")]
-    count = list(config.protocols.values()).count(kind)
-    name = names[0] if names and names[0] != "from" else "%s%d" % (kind, count + 1)
-    inside = items_of(item.body or [])
+    head = _HEAD.fullmatch(item.said)
+    if head is None or item.body is None:
+        config.tell(item.line, "%s: `protocol KIND NAME { .. }` is expected, with `from TEMPLATE` where it has one; it is "
+                    "left out" % short(item.line.text))
+        return
+    kind, count = item.texts[1], list(config.protocols.values()).count(item.texts[1])
+    name = head.group(1) or "%s%d" % (kind, count + 1)
+    inside = items_of(item.body)
     if kind == "bgp":
         config.protocols[name] = kind
         _bgp(config, item, name, _with_templates(config, item, templates, 0))
@@ -160,6 +170,9 @@ def _bgp(config: BirdConfig, item: Item, name: str, inside: List[Item]) -> None:
             leave(config, "bird bgp", each)
     if "ipv4" not in session.words:
         session.flags["activate"] = (False, item.line)
+    if "local-six" in session.words and ":" not in session.name:
+        config.tell(session.at("local-six"), "%s: it is an address of IPv6, and the neighbor's is none; it is left out" %
+                    short(session.at("local-six").text))
     if ":" in session.name:
         config.neighbours_six[session.name] = session
         config.count("IPv6", 1 + len(inside))
@@ -209,8 +222,8 @@ def _local(_: BirdConfig, session: Session, item: Item, found: "Match[str]") -> 
         return False
     session.local = where if where and ":" not in where else session.local
     session.asn = number(asn, 1) if asn else session.asn
-    if where and ":" not in where:
-        session.words["update-source"] = (where, item.line)
+    if where:
+        session.words["local-six" if ":" in where else "update-source"] = (where, item.line)
     return None
 
 

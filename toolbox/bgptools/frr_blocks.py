@@ -97,6 +97,8 @@ def _leave_line(config: Config, block: Block, line: Line) -> None:
 
 # The top
 
+# What is no name of an interface.
+NUMERIC = re.compile("[0-9.:]+")
 PROFILES = ("traditional", "datacenter")
 
 
@@ -135,13 +137,15 @@ def _static(config: Config, line: Line, said: str) -> Optional[bool]:
     has_mask = len(words) > 1 and "/" not in words[0]
     where = loose_prefix(words[0], words[1]) if has_mask else loose_prefix(words[0])
     rest = words[2 if has_mask else 1:]
-    if where is None or not rest:
+    if where is None or not rest or NUMERIC.fullmatch(rest[0]) and address(rest[0]) is None:
         return False
     if "vrf" in rest or "nexthop-vrf" in rest or "table" in rest:
         config.tell(line, "%s: it is of a VRF or of another table, and no part of the default instance" %
                     short(line.text))
         return None
-    config.statics.append(Static(where, line, "" if rest[0].lower() in ("null0", "blackhole", "reject") else rest[0]))
+    way = "" if rest[0].lower() in ("null0", "blackhole", "reject") else rest[0]
+    config.statics.append(Static(where, line, way))
+    config.asked += [(line, way)] if way and address(way) is None else []
     return None
 
 
@@ -301,6 +305,7 @@ def _area(config: Config, line: Line, area: str) -> Optional[bool]:
 
 def _passive(config: Config, line: Line, no: Optional[str], name: str) -> None:
     config.passive[name] = not no
+    config.asked += [] if name == "default" else [(line, name)]
 
 
 def _ospf_redistribute(config: Config, line: Line, kind: str) -> None:

@@ -139,9 +139,9 @@ def loose_prefix(text: str, mask: str = "") -> Optional[Prefix]:
     the address counts."""
     first, slash, last = text.partition("/")
     at, wide = address(first), address(mask) if mask else None
-    if at is None:
+    if at is None or mask and (wide is None or slash):
         return None
-    if mask and wide is not None:
+    if wide is not None:
         length: Optional[int] = bin(wide).count("1")
         return masked(at, length or 0) if masked(2 ** 32 - 1, length or 0)[0] == wide else None
     length = number(last, 0, 32) if slash else 8 if at < 2 ** 31 else 16 if at < 3 * 2 ** 30 else 24
@@ -174,6 +174,8 @@ class Config:
         self.ospf_networks: List[Prefix] = []
         self.areas: Dict[str, Line] = {}
         self.passive: Dict[str, bool] = {}
+        # Interfaces that other lines ask for by their names.
+        self.asked: List[Tuple[Line, str]] = []
         self.ospf_redistributes: Dict[str, Line] = {}
         self.told: Dict[Told, None] = {}
         self.counts: "Counter[str]" = Counter()
