@@ -142,6 +142,8 @@ class Interior(Reading):
         way = options.get("oif") or options.get("gw") or (plain[-2] if len(plain) > 2 else "")
         if len(plain) < 2 or len(plain) > 4 or not way:
             raise self.line.mistake("`net node A route add P GATEWAY WAY N` or `route add --oif=WAY P N` is expected")
+        if len(plain) == 4 and plain[1] != "*" and address(plain[1]) is None:
+            raise self.line.mistake("the gateway `%s` is no address, or `*` for none" % plain[1][:60])
         static = Static(where, way, self._number(plain[-1], "metric"), self.line)
         node.statics.append(static)
         if address(way) is None or self.network.link(node.address, way) is None:

@@ -13,6 +13,7 @@ from .frr_lists import Place, World
 from .frr_policy import MOST_RULES
 from .language import address, escaped
 from .mistakes import Mistake
+from .names import TOO_LONG, fits
 from .network import Link, Network, Node as Made, Pair, pair
 from .scripting import Feeds
 
@@ -63,6 +64,9 @@ class Picture:
     def _name(self, where: str, node: Node) -> None:
         """The name of a node, with `_` for spaces; one that others have, too, is told."""
         name = "_".join(escaped(node.name).split())
+        if not fits(name):
+            self.source.note(node.line, TOO_LONG % name[:60])
+            return
         others = [each for each, known in self.made.names.of.items() if known == name]
         if others:
             self.source.note(node.line, "the name %s is that of %s, too: tools want the address" % (name, others[0]))

@@ -20,7 +20,7 @@ from .frr_policy import ANY, DENY, PERMIT, Action, Rules, covers, is_
 from .from_frr import Translation, report
 from .language import address
 from .mistakes import WRONG, Mistake
-from .names import mark
+from .names import MOST_BYTES, fits, mark
 
 NAME = re.compile("[!-~]+")
 # A filter may have so many statements one behind the other.
@@ -49,7 +49,8 @@ class BirdTranslation(Translation):
                 if other in self.network.virtuals]
         names = [protocol for _, protocol in said]
         self.virtual_names = {other: protocol for other, protocol in said
-                              if names.count(protocol) == 1 and protocol not in taken and address(protocol) is None}
+                              if names.count(protocol) == 1 and protocol not in taken and address(protocol) is None
+                              and fits(protocol)}
 
     def _links_and_sessions(self) -> None:
         begin = len(self.lines)
@@ -226,9 +227,9 @@ def network_of(configs: List[BirdConfig], told: List[Told]) -> Network:
     for config in good:
         if not config.hostname:
             config.hostname, config.hostname_line = name_of(config.name), config.line
-        if not NAME.fullmatch(config.hostname):
-            config.tell(config.hostname_line, "%s: it is no name here, which has no space" % short(config.hostname),
-                        False)
+        if not NAME.fullmatch(config.hostname) or not fits(config.hostname):
+            config.tell(config.hostname_line, "%s: it is no name here, which has no space and at most %d bytes" % (
+                short(config.hostname), MOST_BYTES), False)
             config.hostname = ""
         bird_checks.settle(config)
     bird_links.find(good)

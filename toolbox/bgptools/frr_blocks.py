@@ -14,6 +14,7 @@ from .frr_config import (
 from .frr_known import about_block
 from .frr_lines import Block, Line
 from .language import address, number, show_address
+from .names import TOO_LONG, fits
 
 # Files of FRR's single daemons. Maps and lists of another daemon than bgpd say nothing of BGP.
 OTHER_DAEMONS = frozenset("%s.conf" % name for name in ("zebra", "ospfd", "staticd", "isisd", "ripd", "eigrpd",
@@ -103,6 +104,9 @@ PROFILES = ("traditional", "datacenter")
 
 
 def _hostname(config: Config, line: Line, name: str) -> None:
+    if not fits(name):
+        config.tell(line, TOO_LONG % short(name), False)
+        return
     config.hostname, config.hostname_line = name, line
 
 

@@ -107,7 +107,11 @@ def read(content: bytes, file: str, left: LeftOut) -> Graph:
     for block in graphs[1:]:
         left.tell(graph.place(block.line), "a second graph, of which nothing is read")
     graph.count_of_own = len(graphs[0].values)
-    is_directed = graphs[0].values.get("directed", "0") != "0"
+    directed = graphs[0].values.get("directed", "0")
+    if directed not in ("0", "1"):
+        left.tell(graph.place(graphs[0].line), "`directed %s`: 0 or 1 is expected; edges lead one way here" %
+                  directed[:60])
+    is_directed = directed != "0"
     for block in graphs[0].blocks:
         _take(graph, block, is_directed)
     graph.check()

@@ -1,6 +1,7 @@
 """Graphs in GraphML."""
 from __future__ import annotations
 
+import re
 from typing import Dict, List, NamedTuple, Optional
 from xml.parsers import expat
 
@@ -11,6 +12,10 @@ from .mistakes import Mistake
 SPACE = "http://graphml.graphdrawing.org/xmlns"
 # What stands beside nodes and edges and says nothing of routes.
 MOST_DEPTH = 100
+# What a key may have, what it may be about, and of which kind it may be.
+KEY = ("id", "for", "attr.name", "attr.type")
+FOR = ("all", "graphml", "graph", "node", "edge", "hyperedge", "port", "endpoint")
+TYPES = ("string", "boolean", "int", "long", "float", "double")
 DESCRIPTIONS = ("desc", "locator", "port")
 
 
@@ -82,6 +87,7 @@ class Reader:
         if name == "key" and around == "graphml":
             self.key = self._wanted(name, given, "id")
             self.keys[self.key] = Key(given.get("attr.name", self.key), given.get("for", "all"), None)
+            self._check_key(given)
         elif name == "graph" and around == "graphml" and not self.graphs:
             self.graphs, self.is_directed = 1, given.get("edgedefault") == "directed"
         elif name == "node" and around == "graph":
@@ -101,6 +107,14 @@ class Reader:
             self.said = []
         elif name != "graphml" or around:
             self._leave_out(name, around)
+
+    def _check_key(self, given: Dict[str, str]) -> None:
+        """Tells what of a key is not known: what it is about, its kind, and words of no other program."""
+        odd = [name for name in given if name not in KEY and not re.match("[a-z]+[. ]|.*/", name)]
+        odd += [name for name, known in (("for", FOR), ("attr.type", TYPES)) if given.get(name, known[0]) not in known]
+        for name in odd:
+            self.graph.left.note(self.graph.place(self.line), "`%s=\"%s\"` of a key is not known" % (
+                name[:60], given[name][:60]))
 
     def _leave_out(self, name: str, around: str) -> None:
         """An element that is not read, with all in it."""
