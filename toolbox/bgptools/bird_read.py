@@ -2,6 +2,7 @@
 from __future__ import annotations
 
 import re
+from collections import Counter
 from typing import Callable, Dict, List, Match, Optional, Set, Tuple
 
 from .bird_config import ACCEPT, REJECT, BirdConfig, Policy, Session
@@ -23,7 +24,8 @@ _ROLES = {"rs_server": "rs-server", "rs_client": "rs-client"}
 def read(path: str, included: Set[str]) -> BirdConfig:
     """The configuration in a file, and the files that it includes; raises Mistake where it cannot be read."""
     config = BirdConfig(path, [path])
-    items = _whole(items_of(words_in(path, included)))
+    words = words_in(path, included)
+    items = _whole(items_of(words))
     templates = {item.texts[2]: item for item in items if item.texts[:2] == ["template", "bgp"] and len(item.texts) > 2}
     for item in items:
         if item.texts[:1] != ["template"]:
@@ -31,7 +33,18 @@ def read(path: str, included: Set[str]) -> BirdConfig:
         elif item.texts[1:2] != ["bgp"] or len(item.texts) < 3:
             config.tell(item.line, "%s: from-bird knows templates of `protocol bgp` alone; it is left out" % short(
                 item.line.text))
+    _note_unused(config, items, Counter(word.text for word in words if word.kind == "name"))
     return config
+
+
+def _note_unused(config: BirdConfig, items: List[Item], count: "Counter[str]") -> None:
+    """Notes filters, functions, constants and templates of the file itself whose names stand nowhere else."""
+    for item in [item for item in items if item.line.file == config.name]:
+        at = 2 if item.texts[:1] == ["template"] else 1
+        if item.texts[:1] in (["filter"], ["function"], ["define"], ["template"]) and len(item.texts) > at and count[
+                item.texts[at]] == 1:
+            config.tell(item.line, "%s: nothing uses `%s`, so that it decides nothing" % (
+                short(item.line.text), short(item.texts[at])), False)
 
 
 def _whole(items: List[Item]) -> List[Item]:

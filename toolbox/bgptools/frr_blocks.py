@@ -40,6 +40,7 @@ def take_block(config: Config, block: Block) -> None:
         _leave_block(config, block)
         return
     given = _begin(config, block)
+    config.words.update(word for line in block.lines if not OF_LIST.match(line.text) for word in line.words)
     for line in block.lines:
         if not taken(TAKERS[block.kind], line, line.text, *given):
             _leave_line(config, block, line)
@@ -98,6 +99,8 @@ def _leave_line(config: Config, block: Block, line: Line) -> None:
 
 # The top
 
+# Lines that make a list.
+OF_LIST = re.compile(r"(ip prefix-list|access-list|(bgp|ip) (as-path access-list|community-list)) ")
 # What is no name of an interface.
 NUMERIC = re.compile("[0-9.:]+")
 PROFILES = ("traditional", "datacenter")

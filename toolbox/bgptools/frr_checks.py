@@ -24,6 +24,7 @@ def check(network: Network) -> None:
     for config in network.routers.values():
         _check_six(config)
         _check_interfaces(config)
+        _check_unused(config)
 
 
 def check_network(network: Network) -> None:
@@ -177,6 +178,17 @@ def _check_interfaces(config: Config) -> None:
         if config.interfaces and name not in config.interfaces and address(name) is None:
             config.tell(line, "%s: no interface `%s` is in the files of this router; it is taken for being up" % (
                 short(line.text), short(name)), False)
+
+
+def _check_unused(config: Config) -> None:
+    """Route maps and lists that no line of the router's files names."""
+    maps = {name: entries[min(entries)].line for name, entries in config.maps.items() if entries}
+    lists = {name: entries[min(entries)].line for table in (config.prefix_lists, config.access_lists,
+             config.path_lists, config.community_lists) for name, entries in table.items() if entries}
+    for name, line in {**lists, **maps}.items():
+        if name not in config.words:
+            config.tell(line, "%s: no line names `%s`, so that it decides nothing" % (short(line.text), short(name)),
+                        False)
 
 
 def _check_cluster(network: Network, name: str, config: Config) -> None:

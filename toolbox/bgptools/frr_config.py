@@ -174,6 +174,8 @@ class Config:
         self.ospf_networks: List[Prefix] = []
         self.areas: Dict[str, Line] = {}
         self.passive: Dict[str, bool] = {}
+        # The words of all lines but those that make a list, and of the heads of route maps.
+        self.words: Set[str] = set()
         # Interfaces that other lines ask for by their names.
         self.asked: List[Tuple[Line, str]] = []
         self.ospf_redistributes: Dict[str, Line] = {}

@@ -110,7 +110,7 @@ class Reader:
 
     def _check_key(self, given: Dict[str, str]) -> None:
         """Tells what of a key is not known: what it is about, its kind, and words of no other program."""
-        odd = [name for name in given if name not in KEY and not re.match("[a-z]+[. ]|.*/", name)]
+        odd = [name for name in given if name not in KEY and not re.match("(yfiles|java|gephi)[.]|.* ", name)]
         odd += [name for name, known in (("for", FOR), ("attr.type", TYPES)) if given.get(name, known[0]) not in known]
         for name in odd:
             self.graph.left.note(self.graph.place(self.line), "`%s=\"%s\"` of a key is not known" % (

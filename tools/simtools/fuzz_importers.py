@@ -213,16 +213,28 @@ class Fuzzer:
         before = self.base.get(case.input.name)
         if before is None:
             before = self.base[case.input.name] = self.run(case.input, case.input.files)
-        place = "%s:%d:" % (os.path.join(self.folder, case.file), change.line)
-        is_told = place in found.told.replace("/./", "/") or len(change.word) > 2 and change.word in found.told
-        if is_told or found.script != before.script or self.why(case) is not None:
+        if found.script != before.script or self.is_told(case, before, found) or self.why(case) is not None:
             return ""
         return "nothing comes of `%s` in line %d: %s" % (change.word, change.line, change.about)
+
+    def is_told(self, case: Case, before: Ended, found: Ended) -> bool:
+        """Whether a garbled word is told: by its file and line, by itself, or by what it was, which is missed now."""
+        change, place = case.change, "%s:%d:" % (os.path.join(self.folder, case.file), case.change.line)
+        told, known = _plain(found.told), _plain(before.told)
+        new = [line for line in told if line not in known]
+        words = [re.compile(r"(?<![\w.])%s(?![\w.])" % re.escape(word)) for word in (change.word, change.was)
+                 if len(word) > 1]
+        return any(line.startswith(place) for line in told) or any(word.search(line) for word in words for line in new)
 
     def why(self, case: Case) -> Optional[str]:
         """Why a garbled word decides nothing, as the list has it."""
         return next((each.why for each in self.exemptions if each.importer == case.input.importer
                      and each.about.fullmatch(case.change.about)), None)
+
+
+def _plain(told: str) -> List[str]:
+    """The lines that were told, without ways back in the names of files."""
+    return re.sub(r"/[^/\n]+/\.\.(?=/)|/\.(?=/)", "", told).split("\n")
 
 
 def _remove(path: pathlib.Path) -> None:

@@ -21,11 +21,12 @@ WORD = re.compile(r"[^\s|,;{}()\[\]\"'<>=/&]+")
 
 
 class Change(NamedTuple):
-    """A file that was changed: its bytes; of a garbled word its line, what it is now, and the line with `@` in its
-    place."""
+    """A file that was changed: its bytes; of a garbled word its line, what it is now and was, and the line with `@` in
+    its place."""
     content: bytes
     line: int = 0
     word: str = ""
+    was: str = ""
     about: str = ""
 
 
@@ -75,7 +76,7 @@ def a_word(draw: random.Random, content: bytes, comment: str) -> Optional[Change
     word = garbled(draw, line[place.start:place.end])
     lines[place.line - 1] = line[:place.start] + word + line[place.end:]
     about = " ".join((line[:place.start] + "@" + line[place.end:]).split())
-    return Change("\n".join(lines).encode("latin-1"), place.line, word, about)
+    return Change("\n".join(lines).encode("latin-1"), place.line, word, line[place.start:place.end], about)
 
 
 # Lines
