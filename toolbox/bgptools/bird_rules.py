@@ -29,6 +29,7 @@ SYMBOLS = frozenset((
     "scope").split(" "))
 SETTINGS = {"bgp_local_pref": "pref", "bgp_med": "med"}
 RULES_MATCH = "rules match by prefix, by an AS in the path, by the neighbouring AS and by a community"
+ENUMS = ("RTS_", "RTD_", "ORIGIN_", "NET_", "SCOPE_", "ROA_")
 WELL_KNOWN = {"true": True, "false": False}
 
 
@@ -404,7 +405,7 @@ class Evaluation:
             return WELL_KNOWN[name]
         if name in SYMBOLS:
             return self._known(name, state)
-        if name.startswith(("RTS_", "RTD_", "ORIGIN_", "NET_", "SCOPE_", "ROA_")):
+        if name.startswith(ENUMS):
             return name
         raise Unsayable("what `%s` is" % name)
 

@@ -62,6 +62,8 @@ class Commands(Interior):
         if not words:
             return self._enter(functools.partial(self._in_as, asn))
         inside = [node for node in self.network.routers().values() if node.asn == asn]
+        if not inside:
+            self.network.tell(self.line, "%s: no router is in AS %d before it" % (self.line.text, asn))
         if words == ["full-mesh"]:
             if len(self.network.peers) + len(inside) ** 2 > MOST_PEERS:
                 raise self.line.mistake("more than {:,} peers of routers are read".format(MOST_PEERS))

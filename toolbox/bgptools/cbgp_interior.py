@@ -12,6 +12,8 @@ from .network import pair
 
 # So many nodes are read. Those on which BGP runs, or of an AS, are fewer.
 MOST_NODES = 65536
+# What a link may have that decides no route.
+OF_LINK = ("--delay", "--bw", "--capacity", "--depth")
 
 
 class Interior(Reading):
@@ -62,8 +64,12 @@ class Interior(Reading):
 
     def _add_link(self, words: List[str]) -> None:
         plain = [word for word in words if not word.startswith("--")]
-        if len(plain) < len(words):
-            self.network.left.count("capacities and delays", self.line.place)
+        options = [word.partition("=")[0] for word in words if word.startswith("--")]
+        if set(options) <= set(OF_LINK):
+            if options:
+                self.network.left.count("capacities and delays", self.line.place)
+        else:
+            self.network.tell(self.line, "%s: the options of a link are %s" % (self.line.text, ", ".join(OF_LINK)))
         if not 2 <= len(plain) <= 3:
             raise self.line.mistake("`net add link A B`, with a delay in early versions, is expected")
         one = self._node(plain[0]).address

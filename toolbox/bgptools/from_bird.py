@@ -65,6 +65,8 @@ class BirdTranslation(Translation):
 
     def _check(self) -> None:
         bird_checks.check(self.network)
+        for config in self.network.routers.values():
+            bird_checks.tell_unknown(cast(BirdConfig, config))
 
     # Policies
 

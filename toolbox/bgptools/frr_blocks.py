@@ -93,6 +93,9 @@ def _leave_line(config: Config, block: Block, line: Line) -> None:
         else TAKERS[block.kind]))
     if found and found.group(2) in config.neighbours_six:
         config.count("IPv6")
+    elif found and not (found.group(1) or found.group(2) in config.neighbours or found.group(2) in config.groups):
+        config.tell(line, "%s: no line before makes this neighbor, by `remote-as` or `peer-group`; FRR does not take "
+                    "it" % short(line.text))
     else:
         config.leave_out("neighbour" if found else block.kind, line, no + said, is_off)
 

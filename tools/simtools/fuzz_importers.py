@@ -56,9 +56,11 @@ class Ended(NamedTuple):
 
 
 class Exemption(NamedTuple):
-    """Words that decide nothing: of an importer, those of lines that an expression is about; and why."""
+    """Words that decide nothing: of an importer, those of lines that an expression is about, and that another one
+    fits; and why."""
     importer: str
     about: "re.Pattern[str]"
+    word: "re.Pattern[str]"
     why: str
 
 
@@ -124,13 +126,13 @@ def ended(importer: str, words: Sequence[str]) -> Ended:
 # What is wrong with how it ended
 
 def exemptions(path: pathlib.Path = LIST) -> List[Exemption]:
-    """The list of words that decide nothing: stanzas of `importer:`, some `about:`, and `why:`."""
+    """The list of words that decide nothing: stanzas of `importer:`, some `about:`, perhaps `word:`, and `why:`."""
     found: List[Exemption] = []
     for stanza in path.read_text().split("\n\n"):
         rows = [line.split(": ", 1) for line in stanza.split("\n") if line.strip() and not line.startswith("#")]
         given = {name: text for name, text in rows if name != "about"}
-        found += [Exemption(given["importer"], re.compile(text), given["why"]) for name, text in rows
-                  if name == "about"]
+        found += [Exemption(given["importer"], re.compile(text), re.compile(given.get("word", ".*"), re.DOTALL),
+                            given["why"]) for name, text in rows if name == "about"]
     return found
 
 
@@ -218,18 +220,20 @@ class Fuzzer:
         return "nothing comes of `%s` in line %d: %s" % (change.word, change.line, change.about)
 
     def is_told(self, case: Case, before: Ended, found: Ended) -> bool:
-        """Whether a garbled word is told: by its file and line, by itself, or by what it was, which is missed now."""
-        change, place = case.change, "%s:%d:" % (os.path.join(self.folder, case.file), case.change.line)
+        """Whether a garbled word is told: by its file and line, or its file as a whole; by itself; or by what it was,
+        which is missed now."""
+        change, file = case.change, os.path.join(self.folder, case.file)
+        places = ("%s:%d: " % (file, change.line), "%s: not taken over: " % file)
         told, known = _plain(found.told), _plain(before.told)
         new = [line for line in told if line not in known]
         words = [re.compile(r"(?<![\w.])%s(?![\w.])" % re.escape(word)) for word in (change.word, change.was)
                  if len(word) > 1]
-        return any(line.startswith(place) for line in told) or any(word.search(line) for word in words for line in new)
+        return any(line.startswith(places) for line in told) or any(word.search(line) for word in words for line in new)
 
     def why(self, case: Case) -> Optional[str]:
         """Why a garbled word decides nothing, as the list has it."""
         return next((each.why for each in self.exemptions if each.importer == case.input.importer
-                     and each.about.fullmatch(case.change.about)), None)
+                     and each.about.fullmatch(case.change.about) and each.word.fullmatch(case.change.word)), None)
 
 
 def _plain(told: str) -> List[str]:
