@@ -248,7 +248,7 @@ def _community_list(config: Config, line: Line, style: Optional[str], named: Opt
 
 def _address(config: Config, interface: Interface, line: Line, own: str, length: str,
              opposite: Optional[str]) -> Optional[bool]:
-    if address(own) is None or number(length, 0, 32) is None or opposite and address(opposite.split("/")[0]) is None:
+    if address(own) is None or number(length, 1, 32) is None or opposite and address(opposite.split("/")[0]) is None:
         return False
     interface.addresses.append(Address(own, int(length), line, (opposite or "").split("/")[0]))
     return None
@@ -416,6 +416,13 @@ def _neighbour_flag(here: Neighbour, no: Optional[str], line: Line, flag: str) -
     here.flags[flag.split(" ")[0]] = (not no, line)
 
 
+def _hops(here: Neighbour, no: Optional[str], line: Line, flag: str, count: Optional[str]) -> Optional[bool]:
+    if count and number(count, 1, 255) is None:
+        return False
+    _neighbour_flag(here, no, line, flag)
+    return None
+
+
 def _force(here: Neighbour, no: Optional[str], line: Line) -> None:
     here.flags["next-hop-self"] = here.flags["force"] = (not no, line)
 
@@ -534,7 +541,7 @@ OF_NEIGHBOUR: List[Taker] = _takers(
     (r"(route-reflector-client|next-hop-self|activate|passive|disable-connected-check)", _neighbour_flag),
     (r"(send-community)(?: standard| both| all)?", _neighbour_flag),
     (r"(shutdown)(?: message .+)?", _neighbour_flag),
-    (r"(ebgp-multihop)(?: [0-9]+)?", _neighbour_flag), (r"(ttl-security) hops [0-9]+", _neighbour_flag),
+    (r"(ebgp-multihop)(?: ([0-9]+))?", _hops), (r"(ttl-security) hops ([0-9]+)", _hops),
     (r"next-hop-self (?:force|all)", _force),
     (r"(route-map|prefix-list|filter-list|distribute-list) (\S+) (in|out)", _filter),
     (r"(update-source|password|local-role) (.+)", _setting),

@@ -2,7 +2,7 @@
 from __future__ import annotations
 
 import re
-from typing import Dict, List, NamedTuple, Optional
+from typing import Dict, List, NamedTuple, Optional, Tuple
 from xml.parsers import expat
 
 from .graph import Edge, Graph, Node
@@ -90,12 +90,14 @@ class Reader:
             self._check_key(given)
         elif name == "graph" and around == "graphml" and not self.graphs:
             self.graphs, self.is_directed = 1, given.get("edgedefault") == "directed"
+            self._check_word("edgedefault", given, ("directed", "undirected"))
         elif name == "node" and around == "graph":
             node = Node(self._wanted(name, given, "id"), self.line)
             self.graph.add_node(node)
             self.here.append(node.attributes)
         elif name == "edge" and around == "graph":
             is_directed = {"true": True, "false": False}.get(given.get("directed", ""), self.is_directed)
+            self._check_word("directed", given, ("true", "false"))
             source, target = (self._wanted(name, given, each) for each in ("source", "target"))
             edge = Edge(source, target, self.line, is_directed)
             self.graph.add_edge(edge)
@@ -107,6 +109,12 @@ class Reader:
             self.said = []
         elif name != "graphml" or around:
             self._leave_out(name, around)
+
+    def _check_word(self, name: str, given: Dict[str, str], known: Tuple[str, ...]) -> None:
+        """Tells a word that is none of those that are expected."""
+        if given.get(name, known[0]) not in known:
+            self.graph.left.tell(self.graph.place(self.line), "`%s=\"%s\"`: %s is expected; it is as if it were not "
+                                 "there" % (name, given[name][:60], " or ".join(known)))
 
     def _check_key(self, given: Dict[str, str]) -> None:
         """Tells what of a key is not known: what it is about, its kind, and words of no other program."""
