@@ -1,9 +1,11 @@
 """What BIRD does otherwise than a script says: told for each session or router that it concerns."""
 from __future__ import annotations
 
-from typing import List, cast
+from typing import List, Set, cast
 
 from .bird_config import BirdConfig, Session
+from .bird_filter import Function, Node, nodes_in
+from .bird_rules import ENUMS, SYMBOLS, WELL_KNOWN
 from .frr_checks import check_network, compares_med, some_of
 from .frr_config import Neighbour, short
 from .frr_costs import costs_from
@@ -13,6 +15,12 @@ from .language import show_address
 _IN_ORDER = ("without `deterministic med`, which is off by default, BIRD compares each route with the best before it, "
              "so that where MED decides between some of three the choice depends on their order; here all routes of a "
              "neighbouring AS are compared; so it is at %s. `deterministic med on` makes BIRD do the same")
+
+
+# Statements that are known and not followed, and functions of BIRD's own.
+FOLLOWED_NOT = ("case", "for", "unset")
+BUILT_IN = ("roa_check", "aspa_check", "prepend", "add", "delete", "filter", "format", "from", "empty", "set", "append",
+            "reset", "defined", "preference", "weight")
 
 
 def settle(config: BirdConfig) -> None:
@@ -101,6 +109,30 @@ def tell_policy(config: BirdConfig, session: Session, way: str) -> None:
         what = "import" if way == "in" else "export"
         config.tell(session.line, "%s: it has no `%s`, and BIRD takes no configuration with such a session to another "
                     "AS (RFC 8212); nothing passes here" % (short(session.line.text), what))
+
+
+def tell_unknown(config: BirdConfig) -> None:
+    """Tells words of filters that are not known, where no rule came of their lines, so that nothing of it was told."""
+    told = {(each.file, each.line) for each in config.told}
+    policies = [policy.statements for each in config.sessions() for policy in each.policies.values()]
+    bodies = [Function((), each) for each in [*config.filters.values(), *policies]]
+    for parameters, body in [*bodies, *config.functions.values()]:
+        known = {*parameters, *config.constants, *config.functions, *SYMBOLS, *WELL_KNOWN, ""}
+        nodes = list(nodes_in(body))
+        known.update(node.of[0] for node in nodes if node.what == "declare")
+        for node in nodes:
+            if _is_unknown(node, known) and (node.line.file, node.line.number) not in told:
+                config.tell(node.line, "%s: from-bird does not know `%s`; nothing comes of it" % (
+                    short(node.line.text), short(node.of[0])))
+
+
+def _is_unknown(node: Node, known: Set[str]) -> bool:
+    """Whether a node of a filter begins with a word that is neither BIRD's nor declared."""
+    if node.what == "other":
+        return node.of[0] not in FOLLOWED_NOT
+    if node.what in ("set", "do", "call", "called", "name"):
+        return node.of[0] not in known and not node.of[0].startswith(("bgp_", *ENUMS)) and node.of[0] not in BUILT_IN
+    return False
 
 
 def some_prefixes(found: "List[tuple[int, int]]") -> str:

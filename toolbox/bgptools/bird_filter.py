@@ -1,13 +1,15 @@
 """Filters and functions of BIRD as trees of statements and expressions."""
 from __future__ import annotations
 
-from typing import Any, Callable, Dict, List, NamedTuple, Optional, Tuple, TypeVar
+from typing import Any, Callable, Dict, Iterator, List, NamedTuple, Optional, Tuple, TypeVar
 
-from .bird_words import Word
+from .bird_words import Word, number_of
 from .frr_lines import Line
 from .language import address
 
 MOST_DEPTH = 50
+# So many parts one expression has at most that stand behind each other, as `a && b && c`.
+MOST_PARTS = 500
 Read = TypeVar("Read")
 COMPARING = ("=", "!=", "~", "!~", "<", ">", "<=", ">=")
 TYPES = ("int", "bool", "ip", "prefix", "pair", "quad", "ec", "lc", "string", "bgpmask", "bgppath", "clist", "eclist",
@@ -145,8 +147,12 @@ class Parser:
         return Node("if", (condition, inside, outside), line)
 
     def _end(self, line: Line) -> Node:
+        """`accept;` or `reject;`, which may print something."""
         what = self.take().text
-        self._rest()
+        while not self.takes(";"):
+            self.expression()
+            if not self.is_next(";"):
+                self.expect(",")
         return Node(what, (), line)
 
     def _return(self, line: Line) -> Node:
@@ -156,15 +162,19 @@ class Parser:
         return Node("return", (found,), line)
 
     def _variable(self, line: Line) -> Node:
+        """`TYPE NAME;` or `TYPE NAME = X;`."""
         while self.word.kind == "name" and self.word.text in (*TYPES, "set"):
             self.take()
-        return self._assignment(line) or self._other(line)
+        name = self.take()
+        if name.kind != "name":
+            raise Wrong("the name of a variable is expected, and not `%s`" % name.text, name.line)
+        value = self.expression() if self.takes("=") else None
+        self.expect(";")
+        return Node("declare", (name.text, value), line)
 
     def _assignment(self, line: Line) -> Optional[Node]:
-        """`NAME = X;`, `NAME.METHOD(X..);`, `NAME(X..);` or `NAME;`; nothing for another statement."""
+        """`NAME = X;`, `NAME.METHOD(X..);` or `NAME(X..);`; nothing for another statement."""
         before, name = self.at, self.take().text
-        if self.takes(";"):
-            return Node("nothing", (), line)
         if self.takes("="):
             found = Node("set", (name, self.expression()), line)
         elif self.takes("."):
@@ -211,8 +221,7 @@ class Parser:
 
     def _expression(self) -> Node:
         found = self._comparison()
-        while self.is_next("&&", "||"):
-            word = self.take()
+        for word in self._signs("&&", "||"):
             found = Node("and" if word.text == "&&" else "or", (found, self._comparison()), word.line)
         return found
 
@@ -225,8 +234,7 @@ class Parser:
 
     def _sum(self) -> Node:
         found = self._unary()
-        while self.is_next("+", "-", "*", "/"):
-            word = self.take()
+        for word in self._signs("+", "-", "*", "/"):
             found = Node("reckon", (word.text, found, self._unary()), word.line)
         return found
 
@@ -235,10 +243,18 @@ class Parser:
             line = self.take_line()
             return Node("not", (self._nested(self._unary),), line)
         found = self._primary()
-        while self.takes("."):
+        for _ in self._signs("."):
             name = self.take()
             found = Node("of", (found, name.text, self._given() if self.is_next("(") else ()), name.line)
         return found
+
+    def _signs(self, *signs: str) -> Iterator[Word]:
+        """The next word while it is one of these, which is taken; raises Wrong where they are too many."""
+        for _ in range(MOST_PARTS):
+            if not self.is_next(*signs):
+                return
+            yield self.take()
+        raise Wrong("an expression has more than %d parts" % MOST_PARTS, self.word.line)
 
     def take_line(self) -> Line:
         """The line of the next word, which is taken."""
@@ -247,7 +263,7 @@ class Parser:
     def _primary(self) -> Node:
         word = self.take()
         if word.kind == "number":
-            return Node("value", (int(word.text, 0 if word.text.startswith("0x") else 10),), word.line)
+            return Node("value", (number_of(word.text),), word.line)
         if word.kind == "string":
             return Node("value", (word.text,), word.line)
         if word.kind == "address":
@@ -256,7 +272,8 @@ class Parser:
             is_called = self.is_next("(")
             return Node("called" if is_called else "name", (word.text, self._given() if is_called else ()), word.line)
         if word.text in ("(", "[", "[="):
-            return {"(": self._parts, "[": self._set, "[=": self._mask}[word.text](word.line)
+            read = {"(": self._parts, "[": self._set, "[=": self._mask}[word.text]
+            return self._nested(lambda: read(word.line))
         if word.text in ("+", "-"):
             return self._empty(word)
         raise Wrong("`%s` begins no value" % word.text if word.text else "a value is expected", word.line)
@@ -271,9 +288,10 @@ class Parser:
 
     def _number(self, most: int) -> int:
         word = self.take()
-        if word.kind != "number" or int(word.text, 0 if word.text.startswith("0x") else 10) > most:
+        found = number_of(word.text) if word.kind == "number" else None
+        if found is None or found > most:
             raise Wrong("`%s` where a number of 0 to %d is expected" % (word.text, most), word.line)
-        return int(word.text, 0 if word.text.startswith("0x") else 10)
+        return found
 
     def _empty(self, word: Word) -> Node:
         """`+empty+`, `-empty-` or `--empty--`."""
@@ -337,6 +355,18 @@ class Parser:
             else:
                 found.append(self._primary())
         return Node("mask", tuple(found), line)
+
+
+def nodes_in(found: Tuple[Any, ...]) -> Iterator[Node]:
+    """All nodes of statements, those in others too."""
+    waiting = list(found)
+    while waiting:
+        each = waiting.pop()
+        if isinstance(each, Node):
+            yield each
+            waiting += each.of
+        elif isinstance(each, tuple):
+            waiting += each
 
 
 def statements_of(words: List[Word], line: Line) -> Tuple[Node, ...]:

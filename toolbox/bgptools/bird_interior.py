@@ -8,7 +8,7 @@ from . import bird_known  # noqa: F401, gives frr_known what it says of BIRD
 from .bird_config import BirdConfig, OwnRoute, Pattern
 from .bird_words import Item, Word, items_of
 from .frr_config import Prefix, Static, loose_prefix, short
-from .language import number, show_address
+from .language import address, number, show_address
 
 SWITCH = r"(?: (on|off|yes|no|enabled?|disabled?|true|false|1|0))?"
 OFF = ("off", "no", "disable", "disabled", "false", "0")
@@ -53,17 +53,37 @@ def static(config: BirdConfig, item: Item, name: str, inside: List[Item]) -> Non
         elif each.texts[:1] == ["ipv6"]:
             config.count("IPv6")
         else:
-            config.count("settings of other protocols")
+            leave(config, "bird static", each)
 
 
 def _own_channel(config: BirdConfig, item: Item) -> None:
     """The channel of a protocol that is not BGP's: all that it has is taken."""
     for each in items_of(item.body or []):
-        if each.said == "import all" or each.said.startswith("export") or each.said == "table master4":
+        if each.said in ("import all", "table master4") or each.texts[0] == "export" and is_policy(each):
             config.count("settings of other protocols")
         else:
             config.tell(each.line, "%s: it may keep routes of this protocol from the table, or change them; here all "
                         "are taken" % short(each.line.text))
+
+
+def is_policy(item: Item) -> bool:
+    """Whether an item is `import` or `export` with all, none, a condition or a filter; what that says is not read."""
+    what, rest = item.texts[1:2], item.texts[2:]
+    if item.texts[:1] not in (["import"], ["export"]) or not what:
+        return False
+    if what[0] == "filter":
+        return len(rest) == 1 and item.body is None or not rest and item.body is not None
+    return what[0] in ("all", "none") and not rest or what[0] == "where" and bool(rest)
+
+
+def _leads(words: List[Word]) -> bool:
+    """Whether the words behind the prefix of a static route say where it leads."""
+    if len(words) == 1:
+        return words[0].text in _DEST
+    is_known = len(words) > 1 and words[0].text in ("via", "recursive") and words[1].kind in ("address", "string", "name")
+    is_address = is_known and (words[1].kind != "address" or address(words[1].text) is not None)
+    behind = " ".join(word.kind if word.kind in ("string", "number") else word.text for word in words[2:])
+    return is_address and re.fullmatch(r"(% string)?( ?onlink| ?weight number| ?bfd( on| off)?)*", behind) is not None
 
 
 def _route(config: BirdConfig, item: Item, name: str) -> None:
@@ -74,8 +94,7 @@ def _route(config: BirdConfig, item: Item, name: str) -> None:
         return
     where = loose_prefix("".join(words[1:4])) if words[2:3] == ["/"] else None
     rest = words[4:]
-    leads = bool(rest) and (rest[0] in _DEST or rest[0] in ("via", "recursive") and len(rest) > 1)
-    if where is None or not leads:
+    if where is None or not _leads(item.head[4:]):
         config.tell(item.line, "%s: from-bird does not know this form of a static route" % short(item.line.text))
         return
     if item.body:
@@ -93,16 +112,32 @@ def direct(config: BirdConfig, item: Item, name: str, inside: List[Item]) -> Non
         elif each.texts[:1] == ["ipv4"]:
             _own_channel(config, each)
             config.direct = (name, item.line)
+        elif each.texts[:1] == ["ipv6"]:
+            config.count("IPv6")
         else:
-            config.count("settings of other protocols")
+            leave(config, "bird direct", each)
 
 
 def kernel(config: BirdConfig, item: Item, name: str, inside: List[Item]) -> None:
     """The protocol by which the kernel gets its routes."""
     if any(each.said == "learn" or each.said.startswith("learn ") and each.texts[1] not in OFF for each in inside):
         leave(config, "bird", item)
-    else:
-        config.count("settings of other protocols", 1 + len(inside))
+        return
+    config.count("settings of other protocols")
+    for each in inside:
+        if each.texts[:1] == ["ipv4"]:
+            _kernel_channel(config, each)
+        else:
+            leave(config, "bird kernel", each)
+
+
+def _kernel_channel(config: BirdConfig, item: Item) -> None:
+    """What the kernel is given: here packets follow the chosen routes."""
+    for each in items_of(item.body or []):
+        if is_policy(each) or each.said == "table master4":
+            config.count("settings of other protocols")
+        else:
+            leave(config, "bird kernel", each)
 
 
 # OSPF
@@ -114,9 +149,8 @@ def ospf(config: BirdConfig, item: Item, name: str, inside: List[Item]) -> None:
         return
     config.has_ospf = True
     for each in inside:
-        if each.texts[:1] == ["area"] and each.body is not None:
-            asked = number(each.texts[-1])
-            config.areas.setdefault(each.texts[-1] if asked is None else show_address(asked), each.line)
+        if each.texts[:1] == ["area"] and len(each.texts) == 2 and each.body is not None and _area_of(each.texts[1]):
+            config.areas.setdefault(_area_of(each.texts[1]), each.line)
             _area(config, each)
         elif each.texts[:1] == ["ipv4"]:
             _ospf_channel(config, each)
@@ -124,12 +158,21 @@ def ospf(config: BirdConfig, item: Item, name: str, inside: List[Item]) -> None:
             leave(config, "bird ospf", each)
 
 
+def _area_of(said: str) -> str:
+    """The name of an area, a number or an address, as an address; empty where it is neither."""
+    asked = number(said)
+    return show_address(asked) if asked is not None else said if address(said) is not None else ""
+
+
 def _ospf_channel(config: BirdConfig, item: Item) -> None:
     """What OSPF gets from the table: its external routes."""
     for each in items_of(item.body or []):
         said = set(each.texts) | {word.text for word in each.body or []}
-        if each.texts[:1] != ["export"] or each.texts[1:] == ["none"]:
+        if is_policy(each) and (each.texts[0] == "import" or each.said == "export none"):
             config.count("OSPF settings")
+            continue
+        if not is_policy(each):
+            leave(config, "bird ospf channel", each)
             continue
         kinds = {"static": "RTS_STATIC", "connected": "RTS_DEVICE"}
         taken = [kind for kind, source in kinds.items() if each.texts[1:] == ["all"] or source in said]
@@ -146,6 +189,8 @@ def _area(config: BirdConfig, item: Item) -> None:
         elif each.texts[:1] == ["stubnet"]:
             where = loose_prefix("".join(each.texts[1:4])) if each.texts[2:3] == ["/"] else None
             config.stubs += [where] if where else []
+            if where is None or len(each.texts) > 4:
+                config.tell(each.line, "%s: `stubnet PREFIX` is expected; it is left out" % short(each.line.text))
         else:
             leave(config, "bird area", each)
 
@@ -162,11 +207,23 @@ def _interface(config: BirdConfig, item: Item) -> None:
         else:
             leave(config, "bird interface", each)
     for words in _parted(item.head[1:]):
+        if not _is_pattern(words):
+            config.tell(item.line, "%s: an interface is named as `\"eth0\"`, or by a prefix; it is left out" % short(
+                item.line.text))
+            continue
         is_out = words[0].text == "-"
         name = next((word.text for word in words if word.kind == "string"), "")
         at = next((at for at, word in enumerate(words) if word.kind == "address"), None)
         where = _prefix_at(words, at)
         config.patterns.append(Pattern(item.line, name, where, is_out, cost, is_stub))
+
+
+def _is_pattern(words: List[Word]) -> bool:
+    """Whether words name interfaces: `-` before it leaves them out, a name, and a prefix."""
+    kinds = " ".join(word.text if word.text in ("-", "/") else word.kind for word in words)
+    at = next((at for at, word in enumerate(words) if word.kind == "address"), None)
+    return re.fullmatch("(- )?(string( address( / number)?)?|address( / number)?)( number)?", kinds) is not None and (
+        at is None or _prefix_at(words, at) is not None)
 
 
 def _prefix_at(words: List[Word], at: Optional[int]) -> Optional[Prefix]:

@@ -33,6 +33,16 @@ frr_known.COUNTED.update({
         ("graceful restart|long lived graceful restart|long lived stale time", "restarts"),
         ("secondary", _SESSIONS), ("gateway direct|gateway recursive|link local next hop format|next hop "
                                    "prefer|mandatory|extended next hop|require extended next hop", "next hops")),
+    "bird static": frr_known.table(
+        ("check link|igp table|disabled|description|debug|mrtdump|vrf|preference|igp_metric|gateway recursive",
+         "settings of other protocols")),
+    "bird direct": frr_known.table(
+        ("disabled|description|debug|mrtdump|vrf|check link|preference", "settings of other protocols")),
+    "bird kernel": frr_known.table(
+        ("learn|persist|scan time|ipv4|ipv6|kernel table|metric|graceful restart|merge paths|device routes|netlink rx "
+         "buffer|disabled|description|debug|mrtdump|vrf|preference", "settings of other protocols")),
+    "bird ospf channel": frr_known.table(
+        ("table|preference|debug|import keep filtered", "OSPF settings")),
     "bird ospf": frr_known.table(
         ("ipv4|ipv6|tick|instance id|graceful restart|graceful restart aware|graceful restart time|debug|mrtdump|"
          "description|vrf default|disabled", "OSPF settings")),

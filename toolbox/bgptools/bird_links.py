@@ -3,12 +3,12 @@ patterns, addresses from `local` and `neighbor`, and both from what `ip -o addr`
 file."""
 from __future__ import annotations
 
-import fnmatch
 import os
 import re
 from typing import Dict, List, Tuple
 
 from .bird_config import BirdConfig, OwnRoute, Pattern, Session, interface_of
+from .expressions import is_like
 from .frr_config import Address, Interface, masked, short
 from .frr_interior import is_loopback
 from .frr_lines import Line
@@ -82,7 +82,7 @@ def _take_pattern(config: BirdConfig, pattern: Pattern) -> None:
 
 def _is_met(interface: Interface, pattern: Pattern) -> bool:
     """Whether a pattern is about an interface of which the addresses are known."""
-    if pattern.name and not fnmatch.fnmatchcase(interface.name, pattern.name):
+    if pattern.name and not is_like(interface.name, pattern.name):
         return False
     where = pattern.where
     return where is None or any(masked(address(each.own) or 0, where[1]) == where and each.length >= where[1]
@@ -185,7 +185,7 @@ def _take_loopbacks(config: BirdConfig) -> None:
     """Whether OSPF carries the addresses of the loopback: by an interface, or as a stub network."""
     for name, interface in config.interfaces.items():
         line = next((pattern.line for pattern in config.patterns if not pattern.is_out and pattern.name
-                     and fnmatch.fnmatchcase(name, pattern.name) and pattern.where is None), None)
+                     and is_like(name, pattern.name) and pattern.where is None), None)
         if is_loopback(interface) and interface.interior is None and line is not None:
             interface.interior = line
     config.ospf_networks += config.stubs
@@ -219,7 +219,7 @@ def _take_subnets(config: BirdConfig, proto: str, line: Line) -> None:
 
 def _is_named(name: str, pattern: str) -> bool:
     """Whether an interface of which a file has the name is one of a pattern."""
-    return " " not in name and "/" not in name and fnmatch.fnmatchcase(name, pattern)
+    return " " not in name and "/" not in name and is_like(name, pattern)
 
 
 def _beside(config: BirdConfig) -> str:

@@ -2,28 +2,49 @@
 from __future__ import annotations
 
 import re
+from collections import Counter
 from typing import Callable, Dict, List, Match, Optional, Set, Tuple
 
 from .bird_config import ACCEPT, REJECT, BirdConfig, Policy, Session
 from .bird_filter import TYPES, Function, Node, Wrong, expression_of, statements_of
 from .bird_interior import OFF, SWITCH, direct, kernel, leave, ospf, resolved, static
-from .bird_words import Item, items_of, words_in
+from .bird_words import Item, Word, items_of, words_in
 from .frr_config import short
+from .frr_sessions import ROLES
 from .language import address, number
 
 _ADDRESS = r"([0-9]+(?:\.[0-9]+){3})"
+# How a protocol begins: its name, where it has one.
+_HEAD = re.compile(r"(?:protocol|template) \S+(?: v[23])?(?: (?!from(?: |$)|v[0-9]+(?: |$))([A-Za-z_][A-Za-z0-9_.:-]*))?"
+                   r"(?: from [A-Za-z_][A-Za-z0-9_.:-]*)?")
+_TYPES = "|".join((*TYPES, "set"))
 _ROLES = {"rs_server": "rs-server", "rs_client": "rs-client"}
 
 
 def read(path: str, included: Set[str]) -> BirdConfig:
     """The configuration in a file, and the files that it includes; raises Mistake where it cannot be read."""
     config = BirdConfig(path, [path])
-    items = _whole(items_of(words_in(path, included)))
+    words = words_in(path, included)
+    items = _whole(items_of(words))
     templates = {item.texts[2]: item for item in items if item.texts[:2] == ["template", "bgp"] and len(item.texts) > 2}
     for item in items:
         if item.texts[:1] != ["template"]:
             _take(config, item, templates)
+        elif item.texts[1:2] != ["bgp"] or len(item.texts) < 3:
+            config.tell(item.line, "%s: from-bird knows templates of `protocol bgp` alone; it is left out" % short(
+                item.line.text))
+    _note_unused(config, items, Counter(word.text for word in words if word.kind == "name"))
     return config
+
+
+def _note_unused(config: BirdConfig, items: List[Item], count: "Counter[str]") -> None:
+    """Notes filters, functions, constants and templates of the file itself whose names stand nowhere else."""
+    for item in [item for item in items if item.line.file == config.name]:
+        at = 2 if item.texts[:1] == ["template"] else 1
+        if item.texts[:1] in (["filter"], ["function"], ["define"], ["template"]) and len(item.texts) > at and count[
+                item.texts[at]] == 1:
+            config.tell(item.line, "%s: nothing uses `%s`, so that it decides nothing" % (
+                short(item.line.text), short(item.texts[at])), False)
 
 
 def _whole(items: List[Item]) -> List[Item]:
@@ -33,10 +54,15 @@ def _whole(items: List[Item]) -> List[Item]:
         before = found[-1] if found else Item([], None)
         if before.texts[:1] in (["filter"], ["function"]) and before.body is None and item.texts[:1] in (
                 [], *([each] for each in TYPES)):
-            found[-1] = Item(before.head, item.body)
+            found[-1] = Item(before.head + _apart(before, item), item.body)
         else:
             found.append(item)
     return found
+
+
+def _apart(before: Item, item: Item) -> List[Word]:
+    """The words of the second item behind a `;`, which the first one ends with."""
+    return [Word("mark", ";", before.line)] + item.head if item.head else []
 
 
 def _take(config: BirdConfig, item: Item, templates: Dict[str, Item]) -> None:
@@ -70,13 +96,28 @@ def _define(config: BirdConfig, item: Item) -> None:
 def _filter(config: BirdConfig, item: Item) -> None:
     if item.body is None:
         raise Wrong("a block in braces is expected", item.line)
-    config.filters[item.texts[1]] = statements_of(item.body or [], item.line)
+    before = _declared(" ".join(item.texts[2:]), item)
+    config.filters[item.texts[1]] = before + statements_of(item.body, item.line)
 
 
 def _function(config: BirdConfig, item: Item) -> None:
-    end = item.texts.index(")") if ")" in item.texts else len(item.texts)
-    names = [text for text in item.texts[3:end] if text not in (*TYPES, "set", ",", ";")]
-    config.functions[item.texts[1]] = Function(tuple(names), statements_of(item.body or [], item.line))
+    """`function NAME(TYPE NAME, ..) -> TYPE { .. }`."""
+    found = re.fullmatch(r"function \S+ \((?: (.*))? \)(?: ->(?: (?:%s))+)?(.*)" % _TYPES, item.said)
+    given = [each.strip() for each in re.split("[,;]", found.group(1) or "") if each.strip()] if found else []
+    names = [re.fullmatch(r"(?:(?:%s) )+(\S+)" % _TYPES, each) for each in given]
+    if found is None or not all(names) or item.body is None:
+        raise Wrong("`function NAME(TYPE NAME, ..) { .. }` is expected", item.line)
+    body = _declared(found.group(2), item) + statements_of(item.body, item.line)
+    config.functions[item.texts[1]] = Function(tuple(name.group(1) for name in names if name), body)
+
+
+def _declared(said: str, item: Item) -> Tuple[Node, ...]:
+    """The variables that stand before a block, each with its type and `;`; raises Wrong for anything else."""
+    found = [each.strip() for each in said.split(";") if each.strip()]
+    names = [re.fullmatch(r"(?:(?:%s) )+([A-Za-z_]\w*)" % _TYPES, each) for each in found]
+    if not all(names):
+        raise Wrong("a block in braces is expected, and not `%s`" % short(said.strip()), item.line)
+    return tuple(Node("declare", (name.group(1), None), item.line) for name in names if name)
 
 
 def _policy(config: BirdConfig, item: Item) -> Optional[Policy]:
@@ -101,10 +142,14 @@ def _policy(config: BirdConfig, item: Item) -> Optional[Policy]:
 # Protocols
 
 def _protocol(config: BirdConfig, item: Item, templates: Dict[str, Item]) -> None:
-    kind, names = item.texts[1], [text for text in item.texts[2:] if text not in ("v2", "v3")]
-    count = list(config.protocols.values()).count(kind)
-    name = names[0] if names and names[0] != "from" else "%s%d" % (kind, count + 1)
-    inside = items_of(item.body or [])
+    head = _HEAD.fullmatch(item.said)
+    if head is None or item.body is None:
+        config.tell(item.line, "%s: `protocol KIND NAME { .. }` is expected, with `from TEMPLATE` where it has one; it is "
+                    "left out" % short(item.line.text))
+        return
+    kind, count = item.texts[1], list(config.protocols.values()).count(item.texts[1])
+    name = head.group(1) or "%s%d" % (kind, count + 1)
+    inside = items_of(item.body)
     if kind == "bgp":
         config.protocols[name] = kind
         _bgp(config, item, name, _with_templates(config, item, templates, 0))
@@ -138,6 +183,9 @@ def _bgp(config: BirdConfig, item: Item, name: str, inside: List[Item]) -> None:
             leave(config, "bird bgp", each)
     if "ipv4" not in session.words:
         session.flags["activate"] = (False, item.line)
+    if "local-six" in session.words and ":" not in session.name:
+        config.tell(session.at("local-six"), "%s: it is an address of IPv6, and the neighbor's is none; it is left out" %
+                    short(session.at("local-six").text))
     if ":" in session.name:
         config.neighbours_six[session.name] = session
         config.count("IPv6", 1 + len(inside))
@@ -183,18 +231,27 @@ Taker = Callable[[BirdConfig, Session, Item, "Match[str]"], Optional[bool]]
 
 def _local(_: BirdConfig, session: Session, item: Item, found: "Match[str]") -> Optional[bool]:
     where, asn = found.group(1), found.group(2)
+    if not _is_end(where, asn):
+        return False
     session.local = where if where and ":" not in where else session.local
     session.asn = number(asn, 1) if asn else session.asn
-    if where and ":" not in where:
-        session.words["update-source"] = (where, item.line)
+    if where:
+        session.words["local-six" if ":" in where else "update-source"] = (where, item.line)
+    return None
+
+
+def _is_end(where: Optional[str], asn: Optional[str]) -> bool:
+    """Whether an address, of IPv6 too, and an AS number are ones, as far as they are there."""
     return (not where or ":" in where or address(where) is not None) and (not asn or number(asn, 1) is not None)
 
 
 def _neighbor(_: BirdConfig, session: Session, item: Item, found: "Match[str]") -> Optional[bool]:
     where, asn, side = found.groups()
+    if not _is_end(where, asn):
+        return False
     session.name = where or session.name
     session.remote = side or asn or session.remote
-    return (not where or ":" in where or address(where) is not None) and (not asn or number(asn, 1) is not None)
+    return None
 
 
 def _flag(name: str) -> Taker:
@@ -207,8 +264,7 @@ def _flag(name: str) -> Taker:
 def _word(name: str) -> Taker:
     """Takes a setting that is a word."""
     def take(_: BirdConfig, session: Session, item: Item, found: "Match[str]") -> None:
-        said = found.group(1)
-        session.words[name] = (_ROLES.get(said, said), item.line)
+        session.words[name] = (found.group(1), item.line)
     return take
 
 
@@ -218,8 +274,24 @@ def _multihop(_: BirdConfig, session: Session, item: Item, found: "Match[str]") 
 
 
 def _preference(_: BirdConfig, session: Session, item: Item, found: "Match[str]") -> Optional[bool]:
-    session.preference = int(found.group(1))
-    return number(found.group(1)) is not None
+    asked = number(found.group(1))
+    session.preference = session.preference if asked is None else asked
+    return asked is not None
+
+
+def _cluster(_: BirdConfig, session: Session, item: Item, found: "Match[str]") -> Optional[bool]:
+    if address(found.group(1)) is None:
+        return False
+    session.words["cluster"] = (found.group(1), item.line)
+    return None
+
+
+def _role(_: BirdConfig, session: Session, item: Item, found: "Match[str]") -> Optional[bool]:
+    said = _ROLES.get(found.group(1), found.group(1))
+    if said not in ROLES:
+        return False
+    session.words["local-role"] = (said, item.line)
+    return None
 
 
 def _channel(config: BirdConfig, session: Session, item: Item, found: "Match[str]") -> None:
@@ -249,13 +321,13 @@ def _self(_: BirdConfig, session: Session, item: Item, found: "Match[str]") -> N
 _OF_CHANNEL: List[Tuple[str, Taker]] = [("next hop self( ebgp)?" + SWITCH, _self)]
 _SIX = r"([0-9a-fA-F:.]*:[0-9a-fA-F:.]*|" + _ADDRESS[1:]
 _BGP: List[Tuple[str, Taker]] = [
-    (r"local role (\w+)", _word("local-role")), ("require roles" + SWITCH, _flag("roles")),
+    (r"local role (\w+)", _role), ("require roles" + SWITCH, _flag("roles")),
     (r"local(?: %s)?(?: port 179)?(?: as ([0-9]+))?" % _SIX, _local),
     (r"neighbor(?: %s(?: %% \S+)?)?(?: port 179)?(?: as ([0-9]+))?(?: (internal|external))?" % _SIX, _neighbor),
     ("source address %s()" % _ADDRESS, _local), ("(multihop|direct)(?: [0-9]+)?", _multihop),
     ("password (.*)", _word("password")), ("passive" + SWITCH, _flag("passive")),
     ("disabled" + SWITCH, _flag("shutdown")), ("rr client" + SWITCH, _flag("route-reflector-client")),
-    ("rr cluster id %s" % _ADDRESS, _word("cluster")), ("med metric" + SWITCH, _flag("med-metric")),
+    ("rr cluster id %s" % _ADDRESS, _cluster), ("med metric" + SWITCH, _flag("med-metric")),
     ("deterministic med" + SWITCH, _flag("deterministic")),
     ("default bgp_local_pref ([0-9]+)", _preference), ("default bgp_med (0)", _flag("med")),
     ("ipv4", _channel), *_OF_CHANNEL]

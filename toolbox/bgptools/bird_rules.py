@@ -2,12 +2,12 @@
 the router's own."""
 from __future__ import annotations
 
-import fnmatch
 from typing import Any, Callable, Dict, List, NamedTuple, Optional, Tuple
 
 from .bird_config import BirdConfig, OwnRoute, Policy, Session
 from .bird_filter import Net, Node, Span
 from .bird_values import Mask, Pair, SetOf, Symbol, always, as_told, communities_in, is_in, prefixes, reckoned, spread
+from .expressions import names_like
 from .frr_config import short
 from .frr_lines import Line
 from .frr_lists import Place, World, path_region
@@ -16,8 +16,11 @@ from .frr_rules import NO_NEIGHBOUR, unset
 from .language import show_address
 from .mistakes import Mistake
 
-# So many statements at most are followed, over all ways through a filter.
-MOST_STEPS = 20000
+# So many statements at most are followed, over all ways through a filter, and so many parts of expressions.
+MOST_STEPS, MOST_VALUES = 20000, 500000
+FOLLOWS_NOT = "from-bird follows no `%s`; it is left out"
+# What a variable is that is declared and got no value.
+UNSET = None
 # What a filter may ask of a route, and what of it no rule asks for.
 SYMBOLS = frozenset((
     "net proto source from dest bgp_path bgp_community bgp_local_pref bgp_med bgp_origin bgp_next_hop gw preference "
@@ -26,6 +29,7 @@ SYMBOLS = frozenset((
     "scope").split(" "))
 SETTINGS = {"bgp_local_pref": "pref", "bgp_med": "med"}
 RULES_MATCH = "rules match by prefix, by an AS in the path, by the neighbouring AS and by a community"
+ENUMS = ("RTS_", "RTD_", "ORIGIN_", "NET_", "SCOPE_", "ROA_")
 WELL_KNOWN = {"true": True, "false": False}
 
 
@@ -58,7 +62,7 @@ class Evaluation:
                  count_of: Callable[[int], int], own: Optional[OwnRoute] = None) -> None:
         self.config, self.session, self.place, self.world = config, session, place, world
         self.count_of, self.own = count_of, own
-        self.steps = 0
+        self.steps = self.values = 0
 
     def rules(self, policy: Policy) -> Rules[Action]:
         """The rules of a policy; raises Mistake where there are too many ways through it."""
@@ -163,13 +167,16 @@ class Evaluation:
                 return self._set(node, state)
             if node.what == "do":
                 return self._do(node, state)
+            if node.what == "declare":
+                name, value = node.of
+                return state.naming({name: UNSET if value is None else self._value(value, state)})
         except Unsayable as reason:
             self._tell(node.line, "%s; it is left out" % reason)
             return state
         if node.what == "print":
             self.config.count_line("logs", node.line)
         elif node.what == "other":
-            self._tell(node.line, "from-bird follows no `%s`; it is left out" % node.of[0])
+            self._tell(node.line, FOLLOWS_NOT % short(node.of[0]))
         return state
 
     def _set(self, node: Node, state: State) -> State:
@@ -183,11 +190,13 @@ class Evaluation:
                 return self._do(Node("do", (name, method, tuple(given)), node.line), state)
         if name in SYMBOLS or name.startswith("bgp_"):
             raise Unsayable("a rule sets preference, MED and prepending, and adds one community; nothing else")
+        if name not in dict(state.names):
+            raise Unsayable("`%s` is no variable that is declared here" % short(name))
         return state.naming({name: self._value(value, state)})
 
     def _number(self, node: Node, state: State) -> int:
         found = self._value(node, state)
-        if not isinstance(found, int) or not 0 <= found < 2 ** 32:
+        if not isinstance(found, int) or isinstance(found, bool) or not 0 <= found < 2 ** 32:
             raise Unsayable("a rule sets a number, and none that is reckoned from the route's")
         return found
 
@@ -328,7 +337,7 @@ class Evaluation:
 
     def _of_protocol(self, wanted: str) -> Region:
         """Routes that a protocol brought: those of a session by its neighbour's AS, where no other session has it."""
-        names = fnmatch.filter(self.config.protocols, wanted)
+        names = names_like(self.config.protocols, wanted)
         found = [each for each in self.config.sessions() if each.protocol in names]
         for each in found:
             asn = int(each.remote) if each.remote.isdigit() else 0
@@ -342,6 +351,7 @@ class Evaluation:
     def _value(self, node: Node, state: State) -> Any:
         """What an expression is: a number, a text, a prefix, a set, or a symbol; raises Unsayable."""
         what, of = node.what, node.of
+        self._count_value(node)
         if what == "value":
             return of[0]
         if what == "name":
@@ -363,6 +373,13 @@ class Evaluation:
         if what == "reckon":
             return reckoned(of[0], self._value(of[1], state), self._value(of[2], state))
         raise Unsayable("what `%s` says" % of[0] if what == "called" else "large and extended communities")
+
+    def _count_value(self, node: Node) -> None:
+        """Raises Mistake where expressions, with what their names stand for, have too many parts."""
+        self.values += 1
+        if self.values > MOST_VALUES:
+            raise Mistake("the filters of this session reckon with more than %d parts of expressions" % MOST_VALUES,
+                          node.line.file, node.line.number)
 
     def _truth(self, node: Node, state: State) -> bool:
         """A condition that is a value: one that holds always, or never."""
@@ -388,7 +405,7 @@ class Evaluation:
             return WELL_KNOWN[name]
         if name in SYMBOLS:
             return self._known(name, state)
-        if name.startswith(("RTS_", "RTD_", "ORIGIN_", "NET_", "SCOPE_", "ROA_")):
+        if name.startswith(ENUMS):
             return name
         raise Unsayable("what `%s` is" % name)
 

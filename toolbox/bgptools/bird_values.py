@@ -2,10 +2,10 @@
 rules."""
 from __future__ import annotations
 
-import fnmatch
 from typing import Any, List, NamedTuple, Tuple
 
 from .bird_filter import Net, Pattern, Span
+from .expressions import is_like
 from .frr_config import NOWHERE, Item, Prefix, masked
 from .frr_lists import MOST_OF_ONE, prefix_matches
 from .frr_policy import ALL, NOTHING, Match, Region, Unsayable, is_, under
@@ -48,12 +48,17 @@ def as_told(value: Any) -> str:
 def reckoned(sign: str, left: Any, right: Any) -> int:
     if not isinstance(left, int) or not isinstance(right, int) or sign == "/" and right == 0:
         raise Unsayable("a number that is reckoned from the route's")
-    return {"+": left + right, "-": left - right, "*": left * right, "/": left // (right or 1)}[sign]
+    found = {"+": left + right, "-": left - right, "*": left * right, "/": left // (right or 1)}[sign]
+    if not 0 <= found < 2 ** 32:
+        raise Unsayable("a number that is less than 0 or more than 4294967295")
+    return found
 
 
 def spread(value: Any, least: int) -> List[int]:
     """The numbers that a number or a span is; raises Unsayable where they are too many."""
     if isinstance(value, Span) and isinstance(value.low, int) and isinstance(value.high, int):
+        if not least <= value.low <= value.high < 2 ** 32:
+            raise Unsayable("the numbers %d to %d" % (value.low, value.high))
         if value.high - value.low < MOST_OF_ONE:
             return list(range(value.low, value.high + 1))
         raise Unsayable("more than %d numbers at once" % MOST_OF_ONE)
@@ -66,10 +71,12 @@ def communities_in(value: Any) -> List[int]:
     """The communities that two halves are; raises Unsayable."""
     if not isinstance(value, Pair):
         raise Unsayable("large and extended communities")
-    found = [high << 16 | low for high in spread(value.high, 0) for low in spread(value.low, 0)]
-    if len(found) > MOST_OF_ONE or max(found, default=0) >= 2 ** 32:
+    halves = [(high, low) for high in spread(value.high, 0) for low in spread(value.low, 0)]
+    if len(halves) > MOST_OF_ONE:
         raise Unsayable("more than %d communities at once" % MOST_OF_ONE)
-    return found
+    if any(half > 65535 for both in halves for half in both):
+        raise Unsayable("a community with a half of more than 65535")
+    return [high << 16 | low for high, low in halves]
 
 
 def is_in(left: Any, right: Any) -> bool:
@@ -79,7 +86,7 @@ def is_in(left: Any, right: Any) -> bool:
     if isinstance(left, Net) and isinstance(right, SetOf):
         return any(_is_met(left, _pattern(each)) for each in right.elements)
     if isinstance(left, str) and isinstance(right, str):
-        return fnmatch.fnmatchcase(left, right)
+        return is_like(left, right)
     if isinstance(left, str) and isinstance(right, Net) and address(left) is not None:
         return contains(masked(*right), (address(left) or 0, 32))
     if isinstance(right, SetOf) and isinstance(left, (int, str)):

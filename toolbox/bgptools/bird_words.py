@@ -2,15 +2,22 @@
 from __future__ import annotations
 
 import glob
+import itertools
 import os
 import re
-from typing import Iterator, List, NamedTuple, Optional, Set, Tuple
+from typing import Iterator, List, NamedTuple, Optional, Set, Tuple, Union
 
+from .frr_config import short
 from .frr_lines import Line
 from .mistakes import Mistake
+from .sources import text_of
 
 # BIRD includes files in files up to this depth.
 MOST_DEPTH = 8
+# So many words and inclusions one router's configuration has at most.
+MOST_WORDS, MOST_FILES = 3000000, 10000
+# What makes a name of a file a pattern, and how many parts of its path may have that.
+PATTERN, MOST_PATTERNS = re.compile(r"[*?\[]"), 2
 OPENING, CLOSING = ("(", "[", "[="), (")", "]", "=]")
 _WORD = re.compile(r"""
     (?P<space>[ \t\r\f\v\n]+ | \#[^\n]* | /\*.*?\*/)
@@ -52,43 +59,94 @@ class Item(NamedTuple):
         return " ".join(self.texts)
 
 
-def words_in(path: str, included: Set[str], depth: int = 0) -> List[Word]:
+class Inclusion(NamedTuple):
+    """An `include`: the file, the line and the names of the files that it puts there."""
+    line: Line
+    files: List[str]
+
+
+class Reader:
+    """Reads a file and those that it includes; `included` are the files that were, by their real names."""
+
+    def __init__(self, included: Set[str]) -> None:
+        self.included = included
+        self.count_of_words = self.count_of_files = 0
+
+    def words(self, path: str, depth: int = 0, by: Optional[Line] = None) -> List[Word]:
+        """All words in their order; raises Mistake where a file cannot be read, or they are too many. `by` is the line
+        that includes the file."""
+        found: List[Word] = []
+        for each in self._parts(path, by):
+            if isinstance(each, Word):
+                found.append(each)
+                continue
+            for other in each.files:
+                self.count_of_files += 1
+                if depth == MOST_DEPTH or self.count_of_files > MOST_FILES:
+                    raise mistake("files include each other more than %d deep" % MOST_DEPTH if depth == MOST_DEPTH else
+                                  "more than %d files are included" % MOST_FILES, each.line)
+                self.included.add(os.path.realpath(other))
+                found += self.words(other, depth + 1, each.line)
+        return found
+
+    def _parts(self, path: str, by: Optional[Line]) -> Iterator[Union[Word, Inclusion]]:
+        """The words of a file, and its `include`s."""
+        last, waiting = ";", self._counted(_words(_content(path, by), path))
+        for word in waiting:
+            if (word.kind, word.text) == ("name", "include") and last in (";", "{", "}"):
+                named, end = next(waiting, None), next(waiting, None)
+                if named is None or named.kind != "string" or end is None or end.text != ";":
+                    raise mistake("`include \"FILE\";` is expected", word.line)
+                yield Inclusion(word.line, _named(path, named))
+                last = ";"
+            else:
+                yield word
+                last = word.text
+
+    def _counted(self, words: Iterator[Word]) -> Iterator[Word]:
+        for word in words:
+            self.count_of_words += 1
+            if self.count_of_words > MOST_WORDS:
+                raise mistake("more than {:,} words are read".format(MOST_WORDS), word.line)
+            yield word
+
+
+def mistake(text: str, line: Line) -> Mistake:
+    """What is wrong at a line."""
+    return Mistake(text, line.file, line.number)
+
+
+def words_in(path: str, included: Set[str]) -> List[Word]:
     """The words of a file and of those that it includes, which are noted; raises Mistake where one cannot be read."""
-    found: List[Word] = []
-    waiting = iter(list(_words(_content(path), path)))
-    for word in waiting:
-        if (word.kind, word.text) != ("name", "include") or found and found[-1].text not in (";", "{", "}"):
-            found.append(word)
-            continue
-        named, end = next(waiting, None), next(waiting, None)
-        if named is None or named.kind != "string" or end is None or end.text != ";":
-            raise Mistake("`include \"FILE\";` is expected", path, word.line.number)
-        for other in _named(path, named):
-            included.add(os.path.realpath(other))
-            if depth == MOST_DEPTH:
-                raise Mistake("files include each other more than %d deep" % MOST_DEPTH, path, word.line.number)
-            found += words_in(other, included, depth + 1)
-    return found
+    return Reader(included).words(path)
 
 
 def _named(path: str, named: Word) -> List[str]:
-    """The files that an `include` names, by a name or a pattern."""
+    """The files that an `include` names, by a name or a pattern; raises Mistake where they cannot be found."""
     where = os.path.join(os.path.dirname(path), named.text)
-    found = sorted(glob.glob(where)) if re.search(r"[*?\[]", named.text) else [where]
+    if "\0" in named.text:
+        raise mistake("include \"%s\": a NUL is in no name of a file" % short(named.text), named.line)
+    if not PATTERN.search(named.text):
+        return [where]
+    if sum(bool(PATTERN.search(part)) for part in named.text.split("/")) > MOST_PATTERNS:
+        raise mistake("include \"%s\": %d parts of a path at most are patterns" % (short(named.text), MOST_PATTERNS),
+                      named.line)
+    found = sorted(itertools.islice(glob.iglob(where), MOST_FILES + 1))
     return [each for each in found if not os.path.isdir(each)]
 
 
-def _content(path: str) -> str:
+def _content(path: str, by: Optional[Line]) -> str:
     try:
-        with open(path, "rb") as file:
-            return file.read().decode("utf-8", "backslashreplace")
-    except OSError as error:
-        raise Mistake("it cannot be read: %s" % error.strerror, path) from None
+        return text_of(path, by is not None)
+    except Mistake as wrong:
+        if by is None:
+            raise
+        raise mistake("include: %s" % wrong, by) from None
 
 
 def _words(content: str, path: str) -> Iterator[Word]:
-    """The words of a text; raises Mistake where a string or a comment does not end."""
-    lines = [line.strip() for line in content.split("\n")]
+    """The words of a text; raises Mistake where a string or a comment does not end, or a number is too large."""
+    lines = [Line(path, number, line.strip()) for number, line in enumerate(content.split("\n"), 1)]
     number, at = 1, 0
     while at < len(content):
         found = _WORD.match(content, at)
@@ -96,11 +154,21 @@ def _words(content: str, path: str) -> Iterator[Word]:
             begun = {"/": "a comment that does not end", '"': "a string that does not end"}
             raise Mistake(begun.get(content[at], "`%s` begins no word of BIRD's" % content[at]), path, number)
         kind, text = found.lastgroup or "", found.group()
+        if kind == "number" and number_of(text) is None:
+            raise Mistake("`%s`: a number of 0 to 4294967295 is expected" % short(text), path, number)
         if kind != "space":
             yield Word("name" if kind == "quoted" else kind, text[1:-1] if kind in ("string", "quoted") else text,
-                       Line(path, number, lines[number - 1]))
+                       lines[number - 1])
         number += text.count("\n")
         at = found.end()
+
+
+def number_of(text: str) -> Optional[int]:
+    """The number of 32 bits that a word of BIRD's spells, with digits or as `0x1f`; nothing where it spells none."""
+    if re.fullmatch("0x[0-9a-fA-F]{1,40}|[0-9]{1,40}", text) is None:
+        return None
+    value = int(text, 16 if text.startswith("0x") else 10)
+    return value if value < 2 ** 32 else None
 
 
 def items_of(words: List[Word]) -> List[Item]:
@@ -128,7 +196,7 @@ def _item(words: List[Word], at: int) -> Tuple[Item, int]:
             return Item(head, words[at + 1:end]), end + 1 + has_mark
         head.append(words[at])
         at += 1
-    raise Mistake("`;` is expected behind `%s`" % head[-1].text, head[-1].line.file, head[-1].line.number)
+    raise mistake("`;` is expected behind `%s`" % short(head[-1].text), head[-1].line)
 
 
 def _closing(words: List[Word], begin: int) -> int:
@@ -140,6 +208,5 @@ def _closing(words: List[Word], begin: int) -> int:
         if depth <= 0:
             break
     if depth or words[begin].text == "}":
-        where = words[begin].line
-        raise Mistake("a brace `%s` without its other one" % words[begin].text, where.file, where.number)
+        raise mistake("a brace `%s` without its other one" % words[begin].text, words[begin].line)
     return at

@@ -11,6 +11,9 @@ from .cbgp_network import Node, Peer
 from .cbgp_reading import Context
 from .language import number
 
+# So many peers of routers are read: 256 of each of 4,096 routers.
+MOST_PEERS = 1 << 20
+
 
 class Commands(Interior):
     """Takes all commands. A line that is not known is told."""
@@ -59,7 +62,11 @@ class Commands(Interior):
         if not words:
             return self._enter(functools.partial(self._in_as, asn))
         inside = [node for node in self.network.routers().values() if node.asn == asn]
+        if not inside:
+            self.network.tell(self.line, "%s: no router is in AS %d before it" % (self.line.text, asn))
         if words == ["full-mesh"]:
+            if len(self.network.peers) + len(inside) ** 2 > MOST_PEERS:
+                raise self.line.mistake("more than {:,} peers of routers are read".format(MOST_PEERS))
             for one in inside:
                 for other in inside:
                     if one is not other:
@@ -156,6 +163,8 @@ class Commands(Interior):
         if not record.is_withdrawal:
             words = cbgp_records.fed(self.network, self.line, record, peer, other)
             peer.fed.update({record.where: words} if words else {})
+        elif record.parts[3] != other:
+            self.network.tell(self.line, "it is told as of %s, and not of %s; it is left out" % (record.parts[3], other))
         elif peer.fed.pop(record.where, None) is None:
             self.network.note(self.line, "it takes back %s, which %s has not told" % (record.where, other))
 

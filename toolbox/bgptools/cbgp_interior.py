@@ -10,6 +10,11 @@ from .cbgp_reading import Reading
 from .language import address
 from .network import pair
 
+# So many nodes are read. Those on which BGP runs, or of an AS, are fewer.
+MOST_NODES = 65536
+# What a link may have that decides no route.
+OF_LINK = ("--delay", "--bw", "--capacity", "--depth")
+
 
 class Interior(Reading):
     """Takes them."""
@@ -53,12 +58,18 @@ class Interior(Reading):
         where = self._address(self._wanted(plain, 1, "net add node A")[0])
         if where in self.network.nodes:
             raise self.line.mistake("there is a node %s already" % where)
+        if len(self.network.nodes) == MOST_NODES:
+            raise self.line.mistake("there are {:,} nodes, and no more are read".format(MOST_NODES))
         self.network.nodes[where] = Node(where, self.line)
 
     def _add_link(self, words: List[str]) -> None:
         plain = [word for word in words if not word.startswith("--")]
-        if len(plain) < len(words):
-            self.network.left.count("capacities and delays", self.line.place)
+        options = [word.partition("=")[0] for word in words if word.startswith("--")]
+        if set(options) <= set(OF_LINK):
+            if options:
+                self.network.left.count("capacities and delays", self.line.place)
+        else:
+            self.network.tell(self.line, "%s: the options of a link are %s" % (self.line.text, ", ".join(OF_LINK)))
         if not 2 <= len(plain) <= 3:
             raise self.line.mistake("`net add link A B`, with a delay in early versions, is expected")
         one = self._node(plain[0]).address
@@ -137,6 +148,8 @@ class Interior(Reading):
         way = options.get("oif") or options.get("gw") or (plain[-2] if len(plain) > 2 else "")
         if len(plain) < 2 or len(plain) > 4 or not way:
             raise self.line.mistake("`net node A route add P GATEWAY WAY N` or `route add --oif=WAY P N` is expected")
+        if len(plain) == 4 and plain[1] != "*" and address(plain[1]) is None:
+            raise self.line.mistake("the gateway `%s` is no address, or `*` for none" % plain[1][:60])
         static = Static(where, way, self._number(plain[-1], "metric"), self.line)
         node.statics.append(static)
         if address(way) is None or self.network.link(node.address, way) is None:

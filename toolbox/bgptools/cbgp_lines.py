@@ -8,9 +8,11 @@ from typing import Iterator, List, Tuple
 from .counted import MOST_LINES
 from .left_out import Place
 from .mistakes import Mistake
-from .sources import lines_in
+from .sources import MOST_UNPACKED, lines_in, named
 
 MOST_SHOWN = 100
+# Scripts include scripts up to this depth.
+MOST_DEPTH = 50
 
 
 @dataclass(frozen=True)
@@ -33,11 +35,6 @@ class Line:
     def mistake(self, text: str) -> Mistake:
         """What is wrong with it."""
         return Mistake("%s: %s" % (self.text, text), self.file, self.number)
-
-
-def named(path: str) -> str:
-    """A file as it is told."""
-    return "standard input" if path == "-" else path
 
 
 def words_of(text: str) -> List[str]:
@@ -77,14 +74,15 @@ def _word(text: str, at: int) -> Tuple[str, int]:
 
 
 class Scripts:
-    """The lines of several scripts one after another, with those that they include in their places."""
+    """The lines of several scripts one after another, with those that they include in their places; of each packed one
+    so many bytes at most."""
 
-    def __init__(self) -> None:
-        self.count = 0
+    def __init__(self, most: int = MOST_UNPACKED) -> None:
+        self.count, self.most = 0, most
 
     def lines(self, path: str, around: Tuple[str, ...] = ()) -> Iterator[Line]:
         """The lines of a script that have a word."""
-        for number, text in lines_in(path):
+        for number, text in lines_in(path, self.most, bool(around)):
             self.count += 1
             if self.count > MOST_LINES:
                 raise Mistake("more than {:,} lines are read".format(MOST_LINES), named(path), number)
@@ -104,6 +102,10 @@ class Scripts:
             raise line.mistake("there is no such file")
         if os.path.realpath(chosen) in around:
             raise line.mistake("it is read already, and would be without end")
+        if len(around) > MOST_DEPTH:
+            raise line.mistake("scripts include each other more than %d deep" % MOST_DEPTH)
+        if not os.path.isfile(chosen):
+            raise line.mistake("it is no regular file")
         yield from self.lines(chosen, around)
 
 

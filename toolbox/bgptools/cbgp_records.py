@@ -8,7 +8,7 @@ from .cbgp_filters import prefix_of
 from .cbgp_lines import Line
 from .cbgp_network import Network, Peer
 from .from_rib import ORIGINS, communities_of, path_of
-from .language import number, show_prefix
+from .language import address, number, show_prefix
 from .table import MOST_COMMUNITIES
 
 FORM = ("a record BGP4|time|A|peer|AS|prefix|path|origin|next hop|preference|MED|communities or "
@@ -31,6 +31,8 @@ def read(line: Line, text: str) -> Record:
     where = prefix_of(parts[5])
     if where is None:
         raise line.mistake("`%s` is no prefix, as 10.0.0.0/8" % parts[5][:60])
+    if address(parts[3]) is None or number(parts[4], 1) is None:
+        raise line.mistake("`%s` is no peer, an address and an AS number as 1.0.0.1|65000" % "|".join(parts[3:5])[:60])
     return Record(show_prefix(where), parts[2] == "W", (parts + [""] * 6)[:12])
 
 
@@ -39,9 +41,11 @@ def fed(network: Network, line: Line, record: Record, peer: Peer, other: str) ->
     parts = record.parts
     path, origin = path_of(_with_sets(parts[6])), ORIGINS.get(parts[7].upper())
     med = "-" if parts[10] == "" else parts[10] if number(parts[10]) is not None else None
-    if path is None or origin is None or med is None:
-        raise line.mistake("a path as `1 2`, an origin IGP, EGP or INCOMPLETE and a MED are expected, and not `%s`" % (
-            "|".join(parts[6:11])[:80]))
+    is_hop = parts[8] == "" or address(parts[8]) is not None
+    is_preference = parts[9] == "" or number(parts[9]) is not None
+    if path is None or origin is None or med is None or not is_hop or not is_preference:
+        raise line.mistake("a path as `1 2`, an origin IGP, EGP or INCOMPLETE, a next hop, a preference and a MED are "
+                           "expected, and not `%s`" % "|".join(parts[6:11])[:80])
     comms, odd = communities_of(parts[11], line.file, line.number)
     said = "the route of %s to %s" % (other, record.where)
     for is_wrong, text in (
@@ -54,6 +58,8 @@ def fed(network: Network, line: Line, record: Record, peer: Peer, other: str) ->
             return ""
     if odd:
         network.tell(line, "%s is fed without %s: there are no large and extended communities" % (said, " ".join(odd)))
+    if (parts[3], parts[4]) != (other, str(peer.asn)):
+        network.tell(line, "%s: it is told as of %s in AS %s; here it is this peer's" % (said, parts[3], parts[4]))
     if parts[8] not in (other, ""):
         network.tell(line, "%s: its next hop is %s; here it is the peer" % (said, parts[8][:60]))
     return "%s %s %s%s" % (path, origin, med, " comm=" + ",".join(map(str, comms)) if comms else "")

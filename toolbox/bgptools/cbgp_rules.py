@@ -19,6 +19,8 @@ from .frr_policy import (
 PREFERENCE = 100
 MOST_PREPENDED = 16
 DEEPEST = 20
+# So many route maps are followed for one filter, those that others call too.
+MOST_CALLS = 2000
 INTERNAL = "a rule of an internal session sets nothing; preference, MED and communities stay as the border set them"
 # What stands for a border between two AS numbers in the expressions that people write.
 BORDERS = re.compile(r"\((?:\^| |\\s|\$)(?:\|(?:\^| |\\s|\$))+\)|\\b")
@@ -37,6 +39,7 @@ class Converter:
     tell: Tell
     count: Tell
     depth: int = 0
+    calls: int = 0
 
     def rules(self, found: List[Rule]) -> Rules[Action]:
         """The rules of a filter; what the first ones leave is permitted."""
@@ -83,8 +86,11 @@ class Converter:
     def _map(self, deed: Deed, rest: Rules[Action], rule: Rule) -> Rules[Action]:
         if deed.said not in self.maps:
             raise rule.line.mistake("there is no route map `%s`" % deed.said[:60])
+        self.calls += 1
         if self.depth > DEEPEST:
             raise rule.line.mistake("route maps call each other more than %d deep" % DEEPEST)
+        if self.calls > MOST_CALLS:
+            raise rule.line.mistake("a filter calls route maps more than %d times" % MOST_CALLS)
         self.depth += 1
         found = self._behind(self.maps[deed.said], rest if deed.kind == "call" else [(ANY, PERMIT)])
         self.depth -= 1

@@ -13,6 +13,7 @@ from .frr_lists import Place, World
 from .frr_policy import MOST_RULES
 from .language import address, escaped
 from .mistakes import Mistake
+from .names import TOO_LONG, fits
 from .network import Link, Network, Node as Made, Pair, pair
 from .scripting import Feeds
 
@@ -63,6 +64,9 @@ class Picture:
     def _name(self, where: str, node: Node) -> None:
         """The name of a node, with `_` for spaces; one that others have, too, is told."""
         name = "_".join(escaped(node.name).split())
+        if not fits(name):
+            self.source.note(node.line, TOO_LONG % name[:60])
+            return
         others = [each for each, known in self.made.names.of.items() if known == name]
         if others:
             self.source.note(node.line, "the name %s is that of %s, too: tools want the address" % (name, others[0]))
@@ -152,7 +156,9 @@ class Picture:
 
     def _sessions(self) -> None:
         for (one, other), peer in self.source.peers.items():
-            if pair(one, other) not in self.sessions and self._is_session(one, other, peer):
+            if pair(one, other) in self.sessions:
+                self._check_as(other, peer)
+            elif self._is_session(one, other, peer):
                 self.sessions[pair(one, other)] = peer.line
                 back = self.source.peers.get((other, one))
                 is_up = peer.is_up and (self.made.nodes[other].is_virtual or back is not None and back.is_up)
@@ -177,11 +183,16 @@ class Picture:
             return False
         if not made.nodes[other].is_virtual and "virtual" in peer.flags:
             source.tell(peer.flags["virtual"], "%s is a router of the script; it is none that is fed" % other)
-        if made.nodes[other].asn != peer.asn:
-            source.tell(line, "%s: %s is in AS %d, which counts here" % (line.text, other, made.nodes[other].asn))
+        self._check_as(other, peer)
         if made.is_external(one, other):
             return self._is_linked(one, other, peer)
         return self._has_both(one, other, peer)
+
+    def _check_as(self, other: str, peer: Peer) -> None:
+        """Tells a peer that is in another AS than its router says."""
+        asn = self.made.nodes[other].asn
+        if asn != peer.asn:
+            self.source.tell(peer.line, "%s: %s is in AS %d, which counts here" % (peer.line.text, other, asn))
 
     def _has_both(self, one: str, other: str, peer: Peer) -> bool:
         if self.made.nodes[other].is_virtual or (other, one) in self.source.peers:

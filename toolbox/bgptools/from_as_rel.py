@@ -9,9 +9,11 @@ from . import communities, output
 from .counted import check_length
 from .language import number, show_address
 from .mistakes import Mistake
-from .sources import lines_in
+from .sources import MOST_UNPACKED, add_words, lines_in
 
 MOST_ROUTERS, MOST_SESSIONS = 4096, 256
+# So much is read before the ASes with the most relationships are taken: twice what the world has.
+MOST_TIES, MOST_ASES = 2000000, 200000
 FORM = "PROVIDER|CUSTOMER|-1 or PEER|PEER|0 is expected, each an AS number"
 Tie = Tuple[int, int, int]
 # Whose a route is: the low half of the community that marks it.
@@ -49,10 +51,10 @@ class Relations:
         return len(self.customers[asn]) + len(self.providers[asn]) + len(self.peers[asn])
 
 
-def relations(path: str) -> Relations:
-    """The file's relationships, with exact faults."""
+def relations(path: str, most: int = MOST_UNPACKED) -> Relations:
+    """The file's relationships, with exact faults; of a packed file so many bytes at most."""
     found, known = Relations(), {}  # type: Relations, Dict[Tuple[int, int], int]
-    for at, text in lines_in(path):
+    for at, text in lines_in(path, most):
         if not text.strip() or text.startswith("#"):
             continue
         parts = text.split("|")
@@ -66,6 +68,8 @@ def relations(path: str) -> Relations:
             raise Mistake("AS %d and AS %d are related by line %d already" % (one, other, known[key]), path, at)
         known[key] = at
         found.add((one, other, int(parts[2])))
+        if len(found.ties) > MOST_TIES or len(found.customers) > MOST_ASES:
+            raise Mistake("more than {:,} relationships or {:,} ASes are read".format(MOST_TIES, MOST_ASES), path, at)
     if not found.ties:
         raise Mistake("it has no relationship: " + FORM, path)
     return found
@@ -203,6 +207,7 @@ def parser() -> argparse.ArgumentParser:
     made.add_argument("--origins", metavar="AS,..", help="which ASes originate a prefix, or `all`; without it the ten with the fewest customers")
     made.add_argument("--communities", action="store_true",
                       help="policies that mark what comes in, by communities, and look at the marks of what goes out")
+    add_words(made)
     made.add_argument("-o", dest="out", metavar="FILE", help="write to this file, and not to standard output")
     return made
 
@@ -212,7 +217,7 @@ def main(words: Optional[List[str]] = None) -> int:
     chosen = parser().parse_args(words)
     if chosen.core is not None and chosen.core < 2:
         raise Mistake("--core %d: at least 2 are expected" % chosen.core)
-    known = within_limits(core(relations(chosen.file), chosen.core), chosen.file)
+    known = within_limits(core(relations(chosen.file, chosen.most_unpacked), chosen.core), chosen.file)
     writer = (Marking if chosen.communities else Writer)(known, _origins(known, chosen.origins, chosen.file))
     check_length(writer.count(), chosen.file, "--core N keeps fewer ASes")
     output.write("".join(line + "\n" for line in writer.lines()), chosen.out)

@@ -9,6 +9,7 @@ from typing import Dict, List, Optional, Set, Tuple, cast
 
 from . import bird_checks, bird_links, bird_read, output
 from .bird_config import BirdConfig, OwnRoute, Session
+from .bird_filter import nodes_in
 from .bird_layout import files_of, name_of
 from .bird_rules import Evaluation
 from .frr_config import Config, Neighbour, Origin, Prefix, Told, short
@@ -19,7 +20,7 @@ from .frr_policy import ANY, DENY, PERMIT, Action, Rules, covers, is_
 from .from_frr import Translation, report
 from .language import address
 from .mistakes import WRONG, Mistake
-from .names import mark
+from .names import MOST_BYTES, fits, mark
 
 NAME = re.compile("[!-~]+")
 # A filter may have so many statements one behind the other.
@@ -38,8 +39,7 @@ class BirdTranslation(Translation):
         world = super()._world()
         # Whether a filter prepends is not looked up for each of its ways.
         world.prepending.update(config.asn or 0 for config in self.network.routers.values()
-                                if "prepend" in str(cast(BirdConfig, config).filters) + str(
-                                    [each.policies for each in cast(BirdConfig, config).sessions()]))
+                                if _prepends(cast(BirdConfig, config)))
         return world
 
     def _routers(self) -> None:
@@ -49,7 +49,8 @@ class BirdTranslation(Translation):
                 if other in self.network.virtuals]
         names = [protocol for _, protocol in said]
         self.virtual_names = {other: protocol for other, protocol in said
-                              if names.count(protocol) == 1 and protocol not in taken and address(protocol) is None}
+                              if names.count(protocol) == 1 and protocol not in taken and address(protocol) is None
+                              and fits(protocol)}
 
     def _links_and_sessions(self) -> None:
         begin = len(self.lines)
@@ -64,6 +65,8 @@ class BirdTranslation(Translation):
 
     def _check(self) -> None:
         bird_checks.check(self.network)
+        for config in self.network.routers.values():
+            bird_checks.tell_unknown(cast(BirdConfig, config))
 
     # Policies
 
@@ -166,6 +169,13 @@ class CountOf:
                     and self.network.asn_of(there) == other])
 
 
+def _prepends(config: BirdConfig) -> bool:
+    """Whether some filter or function puts the AS into paths."""
+    bodies = [*config.filters.values(), *(each.body for each in config.functions.values()),
+              *(policy.statements for each in config.sessions() for policy in each.policies.values())]
+    return any("prepend" in node.of for body in bodies for node in nodes_in(body))
+
+
 def _is_let(translation: BirdTranslation, name: str, other: str, each: Neighbour, where: Prefix) -> bool:
     config = translation.network.routers[name]
     place = Place(config.asn or 0, translation.network.asn_of(other), "out")
@@ -219,9 +229,9 @@ def network_of(configs: List[BirdConfig], told: List[Told]) -> Network:
     for config in good:
         if not config.hostname:
             config.hostname, config.hostname_line = name_of(config.name), config.line
-        if not NAME.fullmatch(config.hostname):
-            config.tell(config.hostname_line, "%s: it is no name here, which has no space" % short(config.hostname),
-                        False)
+        if not NAME.fullmatch(config.hostname) or not fits(config.hostname):
+            config.tell(config.hostname_line, "%s: it is no name here, which has no space and at most %d bytes" % (
+                short(config.hostname), MOST_BYTES), False)
             config.hostname = ""
         bird_checks.settle(config)
     bird_links.find(good)

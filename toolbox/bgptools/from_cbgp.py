@@ -7,13 +7,14 @@ from typing import List, Optional
 from . import cbgp_network
 from .cbgp_checks import check
 from .cbgp_commands import Commands
-from .cbgp_lines import Line, Scripts, named
+from .cbgp_lines import Line, Scripts
 from .cbgp_rules import PREFERENCE
 from .cbgp_script import Picture
 from .left_out import LeftOut, Place
 from .mistakes import Mistake
 from .network import Network
 from .scripting import Feeds, commands
+from .sources import MOST_UNPACKED, add_words, named
 
 HEAD = "# Preferences are C-BGP's and %d: a route to which nothing gives one has %d there, and %d here."
 RUN = "# sim run: here C-BGP delivers all that waits, and `settle` does"
@@ -22,13 +23,13 @@ RUN = "# sim run: here C-BGP delivers all that waits, and `settle` does"
 class Translation:
     """The script that is made of C-BGP's, line by line: what was built until a `sim run` is written there."""
 
-    def __init__(self, files: List[str]) -> None:
+    def __init__(self, files: List[str], most: int = MOST_UNPACKED) -> None:
         self.left = LeftOut()
         self.source = cbgp_network.Network(self.left)
         self.made, self.feeds = Network(), {}  # type: Network, Feeds
         self.lines: List[str] = []
         self.has_preference = False
-        reader, scripts = Commands(self.source, self._run), Scripts()
+        reader, scripts = Commands(self.source, self._run), Scripts(most)
         for file in files:
             for line in scripts.lines(file):
                 reader.take(line)
@@ -78,6 +79,7 @@ def parser() -> argparse.ArgumentParser:
                "was; 2 a mistake, and nothing is written.")
     made.add_argument("files", metavar="SCRIPT", nargs="+",
                       help="the scripts; - is standard input; a name that ends with .gz or .bz2 is unpacked")
+    add_words(made)
     made.add_argument("-o", dest="out", metavar="FILE", help="write to this file, and not to standard output")
     made.add_argument("--strict", action="store_true", help="take each line that is told for a mistake")
     return made
@@ -86,5 +88,5 @@ def parser() -> argparse.ArgumentParser:
 def main(words: Optional[List[str]] = None) -> int:
     """The tool."""
     chosen = parser().parse_args(words)
-    made = Translation(chosen.files)
+    made = Translation(chosen.files, chosen.most_unpacked)
     return made.left.write(made.lines, named(chosen.files[0]), chosen.out, chosen.strict)

@@ -10,12 +10,13 @@ from .graph_script import Wanted, Writer
 from .language import number
 from .left_out import LeftOut
 from .mistakes import Mistake
-from .sources import content_of
+from .sources import MOST_UNPACKED, add_words, content_of, named
 
 
-def graph_of(path: str, left: LeftOut) -> Graph:
-    """The graph of a file, which is GraphML where it begins as XML does, else GML; raises Mistake."""
-    name, content = "standard input" if path == "-" else path, content_of(path)
+def graph_of(path: str, left: LeftOut, most: int = MOST_UNPACKED) -> Graph:
+    """The graph of a file, which is GraphML where it begins as XML does, else GML, of a packed one so many bytes at
+    most; raises Mistake."""
+    name, content = named(path), content_of(path, most)
     begin = content[:200].replace(b"\0", b"").lstrip(b"\xef\xbb\xbf\xfe\xff \t\r\n")
     return graph_graphml.read(content, name, left) if begin.startswith(b"<") else graph_gml.read(content, name, left)
 
@@ -43,6 +44,7 @@ def parser() -> argparse.ArgumentParser:
                       help="an external neighbour in AS N at this node, a virtual peer, to be fed")
     made.add_argument("--origin", nargs=2, action="append", default=[], metavar=("NAME", "P"),
                       help="this node originates the prefix")
+    add_words(made)
     made.add_argument("-o", dest="out", metavar="FILE", help="write to this file, and not to standard output")
     made.add_argument("--strict", action="store_true", help="take each line that is told for a mistake")
     return made
@@ -55,6 +57,6 @@ def main(words: Optional[List[str]] = None) -> int:
     if asn is None:
         raise Mistake("--as %s: an AS number is expected" % chosen.asn)
     left = LeftOut()
-    graph = graph_of(chosen.file, left)
+    graph = graph_of(chosen.file, left, chosen.most_unpacked)
     writer = Writer(graph, Wanted(asn, chosen.cost, chosen.speed, chosen.reflectors, chosen.external, chosen.origin))
     return left.write(writer.lines(), graph.file, chosen.out, chosen.strict, "attributes")

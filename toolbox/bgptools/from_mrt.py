@@ -6,11 +6,11 @@ import sys
 from collections import Counter
 from typing import Dict, List, Optional, Set, Tuple
 
-from . import mrt, table
+from . import counted, mrt, table
 from .language import show_address, show_prefix
 from .mistakes import CHANGED, WRONG, Mistake
 from .mrt import Entry, Peer, Record, Short
-from .sources import unpacked
+from .sources import add_words, unpacked
 from .table import Feed
 
 FORM = "routes of IPv4 in records of TABLE_DUMP_V2 are expected"
@@ -128,7 +128,8 @@ class Dump:
             self.count_other += 1
             self.first_other = self.first_other or place
         elif self.reading.take(feed, place):
-            self.known.add((who, prefix))
+            if self.reading.count <= counted.MOST_LINES:
+                self.known.add((who, prefix))
             self.attributes.update(LEFT_OUT.get(kind, "of the type %d" % kind) for kind, value in
                                    entry.attributes.items() if kind not in TAKEN and (kind, value) != (3, peer.address))
 
@@ -160,6 +161,7 @@ def parser() -> argparse.ArgumentParser:
     made.add_argument("file", metavar="FILE", help="the dump; - is standard input; gzip and bzip2 are known by their "
                       "first bytes")
     table.add_words(made)
+    add_words(made)
     made.add_argument("--strict", action="store_true", help="take each route of IPv4 that is left out for a mistake")
     return made
 
@@ -169,7 +171,7 @@ def main(words: Optional[List[str]] = None) -> int:
     chosen = parser().parse_args(words)
     reading = table.reading_for(chosen)
     dump = Dump(chosen.file, reading, chosen.communities)
-    with unpacked(chosen.file) as file:
+    with unpacked(chosen.file, chosen.most_unpacked) as file:
         for record in mrt.records_in(file, chosen.file):
             dump.take(record)
     is_left_out = dump.tell()

@@ -2,13 +2,14 @@
 from __future__ import annotations
 
 import argparse
+import ipaddress
 import re
 from typing import List, Optional, Set, Tuple
 
 from . import communities, table
 from .language import address, number, prefix
 from .mistakes import Mistake
-from .sources import lines_in
+from .sources import add_words, lines_in
 from .table import Feed
 
 FORM = "TABLE_DUMP2|time|B|peer|AS|prefix|path|origin|next hop|local preference|MED|communities|.. is expected"
@@ -65,20 +66,31 @@ def column_of(parts: List[str]) -> str:
     return " ".join(parts[11:12] + [part for part in parts[12:13] if part not in ("AG", "NAG")])
 
 
+def is_six(text: str) -> bool:
+    """Whether a text is an address of IPv6."""
+    try:
+        return ":" in text and bool(ipaddress.IPv6Address(text))
+    except ValueError:
+        return False
+
+
 def feed_of(text: str, path: str, at: int, reads_communities: bool) -> Optional[Feed]:
     """A line of the dump, or nothing for one of IPv6."""
     parts = text.split("|")
     if len(parts) < 11 or parts[0] not in DUMPS or parts[2] not in ("B", "R"):
         raise Mistake("%s, and not `%s`" % (FORM, text[:60]), path, at)
-    if ":" in parts[3] or ":" in parts[5]:
+    if is_six(parts[3]) or is_six(parts[5].partition("/")[0]):
         return None
     asn, found = number(parts[4], 1), path_of(parts[6])
     for is_wrong, said in ((address(parts[3]) is None, "the peer `%s` is no address" % parts[3]), (asn is None, "`%s` is no AS number" % parts[4]),
                            (prefix(parts[5]) is None, "`%s` is no prefix" % parts[5]), (found is None, "`%s` is no path" % parts[6][:60]),
                            (parts[7] not in ORIGINS, "the origin `%s` is none of IGP, EGP, INCOMPLETE" % parts[7]),
-                           (parts[10] not in ("", "-") and number(parts[10]) is None, "the MED `%s` is no number" % parts[10])):
+                           (parts[10] not in ("", "-") and number(parts[10]) is None, "the MED `%s` is no number" % parts[10]),
+                           (address(parts[8]) is None and not is_six(parts[8]), "the next hop `%s` is no address" % parts[8]),
+                           (parts[9] not in ("", "-") and number(parts[9]) is None,
+                            "the preference `%s` is no number" % parts[9])):
         if is_wrong:
-            raise Mistake(said, path, at)
+            raise Mistake(said[:100], path, at)
     med = parts[10] if parts[10] not in ("", "-") else "-"
     marks, others = communities_of(column_of(parts) if reads_communities else "", path, at)
     return Feed(parts[3], asn or 0, parts[5], found or "-", ORIGINS[parts[7]], med, marks, others)
@@ -92,6 +104,7 @@ def parser() -> argparse.ArgumentParser:
                "Exit status: 0; 2 a mistake.")
     made.add_argument("file", metavar="FILE", help="the table; - is standard input; a name that ends with .gz or .bz2 is unpacked")
     table.add_words(made)
+    add_words(made)
     return made
 
 
@@ -99,7 +112,7 @@ def main(words: Optional[List[str]] = None) -> int:
     """The tool."""
     chosen = parser().parse_args(words)
     reading = table.reading_for(chosen)
-    for at, text in lines_in(chosen.file):
+    for at, text in lines_in(chosen.file, chosen.most_unpacked):
         feed = feed_of(text, chosen.file, at, chosen.communities) if text.strip() else None
         reading.count_six += feed is None and bool(text.strip())
         if feed:

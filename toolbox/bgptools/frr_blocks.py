@@ -8,11 +8,13 @@ from typing import Any, Callable, Dict, List, Optional, Tuple
 
 from .frr_communities import given, numbers_of
 from .frr_config import (
-    NOWHERE, Address, Config, Entry, Interface, Item, Neighbour, Origin, Static, Taker, loose_prefix, short, taken
+    NOWHERE, Address, Config, Entries, Entry, Interface, Item, Neighbour, Origin, Static, Taker, loose_prefix, short,
+    taken
 )
 from .frr_known import about_block
 from .frr_lines import Block, Line
 from .language import address, number, show_address
+from .names import TOO_LONG, fits
 
 # Files of FRR's single daemons. Maps and lists of another daemon than bgpd say nothing of BGP.
 OTHER_DAEMONS = frozenset("%s.conf" % name for name in ("zebra", "ospfd", "staticd", "isisd", "ripd", "eigrpd",
@@ -34,10 +36,11 @@ def take_block(config: Config, block: Block) -> None:
     if block.kind == "map" and os.path.basename(block.heads[0].file) in OTHER_DAEMONS:
         config.count("maps and lists of other daemons", len(block.heads) + len(block.lines))
         return
-    if block.kind == "bgp" and not _begin_bgp(config, block):
+    if block.kind == "bgp" and not _begin_bgp(config, block) or block.kind == "map" and not _is_entry(block):
         _leave_block(config, block)
         return
     given = _begin(config, block)
+    config.words.update(word for line in block.lines if not OF_LIST.match(line.text) for word in line.words)
     for line in block.lines:
         if not taken(TAKERS[block.kind], line, line.text, *given):
             _leave_line(config, block, line)
@@ -55,6 +58,11 @@ def _begin(config: Config, block: Block) -> Tuple[Any, ...]:
         return config, Entry(action == "permit", int(sequence), block.heads[0])
     config.has_ospf, config.has_isis = config.has_ospf or block.kind == "ospf", config.has_isis or block.kind == "isis"
     return (config,)
+
+
+def _is_entry(block: Block) -> bool:
+    """Whether an entry of a route map has a number that FRR takes."""
+    return number(block.heads[0].words[3], 1, 65535) is not None
 
 
 def _begin_bgp(config: Config, block: Block) -> bool:
@@ -85,29 +93,53 @@ def _leave_line(config: Config, block: Block, line: Line) -> None:
         else TAKERS[block.kind]))
     if found and found.group(2) in config.neighbours_six:
         config.count("IPv6")
+    elif found and not (found.group(1) or found.group(2) in config.neighbours or found.group(2) in config.groups):
+        config.tell(line, "%s: no line before makes this neighbor, by `remote-as` or `peer-group`; FRR does not take "
+                    "it" % short(line.text))
     else:
         config.leave_out("neighbour" if found else block.kind, line, no + said, is_off)
 
 
 # The top
 
+# Lines that make a list.
+OF_LIST = re.compile(r"(ip prefix-list|access-list|(bgp|ip) (as-path access-list|community-list)) ")
+# What is no name of an interface.
+NUMERIC = re.compile("[0-9.:]+")
+PROFILES = ("traditional", "datacenter")
+
+
 def _hostname(config: Config, line: Line, name: str) -> None:
+    if not fits(name):
+        config.tell(line, TOO_LONG % short(name), False)
+        return
     config.hostname, config.hostname_line = name, line
 
 
 def _profile(config: Config, line: Line, profile: str) -> None:
+    if profile not in PROFILES:
+        config.tell(line, "%s: FRR has the profiles %s; the first one is taken" % (
+            short(line.text), " and ".join(PROFILES)))
+        return
     config.profile = profile
     config.count("versions")
 
 
-def _version(config: Config, line: Line, major: str, minor: str) -> None:
-    config.version = (int(major), int(minor))
+def _version(config: Config, line: Line, said: str) -> None:
+    found = re.match(r"([0-9]{1,4})\.([0-9]{1,4})(?![0-9])", said)
+    if found is None:
+        config.tell(line, "%s: a version as 8.4 is expected; the defaults are those of the newest one" %
+                    short(line.text))
+        return
+    config.version = (int(found.group(1)), int(found.group(2)))
     config.count("versions")
 
 
 def _interior_identifier(config: Config, line: Line, said: str) -> Optional[bool]:
+    if address(said) is None:
+        return False
     config.interior_identifier = said
-    return address(said) is not None
+    return None
 
 
 def _static(config: Config, line: Line, said: str) -> Optional[bool]:
@@ -115,20 +147,27 @@ def _static(config: Config, line: Line, said: str) -> Optional[bool]:
     has_mask = len(words) > 1 and "/" not in words[0]
     where = loose_prefix(words[0], words[1]) if has_mask else loose_prefix(words[0])
     rest = words[2 if has_mask else 1:]
-    if where is None or not rest:
+    if where is None or not rest or NUMERIC.fullmatch(rest[0]) and address(rest[0]) is None:
         return False
     if "vrf" in rest or "nexthop-vrf" in rest or "table" in rest:
         config.tell(line, "%s: it is of a VRF or of another table, and no part of the default instance" %
                     short(line.text))
         return None
-    config.statics.append(Static(where, line, "" if rest[0].lower() in ("null0", "blackhole", "reject") else rest[0]))
+    way = "" if rest[0].lower() in ("null0", "blackhole", "reject") else rest[0]
+    config.statics.append(Static(where, line, way))
+    config.asked += [(line, way)] if way and address(way) is None else []
     return None
 
 
-def _put(table: Dict[str, Dict[int, Item]], name: str, sequence: Optional[str], item: Item) -> None:
-    """An entry of a list at its number, or behind the last one."""
-    entries = table.setdefault(name, {})
-    entries[int(sequence) if sequence else max(entries, default=0) // 5 * 5 + 5] = item
+def _put(table: Dict[str, Entries], name: str, sequence: Optional[str], item: Item) -> Optional[bool]:
+    """An entry of a list at its number, or behind the last one; False where that is no number."""
+    entries = table.setdefault(name, Entries())
+    at = number(sequence, 1) if sequence else entries.highest // 5 * 5 + 5
+    if at is None:
+        return False
+    entries.highest = max(entries.highest, at)
+    entries[at] = item
+    return None
 
 
 def _is_of_bgp(config: Config, line: Line) -> bool:
@@ -141,16 +180,16 @@ def _is_of_bgp(config: Config, line: Line) -> bool:
 def _prefix_list(config: Config, line: Line, name: str, sequence: Optional[str], action: str, where: str,
                  rest: str) -> Optional[bool]:
     found = (0, 0) if where == "any" else loose_prefix(where)
-    bounds = {word: int(value) for word, value in re.findall(r"(ge|le) ([0-9]+)", rest)}
+    bounds = {word: number(value, 0, 32) for word, value in re.findall(r"(ge|le) ([0-9]+)", rest)}
     if found is None:
         return False
     least = bounds.get("ge", 0 if where == "any" else found[1])
     most = bounds.get("le", 32 if where == "any" or "ge" in bounds else found[1])
-    if not found[1] <= least <= most <= 32:
+    if least is None or most is None or not found[1] <= least <= most <= 32:
         return False
-    if _is_of_bgp(config, line):
-        _put(config.prefix_lists, name, sequence, Item(action == "permit", line, found, least, most))
-    return None
+    if not _is_of_bgp(config, line):
+        return None
+    return _put(config.prefix_lists, name, sequence, Item(action == "permit", line, found, least, most))
 
 
 def _access_list(config: Config, line: Line, name: str, sequence: Optional[str], action: str,
@@ -173,39 +212,43 @@ def _access_list(config: Config, line: Line, name: str, sequence: Optional[str],
     if found is None:
         return False
     item.where, item.least, item.most = found, found[1], found[1] if "exact-match" in words else 32
-    if _is_of_bgp(config, line):
-        _put(config.access_lists, name, sequence, item)
-    return None
+    return _put(config.access_lists, name, sequence, item) if _is_of_bgp(config, line) else None
 
 
-def _path_list(config: Config, line: Line, name: str, sequence: Optional[str], action: str, said: str) -> None:
-    _put(config.path_lists, name, sequence, Item(action == "permit", line, said=said))
+def _path_list(config: Config, line: Line, name: str, sequence: Optional[str], action: str,
+               said: str) -> Optional[bool]:
+    return _put(config.path_lists, name, sequence, Item(action == "permit", line, said=said))
 
 
 def _community_list(config: Config, line: Line, style: Optional[str], named: Optional[str], numbered: Optional[str],
                     sequence: Optional[str], action: str, said: str) -> Optional[bool]:
     """An entry of a community list, which is standard or expanded by its word or its number."""
-    at = int(numbered or 0)
+    at = number(numbered or "0", 0, 500)
     is_standard = style == "standard" or at in range(1, 100)
     numbers = numbers_of(said) if is_standard else ()
-    if numbers is None or numbered and at not in range(1, 501):
+    if numbers is None or numbered and not at:
         return False
     name, is_permit, expression = named or numbered or "", action == "permit", "" if is_standard else said
-    known = list(config.community_lists.get(name, {}).values())
-    if known and bool(known[0].numbers) != is_standard:
+    known = config.community_lists.get(name, Entries())
+    first = next(iter(known.values()), None)
+    if first is not None and bool(first.numbers) != is_standard:
         config.tell(line, "%s: the list is %s before, and FRR takes no entry of the other kind into it" % (
             short(line.text), "expanded" if is_standard else "standard"), False)
+        return None
     # Of two entries that say the same FRR keeps the first.
-    elif all((each.is_permit, each.said, each.numbers) != (is_permit, expression, numbers) for each in known):
-        _put(config.community_lists, name, sequence, Item(is_permit, line, said=expression, numbers=numbers))
-    return None
+    says = (is_permit, expression, numbers)
+    if says in known.said:
+        return None
+    known.said.add(says)
+    config.community_lists[name] = known
+    return _put(config.community_lists, name, sequence, Item(is_permit, line, said=expression, numbers=numbers))
 
 
 # An interface
 
 def _address(config: Config, interface: Interface, line: Line, own: str, length: str,
              opposite: Optional[str]) -> Optional[bool]:
-    if address(own) is None or number(length, 0, 32) is None or opposite and address(opposite.split("/")[0]) is None:
+    if address(own) is None or number(length, 1, 32) is None or opposite and address(opposite.split("/")[0]) is None:
         return False
     interface.addresses.append(Address(own, int(length), line, (opposite or "").split("/")[0]))
     return None
@@ -241,10 +284,11 @@ def _shutdown(config: Config, interface: Interface, line: Line, no: Optional[str
     interface.is_down = not no
 
 
-def _interior(config: Config, interface: Interface, line: Line, area: Optional[str]) -> None:
+def _interior(config: Config, interface: Interface, line: Line, area: Optional[str]) -> Optional[bool]:
+    if area and _area(config, line, area) is False:
+        return False
     interface.interior = line
-    if area:
-        _area(config, line, area)
+    return None
 
 
 def _ospf_passive(config: Config, interface: Interface, line: Line, no: Optional[str]) -> None:
@@ -255,18 +299,23 @@ def _ospf_passive(config: Config, interface: Interface, line: Line, no: Optional
 
 def _ospf_network(config: Config, line: Line, where: str, area: str) -> Optional[bool]:
     found = loose_prefix(where)
-    config.ospf_networks += [found] if found else []
-    _area(config, line, area)
-    return found is not None
+    if found is None or _area(config, line, area) is False:
+        return False
+    config.ospf_networks.append(found)
+    return None
 
 
-def _area(config: Config, line: Line, area: str) -> None:
+def _area(config: Config, line: Line, area: str) -> Optional[bool]:
     asked = number(area)
+    if asked is None and address(area) is None:
+        return False
     config.areas.setdefault(area if asked is None else show_address(asked), line)
+    return None
 
 
 def _passive(config: Config, line: Line, no: Optional[str], name: str) -> None:
     config.passive[name] = not no
+    config.asked += [] if name == "default" else [(line, name)]
 
 
 def _ospf_redistribute(config: Config, line: Line, kind: str) -> None:
@@ -280,14 +329,18 @@ def _flag(config: Config, line: Line, no: Optional[str], flag: str) -> None:
 
 
 def _identifier(config: Config, line: Line, said: str) -> Optional[bool]:
+    if address(said) is None:
+        return False
     config.identifier = said
-    return address(said) is not None
+    return None
 
 
 def _cluster(config: Config, line: Line, said: str) -> Optional[bool]:
     asked = number(said)
+    if asked is None and address(said) is None:
+        return False
     config.cluster, config.cluster_line = said if asked is None else show_address(asked), line
-    return address(config.cluster) is not None
+    return None
 
 
 def _network(config: Config, line: Line, where: str, mask: Optional[str], said: Optional[str]) -> Optional[bool]:
@@ -333,7 +386,14 @@ def _neighbour(config: Config, line: Line, no: Optional[str], name: str, said: s
 
 
 def _remote(here: Neighbour, no: Optional[str], line: Line, said: str) -> Optional[bool]:
+    if not _is_remote(said):
+        return False
     here.remote = "" if no else said
+    return None
+
+
+def _is_remote(said: str) -> bool:
+    """Whether a word says in which AS a neighbour is."""
     return said in ("internal", "external") or number(said, 1) is not None
 
 
@@ -341,15 +401,26 @@ def _group(here: Neighbour, no: Optional[str], line: Line, said: str) -> None:
     here.group = "" if no else said
 
 
-def _unnumbered(here: Neighbour, no: Optional[str], line: Line, said: Optional[str]) -> None:
-    here.words["interface"] = (here.name, line)
+def _unnumbered(here: Neighbour, no: Optional[str], line: Line, said: Optional[str]) -> Optional[bool]:
     words = (said or "").split()
-    here.remote = words[words.index("remote-as") + 1] if "remote-as" in words[:-1] else here.remote
-    here.group = words[words.index("peer-group") + 1] if "peer-group" in words[:-1] else here.group
+    given = dict(zip(words[::2], words[1::2]))
+    if not _is_remote(given.get("remote-as", "external")):
+        return False
+    here.words["interface"] = (here.name, line)
+    here.remote = given.get("remote-as", here.remote)
+    here.group = given.get("peer-group", here.group)
+    return None
 
 
 def _neighbour_flag(here: Neighbour, no: Optional[str], line: Line, flag: str) -> None:
     here.flags[flag.split(" ")[0]] = (not no, line)
+
+
+def _hops(here: Neighbour, no: Optional[str], line: Line, flag: str, count: Optional[str]) -> Optional[bool]:
+    if count and number(count, 1, 255) is None:
+        return False
+    _neighbour_flag(here, no, line, flag)
+    return None
 
 
 def _force(here: Neighbour, no: Optional[str], line: Line) -> None:
@@ -395,8 +466,10 @@ def _set_community(config: Config, entry: Entry, line: Line, said: str) -> Optio
 
 
 def _set_number(config: Config, entry: Entry, line: Line, kind: str, said: str) -> Optional[bool]:
+    if number(said) is None:
+        return False
     entry.settings[{"local-preference": "pref", "metric": "med"}[kind]] = (said, line)
-    return number(said) is not None
+    return None
 
 
 def _set_word(config: Config, entry: Entry, line: Line, kind: str, said: str) -> None:
@@ -427,7 +500,7 @@ def _takers(*rows: Tuple[str, Callable[..., Optional[bool]]]) -> List[Taker]:
 TAKERS: Dict[str, List[Taker]] = {
     "top": _takers(
         (r"hostname (\S+)", _hostname), (r"frr defaults (\S+)", _profile),
-        (r"frr version ([0-9]+)\.([0-9]+).*", _version),
+        (r"frr version (.*)", _version),
         (r"(?:ip )?router-id (\S+)", _interior_identifier), (r"ip route (.+)", _static),
         (r"ip prefix-list (\S+) (?:seq ([0-9]+) )?(permit|deny) (\S+)((?: (?:le|ge) [0-9]+)*)", _prefix_list),
         (r"access-list (\S+) (?:seq ([0-9]+) )?(permit|deny) (.+)", _access_list),
@@ -468,7 +541,7 @@ OF_NEIGHBOUR: List[Taker] = _takers(
     (r"(route-reflector-client|next-hop-self|activate|passive|disable-connected-check)", _neighbour_flag),
     (r"(send-community)(?: standard| both| all)?", _neighbour_flag),
     (r"(shutdown)(?: message .+)?", _neighbour_flag),
-    (r"(ebgp-multihop)(?: [0-9]+)?", _neighbour_flag), (r"(ttl-security) hops [0-9]+", _neighbour_flag),
+    (r"(ebgp-multihop)(?: ([0-9]+))?", _hops), (r"(ttl-security) hops ([0-9]+)", _hops),
     (r"next-hop-self (?:force|all)", _force),
     (r"(route-map|prefix-list|filter-list|distribute-list) (\S+) (in|out)", _filter),
     (r"(update-source|password|local-role) (.+)", _setting),

@@ -7,7 +7,7 @@ from typing import Dict, List, Optional
 from .frr_config import Config, Neighbour, short
 from .frr_interior import has_interior, interface_with, is_loopback, knows, runs_over
 from .frr_network import Link, Network
-from .language import by_address
+from .language import address, by_address
 
 # So many rules of a kind are written out in what is told.
 SHOWN = 4
@@ -23,6 +23,8 @@ def check(network: Network) -> None:
     _check_choice(network)
     for config in network.routers.values():
         _check_six(config)
+        _check_interfaces(config)
+        _check_unused(config)
 
 
 def check_network(network: Network) -> None:
@@ -166,6 +168,27 @@ def _check_six(config: Config) -> None:
         if each.remote and each.flags.get("activate", (config.is_on("bgp default ipv4-unicast"), each.line))[0]:
             config.tell(each.line, "%s: FRR tells routes of IPv4 over this session, too (`no neighbor %s activate` "
                         "ends that); here it is not made" % (short(each.line.text), each.name))
+
+
+def _check_interfaces(config: Config) -> None:
+    """Lines that ask for an interface that the router's files do not have."""
+    sources = [(each.at("update-source"), each.word("update-source"))
+               for each in [*config.neighbours.values(), *config.groups.values()] if each.word("update-source")]
+    for line, name in config.asked + sources:
+        if config.interfaces and name not in config.interfaces and address(name) is None:
+            config.tell(line, "%s: no interface `%s` is in the files of this router; it is taken for being up" % (
+                short(line.text), short(name)), False)
+
+
+def _check_unused(config: Config) -> None:
+    """Route maps and lists that no line of the router's files names."""
+    maps = {name: entries[min(entries)].line for name, entries in config.maps.items() if entries}
+    lists = {name: entries[min(entries)].line for table in (config.prefix_lists, config.access_lists,
+             config.path_lists, config.community_lists) for name, entries in table.items() if entries}
+    for name, line in {**lists, **maps}.items():
+        if name not in config.words:
+            config.tell(line, "%s: no line names `%s`, so that it decides nothing" % (short(line.text), short(name)),
+                        False)
 
 
 def _check_cluster(network: Network, name: str, config: Config) -> None:

@@ -5,6 +5,7 @@ import re
 from typing import Dict, Iterable, List, NamedTuple, Optional, Tuple
 
 from .communities import read
+from .expressions import finds_nothing
 from .frr_config import Config, Item, short
 from .frr_lines import Line
 from .frr_policy import ANY, NOTHING, Match, Region, Unsayable
@@ -158,12 +159,4 @@ def is_about_none(item: Item, how: str) -> bool:
     """Whether an entry is about a route that carries no community."""
     if how == "any":
         return False
-    return INTERNET in item.numbers if item.numbers else finds_nothing(item.said)
-
-
-def finds_nothing(said: str) -> bool:
-    """Whether an expression matches an empty row."""
-    try:
-        return re.search(said.replace("_", r"(?:^|[,{}() ]|$)"), "") is not None
-    except re.error:
-        return False
+    return INTERNET in item.numbers if item.numbers else bool(finds_nothing(item.said))

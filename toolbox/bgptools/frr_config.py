@@ -102,6 +102,16 @@ class Item:
     numbers: Tuple[int, ...] = ()
 
 
+class Entries(Dict[int, Item]):
+    """The entries of a list by their numbers; `highest` is the greatest one, and `said` what those of a community list
+    say."""
+
+    def __init__(self) -> None:
+        super().__init__()
+        self.highest = 0
+        self.said: Set[Tuple[bool, str, Tuple[int, ...]]] = set()
+
+
 @dataclass
 class Origin:
     """A `network`, or a `redistribute` of a kind of routes."""
@@ -129,9 +139,9 @@ def loose_prefix(text: str, mask: str = "") -> Optional[Prefix]:
     the address counts."""
     first, slash, last = text.partition("/")
     at, wide = address(first), address(mask) if mask else None
-    if at is None:
+    if at is None or mask and (wide is None or slash):
         return None
-    if mask and wide is not None:
+    if wide is not None:
         length: Optional[int] = bin(wide).count("1")
         return masked(at, length or 0) if masked(2 ** 32 - 1, length or 0)[0] == wide else None
     length = number(last, 0, 32) if slash else 8 if at < 2 ** 31 else 16 if at < 3 * 2 ** 30 else 24
@@ -156,14 +166,18 @@ class Config:
         self.origins: List[Origin] = []
         self.statics: List[Static] = []
         self.maps: Dict[str, Dict[int, Entry]] = {}
-        self.prefix_lists: Dict[str, Dict[int, Item]] = {}
-        self.access_lists: Dict[str, Dict[int, Item]] = {}
-        self.path_lists: Dict[str, Dict[int, Item]] = {}
-        self.community_lists: Dict[str, Dict[int, Item]] = {}
+        self.prefix_lists: Dict[str, Entries] = {}
+        self.access_lists: Dict[str, Entries] = {}
+        self.path_lists: Dict[str, Entries] = {}
+        self.community_lists: Dict[str, Entries] = {}
         self.has_ospf = self.has_isis = False
         self.ospf_networks: List[Prefix] = []
         self.areas: Dict[str, Line] = {}
         self.passive: Dict[str, bool] = {}
+        # The words of all lines but those that make a list, and of the heads of route maps.
+        self.words: Set[str] = set()
+        # Interfaces that other lines ask for by their names.
+        self.asked: List[Tuple[Line, str]] = []
         self.ospf_redistributes: Dict[str, Line] = {}
         self.told: Dict[Told, None] = {}
         self.counts: "Counter[str]" = Counter()

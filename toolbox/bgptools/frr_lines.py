@@ -3,8 +3,10 @@ from __future__ import annotations
 
 import re
 from dataclasses import dataclass, field, replace
-from typing import Dict, List
+from typing import Dict, Iterator, List, Tuple
 
+from .counted import MOST_LINES
+from .mistakes import Mistake
 from .sources import lines_in
 
 
@@ -55,6 +57,8 @@ TOP = re.compile(
 OF_VRF = re.compile(r"(no )?ip(v6)? (route|nht|protocol|router-id)|(no )?vni|(no )?router-id")
 # Lines of a block whose words stand outside of one, too.
 OF_BLOCK = re.compile(r"(no )?router-id |(no )?interface \S+ area ")
+# What takes a whole block back.
+UNDOING = ("no route-map ", "no router ", "no interface ")
 ENDS = ("exit", "quit", "end", "exit-vrf", "exit-address-family", "exit-vnc", "exit-vrf-policy", "exit-ldp-if",
         "exit-route-map", "exit-link-params", "configure terminal")
 FAMILIES = ("address-family ipv4 unicast", "address-family ipv4", "address-family ipv4 uni")
@@ -65,6 +69,7 @@ class Reader:
 
     def __init__(self) -> None:
         self.blocks = [Block("top")]
+        self.known: Dict[Tuple[str, str], Block] = {}
         self.here = self.around = self.blocks[0]
         self.is_in_family = False
 
@@ -96,11 +101,11 @@ class Reader:
 
     def _new(self, block: Block) -> Block:
         """The block, or the one of before that has the same head."""
-        known = next((each for each in self.blocks if (each.kind, each.said) == (block.kind, block.said)), None)
-        if known is None:
+        known = self.known.setdefault((block.kind, block.said), block)
+        if known is block:
             self.blocks.append(block)
-            return block
-        known.heads += block.heads
+        else:
+            known.heads += block.heads
         return known
 
 
@@ -108,6 +113,8 @@ def blocks_of(path: str) -> List[Block]:
     """The blocks of a file, the top one first, without what a later `no` takes back."""
     reader = Reader()
     for number, text in lines_in(path):
+        if number > MOST_LINES:
+            raise Mistake("more than {:,} lines are read".format(MOST_LINES), path, number)
         line = Line(path, number, ABBREVIATED.sub("interface ", " ".join(text.split())))
         if line.text and line.text[0] not in "!#":
             reader.take(line)
@@ -116,12 +123,13 @@ def blocks_of(path: str) -> List[Block]:
 
 def without_undone(blocks: List[Block]) -> List[Block]:
     """The blocks without lines, and heads, that a later `no` of the same words takes back. The `no` itself stays."""
-    undoing = [line for line in blocks[0].lines if line.text.startswith(("no route-map ", "no router ",
-        "no interface "))]
-    blocks[0].lines = [replace(line, undoes=True) if line in undoing else line for line in blocks[0].lines]
+    undoing = {line.text[3:]: line.number for line in blocks[0].lines if line.text.startswith(UNDOING)}
+    blocks[0].lines = [replace(line, undoes=True) if line.text.startswith(UNDOING) else line
+                       for line in blocks[0].lines]
+    longest = max(map(len, undoing), default=0)
     kept = []
     for block in blocks:
-        since = max([line.number for line in undoing if block.heads and _begins(block.said, line.text[3:])], default=0)
+        since = max([undoing[start] for start in _starts(block.said, longest) if start in undoing], default=0)
         heads = [head for head in block.heads if head.number > since]
         if heads or not block.heads:
             kept.append(Block(block.kind, heads, _kept([line for line in block.lines if line.number > since])))
@@ -131,8 +139,9 @@ def without_undone(blocks: List[Block]) -> List[Block]:
 def _kept(lines: List[Line]) -> List[Line]:
     undoing: Dict[str, int] = {}
     found: List[Line] = []
+    longest = max((len(line.text) for line in lines if line.text.startswith("no ")), default=0)
     for line in reversed(lines):
-        by = next((at for text, at in undoing.items() if _begins(line.text, text)), None)
+        by = next((undoing[start] for start in _starts(line.text, longest) if start in undoing), None)
         if by is None:
             found.append(line)
         else:
@@ -142,5 +151,11 @@ def _kept(lines: List[Line]) -> List[Line]:
     return found[::-1]
 
 
-def _begins(text: str, start: str) -> bool:
-    return text == start or text.startswith(start + " ")
+def _starts(text: str, longest: int) -> Iterator[str]:
+    """The first words of a text, one, two and so on, as far as they are not longer than that."""
+    at = text.find(" ")
+    while -1 < at <= longest:
+        yield text[:at]
+        at = text.find(" ", at + 1)
+    if at == -1 and text:
+        yield text

@@ -6,7 +6,8 @@ import re
 from dataclasses import dataclass, field
 from typing import Dict, List, Optional, Set
 
-from .frr_communities import check_exact, finds_nothing, is_about_none, matches_of, region_of_any
+from .expressions import finds_nothing
+from .frr_communities import check_exact, is_about_none, matches_of, region_of_any
 from .frr_config import Config, Item
 from .frr_policy import ALL, ANY, NOTHING, Match, Prefix, Region, Unsayable, chosen, is_, shortened, under
 from .language import contains, number, show_address
@@ -166,7 +167,7 @@ def permits(config: Config, kind: str, name: str, where: Prefix) -> bool:
 
 def _is_about(item: Item, kind: str, name: str, where: Prefix) -> bool:
     if kind == "as-path":
-        return finds_nothing(item.said)
+        return bool(finds_nothing(item.said))
     if kind == "community":
         return is_about_none(item, name.partition(" ")[2])
     if item.is_wild:

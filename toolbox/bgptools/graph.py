@@ -10,6 +10,10 @@ from .left_out import LeftOut, Place
 from .mistakes import Mistake
 
 
+# So many are read; a network has fewer.
+MOST = {"nodes": 65536, "edges": 262144}
+
+
 @dataclass
 class Node:
     """A node. `key` is its id in the file; attributes are text, whatever their kind."""
@@ -52,6 +56,16 @@ class Graph:
         if known is not None:
             raise self.mistake("node %s stands in line %d already" % (node.key[:60], known.line), node.line)
         self.nodes[node.key] = node
+        self._check_count(len(self.nodes), "nodes", node.line)
+
+    def add_edge(self, edge: Edge) -> None:
+        """Raises Mistake where there are too many."""
+        self.edges.append(edge)
+        self._check_count(len(self.edges), "edges", edge.line)
+
+    def _check_count(self, count: int, what: str, line: int) -> None:
+        if count > MOST[what]:
+            raise self.mistake("more than {:,} {} are read".format(MOST[what], what), line)
 
     def check(self) -> None:
         """Raises Mistake where it has no node, or an edge an end that is none."""

@@ -14,6 +14,9 @@ from .mistakes import Mistake
 
 TOKEN = re.compile(r'\s*(?:(?P<mark>[\[\]])|(?P<key>[A-Za-z_][A-Za-z0-9_.-]*)|(?P<text>"[^"]*")|'
                    r'(?P<number>[+-]?(?:[0-9]+\.?[0-9]*|\.[0-9]+)(?:[Ee][+-]?[0-9]+)?)(?![^\s\[\]]))')
+# More digits than the number of any character has.
+LONG = re.compile("&#(x[0-9a-fA-F]{10,}|[0-9]{10,})", re.IGNORECASE)
+MOST_WORDS, MOST_DEPTH = 3000000, 100
 SPECIAL = ("NAN", "INF", "nan", "inf")
 
 
@@ -60,11 +63,19 @@ class Tokens:
             yield found.lastgroup or "", found.group(found.lastgroup or 0), number
 
 
+def _plain(text: str) -> str:
+    """A text with the characters that `&amp;` and `&#38;` stand for; a number that is none stays as it is."""
+    return html.unescape(LONG.sub(lambda found: "&amp;" + found.group()[1:], text))
+
+
 def blocks_of(content: bytes, file: str) -> Block:
     """The lists of a file, in one around all; raises Mistake."""
     tokens = Tokens(content, file)
     stack, key, line = [Block("", 1)], "", 0
-    for kind, text, line in tokens:
+    for count, (kind, text, line) in enumerate(tokens):
+        if count > MOST_WORDS or len(stack) > MOST_DEPTH:
+            raise Mistake("more than {:,} words are read".format(MOST_WORDS) if count > MOST_WORDS else
+                          "lists are nested more than %d deep" % MOST_DEPTH, tokens.file, line)
         if not key and kind == "key":
             key = text
         elif not key and text == "]" and len(stack) > 1:
@@ -75,7 +86,7 @@ def blocks_of(content: bytes, file: str) -> Block:
             key = ""
         elif key and (kind in ("text", "number") or text in SPECIAL):
             stack[-1].again.update({key: line} if key in stack[-1].values else {})
-            stack[-1].values[key] = html.unescape(text[1:-1]) if kind == "text" else text
+            stack[-1].values[key] = _plain(text[1:-1]) if kind == "text" else text
             key = ""
         else:
             raise Mistake("%s is expected, and not `%s`" % ("a value of `%s`" % key[:40] if key else "a key or `]`",
@@ -96,7 +107,11 @@ def read(content: bytes, file: str, left: LeftOut) -> Graph:
     for block in graphs[1:]:
         left.tell(graph.place(block.line), "a second graph, of which nothing is read")
     graph.count_of_own = len(graphs[0].values)
-    is_directed = graphs[0].values.get("directed", "0") != "0"
+    directed = graphs[0].values.get("directed", "0")
+    if directed not in ("0", "1"):
+        left.tell(graph.place(graphs[0].line), "`directed %s`: 0 or 1 is expected; edges lead one way here" %
+                  directed[:60])
+    is_directed = directed != "0"
     for block in graphs[0].blocks:
         _take(graph, block, is_directed)
     graph.check()
@@ -115,7 +130,7 @@ def _take(graph: Graph, block: Block, is_directed: bool) -> None:
     elif block.key == "edge":
         ends = [_wanted(graph, block, name) for name in ("source", "target")]
         others = {name: value for name, value in block.values.items() if name not in ("source", "target")}
-        graph.edges.append(Edge(ends[0], ends[1], block.line, is_directed, others))
+        graph.add_edge(Edge(ends[0], ends[1], block.line, is_directed, others))
 
 
 def _wanted(graph: Graph, block: Block, name: str) -> str:

@@ -1,7 +1,8 @@
 """Graphs in GraphML."""
 from __future__ import annotations
 
-from typing import Dict, List, NamedTuple, Optional
+import re
+from typing import Dict, List, NamedTuple, Optional, Tuple
 from xml.parsers import expat
 
 from .graph import Edge, Graph, Node
@@ -10,6 +11,11 @@ from .mistakes import Mistake
 
 SPACE = "http://graphml.graphdrawing.org/xmlns"
 # What stands beside nodes and edges and says nothing of routes.
+MOST_DEPTH = 100
+# What a key may have, what it may be about, and of which kind it may be.
+KEY = ("id", "for", "attr.name", "attr.type")
+FOR = ("all", "graphml", "graph", "node", "edge", "hyperedge", "port", "endpoint")
+TYPES = ("string", "boolean", "int", "long", "float", "double")
 DESCRIPTIONS = ("desc", "locator", "port")
 
 
@@ -71,6 +77,8 @@ class Reader:
         if not self.open and known != "graphml":
             raise self.graph.mistake("`graphml` is expected first, and not `%s`" % plain[:60], self.line)
         self.open.append(known)
+        if len(self.open) > MOST_DEPTH:
+            raise self.graph.mistake("elements are nested more than %d deep" % MOST_DEPTH, self.line)
         if not self.left_from:
             self._take(known, given, self.open[-2] if len(self.open) > 1 else "")
 
@@ -79,17 +87,20 @@ class Reader:
         if name == "key" and around == "graphml":
             self.key = self._wanted(name, given, "id")
             self.keys[self.key] = Key(given.get("attr.name", self.key), given.get("for", "all"), None)
+            self._check_key(given)
         elif name == "graph" and around == "graphml" and not self.graphs:
             self.graphs, self.is_directed = 1, given.get("edgedefault") == "directed"
+            self._check_word("edgedefault", given, ("directed", "undirected"))
         elif name == "node" and around == "graph":
             node = Node(self._wanted(name, given, "id"), self.line)
             self.graph.add_node(node)
             self.here.append(node.attributes)
         elif name == "edge" and around == "graph":
             is_directed = {"true": True, "false": False}.get(given.get("directed", ""), self.is_directed)
+            self._check_word("directed", given, ("true", "false"))
             source, target = (self._wanted(name, given, each) for each in ("source", "target"))
             edge = Edge(source, target, self.line, is_directed)
-            self.graph.edges.append(edge)
+            self.graph.add_edge(edge)
             self.here.append(edge.attributes)
         elif name == "data" or name == "default" and around == "key":
             self.key = self._wanted(name, given, "key") if name == "data" else self.key
@@ -98,6 +109,20 @@ class Reader:
             self.said = []
         elif name != "graphml" or around:
             self._leave_out(name, around)
+
+    def _check_word(self, name: str, given: Dict[str, str], known: Tuple[str, ...]) -> None:
+        """Tells a word that is none of those that are expected."""
+        if given.get(name, known[0]) not in known:
+            self.graph.left.tell(self.graph.place(self.line), "`%s=\"%s\"`: %s is expected; it is as if it were not "
+                                 "there" % (name, given[name][:60], " or ".join(known)))
+
+    def _check_key(self, given: Dict[str, str]) -> None:
+        """Tells what of a key is not known: what it is about, its kind, and words of no other program."""
+        odd = [name for name in given if name not in KEY and not re.match("(yfiles|java|gephi)[.]|.* ", name)]
+        odd += [name for name, known in (("for", FOR), ("attr.type", TYPES)) if given.get(name, known[0]) not in known]
+        for name in odd:
+            self.graph.left.note(self.graph.place(self.line), "`%s=\"%s\"` of a key is not known" % (
+                name[:60], given[name][:60]))
 
     def _leave_out(self, name: str, around: str) -> None:
         """An element that is not read, with all in it."""

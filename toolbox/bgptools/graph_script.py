@@ -9,7 +9,7 @@ from .graph import Graph, Node
 from .graph_costs import COSTS, Costs, distances
 from .language import address, escaped, number, prefix, show_address
 from .mistakes import Mistake
-from .names import mark
+from .names import TOO_LONG, fits, mark
 
 MOST_NODES, MOST_LINKS, MOST_SESSIONS = 4096, 16384, 256
 # The first addresses of routers and of external neighbours.
@@ -21,6 +21,8 @@ PLACES = ("Country", "Longitude", "Latitude", "lon", "lat", "longitude", "latitu
 ASES = ("asn", "ASN", "as", "AS")
 KINDS = ("type", "Internal", "hyperedge", "Network", "id", "key", "Service")
 SPEEDS = ("LinkSpeed", "LinkSpeedUnits", "LinkSpeedRaw")
+# What `Internal` of the Topology Zoo may be.
+INTERNAL = ("0", "1", "0.0", "1.0", "")
 LINKS = ("LinkType", "LinkLabel", "LinkNote", "LinkStatus")
 
 
@@ -65,12 +67,20 @@ class Writer:
         """The label of a node, with `_` for spaces; empty where it has none."""
         attributes = self.graph.nodes[key].attributes
         label = next((attributes[each] for each in LABELS if attributes.get(each, "").strip()), "")
-        return "_".join(escaped(label).split())
+        return self._short(key, "_".join(escaped(label).split()))
+
+    def _short(self, key: str, name: str) -> str:
+        """A name; one that no line has room for is left out, which is told."""
+        if fits(name):
+            return name
+        self.left.note(self.graph.place(self.graph.nodes[key].line), TOO_LONG % name[:60])
+        return ""
 
     def _tell_names(self) -> None:
         """Nodes without a name get their id; names that are there twice are told."""
         nodes, nameless = self.graph.nodes, [key for key in self.names if not self.names[key]]
-        self.names.update({key: "_".join(escaped(key).split()) for key in nameless})
+        self.names.update({key: self._short(key, "_".join(escaped(key).split())) or self.addresses[key]
+                           for key in nameless})
         if nameless:
             self.left.note(self.graph.place(nodes[nameless[0]].line), "nodes without a name: %d; their ids stand" % (
                 len(nameless)))
@@ -130,6 +140,9 @@ class Writer:
         at, shown = self.graph.place(node.line), self._shown(node.key)
         if node.attributes.get("hyperedge", "0") not in ("0", ""):
             self.left.tell(at, "node %s stands for a hyperedge, which joins more than two; here it is a router" % shown)
+        if node.attributes.get("Internal", "1") not in INTERNAL:
+            self.left.tell(at, "node %s has `Internal %s`, and 0 or 1 is expected; here it is a router of the AS" % (
+                shown, node.attributes["Internal"][:60]))
         if node.attributes.get("Internal", "1") in ("0", "0.0"):
             self.left.tell(at, "node %s is outside of the network (Internal 0); here it is a router of the AS" % shown)
 

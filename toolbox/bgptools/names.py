@@ -7,6 +7,8 @@ from typing import Dict, List
 from .language import ADDRESSES, FORMS, address, readable
 from .mistakes import Mistake
 
+# So many bytes a name may have that a tool gives.
+MOST_BYTES = 255
 MARK = re.compile(r" *# *name +([0-9.]+) +([^ ]+) *")
 ADDRESS = re.compile(r"(?<![0-9./])[0-9]+(?:\.[0-9]+){3}(?![0-9/]|\.[0-9])")
 
@@ -59,6 +61,15 @@ class Names:
                 found = self.address_of(readable(parts[at]))
                 parts[at] = parts[at] if address(found) is None else found
         return " ".join(parts)
+
+
+# What is told of a name that is left out.
+TOO_LONG = "the name %s.. is too long, and is left out"
+
+
+def fits(name: str) -> bool:
+    """Whether a line has room for a name, beside an address."""
+    return len(name.encode("utf-8", "surrogateescape")) <= MOST_BYTES
 
 
 def mark(where: str, name: str) -> str:
