@@ -32,6 +32,9 @@ class Limits:
     open_files: int = 128
     # Processes of one worker: it has four programs, and one that ends.
     processes: int = 16
+    # Processes and threads that may come while a request is served. The system counts those of a user, over the whole
+    # machine, and for root it counts none: then `processes` alone holds.
+    threads: int = 256
     # An answer. A picture of 200 routers has under 1 MB.
     answer: int = 16 * MIB
     # What a worker writes to standard error; more is read and dropped.
@@ -54,5 +57,5 @@ class Limits:
 
     def of_worker(self) -> Dict[str, int]:
         """Those that a worker sets for itself, as it is told them."""
-        names = ("processor_time", "memory", "address_space", "file_size", "open_files", "processes", "answer")
+        names = ("processor_time", "memory", "address_space", "file_size", "open_files", "processes", "threads", "answer")
         return {name: getattr(self, name) for name in names}
