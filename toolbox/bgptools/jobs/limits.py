@@ -19,7 +19,7 @@ class Limits:
     # More for each line of the script, and for each byte of a log that is checked: several times what they take.
     line_time: float = 0.0005
     byte_time: float = 0.00001
-    # Processor time for one request, of the worker and of each program: a loop ends also where nobody looks at the clock.
+    # Processor time for one request, of the worker and of each program: a loop ends also where nobody waits.
     processor_time: int = 600
     # Resident memory of a worker and its programs together, looked at 20 times a second. A program that was built
     # without proofs reserves terabytes of addresses and uses few, so its addresses cannot be limited.
@@ -57,5 +57,6 @@ class Limits:
 
     def of_worker(self) -> Dict[str, int]:
         """Those that a worker sets for itself, as it is told them."""
-        names = ("processor_time", "memory", "address_space", "file_size", "open_files", "processes", "threads", "answer")
+        names = ("processor_time", "memory", "address_space", "file_size", "open_files", "processes", "threads",
+                 "answer")
         return {name: getattr(self, name) for name in names}
