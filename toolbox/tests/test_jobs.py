@@ -626,6 +626,18 @@ class Ends(Pooled):
         self.assertEqual(sorted(os.listdir(self.folder)), ["numbers", "stand-in"])
         self.assertEqual([each for each in children(os.getpid()) if not is_gone(each)], [])
 
+    async def test_close_ends_what_a_program_left_behind(self):
+        """Though the program answered as it should, and what it left is in no group of a worker."""
+        pool = self.pool(ring(3))
+        with self.stand_in("if os.fork() == 0:", "    os.setsid()", "    if os.fork() == 0:", "        note()",
+                           "        time.sleep(600)", "    os._exit(0)",
+                           "os.execv(%r, ['bgpsim', 'script'])" % os.environ["PROGRAM"]):
+            self.assertEqual(await pool.what_if(WORKER, ring(3), []), UNCHANGED)
+            numbers = await self.noted(4)
+        self.assertEqual([is_gone(each) for each in numbers].count(False), 2)
+        await pool.close()
+        self.assertEqual([each for each in numbers if not is_gone(each)], [])
+
     async def test_descriptors_are_given_back(self):
         pool = self.pool(ring(3))
         before = os.listdir("/proc/self/fd")

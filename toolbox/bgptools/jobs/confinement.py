@@ -54,9 +54,9 @@ def confine(limits: Dict[str, int]) -> Dict[str, Any]:
 
 
 def allow(limits: Dict[str, int]) -> None:
-    """Sets the limits that hold for one request: processor time, and how many processes there may be.
+    """Sets the limits that hold for one request: processor time, and how many processes and threads there may be.
 
-    The system counts processes by user, over the whole machine. So what is there is allowed, and so many more."""
+    The system counts these by user, over the whole machine. So what is there is allowed, and so many more."""
     limit(resource.RLIMIT_CPU, _seconds(0) + limits["processor_time"])
     for process in descendants():
         try:
@@ -66,7 +66,7 @@ def allow(limits: Dict[str, int]) -> None:
             pass
     with open("/proc/loadavg", encoding="ascii") as file:
         there = int(file.read().split()[3].split("/")[1])
-    limit(resource.RLIMIT_NPROC, there + limits["processes"])
+    limit(resource.RLIMIT_NPROC, there + limits["threads"])
 
 
 def _seconds(process: int) -> int:

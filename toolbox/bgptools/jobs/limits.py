@@ -19,8 +19,8 @@ class Limits:
     # More for each line of the script, and for each byte of a log that is checked: several times what they take.
     line_time: float = 0.0005
     byte_time: float = 0.00001
-    # Processor time for one request, of the worker and of each program: a loop ends also where the clock stands still.
-    processor_time: int = 120
+    # Processor time for one request, of the worker and of each program: a loop ends also where nobody waits.
+    processor_time: int = 600
     # Resident memory of a worker and its programs together, looked at 20 times a second. A program that was built
     # without proofs reserves terabytes of addresses and uses few, so its addresses cannot be limited.
     memory: int = 2048 * MIB
@@ -32,9 +32,12 @@ class Limits:
     open_files: int = 128
     # Processes of one worker: it has four programs, and one that ends.
     processes: int = 16
+    # Processes and threads that may come while a request is served. The system counts those of a user, over the whole
+    # machine, and for root it counts none: then `processes` alone holds.
+    threads: int = 256
     # An answer. A picture of 200 routers has under 1 MB.
     answer: int = 16 * MIB
-    # What a worker writes to standard error; more is read and dropped.
+    # What is read of a worker's standard error, where it failed; it may write as much as a file may have.
     errors: int = 4096
     # How much a worker that serves those who look gives way to all others, as by nice(1).
     niceness: int = 10
@@ -54,5 +57,6 @@ class Limits:
 
     def of_worker(self) -> Dict[str, int]:
         """Those that a worker sets for itself, as it is told them."""
-        names = ("processor_time", "memory", "address_space", "file_size", "open_files", "processes", "answer")
+        names = ("processor_time", "memory", "address_space", "file_size", "open_files", "processes", "threads",
+                 "answer")
         return {name: getattr(self, name) for name in names}
