@@ -8,6 +8,7 @@ import contextlib
 import gc
 import secrets
 import time
+import traceback
 from collections import Counter
 from dataclasses import dataclass
 from typing import Any, Callable, Dict, Iterator, List, Optional
@@ -187,8 +188,9 @@ class Shared:
     @contextlib.contextmanager
     def guarded(self) -> Iterator[None]:
         """While a request may change something. After an error that is no Mistake the network is recovered from its
-        and Interrupted raised: a Mistake that says what of the request stands in the log. Raises Unkept where it
-        cannot be recovered."""
+        log, and Interrupted raised: a Mistake that says what of the request stands there.
+
+        Raises Unkept where it cannot be recovered."""
         try:
             kept = self._kept()
             self.entering = None
@@ -200,6 +202,8 @@ class Shared:
         except Mistake:
             raise
         except Exception as error:  # pylint: disable=broad-except
+            # What its calls held may be the memory that is wanting.
+            traceback.clear_frames(error.__traceback__)
             raise Interrupted(error, self.recover(described(error), kept)) from error
 
     def recover(self, reason: str, kept: Optional[Kept] = None) -> Recovered:
