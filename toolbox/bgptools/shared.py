@@ -18,14 +18,14 @@ from .delivering import Deliveries
 from .happening import NOTHING_TOLD, Happening
 from .history import History
 from .language import escaped
-from .lasting import Lasting
+from .lasting import Lasting, described
 from .ledger import MOST_LOG, Clock, Ledger
 from .mistakes import Mistake
 from .network import Network
 from .notes import Notes
 from .proposing import Proposals
 from .record import Log, Unkept
-from .recovery import Broken, Interrupted, Kept, Recovered, described
+from .recovery import Broken, Interrupted, Kept, Recovered
 from .replies import refusal
 from .run import Run
 from .script import Line
@@ -221,8 +221,8 @@ class Shared:
                 return self._recover("an error came up (%s)" % reason, kept, broken)
             except Exception as error:  # pylint: disable=broad-except
                 fault = error
-        why = str(fault) if isinstance(fault, Mistake) else described(fault)
-        raise Unkept("an error came up (%s), and the network cannot be made anew from its log: %s" % (reason, why))
+        told = "an error came up (%s), and the network cannot be made anew from its log: %s"
+        raise Unkept(told % (reason, described(fault)))
 
     def _kept(self) -> Kept:
         """What stands in no log."""

@@ -426,6 +426,8 @@ class Recoveries(Held):
                     # So it is where no try was begun.
                     self.assertEqual(place[0], "shared.py")
                 self.assertTrue(fault.is_raised)
+                # Where it came up when the program was run anew, that is tried again after a pause.
+                shared.program.clock = lambda: shared.program.again_at
                 self.assertEqual(all_of(shared), before)
         self.assertGreater(len(places), 100)
         self.assertRegex(self.ended(shared), "^ok ")
