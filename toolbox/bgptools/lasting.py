@@ -162,9 +162,9 @@ class Lasting:
         if now >= self.again_at:
             try:
                 made = _given(absent.accepted)
-            except Mistake as fault:
+            except Exception as fault:  # pylint: disable=broad-except
                 self.pause = min(LONGEST_PAUSE, 2 * self.pause or SHORTEST_PAUSE)
-                self.again_at, self.why = self.clock() + self.pause, str(fault)
+                self.again_at, self.why = self.clock() + self.pause, described(fault)
             else:
                 self._use(made)
                 self.pause = self.again_at = 0.0
@@ -213,3 +213,14 @@ def _end(program: Counted) -> None:
     program.is_torn = True
     with contextlib.suppress(OSError):
         program.close()
+
+
+def described(error: BaseException) -> str:
+    """An error in few words: what it says, and its kind where it is no Mistake."""
+    told = ""
+    # What an error says is made by it, and may want memory again.
+    with contextlib.suppress(Exception):
+        told = str(error)
+    if isinstance(error, Mistake):
+        return told
+    return type(error).__name__ + (told and ": " + told[:200])

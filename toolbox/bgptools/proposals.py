@@ -20,7 +20,8 @@ LONGEST_NAME = 80
 @dataclass
 class Proposal:
     """A proposed change: whose it is, its name, and its lines as they were given. `edits` is how many edits the network
-    had when it was shown, and `text` what it does there; it is empty until that is known."""
+    had when it was shown, and `text` what it does there; it is empty until that is known. `owners` are the seats of
+    who proposed it, by whatever names."""
     number: int
     seat: int
     name: str

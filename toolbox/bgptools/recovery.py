@@ -1,12 +1,12 @@
 """What is kept of a shared network over an error that nobody expected, and what is said of it."""
 from __future__ import annotations
 
-import contextlib
 from collections import Counter
 from dataclasses import dataclass
 from typing import Dict, List, NamedTuple, Optional
 
 from .happening import Mark
+from .lasting import described
 from .meter import Meter
 from .mistakes import Mistake
 from .proposals import Proposal
@@ -70,12 +70,3 @@ def _done(first: int, last: int, found: Recovered) -> str:
     if found.steps > found.steps_before:
         return "a name was given, and nothing else of the request was done"
     return "the request was not done"
-
-
-def described(error: BaseException) -> str:
-    """An error in few words: its kind, and what it says."""
-    told = ""
-    # What an error says is made by it, and may want memory again.
-    with contextlib.suppress(Exception):
-        told = str(error)
-    return type(error).__name__ + (told and ": " + told[:200])

@@ -8,6 +8,7 @@ import contextlib
 import gc
 import secrets
 import time
+import traceback
 from collections import Counter
 from dataclasses import dataclass
 from typing import Any, Callable, Dict, Iterator, List, Optional
@@ -17,14 +18,14 @@ from .delivering import Deliveries
 from .happening import NOTHING_TOLD, Happening
 from .history import History
 from .language import escaped
-from .lasting import Lasting
+from .lasting import Lasting, described
 from .ledger import MOST_LOG, Clock, Ledger
 from .mistakes import Mistake
 from .network import Network
 from .notes import Notes
 from .proposing import Proposals
 from .record import Log, Unkept
-from .recovery import Broken, Interrupted, Kept, Recovered, described
+from .recovery import Broken, Interrupted, Kept, Recovered
 from .replies import refusal
 from .run import Run
 from .script import Line
@@ -187,8 +188,9 @@ class Shared:
     @contextlib.contextmanager
     def guarded(self) -> Iterator[None]:
         """While a request may change something. After an error that is no Mistake the network is recovered from its
-        and Interrupted raised: a Mistake that says what of the request stands in the log. Raises Unkept where it
-        cannot be recovered."""
+        log, and Interrupted raised: a Mistake that says what of the request stands there.
+
+        Raises Unkept where it cannot be recovered."""
         try:
             kept = self._kept()
             self.entering = None
@@ -200,6 +202,8 @@ class Shared:
         except Mistake:
             raise
         except Exception as error:  # pylint: disable=broad-except
+            # What its calls held may be the memory that is wanting.
+            traceback.clear_frames(error.__traceback__)
             raise Interrupted(error, self.recover(described(error), kept)) from error
 
     def recover(self, reason: str, kept: Optional[Kept] = None) -> Recovered:
@@ -217,8 +221,8 @@ class Shared:
                 return self._recover("an error came up (%s)" % reason, kept, broken)
             except Exception as error:  # pylint: disable=broad-except
                 fault = error
-        why = str(fault) if isinstance(fault, Mistake) else described(fault)
-        raise Unkept("an error came up (%s), and the network cannot be made anew from its log: %s" % (reason, why))
+        told = "an error came up (%s), and the network cannot be made anew from its log: %s"
+        raise Unkept(told % (reason, described(fault)))
 
     def _kept(self) -> Kept:
         """What stands in no log."""

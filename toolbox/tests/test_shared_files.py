@@ -210,7 +210,8 @@ class Notes(Held):
 
 
 class Texts(Held):
-    WRONG = ("quiet\nquiet", "quiet \u20ac", "x" * 65537, "quiet\x1b[2J", "quiet\0", "qu\x7fiet", "quiet\r",
+    WRONG = ("quiet\nquiet", "quiet x\nquiet", "quiet \u20ac", "x" * 65537, "quiet\x1b[2J", "quiet\0", "qu\x7fiet",
+             "quiet\r",
              "quiet \ud800")
 
     def test_a_text_that_is_no_line_changes_nothing(self):

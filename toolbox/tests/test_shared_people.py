@@ -223,6 +223,15 @@ class Killed(Held):
         times[0] += 8
         self.assertTrue(shared.program.is_quiet())
 
+    def test_a_program_for_which_there_is_no_memory(self):
+        """Where it cannot be run for another reason than its own, it is tried again as well."""
+        shared, _ = self.shared(*TWO)
+        self.kill(shared)
+        with unittest.mock.patch("bgptools.lasting._given", side_effect=MemoryError):
+            self.assertRaisesRegex(Lost, "and it cannot be run anew: MemoryError; the next", shared.program.is_quiet)
+        shared.program.clock = lambda: shared.program.again_at
+        self.assertTrue(shared.program.is_quiet())
+
     def test_a_reply_that_was_not_read(self):
         """What comes next is asked of another program: it would have the reply of the line before."""
         shared, anna = self.shared(*TWO)

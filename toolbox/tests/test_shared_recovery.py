@@ -1,5 +1,6 @@
 """A shared network in which an error comes up that nobody expects: it is again as its log has it, and answers go on."""
 import errno
+import inspect
 import os
 import pathlib
 import shutil
@@ -310,6 +311,28 @@ class Recoveries(Held):
         self.assertEqual(sum((+shared.here).values()), 1)
         self.assertEqual(shared.enter("ben").name, "ben")
 
+    def test_calls_that_nest_too_deep(self):
+        """Where Python ends them, at whatever depth that is, the log has what is there, and the next call is made."""
+        shared, anna = self.shared(*TWO)
+        limit, depth, endings = sys.getrecursionlimit(), len(inspect.stack(0)), []
+        for more in range(6, 40):
+            count = shared.log.count
+            try:
+                with shared.guarded():
+                    try:
+                        sys.setrecursionlimit(depth + more)
+                        shared.calling.calls([(anna, "metric 1.0.0.1 2.0.0.1 %d" % more)])
+                    finally:
+                        sys.setrecursionlimit(limit)
+                endings.append("made")
+            except Interrupted as found:
+                self.assertRegex(str(found), "RecursionError")
+                self.assertEqual((found.first, found.last), (count + 1, shared.log.count))
+                endings.append("interrupted")
+            self.assertEqual((shared.ledger.entries, shared.ledger.step), (shared.log.count, len(shared.run.lines)))
+        self.assertEqual(set(endings), {"made", "interrupted"})
+        self.assertRegex(self.ended(shared), "^ok ")
+
     def test_it_is_tried_again(self):
         shared, anna = self.shared(*TWO)
         real, tries = shared_module.take_up, []
@@ -403,6 +426,8 @@ class Recoveries(Held):
                     # So it is where no try was begun.
                     self.assertEqual(place[0], "shared.py")
                 self.assertTrue(fault.is_raised)
+                # Where it came up when the program was run anew, that is tried again after a pause.
+                shared.program.clock = lambda: shared.program.again_at
                 self.assertEqual(all_of(shared), before)
         self.assertGreater(len(places), 100)
         self.assertRegex(self.ended(shared), "^ok ")
