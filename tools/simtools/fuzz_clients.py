@@ -149,6 +149,8 @@ class Peer:
         if "id" not in message:
             raise Fault("an answer has no `id`: %r" % line[:300])
         number = message["id"]
+        if isinstance(number, (list, dict, bool)) or isinstance(number, str) and len(number) > 64:
+            raise Fault("an answer has an odd `id`: %r" % line[:300])
         if "error" in message:
             if not isinstance(message["error"], str) or not message["error"] or "an error came up" in message["error"]:
                 raise Fault("an error of a fault, or none: %r" % line[:300])

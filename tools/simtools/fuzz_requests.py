@@ -51,6 +51,11 @@ def way(draw: random.Random) -> Any:
     return draw.choice((None, [address(draw), "10.1.0.1"]))
 
 
+def change(draw: random.Random) -> List[str]:
+    """The lines of a proposal."""
+    return [command(draw) for _ in range(draw.randint(0, 3))] if draw.random() < 0.5 else ["metric 1.0.0.1 2.0.0.1 %d" % draw.randint(1, 9)]
+
+
 def numbered(draw: random.Random, more: Request) -> Request:
     """The fields of a request about a proposal."""
     number = draw.choice((None, *range(1, 10)))
@@ -69,9 +74,9 @@ VALID: Dict[str, Tuple[int, Fields]] = {
     "pause": (3, lambda _: {}), "go": (4, lambda _: {}), "wait": (2, lambda _: {}),
     "pace": (2, lambda draw: {"a_second": draw.choice((None, 1000, 50.5, 1000000))}),
     "step": (5, lambda draw: {"count": draw.randint(0, 40)}),
-    "propose": (1, lambda draw: {"name": draw.choice(("x", "json.py", "-")), "lines": [command(draw) for _ in range(draw.randint(0, 4))]}),
+    "propose": (3, lambda draw: {"name": draw.choice(("x", "json.py", "-")), "lines": change(draw)}),
     "proposals": (3, lambda _: {}),
-    "accept": (2, lambda draw: numbered(draw, {"edits": draw.randint(0, 99)})), "decline": (3, lambda draw: numbered(draw, {})),
+    "accept": (4, lambda draw: numbered(draw, {"edits": draw.randint(0, 99)})), "decline": (3, lambda draw: numbered(draw, {})),
     "check": (1, lambda _: {}), "free": (1, lambda draw: {"name": draw.choice(NAMES)}),
     "show": (3, lambda draw: {"step": draw.choice((None, 0, 5)), "prefix": draw.choice((None, "10.1.0.0/16")), "way": way(draw)})}
 # What an answer has that is no error.
@@ -169,9 +174,8 @@ def _recoded(draw: random.Random, request: Request) -> bytes:
 
 def garbage(draw: random.Random) -> bytes:
     """Bytes at random; line ends may be among them."""
-    size = draw.choice((0, 1, 10, 100, 1000, 10000))
-    some = draw.choice((bytes(range(256)), b'{}[]",:\\ \n', b"\n", b"\xff\xfe\0"))
-    return bytes(draw.choices(some, k=size))
+    some, most = draw.choice(((bytes(range(256)), 10000), (b'{}[]",:\\ \n', 500), (b"\n", 100), (b"\xff\xfe\0", 10000)))
+    return bytes(draw.choices(some, k=draw.randrange(most)))
 
 
 # HTTP

@@ -1,6 +1,6 @@
 """Conversations with `share` and `lab` that nobody holds: requests mutated, cut, interleaved, over all transports.
 
-    tools/fuzz-servers [--cases N] [--seed S]    N cases (60), of the seeds from S (1) on. A case is a conversation of
+    tools/fuzz-servers [--cases N] [--seed S]    N cases (90), of the seeds from S (1) on. A case is a conversation of
                                                  some clients with a lab, or with a share: people at the socket, pages,
                                                  and connections of HTTP. They send valid requests of all words, mutated
                                                  ones, bytes at random and halves of requests, in any order, and go in
@@ -31,7 +31,7 @@ from .fuzz_requests import NAMES, Request, garbage, head, mutated, query, valid
 from .running import run
 
 # So many things are done in a case, and so many clients are there at once.
-STEPS, CLIENTS = 30, 5
+STEPS, CLIENTS = 60, 5
 CALL = re.compile(r"^@([0-9]+) ([^\n]*)\n((?:= [^\n]*\n)+)", re.M)
 ROLES = ("lab", "to work", "to look")
 # A line that spells no command, or for which there was no memory, has no entry.
@@ -118,23 +118,26 @@ class Fuzzed:
             client = Page(self.server, draw.choice(ROLES[:2]), name, self.tokens.get(name, ""))
         else:
             client = AtSocket(self.server)
-            if draw.random() < 0.8:
+            if draw.random() < 0.9:
                 client.send(client.numbered(self._entering(draw, name)))
+                client.read(0.05)
         self.peers.append(client)
         return client
 
     def _entering(self, draw: random.Random, name: str) -> Request:
-        token = self.tokens.get(name) if draw.random() < 0.8 else "x"
+        token = self.tokens.get(name) if draw.random() < 0.95 else "x"
         return {"do": "enter", "as": name, **({"token": token} if token else {})}
 
     def _act(self, draw: random.Random, clients: List[Client], client: Client) -> None:
         """One does something."""
         what = draw.random()
-        if what < 0.35:
+        if client.token:
+            self.tokens[client.name] = client.token
+        if what < 0.4:
             client.send(client.numbered(self._valid(draw)))
-        elif what < 0.8:
+        elif what < 0.85:
             client.send(mutated(draw))
-        elif what < 0.88 and isinstance(client, AtSocket):
+        elif what < 0.9 and isinstance(client, AtSocket):
             self._odd_bytes(draw, client)
         elif what < 0.96 and self.server.keys:
             self._odd_http(draw)
@@ -249,7 +252,7 @@ def main(words: Sequence[str]) -> int:
     """The command."""
     sys.dont_write_bytecode = True
     asked = commands.parser(__doc__)
-    asked.add_argument("--cases", type=commands.number, default=60, metavar="N")
+    asked.add_argument("--cases", type=commands.number, default=90, metavar="N")
     asked.add_argument("--seed", type=int, default=1, metavar="S")
     given = asked.parse_args(words)
     return commands.as_part(lambda: try_cases(range(given.seed, given.seed + given.cases)))
