@@ -12,7 +12,7 @@ import manual
 import words
 from archive import File, Link, Tree, installed_size, packed
 from backend import package_files
-from bgptools.tools import PREFIX, TOOLS, module_of, sentence_of
+from bgptools.tools import PREFIX, TOOLS, parser_of, sentence_of
 from origin import TOP, Commit
 
 HERE = TOP / "packaging"
@@ -50,9 +50,7 @@ def _toolbox() -> Tree:
 def help_of(name: str) -> words.Help:
     """What a tool's --help says, as it is called where it is installed."""
     os.environ.update(COLUMNS="10000", NO_COLOR="1")
-    parser = module_of(name).parser()
-    parser.prog = PREFIX + name
-    return words.read(parser.format_help())
+    return words.read(parser_of(name, PREFIX + name).format_help())
 
 
 def _pages(version: str) -> Tree:
