@@ -2,11 +2,12 @@
 from __future__ import annotations
 
 import argparse
+import functools
 import importlib
 import os
 import sys
 from types import ModuleType
-from typing import Any, List
+from typing import Any, Callable, List
 
 from . import libraries, provenance, where
 from .mistakes import Mistake, ended
@@ -40,11 +41,12 @@ class Version(argparse.Action):
 
 
 def parser_of(name: str, called: str) -> argparse.ArgumentParser:
-    """What reads the words of a tool, as it is called."""
-    return _named(module_of(name).parser(), called)
+    """The words of a tool's command line, with --version; its usage and its mistakes name it as it was called."""
+    return _named(module_of(name).parser, called)
 
 
-def _named(made: argparse.ArgumentParser, called: str) -> argparse.ArgumentParser:
+def _named(parser: Callable[[], argparse.ArgumentParser], called: str) -> argparse.ArgumentParser:
+    made = parser()
     made.prog = called
     made.add_argument("--version", action=Version, nargs=0, help=(
         "print the version of the program, its commit, whether it was proved, and of which sources, and end"))
@@ -52,13 +54,14 @@ def _named(made: argparse.ArgumentParser, called: str) -> argparse.ArgumentParse
 
 
 def run(name: str, called: str, words: List[str]) -> int:
-    """Runs a tool on the words of its command line; its usage and its mistakes of usage name it as it was called.
-
-    Each tool has --version."""
+    """Runs a tool on the words of its command line, as it was called."""
     module = module_of(name)
-    parser = module.parser
-    setattr(module, "parser", lambda: _named(parser(), called))
-    status: int = module.main(words)
+    own = module.parser
+    setattr(module, "parser", functools.partial(_named, own, called))
+    try:
+        status: int = module.main(words)
+    finally:
+        setattr(module, "parser", own)
     return status
 
 
