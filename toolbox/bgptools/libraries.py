@@ -5,21 +5,18 @@ under the repository's `.venv`, which tools/setup makes, if that has the librari
 """
 from __future__ import annotations
 
-import importlib.util
 import os
 import pathlib
 import re
 import sys
-from dataclasses import dataclass
-from typing import List, Mapping, Optional, Tuple
+from typing import List, Mapping, NamedTuple, Optional, Tuple
 
 from .mistakes import Mistake
 
 HERE = pathlib.Path(__file__).resolve().parent
 
 
-@dataclass(frozen=True)
-class Library:
+class Library(NamedTuple):
     """A library: the least version that will do, and the Debian package that has it."""
     least: Tuple[int, ...]
     package: str
@@ -51,10 +48,10 @@ def restart(tool: str, words: List[str]) -> None:
 
 def _fault(name: str) -> Optional[str]:
     """What is there instead of the library; None if it will do."""
-    if importlib.util.find_spec(name) is None:
+    # These modules take some time to load, and most tools need no library.
+    from importlib import metadata, util
+    if util.find_spec(name) is None:
         return "none"
-    # This module takes some time to load, and most tools have no library.
-    from importlib import metadata
     try:
         version = metadata.version(name)
     except metadata.PackageNotFoundError:

@@ -38,7 +38,7 @@ def sentences(text):
     text = re.sub(r"(?m)^(?:    |\||#).*$", "", text)
     text = re.sub(r"!?\[([^\]]*)\]\([^)]*\)", r"\1", text)
     text = re.sub(r"`[^`]*`", "code", text)
-    return [part for block in re.split(r"\n\n|\n- |\n\d\. ", text) for part in re.split(r"(?<=[.:?;])\s", block)]
+    return [part for block in re.split(r"\n\n|\n- |\n\d\. ", text) for part in re.split(r"(?<=[.:?;])[*]*\s", block)]
 
 
 class Readme(Case):
