@@ -1,29 +1,23 @@
-"""What `bgpsim replay` says of a log, also of one that is still written."""
+"""What `bgpsim replay` says of a log."""
 from __future__ import annotations
 
 import contextlib
 import subprocess
-from typing import Callable
 
 from . import where
 from .mistakes import Mistake
-from .record import Log
 
 PIECE = 1 << 20
 
 
-def verdict(path: str, size: int, end: bytes,
-            started: "Callable[[subprocess.Popen[bytes]], None]" = lambda _: None) -> str:
-    """What is said of so many bytes of a log, with this end behind them. Mistake where nothing is.
-
-    The process is handed out, so that it can be ended."""
+def verdict(path: str, size: int, end: bytes) -> str:
+    """What is said of so many bytes of a log, with this end behind them. Mistake where nothing is."""
     program = where.program()
     try:
         process = subprocess.Popen([program, "replay"], stdin=subprocess.PIPE, stdout=subprocess.PIPE,
                                    stderr=subprocess.PIPE, start_new_session=True)
     except OSError as error:
         raise Mistake("the program cannot be run: %s" % error.strerror, program) from None
-    started(process)
     assert process.stdin
     with contextlib.suppress(BrokenPipeError), process.stdin as given, open(path, "rb") as file:
         while size:
@@ -36,8 +30,3 @@ def verdict(path: str, size: int, end: bytes,
     if process.returncode not in (0, 1) or not out:
         raise Mistake("`replay` ended with status %d%s" % (process.returncode, err and ": " + err), program)
     return out
-
-
-def now(log: Log) -> "tuple[str, int, bytes]":
-    """What `verdict` asks about a log as it stands."""
-    return log.path, log.size, b"end %d\n" % log.count

@@ -14,7 +14,7 @@ import time
 import unittest
 from unittest import mock
 
-from bgptools import proposals, replaying
+from bgptools import replaying
 from bgptools.jobs import Asker, Busy, Limits, Pool, lane, process
 from bgptools.jobs.cache import BESIDE, Cache
 from bgptools.jobs.frames import HEAD, JOB, MARK
@@ -173,22 +173,29 @@ class Answers(Pooled):
         self.assertEqual([each[0] for each in after["routers"]], ["1.0.0.1", "1.0.0.2"])
         self.assertNotEqual(json.loads(before)["routers"], after["routers"])
 
+    def by_the_tool(self, base, change):
+        """What `toolbox/what-if` says of a change, by the names that messages of the pool have."""
+        with tempfile.TemporaryDirectory() as folder:
+            for name, lines in (("network.bgp", base), ("proposed.change", change)):
+                content = "".join(line + "\n" for line in lines).encode("latin-1")
+                pathlib.Path(folder, name).write_bytes(content)
+            return subprocess.run([sys.executable, "-B", str(TOOLBOX / "what-if"), "network.bgp", "proposed.change"],
+                                  cwd=folder, capture_output=True, timeout=200)
+
     async def test_what_ifs_are_those_of_the_tool(self):
         pool = self.pool()
         drained = LESSONS / "drained-link.bgp"
         for base, change in ((script_of(drained), script_of(drained.with_suffix(".change"))),
                              (ring(12), ["fail 10.0.0.1 10.0.1.1", "# json.py", "noorigin 10.0.0.1 " + NINE]),
                              (script_of(THREE), ["router 192.0.2.1 7"])):
-            wanted = proposals.what_if(base, "proposed.change", change, lambda _: None)
+            wanted = self.by_the_tool(base, change).stdout.decode()
             self.assertEqual(await pool.what_if(WORKER, base, change), wanted)
             self.assertIn("Messages until it was quiet", wanted)
         base = ring(4)
         self.assertEqual(await pool.what_if(TEACHER, base, ["# \xe4"]), UNCHANGED)
         for change in (["# \xe4", "fail 10.0.0.1 10.0.2.1"], ["metric \x1b 1"], ["x" * 65537]):
-            with self.assertRaises(Mistake) as caught:
-                proposals.what_if(base, "proposed.change", change, lambda _: None)
             found = await self.mistake(pool.what_if(TEACHER, base, change))
-            self.assertEqual(found, str(caught.exception))
+            self.assertEqual(found, self.by_the_tool(base, change).stderr.decode().rstrip("\n"))
             self.assertIn("proposed.change:", found)
         self.assertIn("characters that are none", await self.mistake(pool.what_if(WORKER, base, ["\u20ac"])))
 

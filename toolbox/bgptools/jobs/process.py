@@ -13,14 +13,15 @@ import sys
 import tempfile
 from typing import BinaryIO, Dict, List, Optional, Sequence, Tuple, cast
 
+from .. import where
 from ..mistakes import Mistake
 from . import frames
 from .frames import HEAD, LINES, PART, START, Garbage
 from .limits import Limits
 
 WORKER = str(pathlib.Path(__file__).resolve().parent / "worker.py")
-# What of the environment a worker is given; PROGRAM as an absolute path. `./bgpsim` of the repository reads the second.
-KEPT = ("PATH", "BGPSIM_UNPROVED", "LANG", "LC_ALL", "LC_CTYPE")
+# What of the environment a worker is given, beside PROGRAM, the server's own program by its absolute path.
+KEPT = ("PATH", "LANG", "LC_ALL", "LC_CTYPE")
 # By this variable a process is found wherever it has gone.
 TOKEN = "BGPSIM_JOB"
 # Where 200 routers stand takes a tenth of this, in bytes.
@@ -37,9 +38,8 @@ def new_token() -> str:
 def environment(token: str) -> Dict[str, str]:
     """The environment of a worker."""
     kept = {name: os.environ[name] for name in KEPT if name in os.environ}
-    program = os.environ.get("PROGRAM")
-    if program:
-        kept["PROGRAM"] = os.path.abspath(program if os.sep in program else shutil.which(program) or program)
+    program = where.program()
+    kept["PROGRAM"] = os.path.abspath(program if os.sep in program else shutil.which(program) or program)
     return {**kept, TOKEN: token}
 
 
