@@ -46,6 +46,14 @@ def is_gone(number):
         return True
 
 
+def left_of(numbers):
+    """Those of these processes that run, when those that were killed have had a moment to go."""
+    last = time.monotonic() + 5
+    while not all(map(is_gone, numbers)) and time.monotonic() < last:
+        time.sleep(0.01)
+    return [each for each in numbers if not is_gone(each)]
+
+
 def children(number):
     """The processes that a process started, and that these started."""
     found = []
@@ -325,7 +333,7 @@ class Misbehaving(Pooled):
             for told in await asyncio.gather(*map(self.mistake, asked)):
                 self.assertIn("the worker process failed, and there is no answer: it took more than 2 seconds", told)
         numbers = await self.noted(0)
-        self.assertEqual([each for each in numbers if not is_gone(each)], [])
+        self.assertEqual(left_of(numbers), [])
         await self.next_is_answered(pool)
 
     async def test_a_worker_that_is_stopped(self):
@@ -335,7 +343,7 @@ class Misbehaving(Pooled):
         os.kill(stopped, signal.SIGSTOP)
         with self.limited(pool, picture_time=1):
             self.assertIn("more than 2 seconds", await self.mistake(pool.picture(WORKER, 2, None, None)))
-        self.assertTrue(is_gone(stopped))
+        self.assertEqual(left_of([stopped]), [])
         await self.next_is_answered(pool)
 
     async def test_one_that_starts_many_processes(self):
@@ -345,7 +353,7 @@ class Misbehaving(Pooled):
             self.assertIn("it has more than 8 processes", await self.mistake(pool.picture(WORKER, 3, None, None)))
             self.assertIn("it has more than 8 processes", await self.mistake(pool.what_if(WORKER, ring(3), [])))
             numbers = await self.noted(9)
-        self.assertEqual([each for each in numbers if not is_gone(each)], [])
+        self.assertEqual(left_of(numbers), [])
         await self.next_is_answered(pool)
 
     async def test_one_that_hides_from_its_group(self):
@@ -357,7 +365,7 @@ class Misbehaving(Pooled):
             numbers = await self.noted(2)
             pool.work.worker.process.kill()
             self.assertIn("it ended by signal 9", await asked)
-        self.assertEqual([each for each in numbers if not is_gone(each)], [])
+        self.assertEqual(left_of(numbers), [])
         await self.next_is_answered(pool)
 
     async def test_one_that_takes_memory(self):
@@ -589,7 +597,7 @@ class Turns(Pooled):
             each.cancel()
         await asyncio.gather(*asked[:3], return_exceptions=True)
         self.assertEqual(await asyncio.gather(*asked[3:8]), [UNCHANGED] * 5)
-        self.assertEqual(list(map(is_gone, await self.noted(2))), [True, True])
+        self.assertEqual(left_of(await self.noted(2)), [])
 
 
 class Ends(Pooled):
@@ -608,7 +616,7 @@ class Ends(Pooled):
         long.cancel()
         await asyncio.gather(long, return_exceptions=True)
         self.assertEqual(await pool.what_if(TEACHER, ring(3), []), UNCHANGED)
-        self.assertTrue(is_gone(number))
+        self.assertEqual(left_of([number]), [])
 
     async def test_close_leaves_no_process_and_no_folder(self):
         """Whatever is worked on, and whatever waits; and nothing is answered any more."""
@@ -624,14 +632,14 @@ class Ends(Pooled):
                 every = [each for each in children(os.getpid()) if not is_gone(each)]
                 self.assertGreaterEqual(len(every), 7)
                 await pool.close()
-            self.assertEqual([each for each in numbers + every if not is_gone(each)], [])
+            self.assertEqual(left_of(numbers + every), [])
             for told in await asyncio.gather(*map(self.mistake, asked)):
                 self.assertEqual(told, lane.CLOSED)
             self.assertEqual(await self.mistake(pool.picture(WORKER, 1, None, None)), lane.CLOSED)
             self.assertEqual(await self.mistake(pool.what_if(WORKER, [], [])), lane.CLOSED)
             await pool.close()
         self.assertEqual(sorted(os.listdir(self.folder)), ["numbers", "stand-in"])
-        self.assertEqual([each for each in children(os.getpid()) if not is_gone(each)], [])
+        self.assertEqual(left_of(children(os.getpid())), [])
 
     async def test_close_ends_what_a_program_left_behind(self):
         """Though the program answered as it should, and what it left is in no group of a worker."""
@@ -643,7 +651,7 @@ class Ends(Pooled):
             numbers = await self.noted(4)
         self.assertEqual([is_gone(each) for each in numbers].count(False), 2)
         await pool.close()
-        self.assertEqual([each for each in numbers if not is_gone(each)], [])
+        self.assertEqual(left_of(numbers), [])
 
     async def test_descriptors_are_given_back(self):
         pool = self.pool(ring(3))
@@ -691,7 +699,7 @@ class Ends(Pooled):
         server.kill()
         last = time.monotonic() + 60
         await self.until(lambda: all(map(is_gone, every)) or time.monotonic() > last)
-        self.assertEqual([each for each in every if not is_gone(each)], [])
+        self.assertEqual(left_of(every), [])
 
 
 if __name__ == "__main__":

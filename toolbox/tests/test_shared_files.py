@@ -1,4 +1,5 @@
 """What a shared network keeps: its log and notes are its owner's alone, checked when they are read, and bounded."""
+import contextlib
 import errno
 import os
 import stat
@@ -11,6 +12,24 @@ from bgptools.record import Unkept
 from bgptools.shared import Shared
 from common import tool
 from held import TWO, Held
+
+
+NOBODY = 65534
+
+
+@contextlib.contextmanager
+def refused_something(folder):
+    """As a user to whom the system refuses something, which it does not to root: a folder and its files are his."""
+    if os.geteuid() != 0:
+        yield
+        return
+    for path in (folder, *folder.iterdir()):
+        os.chown(path, NOBODY, NOBODY)
+    os.seteuid(NOBODY)
+    try:
+        yield
+    finally:
+        os.seteuid(0)
 
 
 class Owned(Held):
@@ -90,11 +109,11 @@ class Owned(Held):
         with unittest.mock.patch("os.geteuid", lambda: os.getuid() + 1):
             self.assertRaisesRegex(Mistake, "link: it is a link to the file of another user", Shared, str(link))
 
-    @unittest.skipIf(os.geteuid() == 0, "the system refuses root nothing")
     def test_a_log_that_may_not_be_written(self):
         self.shared(*TWO)[0].close()
         self.log.chmod(0o400)
-        self.assertRaisesRegex(Mistake, "it cannot be opened: Permission denied", Shared, str(self.log))
+        with refused_something(self.folder):
+            self.assertRaisesRegex(Mistake, "it cannot be opened: Permission denied", Shared, str(self.log))
 
     def test_a_disk_that_is_full_is_named(self):
         """/dev/full refuses each write, and to be cut as well."""
