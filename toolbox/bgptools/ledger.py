@@ -12,7 +12,8 @@ from .language import words_of
 from .meter import Meter
 from .mistakes import Mistake
 from .network import Network
-from .notes import Notes
+from .notes import Note, Notes
+from .provenance import Provenance
 from .record import Entry, Log
 from .replies import refusal
 from .seats import Seats
@@ -67,6 +68,14 @@ class Ledger:
         """The token of a seat is forgotten."""
         self.notes.add([{"seat": seat, "token": ""}])
         self.seats.lock(seat, "")
+
+    def note_program(self, program: Provenance, before: List[Note]) -> None:
+        """Notes by which program the log is written from here on, if that is another one than noted before."""
+        made = program.as_json()
+        note = {"program": made.pop("digest"), **made}
+        last = [each for each in before if "program" in each][-1:]
+        if last != [note]:
+            self.notes.add([note])
 
     # What is written
 

@@ -1,5 +1,5 @@
-"""The file beside a log, for what a log has no place for: whose each seat is, by which token, names of routers, and
-when each edit was made.
+"""The file beside a log, for what a log has no place for: whose each seat is, by which token, names of routers, when
+each edit was made, and by which program the log was written.
 
 It is a JSON value a line, and each has one of the shapes of `SHAPES`. Without the file a log is taken up all the same:
 its seats have numbers then, its names no tokens, and its edits no times."""
@@ -25,6 +25,7 @@ Note = Dict[str, Any]
 # A router's name is the longest: each byte of its line may be written as `\\u00ff`.
 LONGEST_NOTE = 6 * LONGEST + 200
 MOST_ENTRY, LATEST = 1 << 40, 1 << 40
+LONGEST_WORD = 100
 DIGEST = re.compile(r"([0-9a-f]{64})?")
 
 
@@ -46,7 +47,14 @@ def _is_naming(found: object) -> bool:
         return False
 
 
+def _is_word(found: object) -> bool:
+    return isinstance(found, str) and len(found) <= LONGEST_WORD and found.isprintable()
+
+
 _VALUES: Dict[str, Tuple[Callable[[object], bool], str]] = {
+    "program": (_is_word, "the digest of a program"), "version": (_is_word, "a version of at most 100 characters"),
+    "commit": (_is_word, "a commit of at most 100 characters"), "kit": (_is_word, "a kit of at most 100 characters"),
+    "is_proved": (lambda found: found is None or isinstance(found, bool), "true, false or null"),
     "seat": (lambda found: _is_whole(found, 0, SEATS - 1), "a seat, 0 to %d" % (SEATS - 1)),
     "name": (lambda found: isinstance(found, str) and is_name(found), "a name of 1 to 32 characters without a space"),
     "token": (lambda found: isinstance(found, str) and bool(DIGEST.fullmatch(found)), "64 hexadecimal digits"),
@@ -60,7 +68,7 @@ _VALUES: Dict[str, Tuple[Callable[[object], bool], str]] = {
 # What a note is about comes first, then what it must have, and what it may have.
 SHAPES: Dict[str, Tuple[List[str], List[str]]] = {
     "seat": ([], ["name", "token"]), "entry": ([], ["at", "by", "undoes"]), "router": ([], ["behind", "by"]),
-    "back": (["behind"], [])}
+    "back": (["behind"], []), "program": ([], ["version", "commit", "kit", "is_proved"])}
 
 
 def fault_of(note: object) -> str:

@@ -13,6 +13,7 @@ from collections import Counter
 from dataclasses import dataclass
 from typing import Any, Callable, Dict, Iterator, List, Optional
 
+from . import provenance
 from .calling import Calling
 from .delivering import Deliveries
 from .happening import NOTHING_TOLD, Happening
@@ -73,7 +74,9 @@ class Shared:
         # The seat that somebody enters for the first time just now, whose token he has not yet.
         self.entering: Optional[int] = None
         try:
-            take_up(self.calling, self.ledger.notes.read(tell), tell)
+            notes = self.ledger.notes.read(tell)
+            take_up(self.calling, notes, tell)
+            self.ledger.note_program(provenance.of(self.program.run.program.path), notes)
             names = [SCRIPT] + [WORKER % (number + 1) for number in range(workers)]
             seats = list(map(self.ledger.seat, names))
         except OSError as error:

@@ -11,6 +11,7 @@ import sys
 import tempfile
 import unittest
 
+from bgptools import provenance
 from bgptools.lesson import notes_of
 from bgptools.placing import placed
 from bgptools.script import lines_of
@@ -100,7 +101,8 @@ class Page:
         self.line = http.client.HTTPConnection("127.0.0.1", int(lab.port), timeout=30)
         self.line.request("GET", "/%s/events?as=%s" % (key, name))
         self.answer = self.line.getresponse()
-        self.page = self.until(lambda told: told.get("event") == "page")["page"]
+        self.first = self.until(lambda told: told.get("event") == "page")
+        self.page = self.first["page"]
 
     def until(self, fits):
         """The first message that fits, of those that were heard, and will be."""
@@ -235,6 +237,14 @@ class Served(AtServer):
         self.assertEqual(replay.stdout, b"ok 8\n")
         status, out, err = self.lab.end()
         self.assertEqual((status, out.split("\n")[-2], err), (0, "replay: ok 8", ""))
+
+    def test_a_page_and_the_notes_say_by_which_program(self):
+        told = self.page("anna")
+        program = told.first["program"]
+        self.assertEqual(program, provenance.of(os.environ["PROGRAM"]).as_json())
+        notes = [json.loads(line) for line in open(self.lab.socket + ".log.seats")]
+        found = [each for each in notes if "program" in each]
+        self.assertEqual(found, [{"program": program["digest"], **{name: program[name] for name in ("version", "commit", "kit", "is_proved")}}])
 
     def test_a_page_that_goes_has_left_its_seat(self):
         anna, ben = self.page("anna"), self.page("ben")

@@ -6,6 +6,7 @@ import secrets
 from collections import Counter
 from typing import Any, Dict, List, Optional
 
+from .. import provenance, where
 from ..happening import Event
 from ..lesson import Note
 from ..mistakes import Mistake
@@ -30,6 +31,7 @@ class Lab:
         self.first, self.notes = notes[0], notes[1:]
         roles = [TEACH, WORK, LOOK] if has_looking else [TEACH, WORK]
         self.keys = {role: secrets.token_urlsafe(24) for role in roles}
+        self.program = provenance.of(where.program()).as_json()
         self.pages: Dict[str, PageMember] = {}
         self.count: "Counter[str]" = Counter()
         self.shown: Dict[str, Any] = {"event": "shown", "step": None}
@@ -54,7 +56,8 @@ class Lab:
         if self.count[role] >= QUOTAS[role].pages:
             raise Mistake("%d pages of those who %s are open, which is the most: close one" % (self.count[role], role))
         page = PageMember(secrets.token_urlsafe(12), role, self.hub.wake)
-        page.send(encoded({"event": "page", "page": page.key, "role": role, "first": self.first}), True)
+        page.send(encoded({"event": "page", "page": page.key, "role": role, "first": self.first,
+                           "program": self.program}), True)
         page.send(encoded(self.shown), True)
         if role == LOOK:
             proposals = self.shared.proposals

@@ -26,6 +26,12 @@ const picture = new Picture(clicked);
 const proposals = new Proposals(at("proposals"), async (what, { number, edits }) =>
   answer(await ask(what, what === "accept" ? { number, edits } : { number })));
 
+// By which program the network is run, in words.
+function programOf({ version, commit, kit, digest, is_proved: isProved }) {
+  const how = isProved === null ? "" : isProved ? ", proved by " + kit : ", not proved";
+  return "bgpsim " + version + how + ", commit " + commit.slice(0, 12) + ", " + digest.slice(0, 31);
+}
+
 // The server
 
 function ask(what, more) {
@@ -79,6 +85,7 @@ const heards = {
     Object.assign(now, { page: told.page, role: told.role, first: told.first || {}, isLost: false });
     document.documentElement.classList.toggle("looks", told.role === "look");
     proposals.isOnlySeen = told.role === "look";
+    at("program").textContent = programOf(told.program);
     proposals.all([], now.name);
     catchUp();
   },
