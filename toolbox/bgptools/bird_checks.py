@@ -1,7 +1,7 @@
 """What BIRD does otherwise than a script says: told for each session or router that it concerns."""
 from __future__ import annotations
 
-from typing import List, Set, cast
+from typing import Dict, List, Set, Tuple, cast
 
 from .bird_config import BirdConfig, Session
 from .bird_filter import Function, Node, nodes_in
@@ -112,16 +112,20 @@ def tell_policy(config: BirdConfig, session: Session, way: str) -> None:
 
 
 def tell_unknown(config: BirdConfig) -> None:
-    """Tells words of filters that are not known, where no rule came of their lines, so that nothing of it was told."""
-    told = {(each.file, each.line) for each in config.told}
-    policies = [policy.statements for each in config.sessions() for policy in each.policies.values()]
-    bodies = [Function((), each) for each in [*config.filters.values(), *policies]]
+    """Tells words of filters that are not known, where no way through a filter leads there, so that they were not
+    told."""
+    told: Dict[Tuple[str, int], str] = {}
+    for each in config.told:
+        told[each.file, each.line] = told.get((each.file, each.line), "") + each.text
+    policies = [policy.statements for session in config.sessions() for policy in session.policies.values()]
+    bodies = [Function((), body) for body in [*config.filters.values(), *policies]]
     for parameters, body in [*bodies, *config.functions.values()]:
         known = {*parameters, *config.constants, *config.functions, *SYMBOLS, *WELL_KNOWN, ""}
         nodes = list(nodes_in(body))
         known.update(node.of[0] for node in nodes if node.what == "declare")
         for node in nodes:
-            if _is_unknown(node, known) and (node.line.file, node.line.number) not in told:
+            said = told.get((node.line.file, node.line.number), "")
+            if _is_unknown(node, known) and "`%s`" % short(node.of[0]) not in said:
                 config.tell(node.line, "%s: from-bird does not know `%s`; nothing comes of it" % (
                     short(node.line.text), short(node.of[0])))
 

@@ -268,9 +268,12 @@ def _word(name: str) -> Taker:
     return take
 
 
-def _multihop(_: BirdConfig, session: Session, item: Item, found: "Match[str]") -> None:
+def _multihop(_: BirdConfig, session: Session, item: Item, found: "Match[str]") -> Optional[bool]:
+    if found.group(2) and number(found.group(2), 1, 255) is None:
+        return False
     session.is_direct = found.group(1) == "direct"
     session.flags["ebgp-multihop"] = (not session.is_direct, item.line)
+    return None
 
 
 def _preference(_: BirdConfig, session: Session, item: Item, found: "Match[str]") -> Optional[bool]:
@@ -324,7 +327,7 @@ _BGP: List[Tuple[str, Taker]] = [
     (r"local role (\w+)", _role), ("require roles" + SWITCH, _flag("roles")),
     (r"local(?: %s)?(?: port 179)?(?: as ([0-9]+))?" % _SIX, _local),
     (r"neighbor(?: %s(?: %% \S+)?)?(?: port 179)?(?: as ([0-9]+))?(?: (internal|external))?" % _SIX, _neighbor),
-    ("source address %s()" % _ADDRESS, _local), ("(multihop|direct)(?: [0-9]+)?", _multihop),
+    ("source address %s()" % _ADDRESS, _local), ("(multihop)(?: ([0-9]+))?", _multihop), ("(direct)()", _multihop),
     ("password (.*)", _word("password")), ("passive" + SWITCH, _flag("passive")),
     ("disabled" + SWITCH, _flag("shutdown")), ("rr client" + SWITCH, _flag("route-reflector-client")),
     ("rr cluster id %s" % _ADDRESS, _cluster), ("med metric" + SWITCH, _flag("med-metric")),

@@ -14,6 +14,7 @@ from .table import MOST_COMMUNITIES
 FORM = ("a record BGP4|time|A|peer|AS|prefix|path|origin|next hop|preference|MED|communities or "
         "BGP4|time|W|peer|AS|prefix is expected")
 MOST_OF_PATH = 255
+KINDS = ("BGP4", "BGP4MP", "TABLE_DUMP", "TABLE_DUMP2")
 
 
 class Record(NamedTuple):
@@ -26,7 +27,7 @@ class Record(NamedTuple):
 def read(line: Line, text: str) -> Record:
     """The record that a text spells; raises Mistake."""
     parts = text.split("|")
-    if len(parts) < 6 or not parts[0].startswith(("BGP4", "TABLE_DUMP")) or parts[2] not in ("A", "W", "B"):
+    if len(parts) < 6 or parts[0] not in KINDS or parts[2] not in ("A", "W", "B"):
         raise line.mistake(FORM)
     where = prefix_of(parts[5])
     if where is None:

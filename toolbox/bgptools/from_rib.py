@@ -15,6 +15,7 @@ from .table import Feed
 FORM = "TABLE_DUMP2|time|B|peer|AS|prefix|path|origin|next hop|local preference|MED|communities|.. is expected"
 # In a line `TABLE_DUMP2_AP`, of ADD-PATH, a path identifier stands before the path: from-mrt reads such a table.
 DUMPS = ("TABLE_DUMP2", "TABLE_DUMP")
+AGGREGATES = ("AG", "NAG")
 ORIGINS = {"IGP": "igp", "EGP": "egp", "INCOMPLETE": "inc"}
 # The well-known ones by their names in RFC 1997, and the third by the name that bgpdump prints.
 NAMED = {name: number for number, name in communities.WELL_KNOWN.items()}
@@ -66,6 +67,11 @@ def column_of(parts: List[str]) -> str:
     return " ".join(parts[11:12] + [part for part in parts[12:13] if part not in ("AG", "NAG")])
 
 
+def is_end(parts: List[str]) -> bool:
+    """Whether what stands behind the communities says if a route is an aggregate; large communities may be before."""
+    return len(parts) < 2 or parts[0] in AGGREGATES or parts[1] in (*AGGREGATES, "")
+
+
 def is_six(text: str) -> bool:
     """Whether a text is an address of IPv6."""
     try:
@@ -86,6 +92,7 @@ def feed_of(text: str, path: str, at: int, reads_communities: bool) -> Optional[
                            (prefix(parts[5]) is None, "`%s` is no prefix" % parts[5]), (found is None, "`%s` is no path" % parts[6][:60]),
                            (parts[7] not in ORIGINS, "the origin `%s` is none of IGP, EGP, INCOMPLETE" % parts[7]),
                            (parts[10] not in ("", "-") and number(parts[10]) is None, "the MED `%s` is no number" % parts[10]),
+                           (not is_end(parts[12:]), "`AG` or `NAG` is expected, and not `%s`" % "|".join(parts[12:14])),
                            (address(parts[8]) is None and not is_six(parts[8]), "the next hop `%s` is no address" % parts[8]),
                            (parts[9] not in ("", "-") and number(parts[9]) is None,
                             "the preference `%s` is no number" % parts[9])):

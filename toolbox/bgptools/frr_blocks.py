@@ -135,11 +135,11 @@ def _version(config: Config, line: Line, said: str) -> None:
     config.count("versions")
 
 
-def _interior_identifier(config: Config, line: Line, said: str) -> Optional[bool]:
+def _interior_identifier(config: Config, line: Line, said: str) -> None:
     if address(said) is None:
-        return False
+        config.tell(line, "%s: an address is expected; it is left out" % short(line.text))
+        return
     config.interior_identifier = said
-    return None
 
 
 def _static(config: Config, line: Line, said: str) -> Optional[bool]:

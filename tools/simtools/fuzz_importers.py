@@ -1,6 +1,6 @@
 """Gives malformed configurations, graphs, tables and dumps to the importers of the toolbox.
 
-    tools/fuzz-importers [--cases N] [--seed S]    N cases (2600), each by its own seed, from S (1) on: a real input of
+    tools/fuzz-importers [--cases N] [--seed S]    N cases (6000), each by its own seed, from S (1) on: a real input of
                                                    an importer in which a word is garbled, lines or bytes are changed,
                                                    something is opened too often, or the file ends too early
 
@@ -56,11 +56,12 @@ class Ended(NamedTuple):
 
 
 class Exemption(NamedTuple):
-    """Words that decide nothing: of an importer, those of lines that an expression is about, and that another one
-    fits; and why."""
+    """Words that decide nothing: of an importer, those of lines that an expression is about; what they have become and
+    the name of the input fit others; and why."""
     importer: str
     about: "re.Pattern[str]"
     word: "re.Pattern[str]"
+    input: "re.Pattern[str]"
     why: str
 
 
@@ -126,13 +127,14 @@ def ended(importer: str, words: Sequence[str]) -> Ended:
 # What is wrong with how it ended
 
 def exemptions(path: pathlib.Path = LIST) -> List[Exemption]:
-    """The list of words that decide nothing: stanzas of `importer:`, some `about:`, perhaps `word:`, and `why:`."""
+    """The list of words that decide nothing: stanzas of `importer:`, some `about:`, perhaps `word:` and `input:`, and
+    `why:`."""
     found: List[Exemption] = []
     for stanza in path.read_text().split("\n\n"):
         rows = [line.split(": ", 1) for line in stanza.split("\n") if line.strip() and not line.startswith("#")]
         given = {name: text for name, text in rows if name != "about"}
         found += [Exemption(given["importer"], re.compile(text), re.compile(given.get("word", ".*"), re.DOTALL),
-                            given["why"]) for name, text in rows if name == "about"]
+                            re.compile(given.get("input", ".*")), given["why"]) for name, text in rows if name == "about"]
     return found
 
 
@@ -233,7 +235,8 @@ class Fuzzer:
     def why(self, case: Case) -> Optional[str]:
         """Why a garbled word decides nothing, as the list has it."""
         return next((each.why for each in self.exemptions if each.importer == case.input.importer
-                     and each.about.fullmatch(case.change.about) and each.word.fullmatch(case.change.word)), None)
+                     and each.about.fullmatch(case.change.about) and each.word.fullmatch(case.change.word)
+                     and each.input.fullmatch(case.input.name)), None)
 
 
 def _plain(told: str) -> List[str]:
@@ -276,7 +279,7 @@ def try_cases(seeds: range) -> int:
 def main(words: Sequence[str]) -> int:
     """The command."""
     asked = commands.parser(__doc__)
-    asked.add_argument("--cases", type=commands.number, default=2600, metavar="N")
+    asked.add_argument("--cases", type=commands.number, default=6000, metavar="N")
     asked.add_argument("--seed", type=commands.number, default=1, metavar="S")
     given = asked.parse_args(words)
     resource.setrlimit(resource.RLIMIT_AS, (MEMORY, MEMORY))
