@@ -191,6 +191,18 @@ class OverHttp(Attack):
     def test_heads_and_bodies_that_are_too_long_or_odd_are_refused(self):
         self.attacked(odd_heads)
 
+    def test_clients_that_go_in_the_midst_of_a_body_leave_nothing_behind(self):
+        """Nothing that waits for the rest of it, which Python would tell of when it is thrown away."""
+        lab = self.lab(self.file("net.bgp", "\n".join(TWO)))
+        page = self.page(lab, "ben")
+        for number in range(300):
+            with lab.connected() as line:
+                line.sendall(post(lab, b"{", page=page.page, length=100 + number))
+        for _ in range(400):
+            soon(lab)
+        self.assertEqual(page.ask("call", line="quiet")["reply"], ["yes"])
+        self.assertEqual(lab.told(), "")
+
 
 class Kept(Attack):
     """The log and what stands beside it."""
