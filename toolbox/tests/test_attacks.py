@@ -396,6 +396,28 @@ class Loaded(Attack):
         status, out = share.end()
         self.assertEqual((status, "replay: ok " in out), (0, True))
 
+    def test_a_program_that_cannot_be_run_for_a_while_ends_nothing(self):
+        """It is killed, and so is each one that is run in its place; when one can be run again all goes on."""
+        flag = self.folder / "flag"
+        program = self.slow('[ ! -e %s ] || kill -9 $$' % flag)
+        share = self.share(self.file("net.bgp", "\n".join(TWO)), PROGRAM=program)
+        anna, ben = self.join(share, "anna"), self.join(share, "ben")
+        self.assertEqual(anna.call("origin 1.0.0.1 10.1.0.0/16"), ["ok"])
+        flag.write_text("")
+        os.kill(share.program(), signal.SIGKILL)
+        for person in (anna, ben) * 10:
+            for do, line in (("call", "origin 1.0.0.1 10.2.0.0/16"), ("ask", "quiet")):
+                self.assertIn("the program ended", person.ask(do, line=line)["error"])
+        flag.unlink()
+        last = time.monotonic() + 60
+        while "error" in anna.ask("ask", line="quiet"):
+            self.assertLess(time.monotonic(), last)
+            time.sleep(0.1)
+        self.assertEqual(ben.call("origin 1.0.0.1 10.3.0.0/16"), ["ok"])
+        self.assertEqual(entries(self.folder / "socket.log", anna.seat), [("origin 1.0.0.1 10.1.0.0/16", ["ok"])])
+        status, out = share.end()
+        self.assertEqual((status, "replay: ok 6" in out), (0, True))
+
     def test_used_up_descriptors_are_told_in_few_bytes_and_it_recovers(self):
         lab = self.lab(self.file("net.bgp", "\n".join(TWO)), limits={"files": 64})
         anna = self.join(lab, "anna")
@@ -506,8 +528,8 @@ class Crowds(Attack):
         look = self.server.keys["to look"]
         self.server.get("picture", key=look)
         before = self.server.memory()
-        for number in range(500):
-            content = get(self.server, "picture?from=%s&n%d=1" % ("%05d" % number * 13000, number), key="to look")
+        for number in range(700):
+            content = get(self.server, "picture?to=1.0.0.1&from=%s&n%d=1" % ("%05d" % number * 13000, number), key="to look")
             with self.server.connected() as line, contextlib.suppress(OSError):
                 line.sendall(content)
                 one_status(line)
