@@ -54,6 +54,9 @@ def odd_targets(server):
                           ("HTTP/1.2", [[200], [200, 0], BAD]),
                           ("http/1.1", [BAD, CLOSED]), ("", [BAD, CLOSED]), ("HTTP/1.1 x", [BAD, CLOSED])):
         yield "version " + version, get(server, version=version), fits
+    yield "version HTTP/1.0", get(server, version="HTTP/1.0"), [[200, 0]]
+    yield "requests behind one another", get(server) * 3, [[200, 200, 200]]
+    yield "a request behind one that is refused", get(server, "nothing") + get(server), [[404, 0]]
     yield "a plain line", b"GET /%s/forms\r\n\r\n" % key.encode(), [BAD, CLOSED]
     for whole in ("http://%s/%s/forms" % (here, key), "http://evil.example/%s/forms" % key, "//%s/forms" % key,
                   "//evil.example/%s/forms" % key, "/%s" % key[:-1], "/%s/../%s/record" % (key[:-2], key),
@@ -93,6 +96,7 @@ def odd_heads(server, page):
         yield name, get(server, "forms", head), [BAD, CLOSED, [431, 0], [-1]]
     for odd in ("no colon", ": x", "X\0: y", "X: \0", "\xff\xfe: y"):
         yield "head " + odd, get(server, "forms", odd), [BAD, CLOSED, [200]]
+    yield "a body of 64 KiB", post(server, b"x" * 65536, page=page), [[200]]
     yield "a body of one byte more", post(server, b"x" * 65537, page=page), [[413, 0], [413, -1]]
     yield "a body of a gigabyte", post(server, b"x", page=page, length=1 << 30), [[413, 0], BAD, CLOSED]
     packed = gzip.compress(b"0" * 10000000)

@@ -1,6 +1,6 @@
 """Conversations with `share` and `lab` that nobody holds: requests mutated, cut, interleaved, over all transports.
 
-    tools/fuzz-servers [--cases N] [--seed S]    N cases (180), of the seeds from S (1) on. A case is a conversation of
+    tools/fuzz-servers [--cases N] [--seed S]    N cases (150), of the seeds from S (1) on. A case is a conversation of
                                                  some clients with a lab, or with a share: people at the socket, pages,
                                                  and connections of HTTP. They send valid requests of all words, mutated
                                                  ones, bytes at random and halves of requests, in any order, and go in
@@ -256,7 +256,7 @@ def main(words: Sequence[str]) -> int:
     """The command."""
     sys.dont_write_bytecode = True
     asked = commands.parser(__doc__)
-    asked.add_argument("--cases", type=commands.number, default=180, metavar="N")
+    asked.add_argument("--cases", type=commands.number, default=150, metavar="N")
     asked.add_argument("--seed", type=int, default=1, metavar="S")
     given = asked.parse_args(words)
     return commands.as_part(lambda: try_cases(range(given.seed, given.seed + given.cases)))
