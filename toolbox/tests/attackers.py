@@ -148,7 +148,7 @@ class Server:
 
 
 class Attack(Case):
-    """A test that attacks a server. What a server tells on standard error is a fault, but where a test says otherwise."""
+    """A test that attacks a server. Whatever a server tells on standard error is a fault, if no test says otherwise."""
 
     def served(self, tool, *words, **more):
         """A server that ends with the test."""

@@ -13,16 +13,11 @@ import threading
 import time
 import unittest
 
-from attackers import SOON, TWO, Attack, Until, answers, asked, entries, more_files, one_status, readable, soon, statuses
+from attack_values import ODD_IDS, ODD_NOTES, WORDS, WORKER_ENVIRONMENT, prefixes
+from attackers import (SOON, TWO, Attack, Until, answers, asked, entries, more_files, one_status, readable, soon,
+                       statuses)
 from common import TOOLBOX, TOP, inside
 from http_attacks import get, odd_heads, odd_targets, post, smuggled
-
-# A worker is told this much of its surroundings.
-WORKER_ENVIRONMENT = {"PATH", "LANG", "LC_ALL", "LC_CTYPE", "BGPSIM_UNPROVED", "PROGRAM", "BGPSIM_JOB",
-                      # these are the shell's own
-                      "PWD", "OLDPWD", "SHLVL", "_"}
-ODD_IDS = ("[" * 980 + "]" * 980, '{"a": {"b": 1}}', "true", "[1]", "1e400", "NaN", "1" * 400, '"%s"' % ("x" * 65),
-           '"\\u0000"', '"\\ud800"', '"a\\nb"', "-9223372036854775809", "[" * 100000, '{"id": ' * 3000)
 
 
 class Proposed(Attack):
@@ -71,11 +66,13 @@ class Proposed(Attack):
         self.assertIn("Sessions that went down\n", wanted)
         anna.ask("decline")
         for name in ("network.bgp", "proposed.change", "--help", "-", "--", "", ".", "..", "/", "~", "$HOME", "%s%n",
-                     "n" * 80, "\u202e", "caf\u00e9 \udce9", "n" * 10000, "a\nb", "a\0b", "a\rb", "\x1b[2J", "\ud800", "a\u2028b"):
+                     "n" * 80, "\u202e", "caf\u00e9 \udce9", "n" * 10000, "a\nb", "a\0b", "a\rb", "\x1b[2J", "\ud800",
+                     "a\u2028b"):
             with self.subTest(name=name[:20]):
                 told = anna.ask("propose", name=name, lines=good)
                 if "error" in told:
-                    self.assertIn("`name` of the request `propose` is expected to be a text of at most 80", told["error"])
+                    self.assertIn("`name` of the request `propose` is expected to be a text of at most 80",
+                                  told["error"])
                 else:
                     self.assertEqual(told["text"], wanted)
                     anna.ask("decline")
@@ -149,7 +146,8 @@ class Asked(Attack):
         for line in ("quiet\nquiet", "quiet\n", "\nquiet", "quiet\r\nquiet", "quiet\0", "quiet\x0b", "quiet\x85",
                      "quiet\u2028quiet", "x" * 65536, "x" * 65537, "routes " + "1" * 70000, "\u00e9" * 40000, "\ud800",
                      "quiet " * 100000, "# name 1.0.0.1 a\nquiet", "trace 1.0.0.1 \n1.0.0.1"):
-            for do, more in (("ask", {"line": line}), ("call", {"line": line}), ("propose", {"name": "x", "lines": [line]})):
+            for do, more in (("ask", {"line": line}), ("call", {"line": line}),
+                             ("propose", {"name": "x", "lines": [line]})):
                 with self.subTest(do=do, line=line[:20]):
                     sent = anna.send(do, **more)
                     began = time.monotonic()
@@ -191,6 +189,18 @@ class OverHttp(Attack):
     def test_heads_and_bodies_that_are_too_long_or_odd_are_refused(self):
         self.attacked(odd_heads)
 
+    def test_clients_that_go_in_the_midst_of_a_body_leave_nothing_behind(self):
+        """Nothing that waits for the rest of it, which Python would tell of when it is thrown away."""
+        lab = self.lab(self.file("net.bgp", "\n".join(TWO)))
+        page = self.page(lab, "ben")
+        for number in range(300):
+            with lab.connected() as line:
+                line.sendall(post(lab, b"{", page=page.page, length=100 + number))
+        for _ in range(400):
+            soon(lab)
+        self.assertEqual(page.ask("call", line="quiet")["reply"], ["yes"])
+        self.assertEqual(lab.told(), "")
+
 
 class Kept(Attack):
     """The log and what stands beside it."""
@@ -214,15 +224,7 @@ class Kept(Attack):
         log, notes = self.folder / "log", self.folder / "log.seats"
         log.write_text("bgpsim log 2\n@2 router 1.0.0.1 1\n= ok\n")
         log.chmod(0o600)
-        for odd in (b"\xff\xfe\n", b"\0\n", b"{\n", b"[" * 100000 + b"\n", b'{"seat": ' * 50000 + b"\n", b"null\n", b"5\n", b"[]\n",
-                    b'"x"\n', b"{}\n", b'{"seat": "2"}\n', b'{"seat": 2, "name": 5}\n', b'{"seat": true, "name": "a"}\n',
-                    b'{"seat": 1e400, "name": "a"}\n', b'{"seat": 256, "name": "a"}\n', b'{"seat": -1, "name": "a"}\n',
-                    b'{"seat": ' + b"1" * 5000 + b', "name": "a"}\n', b'{"seat": 2, "name": "a\\nb"}\n',
-                    b'{"seat": 2, "name": "\\u001b[2J"}\n', b'{"seat": 2, "name": "the script"}\n{"seat": 0, "name": "the script"}\n',
-                    b'{"seat": 2, "name": "a"}\n{"seat": 3, "name": "a"}\n', b'{"seat": 2, "name": "a", "token": "x"}\n',
-                    b'{"seat": 2, "name": "a", "token": []}\n', b'{"entry": 1, "at": "now"}\n', b'{"entry": 1, "at": NaN}\n',
-                    b'{"entry": 1, "at": 1e999}\n', b'{"entry": 1, "at": 1, "by": {}}\n', b'{"router": "router 1.0.0.1 1", "behind": 0}\n',
-                    b'{"router": "# name 1.0.0.1 a\\nb", "behind": 0}\n', b'{"seat": 2, "entry": 1}\n', b"x" * 10000000):
+        for odd in ODD_NOTES:
             with self.subTest(odd=odd[:60]):
                 notes.write_bytes(odd)
                 notes.chmod(0o600)
@@ -237,7 +239,8 @@ class Kept(Attack):
         (self.folder / "device").symlink_to("/dev/full")
         with socket.socket(socket.AF_UNIX) as made:
             made.bind(str(self.folder / "bound"))
-        for name in ("fifo", "dir", "bound", "dangling", "device", "/dev/full", "/dev/null", "/dev/zero", "/dev/tty", "no/such",
+        for name in ("fifo", "dir", "bound", "dangling", "device", "/dev/full", "/dev/null", "/dev/zero", "/dev/tty",
+                     "no/such",
                      "", "x" * 300):
             with self.subTest(log=name[:20]):
                 self.refused("--log", name if not name or name.startswith("/") else self.folder / name,
@@ -337,7 +340,8 @@ class Loaded(Attack):
         """A lab that was given no place for its log."""
         server, tool = None, [sys.executable, "-B", str(TOOLBOX / "lab"), str(self.file("net.bgp", "\n".join(TWO)))]
         with open(self.folder / "stderr", "wb") as error:
-            server = subprocess.Popen(tool, stdout=subprocess.PIPE, stderr=error, env=dict(os.environ, TMPDIR=str(self.folder)),
+            server = subprocess.Popen(tool, stdout=subprocess.PIPE, stderr=error,
+                                      env=dict(os.environ, TMPDIR=str(self.folder)),
                                       preexec_fn=lambda: resource.setrlimit(resource.RLIMIT_FSIZE, (60000, 60000)))
         self.addCleanup(server.stdout.close)
         self.addCleanup(server.kill)
@@ -354,7 +358,8 @@ class Loaded(Attack):
         self.assert_kept(pathlib.Path(found.group(1)), answered)
 
     def test_a_log_at_a_full_device_is_refused(self):
-        ran = subprocess.run([sys.executable, "-B", str(TOOLBOX / "share"), "--at", str(self.folder / "s"), "--log", "/dev/full"],
+        ran = subprocess.run([sys.executable, "-B", str(TOOLBOX / "share"), "--at", str(self.folder / "s"), "--log",
+                              "/dev/full"],
                              capture_output=True, timeout=60)
         self.assertEqual((ran.returncode, ran.stderr.count(b"\n")), (2, 1), ran.stderr)
 
@@ -383,6 +388,28 @@ class Loaded(Attack):
         self.assertTrue(told.get("quiet"), told)
         status, out = share.end()
         self.assertEqual((status, "replay: ok " in out), (0, True))
+
+    def test_a_program_that_cannot_be_run_for_a_while_ends_nothing(self):
+        """It is killed, and so is each one that is run in its place; when one can be run again all goes on."""
+        flag = self.folder / "flag"
+        program = self.slow('[ ! -e %s ] || kill -9 $$' % flag)
+        share = self.share(self.file("net.bgp", "\n".join(TWO)), PROGRAM=program)
+        anna, ben = self.join(share, "anna"), self.join(share, "ben")
+        self.assertEqual(anna.call("origin 1.0.0.1 10.1.0.0/16"), ["ok"])
+        flag.write_text("")
+        os.kill(share.program(), signal.SIGKILL)
+        for person in (anna, ben) * 10:
+            for do, line in (("call", "origin 1.0.0.1 10.2.0.0/16"), ("ask", "quiet")):
+                self.assertIn("the program ended", person.ask(do, line=line)["error"])
+        flag.unlink()
+        last = time.monotonic() + 60
+        while "error" in anna.ask("ask", line="quiet"):
+            self.assertLess(time.monotonic(), last)
+            time.sleep(0.1)
+        self.assertEqual(ben.call("origin 1.0.0.1 10.3.0.0/16"), ["ok"])
+        self.assertEqual(entries(self.folder / "socket.log", anna.seat), [("origin 1.0.0.1 10.1.0.0/16", ["ok"])])
+        status, out = share.end()
+        self.assertEqual((status, "replay: ok 6" in out), (0, True))
 
     def test_used_up_descriptors_are_told_in_few_bytes_and_it_recovers(self):
         lab = self.lab(self.file("net.bgp", "\n".join(TWO)), limits={"files": 64})
@@ -448,7 +475,8 @@ class Crowds(Attack):
         """Five hundred, and then three thousand: idle, with slow heads, with slow bodies."""
         page, person = self.page(self.server, "ben"), self.join(self.server, "anna")
         host = b"Host: 127.0.0.1:%d\r\n" % self.server.port
-        kinds = (b"", b"GET /", b"GET / HTTP/1.1\r\nX: ", b"POST /x/do HTTP/1.1\r\n" + host + b"Content-Length: 60000\r\n\r\n",
+        kinds = (b"", b"GET /", b"GET / HTTP/1.1\r\nX: ",
+                 b"POST /x/do HTTP/1.1\r\n" + host + b"Content-Length: 60000\r\n\r\n",
                  b"\x16\x03\x01")
         for count in (500, more_files(3000) - 500):
             for kind in kinds:
@@ -494,8 +522,9 @@ class Crowds(Attack):
         look = self.server.keys["to look"]
         self.server.get("picture", key=look)
         before = self.server.memory()
-        for number in range(500):
-            content = get(self.server, "picture?from=%s&n%d=1" % ("%05d" % number * 13000, number), key="to look")
+        for number in range(700):
+            content = get(self.server, "picture?to=1.0.0.1&from=%s&n%d=1" % ("%05d" % number * 13000, number),
+                          key="to look")
             with self.server.connected() as line, contextlib.suppress(OSError):
                 line.sendall(content)
                 one_status(line)
@@ -530,7 +559,7 @@ class Looking(Attack):
 
     def test_records_and_scripts_of_many_at_once_stay_in_no_memory(self):
         """Twenty ask for each, and read nothing, of a log of 20 MB."""
-        lines = ["router 1.0.0.1 1"] + ["origin 1.0.0.1 10.%d.%d.0/24" % (one, two) for one in range(10) for two in range(250)]
+        lines = prefixes(2500)
         lab = self.lab(self.file("net.bgp", "\n".join(lines)))
         anna = self.join(lab, "anna")
         for _ in range(130):
@@ -557,7 +586,7 @@ class Looking(Attack):
 class Growing(Attack):
     """What writes much to the log."""
 
-    LINES = ["router 1.0.0.1 1"] + ["origin 1.0.0.1 10.%d.%d.0/24" % (one, two) for one in range(8) for two in range(250)]
+    LINES = prefixes(2000)
 
     def test_a_log_stays_within_its_bound(self):
         """A short question with a long reply, in a loop; past the bound edits are refused with that reason."""
@@ -570,7 +599,7 @@ class Growing(Attack):
             number += 1
             self.assertLess(number, 500)
             told = anna.ask("call", line="# name 1.0.0.1 %s%d" % ("x" * 4000, number))
-        self.assertRegex(told["error"], "the log has [0-9,]+ bytes of at most 1,000,000: nothing can be changed any more")
+        self.assertRegex(told["error"], "the log has [0-9,]+ bytes of at most 1,000,000: nothing can be changed")
         # A short one still had room. Where none has, all are told so.
         told = {}
         while "error" not in told:
@@ -604,14 +633,6 @@ class Growing(Attack):
         self.assertEqual(lab.told(), "")
 
 
-# Each word of the protocol, with fields that fit.
-WORDS = {"call": {"line": "origin 1.0.0.1 66.0.0.0/8"}, "ask": {"line": "quiet"}, "script": {"from": 0}, "waiting": {}, "next": {},
-         "watch": {"what": "all"}, "who": {}, "blame": {"router": "1.0.0.1"}, "undo": {}, "pause": {}, "go": {},
-         "pace": {"a_second": 5}, "step": {"count": 5}, "wait": {}, "propose": {"name": "x", "lines": ["fail 1.0.0.1 2.0.0.1"]},
-         "proposals": {}, "accept": {"number": 1}, "decline": {"number": 1}, "check": {}, "free": {"name": "anna"},
-         "enter": {"as": "anna"}, "show": {"step": 1}}
-
-
 class Roles(Attack):
     """What each may do, and what nobody is told."""
 
@@ -636,14 +657,16 @@ class Roles(Attack):
         lab = self.lab(self.net)
         anna, ben = self.join(lab, "anna"), self.join(lab, "ben")
         for _ in range(2):
-            for token in (None, "", ben.token, anna.token[:-1], anna.token + "a", anna.token.upper(), "x" * 64, "x" * 65, "\0", 5,
+            for token in (None, "", ben.token, anna.token[:-1], anna.token + "a", anna.token.upper(), "x" * 64,
+                          "x" * 65, "\0", 5,
                           True, [], {}, [anna.token]):
                 with self.subTest(token=token):
                     told = asked(self.join(lab), "enter", **{"as": "anna", "token": token})
                     self.assertRegex(str(told), "the name anna is taken|`token` of the request `enter` is expected")
             for token in ("", "&token=", "&token=" + ben.token, "&token=" + anna.token[:-1]):
                 self.assertIn("the name anna is taken", self.heard(lab, "events?as=anna" + token))
-            for name in ("the script", "worker 1", "seat 0", "anna ", " anna", "anna\u200b", "\u00a0anna", "an\u00adna", "\u202eanna"):
+            for name in ("the script", "worker 1", "seat 0", "anna ", " anna", "anna\u200b", "\u00a0anna", "an\u00adna",
+                         "\u202eanna"):
                 told = asked(self.join(lab), "enter", **{"as": name})
                 self.assertIn("a name is 1 to 32 characters", str(told), name)
             self.assertEqual(self.join(lab, "anna", anna.token).seat, anna.seat)
@@ -664,9 +687,12 @@ class Roles(Attack):
                 body = json.dumps({"id": 9, "do": word, **more}).encode()
                 self.assertEqual(lab.post(key, body, lab.keys["to look"]), 403)
         for method in ("PUT", "DELETE", "PATCH", "POST", "HEAD", "OPTIONS"):
-            for path in ("do?page=" + page.page, "events?as=anna&token=" + anna.token, "show", "free", "enter", "", "record"):
-                self.assertIn(lab.get(path, method, b"{}", lab.keys["to look"], Content_Type="application/json")[0], (403, 404, 405))
-        for path in ("do?page=%s&id=1&do=call&line=quiet" % page.page, "show?step=1", "call?line=quiet", "accept?number=1"):
+            for path in ("do?page=" + page.page, "events?as=anna&token=" + anna.token, "show", "free", "enter", "",
+                         "record"):
+                self.assertIn(lab.get(path, method, b"{}", lab.keys["to look"], Content_Type="application/json")[0],
+                              (403, 404, 405))
+        for path in ("do?page=%s&id=1&do=call&line=quiet" % page.page, "show?step=1", "call?line=quiet",
+                     "accept?number=1"):
             self.assertEqual(lab.get(path, key=lab.keys["to look"])[0], 404)
         # By its own address `as` and a token make nobody of who looks.
         other = self.page(lab, "anna&token=" + anna.token, "to look")
@@ -683,7 +709,8 @@ class Roles(Attack):
                                      self.page(lab, "", "to look"))
         for word in ("show", "free"):
             self.assertEqual(page.ask(word, **WORDS[word])["error"], "`%s` is not for those who work" % word)
-            self.assertEqual(lab.post(teacher.page, json.dumps({"id": 1, "do": word, **WORDS[word]}).encode(), lab.keys["to work"]), 400)
+            self.assertEqual(lab.post(teacher.page, json.dumps({"id": 1, "do": word, **WORDS[word]}).encode(),
+                                      lab.keys["to work"]), 400)
         for key in ("to look", "lab"):
             self.assertIn(lab.post(page.page, b'{"id": 1, "do": "who"}', lab.keys[key]), (400, 403))
         self.assertTrue(teacher.ask("show", step=2)["shown"])
@@ -720,7 +747,8 @@ class Roles(Attack):
             for role in ("to work", "lab"):
                 told[role].append(pages[role].ask(word, **more))
         for role, key in lab.keys.items():
-            for path in ("", "lab.js", "picture", "table?router=1.0.0.1&prefix=10.0.0.0/8", "steps", "forms", "script", "record", "nothing",
+            for path in ("", "lab.js", "picture", "table?router=1.0.0.1&prefix=10.0.0.0/8", "steps", "forms", "script",
+                         "record", "nothing",
                          "picture?step=x", "picture?from=1.0.0.1&to=1.0.0.1", "table?router=x"):
                 told[role].append(str(lab.get(path, key=key)))
             told[role].append(str(lab.get("", key="x")))
@@ -728,7 +756,8 @@ class Roles(Attack):
             told[name] += people[name].events
         for role in pages:
             told[role] += pages[role].heard
-        secrets = {**{name: {each.token} for name, each in people.items()}, **{role: {key, pages[role].page} for role, key in lab.keys.items()}}
+        secrets = {**{name: {each.token} for name, each in people.items()},
+                   **{role: {key, pages[role].page} for role, key in lab.keys.items()}}
         for name, seen in told.items():
             text = str(seen)
             self.assertGreater(len(text), 1000)
@@ -746,8 +775,8 @@ class Table(unittest.TestCase):
         named = set(re.findall(r"^\| [^|\n]+ \| `(test_\w+)`, `(\w+\.test_\w+)` \|$", text, re.M))
         self.assertEqual(text.count("`test_attacks`, `"), sum(file == "test_attacks" for file, _ in named))
         for file in {file for file, _ in named} | {"test_attacks"}:
-            found = {"%s.%s" % (type(test).__name__, test._testMethodName) for suite in
-                     unittest.TestLoader().loadTestsFromName(file) for test in suite} - {"Table." + self._testMethodName}
+            loaded = [test for suite in unittest.TestLoader().loadTestsFromName(file) for test in suite]
+            found = {".".join(test.id().split(".")[-2:]) for test in loaded} - {"Table." + self._testMethodName}
             of_table = {name for each, name in named if each == file}
             self.assertEqual(of_table - found, set(), file)
             if file == "test_attacks":

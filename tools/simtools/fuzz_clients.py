@@ -18,13 +18,14 @@ import time
 from typing import Any, Dict, List, Optional, Tuple
 
 from . import programs
+from .commands import Missing
 from .fuzz_requests import ANSWERS, EVENTS, Request
 
 # An answer that takes milliseconds comes within so many seconds on a machine with much to do.
 PATIENCE = 60.0
 NETWORK = "".join("router %d.0.0.1 %d\n" % (number, number) for number in (1, 2, 3, 4)) + \
-    "link 1.0.0.1 2.0.0.1 1\nlink 2.0.0.1 3.0.0.1 1\nlink 1.0.0.1 3.0.0.1 5\njoin 1.0.0.1 2.0.0.1\njoin 2.0.0.1 3.0.0.1\n" \
-    "join 1.0.0.1 3.0.0.1\n"
+    "link 1.0.0.1 2.0.0.1 1\nlink 2.0.0.1 3.0.0.1 1\nlink 1.0.0.1 3.0.0.1 5\n" \
+    "join 1.0.0.1 2.0.0.1\njoin 2.0.0.1 3.0.0.1\njoin 1.0.0.1 3.0.0.1\n"
 STATUSES = (200, 400, 403, 404, 405, 413, 429, 503)
 
 
@@ -40,10 +41,12 @@ class Server:
         self.socket, self.log, self.error = str(folder / "socket"), folder / "log", folder / "stderr"
         script = folder / "network.bgp"
         script.write_text(NETWORK)
-        words = [sys.executable, "-B", str(programs.TOP / "toolbox" / tool), str(script), "--at", self.socket, "--log", str(self.log),
+        words = [sys.executable, "-B", str(programs.TOP / "toolbox" / tool), str(script), "--at", self.socket, "--log",
+                 str(self.log),
                  "--workers", "2"] + (["--present"] if tool == "lab" else [])
         with open(self.error, "wb") as error:
-            self.process = subprocess.Popen(words, stdout=subprocess.PIPE, stderr=error, cwd=str(folder), start_new_session=True,
+            self.process = subprocess.Popen(words, stdout=subprocess.PIPE, stderr=error, cwd=str(folder),
+                                            start_new_session=True,
                                             env=dict(os.environ, PROGRAM=programs.bgpsim()))
         self.keys: Dict[str, str] = {}
         self.host = ""
@@ -56,7 +59,10 @@ class Server:
         while not line.startswith(b"`join"):
             line = self.process.stdout.readline()
             if not line:
-                raise Fault("%s did not begin: %s" % (self.tool, self.error.read_text("utf-8", "replace")[-500:]))
+                told = self.error.read_text("utf-8", "replace")
+                if "needs the Python library" in told:
+                    raise Missing(told.strip())
+                raise Fault("%s did not begin: %s" % (self.tool, told[-500:]))
             name, _, url = line.decode().strip().partition(": ")
             if url.startswith("http://"):
                 self.host, self.keys[name] = url.split("/")[2], url.split("/")[3]
@@ -88,7 +94,8 @@ class Server:
     def get(self, path: str, key: str, body: Optional[bytes] = None) -> Tuple[int, bytes]:
         """The status and the body of an answer, to a POST where there is a body."""
         with contextlib.closing(http.client.HTTPConnection(self.host, timeout=PATIENCE)) as line:
-            line.request("GET" if body is None else "POST", "/%s/%s" % (key, path), body, {"Content-Type": "application/json"})
+            line.request("GET" if body is None else "POST", "/%s/%s" % (key, path), body,
+                         {"Content-Type": "application/json"})
             answer = line.getresponse()
             if answer.status not in STATUSES:
                 raise Fault("%s is answered %d" % (path[:80], answer.status))
@@ -226,7 +233,9 @@ class Client(Peer):
         last = time.monotonic() + PATIENCE
         while self.owed > 0 and self.is_open:
             if time.monotonic() > last:
-                raise Fault("%d requests are not answered, the first of them %r" % (self.owed, next(iter(self.asked.values()), None)))
+                raise Fault("%d requests are not answered, the first of them %r" % (self.owed,
+                                                                                    next(iter(self.asked.values()),
+                                                                                         None)))
             self.read(0.1)
         while self.read(0.01):
             pass

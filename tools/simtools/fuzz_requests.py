@@ -18,12 +18,18 @@ def nested(depth: int) -> Any:
 
 
 ODD: List[Any] = [
-    None, True, False, 0, -1, 1, 255, 256, 1 << 31, 1 << 32, 1 << 63, 1 << 64, 10 ** 300, 0.5, -0.0, 1e308, "", " ", "x", "x" * 65,
-    "x" * 4097, "x" * 70000, "\n", "a\nb", "\0", "\r\n", "\t", "\x1b[2J", "\x7f", "\u0085", "\u2028", "\u202e", "\ufeff", "\ud800",
-    "\udce9", "\udfff\ud800", "\U0001f600", "e\u0301", "__proto__", "../x", "-", "--help", "the script", "worker 1", "null", "1",
-    "1.0.0.1", "10.0.0.0/8", [], [[]], {}, {"a": {}}, {"": None}, ["x"] * 100, [None], ["a\nb"], nested(7), nested(9), nested(300)]
-WORDLIKE = ["", "ENTER", "call ", " call", "c\u0430ll", "call\0", "__init__", "x" * 5000, "\ud800", None, 5, ["call"], {"do": "call"}]
-NUMBERS = ["NaN", "Infinity", "-Infinity", "1e999", "-1e999", "1" * 5000, "0x10", "01", "1.", ".5", "-", "1e", "+1", "\u0661"]
+    None, True, False, 0, -1, 1, 255, 256, 1 << 31, 1 << 32, 1 << 63, 1 << 64, 10 ** 300, 0.5, -0.0, 1e308, "", " ",
+    "x", "x" * 65,
+    "x" * 4097, "x" * 70000, "\n", "a\nb", "\0", "\r\n", "\t", "\x1b[2J", "\x7f", "\u0085", "\u2028", "\u202e",
+    "\ufeff", "\ud800",
+    "\udce9", "\udfff\ud800", "\U0001f600", "e\u0301", "__proto__", "../x", "-", "--help", "the script", "worker 1",
+    "null", "1",
+    "1.0.0.1", "10.0.0.0/8", [], [[]], {}, {"a": {}}, {"": None}, ["x"] * 100, [None], ["a\nb"], nested(7), nested(9),
+    nested(300)]
+WORDLIKE = ["", "ENTER", "call ", " call", "c\u0430ll", "call\0", "__init__", "x" * 5000, "\ud800", None, 5, ["call"],
+            {"do": "call"}]
+NUMBERS = ["NaN", "Infinity", "-Infinity", "1e999", "-1e999", "1" * 5000, "0x10", "01", "1.", ".5", "-", "1e", "+1",
+           "\u0661"]
 
 
 def address(draw: random.Random) -> str:
@@ -35,15 +41,19 @@ def command(draw: random.Random) -> str:
     one, two, number = address(draw), address(draw), draw.randint(1, 9)
     to = "10.%d.0.0/16" % draw.randint(0, 9)
     return draw.choice((
-        "router %s %d" % (one, number), "link %s %s %d" % (one, two, number), "join %s %s" % (one, two), "origin %s %s" % (one, to),
-        "noorigin %s %s" % (one, to), "metric %s %s %d" % (one, two, number), "fail %s %s" % (one, two), "mend %s %s" % (one, two),
+        "router %s %d" % (one, number), "link %s %s %d" % (one, two, number), "join %s %s" % (one, two),
+        "origin %s %s" % (one, to),
+        "noorigin %s %s" % (one, to), "metric %s %s %d" % (one, two, number), "fail %s %s" % (one, two),
+        "mend %s %s" % (one, two),
         "stop %s %s" % (one, two), "start %s %s" % (one, two), "deliver %s %s" % (one, two), "med %s always" % one,
-        "# name %s n%d" % (one, number), "# a comment", question(draw), question(draw), draw.choice(("", " ", "x", "help"))))
+        "# name %s n%d" % (one, number), "# a comment", question(draw), question(draw),
+        draw.choice(("", " ", "x", "help"))))
 
 
 def question(draw: random.Random) -> str:
     one, two = address(draw), address(draw)
-    return draw.choice(("quiet", "routes %s" % one, "cost %s %s" % (one, two), "queue %s %s" % (one, two), "trace %s 10.1.0.1" % one,
+    return draw.choice(("quiet", "routes %s" % one, "cost %s %s" % (one, two), "queue %s %s" % (one, two),
+                        "trace %s 10.1.0.1" % one,
                         "why %s 10.1.0.0/16" % one, "best %s 10.1.0.0/16" % one))
 
 
@@ -53,7 +63,9 @@ def way(draw: random.Random) -> Any:
 
 def change(draw: random.Random) -> List[str]:
     """The lines of a proposal."""
-    return [command(draw) for _ in range(draw.randint(0, 3))] if draw.random() < 0.5 else ["metric 1.0.0.1 2.0.0.1 %d" % draw.randint(1, 9)]
+    if draw.random() < 0.5:
+        return ["metric 1.0.0.1 2.0.0.1 %d" % draw.randint(1, 9)]
+    return [command(draw) for _ in range(draw.randint(0, 3))]
 
 
 def numbered(draw: random.Random, more: Request) -> Request:
@@ -76,17 +88,21 @@ VALID: Dict[str, Tuple[int, Fields]] = {
     "step": (5, lambda draw: {"count": draw.randint(0, 40)}),
     "propose": (3, lambda draw: {"name": draw.choice(("x", "json.py", "-")), "lines": change(draw)}),
     "proposals": (3, lambda _: {}),
-    "accept": (4, lambda draw: numbered(draw, {"edits": draw.randint(0, 99)})), "decline": (3, lambda draw: numbered(draw, {})),
+    "accept": (4, lambda draw: numbered(draw, {"edits": draw.randint(0, 99)})),
+    "decline": (3, lambda draw: numbered(draw, {})),
     "check": (1, lambda _: {}), "free": (1, lambda draw: {"name": draw.choice(NAMES)}),
-    "show": (3, lambda draw: {"step": draw.choice((None, 0, 5)), "prefix": draw.choice((None, "10.1.0.0/16")), "way": way(draw)})}
+    "show": (3, lambda draw: {"step": draw.choice((None, 0, 5)), "prefix": draw.choice((None, "10.1.0.0/16")),
+                              "way": way(draw)})}
 # What an answer has that is no error.
 ANSWERS: Dict[str, List[str]] = {
     "enter": ["seat", "name", "step", "workers", "version"], "call": ["reply", "told", "step"], "ask": ["reply"],
     "script": ["lines", "step"], "waiting": ["ways"], "next": ["step"], "watch": ["what"],
     "who": ["people", "workers", "proposals", "quiet", "step", "calls"], "blame": ["edits"], "undo": ["text"],
     "pause": ["count", "is_going", "pace", "calls", "text"], "go": ["count", "is_going", "pace", "calls", "text"],
-    "pace": ["count", "is_going", "pace", "calls", "text"], "step": ["deliveries"], "wait": ["quiet"], "propose": ["number", "text"],
-    "proposals": ["proposals"], "accept": ["text"], "decline": ["text"], "check": ["verdict", "calls"], "free": ["text"],
+    "pace": ["count", "is_going", "pace", "calls", "text"], "step": ["deliveries"], "wait": ["quiet"],
+    "propose": ["number", "text"],
+    "proposals": ["proposals"], "accept": ["text"], "decline": ["text"], "check": ["verdict", "calls"],
+    "free": ["text"],
     "show": ["shown"]}
 EVENTS = ("changes", "people", "workers", "told", "proposal", "missed", "page", "shown")
 
@@ -102,7 +118,8 @@ def mutated(draw: random.Random) -> bytes:
     request: Request = {"id": draw.choice([7, "seven", None, 0.5, *draw.choices(ODD, k=3)]), **valid(draw)}
     for _ in range(draw.choice((0, 1, 1, 1, 2, 3))):
         request = draw.choice((_other_value, _other_value, _wrapped, _without, _with_more, _other_word))(draw, request)
-    return draw.choice((_plain, _plain, _plain, _doubled, _odd_number, _flipped, _cut, _spaced, _recoded))(draw, request).replace(b"\n", b" ")
+    ways = (_plain, _plain, _plain, _doubled, _odd_number, _flipped, _cut, _spaced, _recoded)
+    return draw.choice(ways)(draw, request).replace(b"\n", b" ")
 
 
 # Values and fields
@@ -123,7 +140,8 @@ def _without(draw: random.Random, request: Request) -> Request:
 
 
 def _with_more(draw: random.Random, request: Request) -> Request:
-    return {**request, draw.choice(("x", "line", "as", "token", "number", "", "a\nb", "\ud800", "x" * 500)): draw.choice(ODD)}
+    return {**request, draw.choice(("x", "line", "as", "token", "number", "", "a\nb", "\ud800",
+                                    "x" * 500)): draw.choice(ODD)}
 
 
 def _other_word(draw: random.Random, request: Request) -> Request:
@@ -168,8 +186,10 @@ def _spaced(draw: random.Random, request: Request) -> bytes:
 
 def _recoded(draw: random.Random, request: Request) -> bytes:
     text = json.dumps(request)
-    return draw.choice((text.encode("utf-16"), text.encode("utf-32-le"), text[::-1].encode(), repr(request).encode("utf-8", "replace"),
-                        json.dumps([request]).encode(), b"[" * draw.choice((10, 1000, 100000)), b'{"id":' * 2000)).replace(b"\n", b" ")
+    return draw.choice((text.encode("utf-16"), text.encode("utf-32-le"), text[::-1].encode(),
+                        repr(request).encode("utf-8", "replace"),
+                        json.dumps([request]).encode(), b"[" * draw.choice((10, 1000, 100000)),
+                        b'{"id":' * 2000)).replace(b"\n", b" ")
 
 
 def garbage(draw: random.Random) -> bytes:
@@ -180,13 +200,15 @@ def garbage(draw: random.Random) -> bytes:
 
 # HTTP
 
-PATHS = ["", "picture", "table", "steps", "forms", "script", "record", "events", "do", "lab.js", "nothing", "../record", "picture/", "%2e"]
+PATHS = ["", "picture", "table", "steps", "forms", "script", "record", "events", "do", "lab.js", "nothing", "../record",
+         "picture/", "%2e"]
 QUERY = ["step", "prefix", "from", "to", "router", "page", "as", "token", "x"]
 
 
 def query(draw: random.Random) -> str:
     """A path with values, some of them odd, percent-encoded or not."""
-    values = ["0", "5", "-1", "x", "99999999999", "1.0.0.1", "10.1.0.0/16", "%00", "%0a", "%ff", "%ed%a0%80", "%", "a" * 200, "\u00e9"[:0], "+", "%2f"]
+    values = ["0", "5", "-1", "x", "99999999999", "1.0.0.1", "10.1.0.0/16", "%00", "%0a", "%ff", "%ed%a0%80", "%",
+              "a" * 200, "", "+", "%2f"]
     given = ["%s=%s" % (draw.choice(QUERY), draw.choice(values)) for _ in range(draw.choice((0, 1, 2, 3, 3, 30)))]
     return draw.choice([path for path in PATHS if path != "events"]) + ("?" + "&".join(given) if given else "")
 
@@ -196,9 +218,12 @@ def head(draw: random.Random, host: str, key: str, body: bytes) -> bytes:
     lines = ["%s /%s/%s %s" % (draw.choice(("GET", "GET", "POST", "HEAD", "PUT", "get", "")), key, query(draw),
                                draw.choice(("HTTP/1.1", "HTTP/1.1", "HTTP/1.0", "HTTP/9.9", "")))]
     lines += ["Host: " + draw.choice((host, host, host, "evil.example", ""))]
-    lines += draw.choices(("Content-Type: application/json", "Content-Length: %d" % len(body), "Content-Length: 5", "Content-Length: -1",
-                           "Transfer-Encoding: chunked", "Expect: 100-continue", "Connection: Upgrade", "Upgrade: websocket",
-                           "Origin: http://" + host, "Origin: null", "X: " + "x" * 20000, "X\0: y", ": z", "nothing", " folded"), k=draw.randrange(5))
+    lines += draw.choices(("Content-Type: application/json", "Content-Length: %d" % len(body), "Content-Length: 5",
+                           "Content-Length: -1",
+                           "Transfer-Encoding: chunked", "Expect: 100-continue", "Connection: Upgrade",
+                           "Upgrade: websocket",
+                           "Origin: http://" + host, "Origin: null", "X: " + "x" * 20000, "X\0: y", ": z", "nothing",
+                           " folded"), k=draw.randrange(5))
     content = bytearray(draw.choice(("\r\n", "\r\n", "\n", "\r")).join(lines + ["", ""]).encode("latin-1") + body)
     for _ in range(draw.choice((0, 0, 0, 1, 3))):
         content[draw.randrange(len(content))] = draw.randrange(256)

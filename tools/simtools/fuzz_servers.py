@@ -1,6 +1,6 @@
 """Conversations with `share` and `lab` that nobody holds: requests mutated, cut, interleaved, over all transports.
 
-    tools/fuzz-servers [--cases N] [--seed S]    N cases (90), of the seeds from S (1) on. A case is a conversation of
+    tools/fuzz-servers [--cases N] [--seed S]    N cases (150), of the seeds from S (1) on. A case is a conversation of
                                                  some clients with a lab, or with a share: people at the socket, pages,
                                                  and connections of HTTP. They send valid requests of all words, mutated
                                                  ones, bytes at random and halves of requests, in any order, and go in
@@ -11,8 +11,8 @@ its answer, one JSON object with its `id` and with `error` or the fields of docs
 restarted; standard error tells of no fault. In the end each call that was answered is in the log, in order and with its
 reply, none is there more often than it was made, and `bgpsim replay` says ok.
 
-The last line is `N passed, M failed`, a case being one, and the end of a server. A part of the gate. PROGRAM= is another
-program than crates/bgpsim/out/bgpsim.
+The last line is `N passed, M failed`, a case being one, and the end of a server. A part of the gate. PROGRAM= is
+another program than crates/bgpsim/out/bgpsim.
 """
 from __future__ import annotations
 
@@ -57,7 +57,8 @@ class Honest:
         for client in [client for client in self.clients if client is not self.pages.get("to look")]:
             self.count += 1
             line = "router 172.16.%d.%d 9" % divmod(self.count, 250)
-            for request, wanted in (({"do": "call", "line": line}, ["ok"]), ({"do": "ask", "line": "cost 1.0.0.1 1.0.0.1"}, ["0 via 1.0.0.1"])):
+            for request, wanted in (({"do": "call", "line": line}, ["ok"]),
+                                    ({"do": "ask", "line": "cost 1.0.0.1 1.0.0.1"}, ["0 via 1.0.0.1"])):
                 answer = client.ask(request)
                 if answer.get("reply") != wanted:
                     raise Fault("`%s` of one who behaves is answered %r" % (request["line"], answer))
@@ -152,7 +153,7 @@ class Fuzzed:
         return valid(draw)
 
     def _odd_bytes(self, draw: random.Random, client: AtSocket) -> None:
-        """Bytes at random, as whole lines; or a line that is longer than any may be, after which the connection ends."""
+        """Bytes at random, as whole lines; or a line that is too long, after which the connection ends."""
         if draw.random() < 0.05:
             client.raw(b"x" * (1 << 20) + b"xx\n")
             client.owed = 0
@@ -199,7 +200,8 @@ class Fuzzed:
         text = self.server.log.read_text("latin-1")
         entries = [(int(seat), line, reply[2:-1].split("\n= ")) for seat, line, reply in CALL.findall(text)]
         self._check_order(entries)
-        counts = collections.Counter(line for _, line, reply in entries if line.startswith("router 172.") and reply == ["ok"])
+        counts = collections.Counter(line for _, line,
+                                     reply in entries if line.startswith("router 172.") and reply == ["ok"])
         twice = [line for line, count in counts.items() if count > 1]
         if twice:
             raise Fault("a call is in the log more than once: " + twice[0])
@@ -210,7 +212,8 @@ class Fuzzed:
             there = iter([(line, reply) for seat, line, reply in entries if seat == peer.seat])
             for line, reply in peer.calls:
                 if reply and not reply[0].startswith(UNKEPT) and not _is_found(there, (" ".join(line.split()), reply)):
-                    raise Fault("`%s` of seat %d was answered %r, and is not in the log so" % (line, peer.seat or 0, reply))
+                    raise Fault("`%s` of seat %d was answered %r, and is not in the log so" % (line, peer.seat or 0,
+                                                                                               reply))
 
 
 def _is_found(there: Any, wanted: Tuple[str, List[str]]) -> bool:
@@ -238,7 +241,8 @@ def try_cases(seeds: range) -> int:
                     passed += 1
                 except (Fault, OSError, ValueError) as fault:
                     failed += 1
-                    print("FAILED %s, %s: %s: %s" % (tool, "the end" if seed is None else "seed %d" % seed, type(fault).__name__, fault), flush=True)
+                    print("FAILED %s, %s: %s: %s" % (tool, "the end" if seed is None else "seed %d" % seed,
+                                                     type(fault).__name__, fault), flush=True)
                     if found is not None:
                         found.server.close()
                         fuzzed[tool] = None
@@ -252,7 +256,7 @@ def main(words: Sequence[str]) -> int:
     """The command."""
     sys.dont_write_bytecode = True
     asked = commands.parser(__doc__)
-    asked.add_argument("--cases", type=commands.number, default=90, metavar="N")
+    asked.add_argument("--cases", type=commands.number, default=150, metavar="N")
     asked.add_argument("--seed", type=int, default=1, metavar="S")
     given = asked.parse_args(words)
     return commands.as_part(lambda: try_cases(range(given.seed, given.seed + given.cases)))

@@ -320,6 +320,8 @@ class Handler(RequestHandler):
     # The end
 
     def on_connection_close(self) -> None:
+        # What waits for the rest of a body waits no more.
+        super().on_connection_close()
         self._ended()
 
     def on_finish(self) -> None:
