@@ -16,7 +16,9 @@ import unittest
 from attack_values import ODD_IDS, ODD_NOTES, WORDS, WORKER_ENVIRONMENT, prefixes
 from attackers import (SOON, TWO, Attack, Until, answers, asked, entries, more_files, one_status, readable, soon,
                        statuses)
-from common import TOOLBOX, TOP, inside
+from bgptools.mistakes import Mistake
+from bgptools.share import opened, parser
+from common import TOOLBOX, TOP
 from http_attacks import get, odd_heads, odd_targets, post, smuggled
 
 
@@ -208,9 +210,11 @@ class Kept(Attack):
     def refused(self, *words, is_inside=True):
         """The one line that a share tells which cannot begin: one in this process, or of its own."""
         if is_inside:
-            ran = inside("share", "--at", self.folder / "socket", *words)
-            self.assertEqual((ran.returncode, ran.stdout, ran.stderr.count("\n")), (2, "", 1), ran.stderr)
-            return ran.stderr
+            with self.assertRaises(Mistake) as raised:
+                opened(parser().parse_args(["--at", str(self.folder / "socket"), *map(str, words)]), []).close()
+            told = str(raised.exception)
+            self.assertEqual(told.count("\n"), 0, told)
+            return told
         called = [sys.executable, "-B", str(TOOLBOX / "share"), "--at", str(self.folder / "socket"), *map(str, words)]
         ran = subprocess.run(called, capture_output=True, timeout=60, stdin=subprocess.DEVNULL)
         self.assertEqual((ran.returncode, ran.stdout), (2, b""), ran.stderr)
