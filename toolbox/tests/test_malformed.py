@@ -12,7 +12,7 @@ import unittest.mock
 
 from common import TOOLBOX, TOP, Case, inside, program
 
-from bgptools import bird_words, expressions, from_bird, sources
+from bgptools import bird_words, expressions, from_bird, graph, sources
 from bgptools.mistakes import Mistake
 from simtools import fuzz_importers, importer_inputs, mutations
 from test_tools import called, command
@@ -240,11 +240,12 @@ class Deep(Malformed):
         for text, said in (("graph [ " + "a [ " * 200000, "g:1: lists are nested more than 100 deep"),
                            ("<graphml>" + "<a>" * 200000, "g:1: elements are nested more than 100 deep"),
                            ("<!DOCTYPE x [<!ENTITY a \"b\">]><graphml/>", "g:1: it declares an entity"),
-                           ("graph [\n" + "".join("node [ id %d ]\n" % at for at in range(65537)) + "]",
-                            "more than 65,536 nodes"),
-                           ("graph [ node [ id 0 ]\n" + "edge [ source 0 target 0 ]\n" * 262145 + "]",
-                            "more than 262,144 edges")):
-            self.assert_mistake(self.said("from-graph", self.file("g", text)), said)
+                           ("graph [\n" + "".join("node [ id %d ]\n" % at for at in range(51)) + "]",
+                            "g:52: more than 50 nodes"),
+                           ("graph [ node [ id 0 ]\n" + "edge [ source 0 target 0 ]\n" * 61 + "]",
+                            "g:62: more than 60 edges")):
+            with unittest.mock.patch.dict(graph.MOST, nodes=50, edges=60):
+                self.assert_mistake(self.said("from-graph", self.file("g", text)), said)
 
     def test_scripts_of_c_bgp(self):
         head = "net add domain 1 igp\nnet add node 1.0.0.1\nbgp add router 1 1.0.0.1\n"
