@@ -80,7 +80,8 @@ def _leads(words: List[Word]) -> bool:
     """Whether the words behind the prefix of a static route say where it leads."""
     if len(words) == 1:
         return words[0].text in _DEST
-    is_known = len(words) > 1 and words[0].text in ("via", "recursive") and words[1].kind in ("address", "string", "name")
+    is_known = len(words) > 1 and words[0].text in ("via", "recursive") and words[1].kind in (
+        "address", "string", "name")
     is_address = is_known and (words[1].kind != "address" or address(words[1].text) is not None)
     behind = " ".join(word.kind if word.kind in ("string", "number") else word.text for word in words[2:])
     return is_address and re.fullmatch(r"(% string)?( ?onlink| ?weight number| ?bfd( on| off)?)*", behind) is not None

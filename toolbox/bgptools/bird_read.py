@@ -15,7 +15,8 @@ from .language import address, number
 
 _ADDRESS = r"([0-9]+(?:\.[0-9]+){3})"
 # How a protocol begins: its name, where it has one.
-_HEAD = re.compile(r"(?:protocol|template) \S+(?: v[23])?(?: (?!from(?: |$)|v[0-9]+(?: |$))([A-Za-z_][A-Za-z0-9_.:-]*))?"
+_HEAD = re.compile(r"(?:protocol|template) \S+(?: v[23])?"
+                   r"(?: (?!from(?: |$)|v[0-9]+(?: |$))([A-Za-z_][A-Za-z0-9_.:-]*))?"
                    r"(?: from [A-Za-z_][A-Za-z0-9_.:-]*)?")
 _TYPES = "|".join((*TYPES, "set"))
 _ROLES = {"rs_server": "rs-server", "rs_client": "rs-client"}
@@ -144,8 +145,8 @@ def _policy(config: BirdConfig, item: Item) -> Optional[Policy]:
 def _protocol(config: BirdConfig, item: Item, templates: Dict[str, Item]) -> None:
     head = _HEAD.fullmatch(item.said)
     if head is None or item.body is None:
-        config.tell(item.line, "%s: `protocol KIND NAME { .. }` is expected, with `from TEMPLATE` where it has one; it is "
-                    "left out" % short(item.line.text))
+        config.tell(item.line, "%s: `protocol KIND NAME { .. }` is expected, with `from TEMPLATE` where it has one; "
+                    "it is left out" % short(item.line.text))
         return
     kind, count = item.texts[1], list(config.protocols.values()).count(item.texts[1])
     name = head.group(1) or "%s%d" % (kind, count + 1)
@@ -184,8 +185,8 @@ def _bgp(config: BirdConfig, item: Item, name: str, inside: List[Item]) -> None:
     if "ipv4" not in session.words:
         session.flags["activate"] = (False, item.line)
     if "local-six" in session.words and ":" not in session.name:
-        config.tell(session.at("local-six"), "%s: it is an address of IPv6, and the neighbor's is none; it is left out" %
-                    short(session.at("local-six").text))
+        line = session.at("local-six")
+        config.tell(line, "%s: it is an address of IPv6, and the neighbor's is none; it is left out" % short(line.text))
     if ":" in session.name:
         config.neighbours_six[session.name] = session
         config.count("IPv6", 1 + len(inside))

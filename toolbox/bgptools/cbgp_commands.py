@@ -164,7 +164,8 @@ class Commands(Interior):
             words = cbgp_records.fed(self.network, self.line, record, peer, other)
             peer.fed.update({record.where: words} if words else {})
         elif record.parts[3] != other:
-            self.network.tell(self.line, "it is told as of %s, and not of %s; it is left out" % (record.parts[3], other))
+            self.network.tell(self.line, "it is told as of %s, and not of %s; it is left out" % (
+                record.parts[3], other))
         elif peer.fed.pop(record.where, None) is None:
             self.network.note(self.line, "it takes back %s, which %s has not told" % (record.where, other))
 

@@ -1,5 +1,5 @@
-"""Expressions and patterns of configurations, held against text without searching in many ways: what others wrote may be
-made to take for ever."""
+"""Expressions and patterns of configurations, held against text without trying many ways: what others wrote may be made
+to take for ever."""
 from __future__ import annotations
 
 from typing import Iterable, List, Optional

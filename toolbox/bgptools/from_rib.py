@@ -92,8 +92,10 @@ def feed_of(text: str, path: str, at: int, reads_communities: bool) -> Optional[
                            (prefix(parts[5]) is None, "`%s` is no prefix" % parts[5]), (found is None, "`%s` is no path" % parts[6][:60]),
                            (parts[7] not in ORIGINS, "the origin `%s` is none of IGP, EGP, INCOMPLETE" % parts[7]),
                            (parts[10] not in ("", "-") and number(parts[10]) is None, "the MED `%s` is no number" % parts[10]),
-                           (not is_end(parts[12:]), "`AG` or `NAG` is expected, and not `%s`" % "|".join(parts[12:14])),
-                           (address(parts[8]) is None and not is_six(parts[8]), "the next hop `%s` is no address" % parts[8]),
+                           (not is_end(parts[12:]),
+                            "`AG` or `NAG` is expected, and not `%s`" % "|".join(parts[12:14])),
+                           (address(parts[8]) is None and not is_six(parts[8]),
+                            "the next hop `%s` is no address" % parts[8]),
                            (parts[9] not in ("", "-") and number(parts[9]) is None,
                             "the preference `%s` is no number" % parts[9])):
         if is_wrong:

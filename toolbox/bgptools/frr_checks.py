@@ -166,7 +166,8 @@ def _check_six(config: Config) -> None:
     """Sessions over IPv6 that carry IPv4 unicast, too."""
     for each in map(config.settled, config.neighbours_six.values()):
         if not each.remote:
-            config.tell(each.line, "%s: it has no remote-as, so that FRR has no session with it" % short(each.line.text))
+            config.tell(each.line, "%s: it has no remote-as, so that FRR has no session with it" %
+                        short(each.line.text))
         if each.remote and each.flags.get("activate", (config.is_on("bgp default ipv4-unicast"), each.line))[0]:
             config.tell(each.line, "%s: FRR tells routes of IPv4 over this session, too (`no neighbor %s activate` "
                         "ends that); here it is not made" % (short(each.line.text), each.name))

@@ -184,7 +184,8 @@ BLOCKS: List[Tuple[Pattern[str], str, str]] = [(re.compile(pattern), category, s
     (r"address-family ipv4 labeled-unicast", "", "FRR has these routes in its table of IPv4 unicast, too; here "
      "they are not"),
     (r"address-family ipv6( (unicast|multicast|vpn|labeled-unicast|flowspec|encap))?$", "IPv6", ""),
-    (r"address-family (ipv4 (multicast|vpn|flowspec|encap)|(vpnv[46]|l2vpn evpn|encap|evpn)( \S+)?)$", "other families", ""),
+    (r"address-family (ipv4 (multicast|vpn|flowspec|encap)|(vpnv[46]|l2vpn evpn|encap|evpn)( \S+)?)$",
+     "other families", ""),
     (r"bfd", "bfd", ""), (r"line |key chain", "passwords", ""), (r"rpki", "rpki", ""),
     (r"pbr-map|nexthop-group|segment-routing|mpls|l2vpn", "other forwarding", ""),
     (r"", "", "from-frr does not know what stands here"))]

@@ -3,19 +3,16 @@ memory or time without a bound. And tools/fuzz-importers, which looks for more o
 import bz2
 import gzip
 import os
-import pathlib
 import random
-import re
 import resource
 import subprocess
 import sys
-import tempfile
 import unittest
 import unittest.mock
 
-from common import DATA, TOOLBOX, TOP, Case, inside, program
+from common import TOOLBOX, TOP, Case, inside, program
 
-from bgptools import bird_words, expressions, from_bird, sources
+from bgptools import bird_words, expressions, from_bird, graph, sources
 from bgptools.mistakes import Mistake
 from simtools import fuzz_importers, importer_inputs, mutations
 from test_tools import called, command
@@ -44,8 +41,8 @@ def bounded(name, *words, given=b""):
     def limit():
         resource.setrlimit(resource.RLIMIT_AS, (ROOM, ROOM))
         resource.setrlimit(resource.RLIMIT_CPU, (120, 120))
-    ran = subprocess.run([sys.executable, "-B", str(TOOLBOX / name), *map(str, words)], input=given, capture_output=True,
-                         timeout=300, cwd=str(TOP), preexec_fn=limit)
+    ran = subprocess.run([sys.executable, "-B", str(TOOLBOX / name), *map(str, words)], input=given,
+                         capture_output=True, timeout=300, cwd=str(TOP), preexec_fn=limit)
     return ran.returncode, ran.stdout.decode("utf-8", "replace"), ran.stderr.decode("utf-8", "replace")
 
 
@@ -115,7 +112,7 @@ class Files(Malformed):
             self.file("deep%d.cli" % at, "include \"deep%d.cli\"\n" % (at + 1))
         self.assert_mistake(self.said("from-cbgp", self.folder / "deep0.cli"), "more than 50 deep")
         self.file("round.cli", "include \"round.cli\"\n")
-        self.assert_mistake(self.said("from-cbgp", self.folder / "round.cli"), "round.cli:1: include round.cli: it is read")
+        self.assert_mistake(self.said("from-cbgp", self.folder / "round.cli"), "round.cli:1: include round.cli: it is")
         (self.folder / "net" / "link.conf").symlink_to("link.conf")
         self.assertIn("link.conf", self.bird(SESSION % ("", "all")).stderr)
 
@@ -156,7 +153,7 @@ class Unpacked(Malformed):
         route = b"TABLE_DUMP2|0|B|192.0.2.1|7|10.0.0.0/16|7 21|IGP|192.0.2.1|0|0||NAG||\n"
         zeros, routes = bytes(1 << 20), route * (10 ** 6 // len(route))
         for name, ending, part, words, said in (
-                ("from-rib", "gz", routes, ["--most-unpacked", "20M"], "it unpacks to more than 20,000,000 bytes; --most-"),
+                ("from-rib", "gz", routes, ["--most-unpacked", "20M"], "it unpacks to more than 20,000,000 bytes; --"),
                 ("from-rib", "bz2", routes, ["--most-unpacked", "5000K"], "it unpacks to more than 5,000,000 bytes"),
                 ("from-as-rel", "gz", b"# " + b"x" * 10 ** 5 + b"\n", ["--most-unpacked", "1000000"],
                  "it unpacks to more than 1,000,000 bytes"),
@@ -243,9 +240,12 @@ class Deep(Malformed):
         for text, said in (("graph [ " + "a [ " * 200000, "g:1: lists are nested more than 100 deep"),
                            ("<graphml>" + "<a>" * 200000, "g:1: elements are nested more than 100 deep"),
                            ("<!DOCTYPE x [<!ENTITY a \"b\">]><graphml/>", "g:1: it declares an entity"),
-                           ("graph [\n" + "".join("node [ id %d ]\n" % at for at in range(65537)) + "]", "more than 65,536 nodes"),
-                           ("graph [ node [ id 0 ]\n" + "edge [ source 0 target 0 ]\n" * 262145 + "]", "more than 262,144 edges")):
-            self.assert_mistake(self.said("from-graph", self.file("g", text)), said)
+                           ("graph [\n" + "".join("node [ id %d ]\n" % at for at in range(51)) + "]",
+                            "g:52: more than 50 nodes"),
+                           ("graph [ node [ id 0 ]\n" + "edge [ source 0 target 0 ]\n" * 61 + "]",
+                            "g:62: more than 60 edges")):
+            with unittest.mock.patch.dict(graph.MOST, nodes=50, edges=60):
+                self.assert_mistake(self.said("from-graph", self.file("g", text)), said)
 
     def test_scripts_of_c_bgp(self):
         head = "net add domain 1 igp\nnet add node 1.0.0.1\nbgp add router 1 1.0.0.1\n"
@@ -290,10 +290,12 @@ class Checked(Malformed):
     def test_from_frr(self):
         for lines in ("bgp router-id 10.0.0.65535", "bgp cluster-id 256.1.1.1", "neighbor 10.9.0.256 remote-as 65003",
                       "neighbor 10.9.0.2 remote-as 65536x", "neighbor eth0 interface remote-as zqx",
-                      "network 203.0.113.0 mask 1.2.3.400", "neighbor 10.9.0.9 bfd", "neighbor 10.9.0.2 ebgp-multihop 0"):
+                      "network 203.0.113.0 mask 1.2.3.400", "neighbor 10.9.0.9 bfd",
+                      "neighbor 10.9.0.2 ebgp-multihop 0"):
             made = self.frr(FRR % (" " + lines))
             self.assert_told(made, "r1.conf:9: not taken over: " + lines)
-        for line in ("router-id 10.0.0.65535", "ip route 10.1.0.0/16 10.1.256.1", "ip route 10.1.0.0 1.2.3.400 blackhole",
+        for line in ("router-id 10.0.0.65535", "ip route 10.1.0.0/16 10.1.256.1",
+                     "ip route 10.1.0.0 1.2.3.400 blackhole",
                      "frr version zqx", "frr defaults zqx", "ip prefix-list A permit 10.0.0.0/33",
                      "ip prefix-list A permit 10.0.0.0/8 ge 40", "access-list A permit 300.0.0.0/8",
                      "bgp community-list standard A permit 70000:1", "route-map A permit 70000"):
@@ -316,7 +318,8 @@ class Checked(Malformed):
         """Each is told with its line, whether it is reached or not, and the session goes on as is said."""
         for body, word in (("if net ~ 10.0.0.0/8 then zqx; accept;", "zqx"), ("zqx; accept;", "zqx"),
                            ("bpg_med = 5; accept;", "bpg_med"), ("accept; zqx;", "zqx"),
-                           ("if net.len > 24 then zqx \"x\"; accept;", "zqx"), ("if zqx = 1 then reject; accept;", "zqx")):
+                           ("if net.len > 24 then zqx \"x\"; accept;", "zqx"),
+                           ("if zqx = 1 then reject; accept;", "zqx")):
             made = self.bird(SESSION % ("", "filter {\n %s\n}" % body))
             self.assert_told(made, "a.conf:4: not taken over: ")
             self.assertIn("`%s`" % word, made.stderr)
@@ -324,7 +327,8 @@ class Checked(Malformed):
             self.assertIn("nothing is let through here", self.bird(SESSION % ("", "filter { %s }" % body)).stderr)
         made = self.bird(SESSION % ("", "filter { int x; int y = 5; x = 7; bgp_med = x; accept; }"))
         self.assertEqual((made.returncode, "in any permit med=7" in made.stdout), (0, True), made.stderr)
-        made = self.bird("filter old int x; prefix set y; { x = 7; bgp_med = x; accept; }\n" + SESSION % ("", "filter old"))
+        old = "filter old int x; prefix set y; { x = 7; bgp_med = x; accept; }\n"
+        made = self.bird(old + SESSION % ("", "filter old"))
         self.assertEqual((made.returncode, "in any permit med=7" in made.stdout), (0, True), made.stderr)
 
     def test_items_of_bird_that_are_not_known(self):
@@ -362,7 +366,8 @@ class Checked(Malformed):
                       ("2.0.0.1", "2", "2.0.0", "0"), ("2.0.0.1", "2", "2.0.0.1", "x")):
             self.assert_mistake(self.said("from-cbgp", self.file("s.cli", head % words)), "s.cli:9: ")
         made = self.said("from-cbgp", self.file("s.cli", head % ("3.0.0.1", "2", "2.0.0.1", "0")))
-        self.assertIn("s.cli:9: not taken over: the route of 2.0.0.1 to 10.0.0.0/8: it is told as of 3.0.0.1", made.stderr)
+        self.assertIn("s.cli:9: not taken over: the route of 2.0.0.1 to 10.0.0.0/8: it is told as of 3.0.0.1",
+                      made.stderr)
 
     def test_names_that_no_line_has_room_for(self):
         long = "x" * 5000
@@ -427,14 +432,17 @@ class Fuzzer(Case):
     def test_a_word_that_nothing_comes_of(self):
         fuzzer = self.fuzzer()
         text = SESSION % ("", "filter { if net ~ 10.0.0.0/8 then reject; bgp_med = 5; accept; }")
-        for was, word in (("reject", "rejct"), ("bgp_med", "bpg_med"), ("65002", "65003"), ("id 10.0.0.1", "id 10.0.0.256")):
+        for was, word in (("reject", "rejct"), ("bgp_med", "bpg_med"), ("65002", "65003"),
+                          ("id 10.0.0.1", "id 10.0.0.256")):
             self.assertEqual(self.word(fuzzer, text, was, word), "", (was, word))
         # The same where the importer takes what it does not know for nothing.
         from bgptools import bird_rules
         kept = bird_rules.Evaluation._step
         text = text.replace("bgp_med = 5;", "print \"x\";")
-        with unittest.mock.patch.object(bird_rules.Evaluation, "_step", lambda self, node, state: state if node.what == "other"
-                                        else kept(self, node, state)), unittest.mock.patch(
+
+        def step(evaluation, node, state):
+            return state if node.what == "other" else kept(evaluation, node, state)
+        with unittest.mock.patch.object(bird_rules.Evaluation, "_step", step), unittest.mock.patch(
                 "bgptools.bird_checks.tell_unknown"):
             self.assertIn("nothing comes of `pritn`", self.word(fuzzer, text, "print", "pritn"))
         self.assertEqual(self.word(fuzzer, text, "print", "pritn"), "")
@@ -464,11 +472,12 @@ class Fuzzer(Case):
     def test_the_command(self):
         status, told = called(lambda _: fuzz_importers.try_cases(range(1, 60)))
         self.assertEqual((status, told), (0, "59 passed, 0 failed\n"))
-        with unittest.mock.patch.object(fuzz_importers, "ended", return_value=fuzz_importers.Ended(2, "", "", "a fault")):
+        broken = fuzz_importers.Ended(2, "", "", "a fault")
+        with unittest.mock.patch.object(fuzz_importers, "ended", return_value=broken):
             status, told = called(lambda _: fuzz_importers.try_cases(range(7, 8)))
         self.assertEqual(status, 1)
-        self.assertRegex(told, r"^FAILED seed 7, from-[a-z-]+, \w+ of .*:\n    a fault\n    again: tools/fuzz-importers "
-                               r"--cases 1 --seed 7\n0 passed, 1 failed\n\Z")
+        self.assertRegex(told, r"^FAILED seed 7, from-[a-z-]+, \w+ of .*:\n    a fault\n"
+                               r"    again: tools/fuzz-importers --cases 1 --seed 7\n0 passed, 1 failed\n\Z")
 
 
 if __name__ == "__main__":

@@ -26,7 +26,7 @@ import signal
 import sys
 import tempfile
 import traceback
-from typing import Dict, Iterator, List, NamedTuple, Optional, Sequence, Set, Tuple
+from typing import Any, Dict, Iterator, List, NamedTuple, Optional, Sequence, Set, Tuple, Type
 
 from . import commands, mutations, programs
 from .importer_inputs import COMMENTS, Input, inputs
@@ -94,22 +94,24 @@ def _bounded() -> Iterator[None]:
             signal.signal(number, handler)
 
 
-def _module(importer: str) -> "Tuple[object, type]":
+def _module(importer: str) -> Tuple[Any, Type[Exception]]:
     """The importer's module, and the class of what a user has to mend."""
     if str(TOP / "toolbox") not in sys.path:
         sys.path.append(str(TOP / "toolbox"))
     mistakes = importlib.import_module("bgptools.mistakes")
-    return importlib.import_module("bgptools." + importer.replace("-", "_")), mistakes.Mistake
+    mistake: Type[Exception] = mistakes.Mistake
+    return importlib.import_module("bgptools." + importer.replace("-", "_")), mistake
 
 
 def ended(importer: str, words: Sequence[str]) -> Ended:
     """How an importer ends, called in this process as its tool calls it."""
     module, mistake = _module(importer)
-    script, told = io.TextIOWrapper(io.BytesIO(), "utf-8", "surrogateescape"), io.StringIO()
+    content, told = io.BytesIO(), io.StringIO()
+    script = io.TextIOWrapper(content, "utf-8", "surrogateescape")
     limit, fault = sys.getrecursionlimit(), ""
     try:
         with contextlib.redirect_stdout(script), contextlib.redirect_stderr(told), _bounded():
-            status = module.main(list(words))  # type: ignore[attr-defined]
+            status = module.main(list(words))
     except mistake as wrong:
         print(wrong, file=told)
         status = 2
@@ -121,7 +123,7 @@ def ended(importer: str, words: Sequence[str]) -> Ended:
         status, fault = 2, traceback.format_exc(-4)
     sys.setrecursionlimit(limit)
     script.flush()
-    return Ended(status, script.buffer.getvalue().decode("utf-8", "surrogateescape"), told.getvalue(), fault)  # type: ignore[attr-defined]
+    return Ended(status, content.getvalue().decode("utf-8", "surrogateescape"), told.getvalue(), fault)
 
 
 # What is wrong with how it ended
@@ -134,7 +136,8 @@ def exemptions(path: pathlib.Path = LIST) -> List[Exemption]:
         rows = [line.split(": ", 1) for line in stanza.split("\n") if line.strip() and not line.startswith("#")]
         given = {name: text for name, text in rows if name != "about"}
         found += [Exemption(given["importer"], re.compile(text), re.compile(given.get("word", ".*"), re.DOTALL),
-                            re.compile(given.get("input", ".*")), given["why"]) for name, text in rows if name == "about"]
+                            re.compile(given.get("input", ".*")), given["why"])
+                  for name, text in rows if name == "about"]
     return found
 
 
@@ -270,9 +273,10 @@ def try_cases(seeds: range) -> int:
             passed += not wrong
             failed += bool(wrong)
             if wrong:
-                print("FAILED seed %d, %s, %s of %s in %s:\n    %s\n    again: tools/fuzz-importers --cases 1 --seed %d" % (
-                    seed, case.input.importer, case.kind, case.file, case.input.name,
-                    wrong.rstrip().replace("\n", "\n    "), seed), flush=True)
+                print("FAILED seed %d, %s, %s of %s in %s:" % (seed, case.input.importer, case.kind, case.file,
+                                                               case.input.name))
+                print("    " + wrong.rstrip().replace("\n", "\n    "))
+                print("    again: tools/fuzz-importers --cases 1 --seed %d" % seed, flush=True)
     return commands.counted(passed, failed)
 
 

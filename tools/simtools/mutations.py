@@ -124,8 +124,7 @@ def deep(draw: random.Random, content: bytes) -> Change:
 
 def long(draw: random.Random, content: bytes) -> Change:
     """A word is very long, or a line is."""
-    found = draw.choice(list(re.finditer(rb"[^\s|]+", content)) or [re.match(rb"", content)])
-    start, end = found.span() if found else (0, 0)
+    start, end = draw.choice([found.span() for found in re.finditer(rb"[^\s|]+", content)] or [(0, 0)])
     word = draw.choice((b"x", b"9", b"1.", b"7 ", b"a_", b"0:", b"(", b"1,")) * draw.choice((100, 5000, 70000))
     if draw.random() < 0.02:
         word = word[:1] * ((1 << 20) + 1)
