@@ -218,11 +218,11 @@ class Sweeps(Case):
         return made
 
     def test_results_the_page_and_json_name_the_program(self):
-        made = self.as_if_of(commit="c0ffee", is_proved=False, kit="a kit", digest="sources-sha256:7")
+        made = self.as_if_of(version="0.9", commit="c0ffee", is_proved=False, kit="a kit", digest="sources-sha256:7")
         results = self.folder / "results"
         page = self.sweep("--results", results, "--html").stdout
         self.assertEqual(json.loads(results.read_text().splitlines()[0])["program"], made.as_json())
-        said = "bgpsim unknown\ncommit: c0ffee\nproved: no, compiled by a kit\ndigest: sources-sha256:7"
+        said = "bgpsim 0.9\ncommit: c0ffee\nproved: no, compiled by a kit\ndigest: sources-sha256:7"
         self.assertIn('<pre id="program">%s</pre>' % said, page)
         self.assertEqual(json.loads(self.sweep("--json").stdout)["program"], made.as_json())
 
