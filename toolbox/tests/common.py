@@ -1,4 +1,5 @@
 """What the tests share: running a tool or the program, and the scripts that all tools are tried on."""
+import contextlib
 import functools
 import importlib
 import io
@@ -20,6 +21,7 @@ TOP = pathlib.Path(__file__).resolve().parent.parent.parent
 TOOLBOX = TOP / "toolbox"
 DATA = TOOLBOX / "tests" / "data"
 EXAMPLES = sorted((TOP / "examples").rglob("*.bgp"))
+NOBODY = 65534
 SCRIPTS = EXAMPLES + sorted((TOP / "cases").rglob("*.bgp"))
 # for simtools, which the commands of tools/ are made of
 sys.path.append(str(TOP / "tools"))
@@ -78,6 +80,21 @@ def marked(content):
         count += refusal(reply) > 0 and line.expected is None
         made.append(("# expect refused\n" if refusal(reply) else "") + ended(line.text))
     return "".join(made).encode("latin-1"), count
+
+
+@contextlib.contextmanager
+def refused_something(folder):
+    """As a user to whom the system refuses something, which it does not to root: a folder and its files are his."""
+    if os.geteuid() != 0:
+        yield
+        return
+    for path in (folder, *folder.iterdir()):
+        os.chown(path, NOBODY, NOBODY)
+    os.seteuid(NOBODY)
+    try:
+        yield
+    finally:
+        os.seteuid(0)
 
 
 class Case(unittest.TestCase):

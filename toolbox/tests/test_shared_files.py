@@ -1,5 +1,4 @@
 """What a shared network keeps: its log and notes are its owner's alone, checked when they are read, and bounded."""
-import contextlib
 import errno
 import os
 import stat
@@ -10,26 +9,8 @@ from bgptools.calling import check_line
 from bgptools.mistakes import Mistake
 from bgptools.record import Unkept
 from bgptools.shared import Shared
-from common import tool
+from common import refused_something, tool
 from held import TWO, Held
-
-
-NOBODY = 65534
-
-
-@contextlib.contextmanager
-def refused_something(folder):
-    """As a user to whom the system refuses something, which it does not to root: a folder and its files are his."""
-    if os.geteuid() != 0:
-        yield
-        return
-    for path in (folder, *folder.iterdir()):
-        os.chown(path, NOBODY, NOBODY)
-    os.seteuid(NOBODY)
-    try:
-        yield
-    finally:
-        os.seteuid(0)
 
 
 class Owned(Held):
