@@ -1,0 +1,268 @@
+"""Faults that come up in the servers `share` and `lab`, each injected in turn into each kind of request.
+
+    tools/fault-servers [WORD ..]            of all requests, or of these: memory is wanted at some of the lines of the
+                                             server that are executed for it, and once for 50 lines in a row. Then files
+                                             that cannot be written, programs that cannot be started, text that cannot
+                                             be read, and more (faults of their own: `--list` has the words)
+    tools/fault-servers --all [WORD ..]      at each line
+    tools/fault-servers --only WORD-WAY --at N [--times T]
+                                             at the N-th line alone
+
+Each time, who made the request gets an error or an answer as ever, or his connection ends; never a wrong answer. The
+others are answered. The log has what was answered, in order. The reason is told on standard error. The server goes on,
+unless its log or its socket failed; in the end `bgpsim replay` says that the log is one.
+
+The last line is `N passed, M failed`. Each failure names the request, the line and its place in the code, and how to
+try it again. PROGRAM= is another program than crates/bgpsim/out/bgpsim.
+"""
+from __future__ import annotations
+
+import contextlib
+import os
+import time
+from typing import Any, Dict, Iterator, List, NamedTuple, Optional, Sequence, Tuple
+
+from . import commands, programs
+from .fault_clients import Entry, Outcome, Wrong
+from .fault_words import GET, PAGE, SOCKET, WORDS, Scene, Word
+
+# A shortage that goes on lets so many lines fail; one that has brought no answer so long is over.
+SUSTAINED, SHORTAGE = 50, 0.5
+NEVER = 1 << 40
+
+
+class Try(NamedTuple):
+    """A request with a fault: which one, by which way, from which line on, and how many lines fail."""
+    word: str
+    way: str
+    at: int
+    times: int = 1
+
+    @property
+    def again(self) -> str:
+        """How it is tried again."""
+        more = " --times %d" % self.times if self.times > 1 else ""
+        return "tools/fault-servers --only %s-%s --at %d%s" % (self.word, self.way, self.at, more)
+
+
+class Found(NamedTuple):
+    """What was seen: how many lines the request took, where lines failed, and what is wrong."""
+    count: int
+    fired: List[str]
+    wrong: str = ""
+
+
+def made(scene: Scene, word: Word, fields: Dict[str, Any], is_long: bool) -> Outcome:
+    """Makes a request: what becomes of it. A shortage that goes on is ended where nothing comes for a while."""
+    if word.run is not None:
+        return word.run(scene, fields)
+    number, known = scene.actor.send(word.do, **fields)
+    if known is not None:
+        return known
+    if is_long:
+        with contextlib.suppress(Wrong):
+            return scene.actor.outcome(number, SHORTAGE)
+        scene.server.command("disarm")
+    return scene.actor.outcome(number)
+
+
+def judged(scene: Scene, word: Word, outcome: Outcome, entries: List[Entry], calls: Optional[List[Any]]) -> str:
+    """What is wrong with what became of a request, and with what stands in the log for it."""
+    made_calls = [(each.seat, each.line) for each in entries]
+    error = outcome.error
+    if calls is None:
+        calls = made_calls if all(each.line.startswith("deliver ") for each in entries) else []
+    if made_calls != calls[:len(made_calls)]:
+        return "the log has %s, and %s was asked for" % (made_calls, calls)
+    if error is None:
+        if made_calls != calls:
+            return "it was answered, and the log has %s of %s" % (made_calls, calls)
+        if outcome.answer and "reply" in outcome.answer and "told" in outcome.answer and not entries and calls:
+            return "it was answered, and is not in the log"
+        return word.wrong(scene, outcome.answer or {}, entries)
+    if entries and "not done" in error:
+        return "the log has %s, and the error says that it was not done: %s" % (made_calls, error)
+    return ""
+
+
+def others(scene: Scene, step: int) -> str:
+    """What is wrong with what another one is answered and told."""
+    number, _ = scene.other.send("who")
+    found = scene.other.outcome(number)
+    if found.answer is None:
+        if not found.ended:
+            return "the connection of another one ends without a word"
+        scene.renew()
+        found = scene.other.request("who")
+    if found.error is not None or found.answer is None:
+        return "another one is answered by %s" % (found,)
+    count = len(scene.server.entries())
+    if found.answer["calls"] != count:
+        return "the log has %d calls, and another one is told that it has %d" % (count, found.answer["calls"])
+    events = scene.other.heard()
+    told = [each["step"] for event in events if event["event"] == "changes" for each in event["changes"]]
+    wanted = list(range(step + 1, found.answer["step"] + 1))
+    if told != wanted and not any(event["event"] == "missed" or "ended" in event.get("text", "") for event in events):
+        return "another one is told of the steps %s, and made were %s" % (told, wanted)
+    return ""
+
+
+def same(scene: Scene, word: Word, fields: Dict[str, Any], outcome: Outcome) -> str:
+    """What is wrong where a request that changes nothing is answered otherwise when it is made again."""
+    if outcome.error is not None:
+        return ""
+    again = made(scene, word, fields, False)
+    before, after = ({name: value for name, value in (each or {}).items() if name not in ("id", "at")}
+                     for each in (outcome.answer, again.answer))
+    return "" if before == after else "it is answered by %s, and then by %s" % (str(before)[:300], str(after)[:300])
+
+
+def untold(scene: Scene, fired: Sequence[str]) -> str:
+    """What is wrong where a fault is not told on standard error."""
+    told = scene.server.errors()
+    place = fired[0].split(" in ")[0] if fired else ""
+    return "" if place in told or "other places" in told else "it is not told on standard error"
+
+
+def tried(scene: Scene, one: Try) -> Found:
+    """Makes a request while lines fail: what was seen."""
+    word = WORDS[one.word]
+    found = Found(0, [])
+    try:
+        word.prepare(scene)
+        fields = word.fields(scene)
+        calls = None if word.calls is None else word.calls(scene, fields)
+        step, start = scene.other.ask("who")["step"], scene.server.size()
+        scene.server.rest()
+        scene.other.heard()
+        scene.server.command("arm", at=one.at, times=one.times)
+        try:
+            outcome = made(scene, word, fields, one.times > 1)
+        finally:
+            told = scene.server.rest() if one.times == 1 else scene.server.command("count")
+            found = Found(told["count"], told["fired"])
+            scene.server.command("disarm")
+        scene.server.rest()
+        entries = scene.server.entries(start)
+        wrong = judged(scene, word, outcome, entries, calls) or others(scene, step)
+        scene.renew()
+        wrong = wrong or word.left(scene, outcome) or (same(scene, word, fields, outcome) if word.is_same else "")
+        scene.renew()
+        return found._replace(wrong=wrong or untold(scene, found.fired))
+    except Wrong as fault:
+        return found._replace(wrong=str(fault))
+
+
+def ended_well(scene: Scene) -> str:
+    """What is wrong with the end of a server."""
+    try:
+        status, told = scene.server.end()
+    except Wrong as wrong:
+        return str(wrong)
+    if status != 0 or "replay: ok %d\n" % len(scene.server.entries()) not in told:
+        return "it ends with status %d, and tells: %s%s" % (status, told, scene.server.errors()[-500:])
+    return ""
+
+
+class Run:
+    """Tries requests, each on a server that goes on from try to try; one that failed is replaced."""
+
+    def __init__(self) -> None:
+        self.passed = self.failed = 0
+        self.scene: Optional[Scene] = None
+
+    def tell(self, what: str, wrong: str, again: str) -> None:
+        """Counts a try, and tells it where it failed."""
+        self.passed += not wrong
+        self.failed += bool(wrong)
+        if wrong:
+            print("FAILED %s: %s\n  again: %s\n" % (what, wrong, again), flush=True)
+
+    def attempt(self, one: Try) -> Found:
+        """Makes a try, on a new server where the last one failed."""
+        if self.scene is None:
+            word = WORDS[one.word]
+            self.scene = Scene(one.way, word.tool or ("share" if one.way == SOCKET else "lab"))
+        found = tried(self.scene, one)
+        places = found.fired[0] if found.fired else "no line"
+        what = "%s by %s, line %d of %d (%s)" % (one.word, one.way, one.at, found.count, places)
+        if found.fired or found.wrong:
+            self.tell(what, found.wrong, one.again)
+        if found.wrong:
+            self.scene.server.close()
+            self.scene = None
+        return found
+
+    def end(self, what: str, again: str) -> None:
+        """Ends the server."""
+        if self.scene is not None:
+            self.tell(what + ", in the end", ended_well(self.scene), again)
+            self.scene.server.close()
+            self.scene = None
+
+    def word(self, name: str, way: str, offset: int, is_all: bool) -> None:
+        """Tries a request at some lines, or at each."""
+        began = time.monotonic()
+        first = self.attempt(Try(name, way, NEVER))
+        most = first.count + (first.count // 4 if is_all else 0)
+        stride = 1 if is_all else max(1, first.count // WORDS[name].tries)
+        fired = 0
+        for at in range(1 + (0 if is_all else offset % stride), most + 1, stride):
+            fired += bool(self.attempt(Try(name, way, at)).fired)
+        for at in range(1 + offset % 7, most + 1, 1 if is_all else max(1, first.count // 2)):
+            self.attempt(Try(name, way, at, SUSTAINED))
+        self.end("%s by %s" % (name, way), "tools/fault-servers %s" % name)
+        if os.environ.get("VERBOSE"):
+            print("%s by %s: %d lines, %d tries, %.1f s" % (name, way, first.count, fired, time.monotonic() - began),
+                  flush=True)
+
+
+def cases(names: Sequence[str]) -> Iterator[Tuple[str, str]]:
+    """The requests with their ways."""
+    for name in names:
+        for way in WORDS[name].ways:
+            yield name, way
+
+
+def try_all(names: Sequence[str], is_all: bool) -> int:
+    """Tries all requests of these names."""
+    programs.bgpsim()
+    run = Run()
+    for offset, (name, way) in enumerate(cases(names)):
+        run.word(name, way, offset, is_all)
+    return commands.counted(run.passed, run.failed)
+
+
+def try_one(one: Try) -> int:
+    """Makes one try."""
+    programs.bgpsim()
+    run = Run()
+    found = run.attempt(one)
+    print("%d lines; failed: %s" % (found.count, ", ".join(found.fired) or "none"))
+    if run.scene is not None:
+        print(run.scene.server.errors(), end="")
+    run.end("%s by %s" % (one.word, one.way), one.again)
+    return commands.counted(run.passed, run.failed)
+
+
+def main(words: Sequence[str]) -> int:
+    """The command."""
+    asked = commands.parser(__doc__)
+    asked.add_argument("words", nargs="*", metavar="WORD")
+    asked.add_argument("--all", action="store_true")
+    asked.add_argument("--list", action="store_true")
+    asked.add_argument("--only", metavar="WORD-WAY")
+    asked.add_argument("--at", type=commands.number, default=1, metavar="N")
+    asked.add_argument("--times", type=commands.number, default=1, metavar="T")
+    given = asked.parse_args(words)
+    known = {"%s-%s" % case: case for case in cases(list(WORDS))}
+    unknown = [word for word in given.words if word not in WORDS] + \
+        [word for word in [given.only] if word is not None and word not in known]
+    if unknown:
+        asked.error("`%s` is no request: --list has them" % unknown[0])
+    if given.list:
+        print("\n".join(known))
+        return 0
+    if given.only:
+        return commands.as_part(lambda: try_one(Try(*known[given.only], given.at, given.times)))
+    return commands.as_part(lambda: try_all(given.words or list(WORDS), given.all))
