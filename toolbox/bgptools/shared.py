@@ -69,6 +69,8 @@ class Shared:
         self.ledger = Ledger(log, Notes(path), self.program.network, self.happening, most_log, clock)
         self.calling = Calling(self.program, self.ledger)
         self.here: "Counter[int]" = Counter()
+        # What is kept while a request is made: where it stays, an error came up that was not recovered from.
+        self.unfinished: Optional[Kept] = None
         # The seat that somebody enters for the first time just now, whose token he has not yet.
         self.entering: Optional[int] = None
         try:
@@ -138,7 +140,7 @@ class Shared:
         self.happening.tell("people", "the name %s is free" % name)
 
     def leave(self, seat: int, why: str = "") -> None:
-        """Somebody goes."""
+        """Somebody goes: None, the seat that he has then."""
         self.happening.tell("people", "%s has gone%s" % (self.ledger.seats.name_of(seat), why and ": " + why))
         self.here[seat] -= 1
 
@@ -187,30 +189,49 @@ class Shared:
     def guarded(self) -> Iterator[None]:
         """While a request may change something. Where an error comes up that is no Mistake the network is recovered from
         its log, and Interrupted raised, a Mistake that says what of the request stands in it. Raises Unkept where it
-        cannot be recovered."""
-        kept = self._kept()
+        cannot be recovered.
+
+        An error may come up in the midst of all that, too: then `mend` recovers before the next request."""
+        kept, before = self._kept(), self.unfinished
         self.entering = None
+        self.unfinished = kept
         try:
             yield
         except Mistake:
+            # Another one stands there where a part of the request was not recovered from.
+            self.unfinished = before if self.unfinished is kept else self.unfinished
             raise
         except Exception as error:  # pylint: disable=broad-except
             raise Interrupted(error, self.recover(described(error), kept)) from error
+        self.unfinished = before if self.unfinished is kept else self.unfinished
+
+    def mend(self) -> None:
+        """Recovers from an error, where that could not be done when it came up. Only while no request is made. Mistake
+        where it cannot be done now, either; Unkept where it never can."""
+        if self.unfinished is not None:
+            self.recover("an error of the server", self.unfinished)
 
     def recover(self, reason: str, kept: Optional[Kept] = None) -> Recovered:
         """Makes all anew from what stands in the log and its notes, as after a start, whatever state it is in. Who is
         here, proposals, and what the workers do are as they were when it was `kept`; now where that is not given.
 
-        `reason` is told to all. How many calls the log had, and has. Raises Unkept where it cannot be done."""
+        `reason` is told to all. How many calls the log had, and has. Raises Unkept where it cannot be done. Where only
+        memory is wanting, a Mistake is raised, and `mend` tries again."""
         kept, broken = kept or self._kept(), self._broken()
+        self.unfinished = kept
         fault: BaseException = Unkept("no try was made")
         for pause in PAUSES:
             time.sleep(pause)
             try:
                 gc.collect()
-                return self._recover("an error came up (%s)" % reason, kept, broken)
+                found = self._recover("an error came up (%s)" % reason, kept, broken)
+                self.unfinished = None
+                return found
             except Exception as error:  # pylint: disable=broad-except
                 fault = error
+        if isinstance(fault, MemoryError):
+            raise Mistake("an error came up (%s), and memory is wanting to make the network anew from its log: look at "
+                          "it in a moment, and ask again" % reason) from fault
         why = str(fault) if isinstance(fault, Mistake) else described(fault)
         raise Unkept("an error came up (%s), and the network cannot be made anew from its log: %s" % (reason, why))
 

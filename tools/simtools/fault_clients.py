@@ -107,6 +107,14 @@ class Client:
         told = self.ask("enter", **{"as": name}, **({"token": token} if token else {}))
         self.seat, self.token = told["seat"], told["token"]
 
+    def drain(self) -> None:
+        """Reads what has come, and sees whether the connection has ended."""
+        with contextlib.suppress(Wrong):
+            while not self.is_closed:
+                message = self.hear(0)
+                self.is_closed = message is None
+                self.events += [message] if message and "event" in message else []
+
     def heard(self) -> List[Message]:
         """The events since this was asked the last time."""
         found, self.events = self.events, []

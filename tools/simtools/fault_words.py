@@ -58,6 +58,8 @@ class Scene:
 
     def renew(self) -> None:
         """Whose connection ended connects again."""
+        for each in (self.actor, self.other):
+            each.drain()
         if self.actor.is_closed:
             self.actor.close()
             self.actor = self.client("actor", self.actor.token)

@@ -21,14 +21,16 @@ import builtins
 import contextlib
 import errno
 import json
+import linecache
 import os
 import pathlib
+import re
 import signal
 import subprocess
 import sys
 import time
 from types import FrameType
-from typing import Any, Callable, Dict, List, Optional
+from typing import Any, Callable, Dict, List, Optional, Tuple
 
 TOP = pathlib.Path(__file__).resolve().parent.parent.parent
 PACKAGE = str(TOP / "toolbox" / "bgptools") + os.sep
@@ -37,6 +39,8 @@ FOLDERS = ("session", "web", "jobs")
 MODULES = ("shared", "calling", "delivering", "ledger", "notes", "record", "lasting", "recovery", "proposing",
            "proposals", "happening", "taking_up", "workers", "seats", "meter", "history", "names", "network", "run",
            "counted", "program", "settling", "kept_file", "telling", "replies", "language")
+# What begins so needs no memory: the line only leads on.
+PLAIN = re.compile(r"\s*(try:|except\b|finally:|else:|pass\b|continue\b|break\b|return$|raise$)")
 CALLS = ("write", "truncate", "sync", "spawn", "decode", "encode", "open", "read", "accept")
 Tracer = Callable[[FrameType, str, Any], Any]
 
@@ -56,6 +60,7 @@ class Lines:
         self.at = self.times = self.count = 0
         self.fired: List[str] = []
         self.paths: Dict[str, bool] = {}
+        self.plain: Dict[Tuple[str, int], bool] = {}
 
     def arm(self, at: int, times: int) -> None:
         """From this line on so many raise."""
@@ -79,7 +84,7 @@ class Lines:
 
     def line(self, frame: FrameType, event: str, _: Any) -> Optional[Tracer]:
         """The trace function of the lines of a frame."""
-        if event == "line":
+        if event == "line" and not self.is_plain(frame.f_code.co_filename, frame.f_lineno):
             self.count += 1
             if self.count >= self.at and len(self.fired) < self.times:
                 code = frame.f_code
@@ -87,6 +92,13 @@ class Lines:
                 self.fired.append("%s in %s" % (place, code.co_name))
                 raise MemoryError
         return self.line
+
+    def is_plain(self, path: str, number: int) -> bool:
+        """Whether a line needs no memory."""
+        found = self.plain.get((path, number))
+        if found is None:
+            found = self.plain[path, number] = bool(PLAIN.match(linecache.getline(path, number)))
+        return found
 
     def profiled(self, frame: FrameType, _: str, __: Any) -> None:
         """Sets the trace function again: Python unsets one that raised."""

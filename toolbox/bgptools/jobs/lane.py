@@ -74,6 +74,9 @@ class Lane:
 
     def pump(self) -> None:
         """Begins what may begin."""
+        for ended in [request for request, task in self.running.items() if task.done()]:
+            # A fault kept it from being taken away.
+            self._forget(ended)
         while not self.is_closed and len(self.running) < self.places:
             request = self.queue.take(self.may_begin)
             if request is None:
@@ -114,15 +117,21 @@ class Lane:
         except Ended as why:
             request.failed(Mistake(FAILED % why))
         except Exception as fault:  # pylint: disable=broad-except
-            request.failed(Mistake("it cannot be done: %s" % fault))
+            mistake = Mistake("it cannot be done: %s" % (str(fault) or type(fault).__name__))
+            mistake.__cause__ = fault
+            request.failed(mistake)
 
     def _ended(self, request: Request, task: "asyncio.Task[None]") -> None:
         """The task of a request has ended."""
-        del self.running[request]
-        self.cancelled.discard(request)
+        self._forget(request)
+        self.pump()
+
+    def _forget(self, request: Request) -> None:
+        """Nothing is done for a request any more."""
         request.failed(Mistake(CLOSED))
         request.release()
-        self.pump()
+        self.cancelled.discard(request)
+        self.running.pop(request, None)
 
     def cancel(self, request: Request) -> None:
         """Ends the task of a request, once: it waits for the end of its worker then."""

@@ -150,6 +150,7 @@ class Answering:
     async def _propose(self, member: Member, seat: int, request: Request) -> Answer:
         if sum(each.seat == seat for each in self.shared.proposals.open.values()) >= PROPOSALS:
             raise Mistake("%d proposals of yours are open: take one back by `decline`" % PROPOSALS)
+        self.shared.mend()
         with self.shared.guarded():
             made = self.shared.proposals.propose(seat, request["name"], list(map(bytes_of, request["lines"])))
         try:
@@ -163,6 +164,7 @@ class Answering:
         """Finds out what a proposal does to the network as it is, and shows that to all."""
         lines, edits = list(self.shared.run.lines), len(self.shared.ledger.history.edits)
         text = await self.pool.what_if(asker_of(member), lines, made.given)
+        self.shared.mend()
         with self.shared.guarded():
             still = self.shared.proposals.open.get(made.number)
             if still is not None:

@@ -136,12 +136,14 @@ class Handler(RequestHandler):
         """Answers a request in its turn, and says what is wrong with it."""
         try:
             await self._turn()
+            self.lab.hub.mend()
             await answer()
         except Denied as denied:
             self._deny(denied)
         except Busy as busy:
             self._json({"error": str(busy)}, 503)
         except Mistake as mistake:
+            self.lab.hub.faults.tell_cause("a request of a page", mistake)
             self._json({"error": str(mistake)}, 400)
         except (StreamClosedError, asyncio.TimeoutError):
             # Who asked has gone, or does not read.
@@ -294,7 +296,8 @@ class Handler(RequestHandler):
 
     async def _events(self) -> None:
         """What happens, until the page or the lab goes."""
-        page = self.opened = self.lab.open(self.role, self.query.get("as", ""), self.query.get("token"))
+        page = self.opened = self.lab.open(self.role, self.query.get("as", ""), self.query.get("token"),
+                                            self._stream.closed)
         self.set_header("Content-Type", "text/event-stream; charset=utf-8")
         self.set_header("Connection", "close")
         while True:
