@@ -21,7 +21,7 @@ from .programs import TOP
 
 CHILD = str(pathlib.Path(__file__).resolve().parent / "faulty_server.py")
 # An answer that does not come within so many seconds does not come.
-PATIENCE = 20.0
+PATIENCE = 10.0
 Message = Dict[str, Any]
 
 
@@ -37,7 +37,7 @@ class Outcome(NamedTuple):
     @property
     def error(self) -> Optional[str]:
         """The text of the error; nothing where it was answered as ever."""
-        return self.ended if self.answer is None else self.answer.get("error")
+        return self.ended or "the connection ended" if self.answer is None else self.answer.get("error")
 
 
 class Client:
@@ -156,7 +156,7 @@ class PageClient(Client):
         query = "as=%s" % name + ("&token=" + token if token else "")
         self.line.sendall(("GET /%s/events?%s HTTP/1.1\r\nHost: 127.0.0.1:%d\r\n\r\n" % (key, query, port)).encode())
         self.raw = b""
-        self.is_begun = False
+        self.is_begun = self.is_over = False
         page = self.hear()
         if page is None or page.get("event") != "page":
             raise Wrong("a page begins with %s" % page)
@@ -169,7 +169,7 @@ class PageClient(Client):
 
     def read(self, seconds: float) -> Optional[bytes]:
         """Lines of messages, taken from events in chunks."""
-        more = read_some(self.line, seconds)
+        more = b"" if self.is_over else read_some(self.line, seconds)
         if not more:
             return None
         self.raw += more
@@ -179,8 +179,11 @@ class PageClient(Client):
             self.is_begun = True
             self.raw = self.raw.partition(b"\r\n\r\n")[2]
         *lines, self.raw = self.raw.split(b"\n")
+        if b"0\r" in lines:
+            # The last chunk: the answer ends.
+            self.is_over = True
         found = b"".join(line[len(b"data: "):] + b"\n" for line in lines if line.startswith(b"data: "))
-        return found or self.read(seconds)
+        return found or (None if self.is_over else self.read(seconds))
 
     def post(self, content: bytes) -> Optional[Outcome]:
         found = fetched(self.port, self.key, "do?page=" + self.page, content)

@@ -17,7 +17,6 @@ try it again. PROGRAM= is another program than crates/bgpsim/out/bgpsim.
 """
 from __future__ import annotations
 
-import contextlib
 import os
 import time
 from typing import Any, Dict, Iterator, List, NamedTuple, Optional, Sequence, Tuple
@@ -26,8 +25,8 @@ from . import commands, programs
 from .fault_clients import Entry, Outcome, Wrong
 from .fault_words import GET, PAGE, SOCKET, WORDS, Scene, Word
 
-# A shortage that goes on lets so many lines fail; one that has brought no answer so long is over.
-SUSTAINED, SHORTAGE = 50, 0.5
+# A shortage that goes on lets so many lines fail.
+SUSTAINED = 50
 NEVER = 1 << 40
 
 
@@ -52,18 +51,12 @@ class Found(NamedTuple):
     wrong: str = ""
 
 
-def made(scene: Scene, word: Word, fields: Dict[str, Any], is_long: bool) -> Outcome:
-    """Makes a request: what becomes of it. A shortage that goes on is ended where nothing comes for a while."""
+def made(scene: Scene, word: Word, fields: Dict[str, Any]) -> Outcome:
+    """Makes a request: what becomes of it."""
     if word.run is not None:
         return word.run(scene, fields)
     number, known = scene.actor.send(word.do, **fields)
-    if known is not None:
-        return known
-    if is_long:
-        with contextlib.suppress(Wrong):
-            return scene.actor.outcome(number, SHORTAGE)
-        scene.server.command("disarm")
-    return scene.actor.outcome(number)
+    return known or scene.actor.outcome(number)
 
 
 def judged(scene: Scene, word: Word, outcome: Outcome, entries: List[Entry], calls: Optional[List[Any]]) -> str:
@@ -85,24 +78,24 @@ def judged(scene: Scene, word: Word, outcome: Outcome, entries: List[Entry], cal
     return ""
 
 
-def others(scene: Scene, step: int) -> str:
+def others(scene: Scene, step: int, is_long: bool) -> str:
     """What is wrong with what another one is answered and told."""
-    number, _ = scene.other.send("who")
-    found = scene.other.outcome(number)
+    found = scene.other.request("who")
+    events = scene.other.heard()
     if found.answer is None:
-        if not found.ended:
+        if not found.ended and not is_long:
             return "the connection of another one ends without a word"
-        scene.renew()
+        scene.renew_other()
         found = scene.other.request("who")
+        events.append({"event": "missed"})
     if found.error is not None or found.answer is None:
         return "another one is answered by %s" % (found,)
     count = len(scene.server.entries())
     if found.answer["calls"] != count:
         return "the log has %d calls, and another one is told that it has %d" % (count, found.answer["calls"])
-    events = scene.other.heard()
     told = [each["step"] for event in events if event["event"] == "changes" for each in event["changes"]]
     wanted = list(range(step + 1, found.answer["step"] + 1))
-    if told != wanted and not any(event["event"] == "missed" or "ended" in event.get("text", "") for event in events):
+    if told != wanted and not any(event["event"] == "missed" for event in events):
         return "another one is told of the steps %s, and made were %s" % (told, wanted)
     return ""
 
@@ -111,7 +104,7 @@ def same(scene: Scene, word: Word, fields: Dict[str, Any], outcome: Outcome) -> 
     """What is wrong where a request that changes nothing is answered otherwise when it is made again."""
     if outcome.error is not None:
         return ""
-    again = made(scene, word, fields, False)
+    again = made(scene, word, fields)
     before, after = ({name: value for name, value in (each or {}).items() if name not in ("id", "at")}
                      for each in (outcome.answer, again.answer))
     return "" if before == after else "it is answered by %s, and then by %s" % (str(before)[:300], str(after)[:300])
@@ -137,18 +130,20 @@ def tried(scene: Scene, one: Try) -> Found:
         scene.other.heard()
         scene.server.command("arm", at=one.at, times=one.times)
         try:
-            outcome = made(scene, word, fields, one.times > 1)
+            outcome = made(scene, word, fields)
         finally:
             told = scene.server.rest() if one.times == 1 else scene.server.command("count")
             found = Found(told["count"], told["fired"])
             scene.server.command("disarm")
         scene.server.rest()
         entries = scene.server.entries(start)
-        wrong = judged(scene, word, outcome, entries, calls) or others(scene, step)
-        scene.renew()
-        wrong = wrong or word.left(scene, outcome) or (same(scene, word, fields, outcome) if word.is_same else "")
-        scene.renew()
-        return found._replace(wrong=wrong or untold(scene, found.fired))
+        wrong = judged(scene, word, outcome, entries, calls) or others(scene, step, one.times > 1)
+        wrong = wrong or word.left(scene, outcome)
+        scene.renew_actor()
+        wrong = wrong or (same(scene, word, fields, outcome) if word.is_same else "")
+        scene.renew_actor()
+        scene.renew_other()
+        return found._replace(wrong=wrong or (untold(scene, found.fired) if one.times == 1 else ""))
     except Wrong as fault:
         return found._replace(wrong=str(fault))
 

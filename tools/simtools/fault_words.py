@@ -56,13 +56,16 @@ class Scene:
         self.number += 1
         return self.number
 
-    def renew(self) -> None:
-        """Whose connection ended connects again."""
-        for each in (self.actor, self.other):
-            each.drain()
+    def renew_actor(self) -> None:
+        """The actor connects again, where his connection ended."""
+        self.actor.drain()
         if self.actor.is_closed:
             self.actor.close()
             self.actor = self.client("actor", self.actor.token)
+
+    def renew_other(self) -> None:
+        """The other one connects again, where his connection ended."""
+        self.other.drain()
         if self.other.is_closed:
             self.other.close()
             token = self.other.token
@@ -230,7 +233,7 @@ def is_proposed(scene: Scene, outcome: Outcome) -> str:
 def can_enter(scene: Scene, outcome: Outcome) -> str:
     """Who was not let in enters by the same name; who was, by his token."""
     answer = outcome.answer or {}
-    if not outcome.error and "token" not in answer:
+    if outcome.error is None and "token" not in answer:
         return "no token is told"
     if outcome.answer is None:
         # It may be the answer that was lost, and the token with it.

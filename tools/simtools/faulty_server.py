@@ -39,6 +39,8 @@ FOLDERS = ("session", "web", "jobs")
 MODULES = ("shared", "calling", "delivering", "ledger", "notes", "record", "lasting", "recovery", "proposing",
            "proposals", "happening", "taking_up", "workers", "seats", "meter", "history", "names", "network", "run",
            "counted", "program", "settling", "kept_file", "telling", "replies", "language")
+# A shortage is over after so many seconds.
+SHORTAGE = 0.5
 # What begins so needs no memory: the line only leads on.
 PLAIN = re.compile(r"\s*(try:|except\b|finally:|else:|pass\b|continue\b|break\b|return$|raise$)")
 CALLS = ("write", "truncate", "sync", "spawn", "decode", "encode", "open", "read", "accept")
@@ -58,6 +60,7 @@ class Lines:
 
     def __init__(self) -> None:
         self.at = self.times = self.count = 0
+        self.over = 0.0
         self.fired: List[str] = []
         self.paths: Dict[str, bool] = {}
         self.plain: Dict[Tuple[str, int], bool] = {}
@@ -71,6 +74,7 @@ class Lines:
 
     def disarm(self) -> None:
         """No line raises any more, and none is counted."""
+        self.times = 0
         sys.setprofile(None)
         sys.settrace(None)
 
@@ -86,12 +90,18 @@ class Lines:
         """The trace function of the lines of a frame."""
         if event == "line" and not self.is_plain(frame.f_code.co_filename, frame.f_lineno):
             self.count += 1
-            if self.count >= self.at and len(self.fired) < self.times:
+            if self.count >= self.at and self.is_short():
                 code = frame.f_code
                 place = "%s:%d" % (code.co_filename[len(PACKAGE):], frame.f_lineno)
                 self.fired.append("%s in %s" % (place, code.co_name))
                 raise MemoryError
         return self.line
+
+    def is_short(self) -> bool:
+        """Whether memory is wanting still."""
+        if not self.fired:
+            self.over = time.monotonic() + SHORTAGE
+        return len(self.fired) < self.times and time.monotonic() <= self.over
 
     def is_plain(self, path: str, number: int) -> bool:
         """Whether a line needs no memory."""
@@ -102,7 +112,7 @@ class Lines:
 
     def profiled(self, frame: FrameType, _: str, __: Any) -> None:
         """Sets the trace function again: Python unsets one that raised."""
-        if sys.gettrace() is None and len(self.fired) < self.times:
+        if sys.gettrace() is None and self.is_short():
             sys.settrace(self.called)
             found: Optional[FrameType] = frame
             while found is not None:

@@ -7,7 +7,7 @@ from __future__ import annotations
 import contextlib
 import os
 import time
-from typing import Any, Awaitable, Callable, Dict, Iterator, Union
+from typing import Any, Awaitable, Callable, Dict, Iterator, Optional, Union
 
 from ..jobs import Asker, Pool
 from ..mistakes import Mistake
@@ -185,13 +185,15 @@ class Answering:
         if made.is_showing:
             raise Mistake("the network was edited since proposal %d was shown: it is being shown again" % made.number)
         made.is_showing = True
+        cause: Optional[BaseException] = None
         try:
             await self._show(member, made)
         except Mistake as mistake:
+            cause = mistake.__cause__
             self.shared.proposals.failed(made, mistake)
         finally:
             made.is_showing = False
-        raise Mistake("the network was edited since proposal %d was shown: it is shown again" % made.number)
+        raise Mistake("the network was edited since proposal %d was shown: it is shown again" % made.number) from cause
 
     def _decline(self, _: Member, seat: int, request: Request) -> Answer:
         return {"text": self.shared.proposals.decline(seat, self._numbered(request))}

@@ -48,8 +48,9 @@ class Hub:
         self.members: List[Member] = []
         self.pool = Pool(lambda: self.shared.run.lines)
         self.answering = Answering(shared, self.pool, self._quiet)
-        # Others than the members who hear what happens.
+        # Others than the members who hear what happens, and what else is done about every second.
         self.hearers: List[Callable[[Event], None]] = []
+        self.beaten: List[Callable[[], None]] = [self._count_here, self.pool.pump]
         self.answers: Deque[Tuple[Member, bytes]] = deque()
         self.tasks: "Set[asyncio.Task[None]]" = set()
         self.waiting: "List[asyncio.Future[Answer]]" = []
@@ -127,6 +128,7 @@ class Hub:
             self.shared.mend()
             self._sweep()
             self._serve_some()
+            self.shared.mend()
             self._work()
             self._spread()
             self._again()
@@ -142,11 +144,17 @@ class Hub:
     def _beat(self) -> None:
         """The system wakes the server from time to time: no fault of a turn keeps the next ones from coming."""
         self.is_awake = False
+        self.wake()
+        for each in self.beaten:
+            try:
+                each()
+            except Exception as fault:  # pylint: disable=broad-except
+                self.faults.tell("what is done every second", fault)
+
+    def _count_here(self) -> None:
         here = Counter(member.seat for member in self.members if member.seat is not None)
         if +self.shared.here != here:
             self.shared.here = here
-        self.pool.pump()
-        self.wake()
 
     def mend(self) -> None:
         """Recovers the network where that could not be done when an error came up. Mistake where it cannot be now."""
@@ -182,9 +190,12 @@ class Hub:
     def _serve(self, member: Member, now: float) -> None:
         """Serves the next request of one. Whatever goes wrong ends this request alone."""
         number: Any = None
+        # Where an error comes up here, nothing was done: the request is served by another turn, or he is let go.
+        member.owed += 1
+        line = member.take(now)
         try:
-            member.owed += 1
-            request = request_in(member.take(now))
+            self.shared.mend()
+            request = request_in(line)
             number = request.get("id")
             with self.shared.guarded():
                 answer = self.answering.answer(member, request)
