@@ -4,7 +4,7 @@
                                              server that are executed for it, and once for 50 lines in a row. Then files
                                              that cannot be written, programs that cannot be started, text that cannot
                                              be read, and more (faults of their own: `--list` has the words)
-    tools/fault-servers --all [WORD ..]      at each line
+    tools/fault-servers --all [WORD ..]      at each line; with --stride K in its place at each K-th
     tools/fault-servers --only WORD-WAY --at N [--times T]
                                              at the N-th line alone
 
@@ -25,8 +25,8 @@ from . import commands, programs
 from .fault_clients import Entry, Outcome, Wrong
 from .fault_words import GET, PAGE, SOCKET, WORDS, Scene, Word
 
-# A shortage that goes on lets so many lines fail.
-SUSTAINED = 50
+# A shortage that goes on lets so many lines fail; it is tried at so many lines fewer.
+SUSTAINED, RARER = 50, 20
 NEVER = 1 << 40
 
 
@@ -195,16 +195,16 @@ class Run:
             self.scene.server.close()
             self.scene = None
 
-    def word(self, name: str, way: str, offset: int, is_all: bool) -> None:
-        """Tries a request at some lines, or at each."""
+    def word(self, name: str, way: str, offset: int, stride: int) -> None:
+        """Tries a request at each so many lines, or at some where it is 0. Fewer shortages are tried: they take long."""
         began = time.monotonic()
         first = self.attempt(Try(name, way, NEVER))
-        most = first.count + (first.count // 4 if is_all else 0)
-        stride = 1 if is_all else max(1, first.count // WORDS[name].tries)
+        apart = stride or max(1, first.count // WORDS[name].tries)
         fired = 0
-        for at in range(1 + (0 if is_all else offset % stride), most + 1, stride):
+        for at in range(1 + offset % apart, first.count + 1, apart):
             fired += bool(self.attempt(Try(name, way, at)).fired)
-        for at in range(1 + offset % 7, most + 1, 1 if is_all else max(1, first.count // 2)):
+        apart = RARER * stride or max(1, first.count // 2)
+        for at in range(1 + offset % min(apart, 7), first.count + 1, apart):
             self.attempt(Try(name, way, at, SUSTAINED))
         self.end("%s by %s" % (name, way), "tools/fault-servers %s" % name)
         if os.environ.get("VERBOSE"):
@@ -219,12 +219,12 @@ def cases(names: Sequence[str]) -> Iterator[Tuple[str, str]]:
             yield name, way
 
 
-def try_all(names: Sequence[str], is_all: bool) -> int:
+def try_all(names: Sequence[str], stride: int) -> int:
     """Tries all requests of these names."""
     programs.bgpsim()
     run = Run()
     for offset, (name, way) in enumerate(cases(names)):
-        run.word(name, way, offset, is_all)
+        run.word(name, way, offset, stride)
     return commands.counted(run.passed, run.failed)
 
 
@@ -244,7 +244,8 @@ def main(words: Sequence[str]) -> int:
     """The command."""
     asked = commands.parser(__doc__)
     asked.add_argument("words", nargs="*", metavar="WORD")
-    asked.add_argument("--all", action="store_true")
+    asked.add_argument("--all", action="store_const", const=1, default=0, dest="stride")
+    asked.add_argument("--stride", type=commands.number, metavar="K")
     asked.add_argument("--list", action="store_true")
     asked.add_argument("--only", metavar="WORD-WAY")
     asked.add_argument("--at", type=commands.number, default=1, metavar="N")
@@ -260,4 +261,4 @@ def main(words: Sequence[str]) -> int:
         return 0
     if given.only:
         return commands.as_part(lambda: try_one(Try(*known[given.only], given.at, given.times)))
-    return commands.as_part(lambda: try_all(given.words or list(WORDS), given.all))
+    return commands.as_part(lambda: try_all(given.words or list(WORDS), given.stride))

@@ -2,6 +2,7 @@
 from __future__ import annotations
 
 import contextlib
+import time
 import urllib.parse
 from typing import Any, Callable, Dict, List, NamedTuple, Optional, Sequence, Tuple
 
@@ -18,6 +19,8 @@ origin 2.0.0.1 10.1.0.0/16
 """
 # The routers' seats: the script has 0, and two workers share the routers.
 WORKERS = (1, 2)
+# What a fault left behind is gone after so many seconds.
+HEALED = 5.0
 SOCKET, PAGE, GET = "socket", "page", "get"
 Call = Tuple[int, str]
 Fields = Dict[str, Any]
@@ -225,7 +228,11 @@ def is_proposed(scene: Scene, outcome: Outcome) -> str:
     found = scene.proposals()
     if outcome.error is None and len(found) != 1:
         return "the proposal is not open"
+    last = time.monotonic() + HEALED
     hidden = [each for each in found if not each["text"]]
+    while hidden and time.monotonic() < last:
+        time.sleep(0.1)
+        hidden = [each for each in scene.proposals() if not each["text"]]
     scene.declined()
     return "a proposal is open that was not shown" if hidden or len(found) > 1 else ""
 

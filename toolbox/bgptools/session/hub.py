@@ -50,7 +50,7 @@ class Hub:
         self.answering = Answering(shared, self.pool, self._quiet)
         # Others than the members who hear what happens, and what else is done about every second.
         self.hearers: List[Callable[[Event], None]] = []
-        self.beaten: List[Callable[[], None]] = [self._count_here, self.pool.pump]
+        self.beaten: List[Callable[[], None]] = [self._count_here, self._drop_hidden, self.pool.pump]
         self.answers: Deque[Tuple[Member, bytes]] = deque()
         self.tasks: "Set[asyncio.Task[None]]" = set()
         self.waiting: "List[asyncio.Future[Answer]]" = []
@@ -150,6 +150,12 @@ class Hub:
                 each()
             except Exception as fault:  # pylint: disable=broad-except
                 self.faults.tell("what is done every second", fault)
+
+    def _drop_hidden(self) -> None:
+        """Proposals go that nobody shows any more, for a fault."""
+        found = self.shared.proposals.open
+        for number in [number for number, made in found.items() if not made.text and not self.tasks]:
+            del found[number]
 
     def _count_here(self) -> None:
         here = Counter(member.seat for member in self.members if member.seat is not None)

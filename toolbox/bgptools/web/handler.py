@@ -73,6 +73,7 @@ class Handler(RequestHandler):
 
     def prepare(self) -> None:
         """Who asks is looked at before anything of a body is read."""
+        self.connections.begun[self._stream] = asyncio.current_task()
         try:
             self.role, self.path_in = self._role()
             self.connection = self.connections.prove(self._stream, self.role)
@@ -317,6 +318,7 @@ class Handler(RequestHandler):
 
     def _ended(self) -> None:
         """The request is over: its page goes, and its connection is idle."""
+        self.connections.begun.pop(self._stream, None)
         connection, self.connection = self.connection, None
         if connection is not None:
             self.connections.answered(connection)
