@@ -46,6 +46,13 @@ def answer_of(kind: int, content: bytes) -> bytes:
     return content
 
 
+def _impossible(fault: Exception) -> Mistake:
+    """What is told of a fault to who asked. The fault is its cause."""
+    made = Mistake("it cannot be done: %s" % (str(fault) or type(fault).__name__))
+    made.__cause__ = fault
+    return made
+
+
 class Lane:
     """Answers so many requests at once, each in a task."""
 
@@ -66,8 +73,8 @@ class Lane:
         except Mistake:
             request.release()
             raise
-        self.pump()
         try:
+            self.pump()
             return await request.answer
         finally:
             self._left(request)
@@ -81,9 +88,14 @@ class Lane:
             request = self.queue.take(self.may_begin)
             if request is None:
                 return
-            task = asyncio.get_running_loop().create_task(self._run(request))
-            self.running[request] = task
-            task.add_done_callback(functools.partial(self._ended, request))
+            try:
+                task = asyncio.get_running_loop().create_task(self._run(request))
+                self.running[request] = task
+                task.add_done_callback(functools.partial(self._ended, request))
+            except Exception as fault:
+                request.failed(_impossible(fault))
+                request.release()
+                raise
 
     def may_begin(self, request: Request) -> bool:
         """Whether a request that waits may begin."""
@@ -117,9 +129,7 @@ class Lane:
         except Ended as why:
             request.failed(Mistake(FAILED % why))
         except Exception as fault:  # pylint: disable=broad-except
-            mistake = Mistake("it cannot be done: %s" % (str(fault) or type(fault).__name__))
-            mistake.__cause__ = fault
-            request.failed(mistake)
+            request.failed(_impossible(fault))
 
     def _ended(self, request: Request, task: "asyncio.Task[None]") -> None:
         """The task of a request has ended."""
