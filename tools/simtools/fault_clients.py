@@ -21,7 +21,7 @@ from .programs import TOP
 
 CHILD = str(pathlib.Path(__file__).resolve().parent / "faulty_server.py")
 # An answer that does not come within so many seconds does not come.
-PATIENCE = 10.0
+PATIENCE = 15.0
 Message = Dict[str, Any]
 
 
@@ -246,19 +246,23 @@ def entries_in(text: str) -> List[Entry]:
 
 
 class Server:
-    """A server that runs, with a log in a folder of its own."""
+    """A server that runs, with a log in a folder of its own; or in that of one which has ended, whose log it takes up.
 
-    def __init__(self, tool: str, script: str, words: Sequence[str] = ()) -> None:
-        self.folder = tempfile.mkdtemp(prefix="faults-")
-        self.socket, self.log = os.path.join(self.folder, "s"), os.path.join(self.folder, "log")
+    The log of a `lab` that is not told where to keep it is beside the socket."""
+
+    def __init__(self, tool: str, script: str, words: Sequence[str] = (), before: Optional[Server] = None,
+                 is_kept: bool = True) -> None:
+        self.folder = before.folder if before else tempfile.mkdtemp(prefix="faults-")
+        self.socket = os.path.join(self.folder, "s")
+        self.log = os.path.join(self.folder, "log")
         pathlib.Path(self.folder, "script").write_text(script)
         self.errors_path = os.path.join(self.folder, "errors")
         given, self.commands = os.pipe()
         self.told, told = os.pipe()
         for each in (given, told):
             os.set_inheritable(each, True)
-        called = [sys.executable, "-B", CHILD, str(given), str(told), tool, *words, "--at", self.socket,
-                  "--log", self.log, os.path.join(self.folder, "script")]
+        called = [sys.executable, "-B", CHILD, str(given), str(told), tool, *words,
+                  *(["--at", self.socket, "--log", self.log] if is_kept else []), *([] if before else [os.path.join(self.folder, "script")])]
         with open(self.errors_path, "wb") as errors:
             self.process = subprocess.Popen(called, stdout=subprocess.PIPE, stderr=errors, pass_fds=(given, told),
                                             cwd=str(TOP), start_new_session=True)
@@ -275,6 +279,9 @@ class Server:
                 port, self.key, _ = self.port_key.split("/")
                 self.port = int(port)
             line = self.process.stdout.readline().decode()
+        if not is_kept:
+            self.socket = line.split(" ")[1]
+            self.log = self.socket + ".log"
 
     def command(self, do: str, **more: Any) -> Message:
         """Has the child do something: what it tells. Wrong where it has ended."""
@@ -317,12 +324,12 @@ class Server:
         """How many bytes the log has."""
         return os.path.getsize(self.log)
 
-    def child(self) -> int:
-        """The number of the process of the program."""
+    def child(self, word: str = "script") -> int:
+        """The number of the process of the program, or of a worker; 0 where there is none."""
         path = "/proc/%d/task/%d/children" % (self.process.pid, self.process.pid)
         for each in pathlib.Path(path).read_text().split():
             with contextlib.suppress(OSError):
-                if b"\0script\0" in pathlib.Path("/proc/%s/cmdline" % each).read_bytes():
+                if word.encode() + b"\0" in pathlib.Path("/proc/%s/cmdline" % each).read_bytes():
                     return int(each)
         return 0
 

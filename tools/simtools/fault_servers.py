@@ -28,6 +28,8 @@ from .fault_words import GET, PAGE, SOCKET, WORDS, Scene, Word
 # A shortage that goes on lets so many lines fail; it is tried at so many lines fewer.
 SUSTAINED, RARER = 50, 20
 NEVER = 1 << 40
+# Where so many kinds of faults were told, others are counted.
+KINDS = 100
 
 
 class Try(NamedTuple):
@@ -114,7 +116,7 @@ def untold(scene: Scene, fired: Sequence[str]) -> str:
     """What is wrong where a fault is not told on standard error."""
     told = scene.server.errors()
     place = fired[0].split(" in ")[0] if fired else ""
-    return "" if place in told or "other places" in told else "it is not told on standard error"
+    return "" if place in told or told.count("fault in ") >= KINDS else "it is not told on standard error"
 
 
 def tried(scene: Scene, one: Try) -> Found:
@@ -221,7 +223,7 @@ def cases(names: Sequence[str]) -> Iterator[Tuple[str, str]]:
 
 def try_all(names: Sequence[str], stride: int) -> int:
     """Tries all requests of these names."""
-    programs.bgpsim()
+    os.environ["PROGRAM"] = programs.bgpsim()
     run = Run()
     for offset, (name, way) in enumerate(cases(names)):
         run.word(name, way, offset, stride)
@@ -230,7 +232,7 @@ def try_all(names: Sequence[str], stride: int) -> int:
 
 def try_one(one: Try) -> int:
     """Makes one try."""
-    programs.bgpsim()
+    os.environ["PROGRAM"] = programs.bgpsim()
     run = Run()
     found = run.attempt(one)
     print("%d lines; failed: %s" % (found.count, ", ".join(found.fired) or "none"))

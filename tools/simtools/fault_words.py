@@ -29,9 +29,9 @@ Fields = Dict[str, Any]
 class Scene:
     """A server with two people: whose request the fault hits, and another one, who watches all that happens."""
 
-    def __init__(self, way: str, tool: str) -> None:
+    def __init__(self, way: str, tool: str, is_kept: bool = True) -> None:
         self.way = way
-        self.server = Server(tool, SCRIPT, ("--workers", "2"))
+        self.server = Server(tool, SCRIPT, ("--workers", "2"), is_kept=is_kept)
         try:
             self.number = 0
             self.is_origin = False
@@ -242,9 +242,9 @@ def can_enter(scene: Scene, outcome: Outcome) -> str:
     answer = outcome.answer or {}
     if outcome.error is None and "token" not in answer:
         return "no token is told"
-    if outcome.answer is None:
-        # It may be the answer that was lost, and the token with it.
-        return ""
+    if outcome.answer is None or "could not be made" in str(answer.get("error")):
+        # The answer was lost, and the token with it: who teaches frees the name.
+        free_name(scene)
     again = SocketClient(scene.server.socket)
     with contextlib.closing(again):
         found = again.request("enter", **{"as": "guest"}, **({"token": answer["token"]} if "token" in answer else {}))
@@ -303,9 +303,12 @@ def going(scene: Scene, _: Fields) -> Outcome:
 
 def has_gone(scene: Scene, outcome: Outcome) -> str:
     """He is not there any more."""
-    scene.server.rest()
-    here = {each["name"]: each["here"] for each in scene.other.ask("who")["people"]}
-    return "" if here["actor"] == 0 else "who has gone is told to be here"
+    last = time.monotonic() + HEALED
+    while time.monotonic() < last:
+        if {each["name"]: each["here"] for each in scene.other.ask("who")["people"]}["actor"] == 0:
+            return ""
+        time.sleep(0.05)
+    return "who has gone is told to be here"
 
 
 def got(scene: Scene, path: str) -> Outcome:

@@ -268,8 +268,13 @@ def main(words: List[str]) -> int:
     """Runs a tool as its launcher does."""
     sys.path.insert(0, str(TOP / "toolbox"))
     from bgptools import libraries, mistakes
+    from bgptools.jobs import confinement
     from bgptools.tools import run
     libraries.restart(words[2], [os.path.abspath(__file__), *words])
+    # It ends with who started it.
+    call = confinement.prctl()
+    if call is not None:
+        call(confinement.PR_SET_PDEATHSIG, signal.SIGKILL)
     commands = Commands(int(words[0]), int(words[1]))
     wrap(commands.calls)
     wrap_package(commands.calls)
