@@ -140,7 +140,7 @@ class Shared:
         self.happening.tell("people", "the name %s is free" % name)
 
     def leave(self, seat: int, why: str = "") -> None:
-        """Somebody goes: None, the seat that he has then."""
+        """Somebody goes."""
         self.happening.tell("people", "%s has gone%s" % (self.ledger.seats.name_of(seat), why and ": " + why))
         self.here[seat] -= 1
 

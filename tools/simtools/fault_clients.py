@@ -252,7 +252,7 @@ class Server:
 
     def __init__(self, tool: str, script: str, words: Sequence[str] = (), before: Optional[Server] = None,
                  is_kept: bool = True) -> None:
-        self.folder = before.folder if before else tempfile.mkdtemp(prefix="faults-")
+        self.folder: str = before.folder if before else tempfile.mkdtemp(prefix="faults-")
         self.socket = os.path.join(self.folder, "s")
         self.log = os.path.join(self.folder, "log")
         pathlib.Path(self.folder, "script").write_text(script)
@@ -275,8 +275,7 @@ class Server:
             if not line:
                 raise Wrong("the server does not start: " + self.errors())
             if line.startswith("lab: "):
-                _, _, self.port_key = line.strip().partition("127.0.0.1:")
-                port, self.key, _ = self.port_key.split("/")
+                port, self.key, _ = line.strip().partition("127.0.0.1:")[2].split("/")
                 self.port = int(port)
             line = self.process.stdout.readline().decode()
         if not is_kept:

@@ -1,19 +1,20 @@
 """Faults that come up in the servers `share` and `lab`, each injected in turn into each kind of request.
 
-    tools/fault-servers [WORD ..]            of all requests, or of these: memory is wanted at some of the lines of the
-                                             server that are executed for it, and once for 50 lines in a row. Then files
-                                             that cannot be written, programs that cannot be started, text that cannot
-                                             be read, and more (faults of their own: `--list` has the words)
-    tools/fault-servers --all [WORD ..]      at each line; with --stride K in its place at each K-th
+    tools/fault-servers [WORD ..]            into all, or into these (--list has the words). Of a request some of the
+                                             lines that the server executes for it raise MemoryError, each in a try of
+                                             its own, and 50 lines in a row. Then faults of other kinds: files that
+                                             cannot be written, programs that end or do not start, text that cannot be
+                                             read, used-up descriptors, people who do not read, a clock that jumps
+    tools/fault-servers --all [WORD ..]      each line raises; with --stride K in its place each K-th line
     tools/fault-servers --only WORD-WAY --at N [--times T]
-                                             at the N-th line alone
+                                             the N-th line alone, and those behind it
 
-Each time, who made the request gets an error or an answer as ever, or his connection ends; never a wrong answer. The
-others are answered. The log has what was answered, in order. The reason is told on standard error. The server goes on,
-unless its log or its socket failed; in the end `bgpsim replay` says that the log is one.
+Each time, who made the request gets an error or the right answer, or the connection ends. The others get theirs. The
+log has what was answered, in order, and nothing that was answered by `not done`. The reason stands on standard error.
+The server goes on, unless its log or its socket failed. In the end `bgpsim replay` says that the log is one.
 
 The last line is `N passed, M failed`. Each failure names the request, the line and its place in the code, and how to
-try it again. PROGRAM= is another program than crates/bgpsim/out/bgpsim.
+try it again. A part of the gate. PROGRAM= is another program than crates/bgpsim/out/bgpsim. VERBOSE=1 tells each word.
 """
 from __future__ import annotations
 
@@ -23,7 +24,8 @@ from typing import Any, Dict, Iterator, List, NamedTuple, Optional, Sequence, Tu
 
 from . import commands, programs
 from .fault_clients import Entry, Outcome, Wrong
-from .fault_words import GET, PAGE, SOCKET, WORDS, Scene, Word
+from .fault_scenarios import SCENARIOS
+from .fault_words import SOCKET, WORDS, Scene, Word
 
 # A shortage that goes on lets so many lines fail; it is tried at so many lines fewer.
 SUSTAINED, RARER = 50, 20
@@ -48,7 +50,7 @@ class Try(NamedTuple):
 
 class Found(NamedTuple):
     """What was seen: how many lines the request took, where lines failed, and what is wrong."""
-    count: int
+    lines: int
     fired: List[str]
     wrong: str = ""
 
@@ -179,10 +181,13 @@ class Run:
         """Makes a try, on a new server where the last one failed."""
         if self.scene is None:
             word = WORDS[one.word]
-            self.scene = Scene(one.way, word.tool or ("share" if one.way == SOCKET else "lab"))
+            try:
+                self.scene = Scene(one.way, word.tool or ("share" if one.way == SOCKET else "lab"))
+            except Wrong as wrong:
+                raise commands.Missing(str(wrong)) from None
         found = tried(self.scene, one)
         places = found.fired[0] if found.fired else "no line"
-        what = "%s by %s, line %d of %d (%s)" % (one.word, one.way, one.at, found.count, places)
+        what = "%s by %s, line %d of %d (%s)" % (one.word, one.way, one.at, found.lines, places)
         if found.fired or found.wrong:
             self.tell(what, found.wrong, one.again)
         if found.wrong:
@@ -201,16 +206,16 @@ class Run:
         """Tries a request at each so many lines, or at some where it is 0. Fewer shortages are tried: they take long."""
         began = time.monotonic()
         first = self.attempt(Try(name, way, NEVER))
-        apart = stride or max(1, first.count // WORDS[name].tries)
+        apart = stride or max(1, first.lines // WORDS[name].tries)
         fired = 0
-        for at in range(1 + offset % apart, first.count + 1, apart):
+        for at in range(1 + offset % apart, first.lines + 1, apart):
             fired += bool(self.attempt(Try(name, way, at)).fired)
-        apart = RARER * stride or max(1, first.count // 2)
-        for at in range(1 + offset % min(apart, 7), first.count + 1, apart):
+        apart = RARER * stride or max(1, first.lines // 2)
+        for at in range(1 + offset % min(apart, 7), first.lines + 1, apart):
             self.attempt(Try(name, way, at, SUSTAINED))
         self.end("%s by %s" % (name, way), "tools/fault-servers %s" % name)
         if os.environ.get("VERBOSE"):
-            print("%s by %s: %d lines, %d tries, %.1f s" % (name, way, first.count, fired, time.monotonic() - began),
+            print("%s by %s: %d lines, %d tries, %.1f s" % (name, way, first.lines, fired, time.monotonic() - began),
                   flush=True)
 
 
@@ -221,12 +226,23 @@ def cases(names: Sequence[str]) -> Iterator[Tuple[str, str]]:
             yield name, way
 
 
+def try_scenario(name: str) -> str:
+    """What is wrong with what became of a fault of another kind."""
+    try:
+        SCENARIOS[name]()
+    except Wrong as wrong:
+        return str(wrong)
+    return ""
+
+
 def try_all(names: Sequence[str], stride: int) -> int:
-    """Tries all requests of these names."""
+    """Tries all requests and faults of these names."""
     os.environ["PROGRAM"] = programs.bgpsim()
     run = Run()
-    for offset, (name, way) in enumerate(cases(names)):
+    for offset, (name, way) in enumerate(cases([name for name in names if name in WORDS])):
         run.word(name, way, offset, stride)
+    for name in [name for name in names if name in SCENARIOS]:
+        run.tell(name, try_scenario(name), "tools/fault-servers " + name)
     return commands.counted(run.passed, run.failed)
 
 
@@ -235,7 +251,7 @@ def try_one(one: Try) -> int:
     os.environ["PROGRAM"] = programs.bgpsim()
     run = Run()
     found = run.attempt(one)
-    print("%d lines; failed: %s" % (found.count, ", ".join(found.fired) or "none"))
+    print("%d lines; failed: %s" % (found.lines, ", ".join(found.fired) or "none"))
     if run.scene is not None:
         print(run.scene.server.errors(), end="")
     run.end("%s by %s" % (one.word, one.way), one.again)
@@ -254,13 +270,13 @@ def main(words: Sequence[str]) -> int:
     asked.add_argument("--times", type=commands.number, default=1, metavar="T")
     given = asked.parse_args(words)
     known = {"%s-%s" % case: case for case in cases(list(WORDS))}
-    unknown = [word for word in given.words if word not in WORDS] + \
+    unknown = [word for word in given.words if word not in WORDS and word not in SCENARIOS] + \
         [word for word in [given.only] if word is not None and word not in known]
     if unknown:
         asked.error("`%s` is no request: --list has them" % unknown[0])
     if given.list:
-        print("\n".join(known))
+        print("\n".join([*known, *SCENARIOS]))
         return 0
     if given.only:
         return commands.as_part(lambda: try_one(Try(*known[given.only], given.at, given.times)))
-    return commands.as_part(lambda: try_all(given.words or list(WORDS), given.stride))
+    return commands.as_part(lambda: try_all(given.words or [*WORDS, *SCENARIOS], given.stride))

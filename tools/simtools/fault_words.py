@@ -204,6 +204,11 @@ def has_verdict(_: Scene, answer: Fields, __: List[Entry]) -> str:
     return "" if answer["verdict"] == "ok %d" % answer["calls"] else "another verdict is expected"
 
 
+def counts(scene: Scene, answer: Fields, _: List[Entry]) -> str:
+    """The calls that are told are those of the log."""
+    return "" if answer["calls"] == len(scene.server.entries()) else "the log has another number of calls"
+
+
 def undone(scene: Scene, fields: Fields) -> List[Call]:
     """The call that takes back the last edit: the metric that was set before."""
     lines = [each.line for each in scene.server.entries() if each.line.startswith("metric 1.0.0.1 2.0.0.1 ")]
@@ -349,7 +354,7 @@ WORDS: Dict[str, Word] = {
     "waiting": Word("waiting", prepare=waiting, is_same=True),
     "next": Word("next", prepare=waiting, calls=None, wrong=delivered, tries=20),
     "watch": Word("watch", lambda _: {"what": "all"}, is_same=True, tries=6),
-    "who": Word("who", is_same=True),
+    "who": Word("who", wrong=counts),
     "blame": Word("blame", lambda _: {"router": "1.0.0.1"}, is_same=True),
     "undo": Word("undo", prepare=edited, calls=undone, tries=20),
     "pause": Word("pause", tries=6),

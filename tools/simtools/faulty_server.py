@@ -30,7 +30,7 @@ import subprocess
 import sys
 import time
 from types import FrameType
-from typing import Any, Callable, Dict, List, Optional, Tuple
+from typing import Any, BinaryIO, Callable, Dict, List, Optional, Tuple, cast
 
 TOP = pathlib.Path(__file__).resolve().parent.parent.parent
 PACKAGE = str(TOP / "toolbox" / "bgptools") + os.sep
@@ -207,14 +207,12 @@ def wrap(calls: Calls) -> None:
 def wrap_package(calls: Calls) -> None:
     """Wraps what the package has under names of its own."""
     from bgptools import notes, record
-    from bgptools.session import messages, requests
     kept = record.write_all
 
     def write_all(file: Any, content: bytes, size: int, path: str) -> None:
-        kept(FailingFile(file, path, calls), content, size, path)
+        kept(cast(BinaryIO, FailingFile(file, path, calls)), content, size, path)
     setattr(record, "write_all", write_all)
     setattr(notes, "write_all", write_all)
-    assert messages.json is json and requests.json is json
     begin = subprocess.Popen.__init__
 
     def started(self: Any, words: Any, *given: Any, **more: Any) -> None:

@@ -384,7 +384,8 @@ class Hub:
             self.shared.mend()
             with self.shared.guarded():
                 if member.seat is not None:
-                    member.seat = self.shared.leave(member.seat, member.why)
+                    self.shared.leave(member.seat, member.why)
+                    member.seat = None
             if member in self.members:
                 self.members.remove(member)
         except Unkept as fault:
