@@ -177,6 +177,8 @@ class PageClient(Client):
             if b"\r\n\r\n" not in self.raw:
                 return self.read(seconds)
             self.is_begun = True
+            # An error is no stream of events.
+            self.is_over = b" 200 " not in self.raw.partition(b"\r\n")[0]
             self.raw = self.raw.partition(b"\r\n\r\n")[2]
         *lines, self.raw = self.raw.split(b"\n")
         if b"0\r" in lines:
