@@ -87,8 +87,9 @@ class Lab:
         """Has a request of a page served; whether it was taken."""
         if len(page.lines) >= AHEAD:
             return False
-        page.lines.append(body.replace(b"\n", b" "))
+        # Where the first of these fails nothing is done.
         self.hub.wake()
+        page.lines.append(body.replace(b"\n", b" "))
         return True
 
     # What is shown to those who look
