@@ -2,6 +2,7 @@
 from __future__ import annotations
 
 import contextlib
+import functools
 import http.client
 import json
 import os
@@ -45,6 +46,8 @@ class Client:
 
     def __init__(self) -> None:
         self.events: List[Message] = []
+        # Answers that nobody waited for, by the number of the request.
+        self.late: Dict[Any, Message] = {}
         self.number = 0
         self.seat = -1
         self.token = ""
@@ -114,6 +117,8 @@ class Client:
                 message = self.hear(0)
                 self.is_closed = message is None
                 self.events += [message] if message and "event" in message else []
+                if message and "event" not in message:
+                    self.late[message.get("id")] = message
 
     def heard(self) -> List[Message]:
         """The events since this was asked the last time."""
@@ -247,6 +252,12 @@ def entries_in(text: str) -> List[Entry]:
     return found
 
 
+@functools.lru_cache(maxsize=None)
+def _compiled() -> "tempfile.TemporaryDirectory[str]":
+    """A folder for what Python compiles, so that servers begin soon. It goes when this process ends."""
+    return tempfile.TemporaryDirectory(prefix="faults-compiled-")
+
+
 class Server:
     """A server that runs, with a log in a folder of its own; or in that of one which has ended, whose log it takes up.
 
@@ -263,11 +274,12 @@ class Server:
         self.told, told = os.pipe()
         for each in (given, told):
             os.set_inheritable(each, True)
-        called = [sys.executable, "-B", CHILD, str(given), str(told), tool, *words,
+        called = [sys.executable, CHILD, str(given), str(told), tool, *words,
                   *(["--at", self.socket, "--log", self.log] if is_kept else []), *([] if before else [os.path.join(self.folder, "script")])]
         with open(self.errors_path, "wb") as errors:
             self.process = subprocess.Popen(called, stdout=subprocess.PIPE, stderr=errors, pass_fds=(given, told),
-                                            cwd=str(TOP), start_new_session=True)
+                                            cwd=str(TOP), start_new_session=True,
+                                            env={**os.environ, "PYTHONPYCACHEPREFIX": _compiled().name})
         os.close(given)
         os.close(told)
         self.port, self.key = 0, ""

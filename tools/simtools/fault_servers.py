@@ -60,7 +60,12 @@ def made(scene: Scene, word: Word, fields: Dict[str, Any]) -> Outcome:
     if word.run is not None:
         return word.run(scene, fields)
     number, known = scene.actor.send(word.do, **fields)
-    return known or scene.actor.outcome(number)
+    if known is None:
+        return scene.actor.outcome(number)
+    # An error by HTTP: the request may have been taken before, and then it is answered all the same.
+    scene.server.rest()
+    scene.actor.drain()
+    return Outcome(scene.actor.late.pop(number)) if number in scene.actor.late else known
 
 
 def judged(scene: Scene, word: Word, outcome: Outcome, entries: List[Entry], calls: Optional[List[Any]]) -> str:
