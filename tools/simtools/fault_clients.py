@@ -275,7 +275,8 @@ class Server:
         for each in (given, told):
             os.set_inheritable(each, True)
         called = [sys.executable, CHILD, str(given), str(told), tool, *words,
-                  *(["--at", self.socket, "--log", self.log] if is_kept else []), *([] if before else [os.path.join(self.folder, "script")])]
+                  *(["--at", self.socket, "--log", self.log] if is_kept else []),
+                  *([] if before else [os.path.join(self.folder, "script")])]
         with open(self.errors_path, "wb") as errors:
             self.process = subprocess.Popen(called, stdout=subprocess.PIPE, stderr=errors, pass_fds=(given, told),
                                             cwd=str(TOP), start_new_session=True,

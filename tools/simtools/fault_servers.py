@@ -31,7 +31,7 @@ from .fault_words import SOCKET, WORDS, Scene, Word
 SUSTAINED, RARER = 50, 20
 NEVER = 1 << 40
 # Where so many kinds of faults were told, others are counted.
-KINDS = 100
+KINDS, FEW_KINDS = 100, 60
 
 
 class Try(NamedTuple):
@@ -169,11 +169,13 @@ def ended_well(scene: Scene) -> str:
 
 
 class Run:
-    """Tries requests, each on a server that goes on from try to try; one that failed is replaced."""
+    """Tries requests on a server that goes on from try to try, while few kinds of faults were told; one that failed is
+    replaced."""
 
     def __init__(self) -> None:
         self.passed = self.failed = 0
         self.scene: Optional[Scene] = None
+        self.kind = ("", "")
 
     def tell(self, what: str, wrong: str, again: str) -> None:
         """Counts a try, and tells it where it failed."""
@@ -210,6 +212,12 @@ class Run:
     def word(self, name: str, way: str, offset: int, stride: int) -> None:
         """Tries a request at each so many lines, or at some where it is 0. Fewer shortages are tried: they take long."""
         began = time.monotonic()
+        kind = (way, WORDS[name].tool)
+        if kind != self.kind:
+            self.end("before %s by %s" % (name, way), "tools/fault-servers")
+        self.kind = kind
+        if self.scene is not None:
+            self.scene.begin_again()
         first = self.attempt(Try(name, way, NEVER))
         apart = stride or max(1, first.lines // WORDS[name].tries)
         fired = 0
@@ -218,7 +226,8 @@ class Run:
         apart = RARER * stride or max(1, first.lines // 2)
         for at in range(1 + offset % min(apart, 7), first.lines + 1, apart):
             self.attempt(Try(name, way, at, SUSTAINED))
-        self.end("%s by %s" % (name, way), "tools/fault-servers %s" % name)
+        if self.scene is not None and self.scene.server.errors().count("fault in ") >= FEW_KINDS:
+            self.end("%s by %s" % (name, way), "tools/fault-servers %s" % name)
         if os.environ.get("VERBOSE"):
             print("%s by %s: %d lines, %d tries, %.1f s" % (name, way, first.lines, fired, time.monotonic() - began),
                   flush=True)
@@ -244,8 +253,10 @@ def try_all(names: Sequence[str], stride: int) -> int:
     """Tries all requests and faults of these names."""
     os.environ["PROGRAM"] = programs.bgpsim()
     run = Run()
-    for offset, (name, way) in enumerate(cases([name for name in names if name in WORDS])):
+    found = sorted(cases([name for name in names if name in WORDS]), key=lambda case: case[1])
+    for offset, (name, way) in enumerate(found):
         run.word(name, way, offset, stride)
+    run.end("the last one", "tools/fault-servers")
     for name in [name for name in names if name in SCENARIOS]:
         run.tell(name, try_scenario(name), "tools/fault-servers " + name)
     return commands.counted(run.passed, run.failed)

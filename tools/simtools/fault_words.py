@@ -76,6 +76,14 @@ class Scene:
             self.other.enter("other", token)
             self.other.ask("watch", what="all")
 
+    def begin_again(self) -> None:
+        """All is as it was before the first request: workers pause, nothing waits, and no proposal is open."""
+        self.renew_actor()
+        self.renew_other()
+        self.other.ask("pause")
+        self.quiet()
+        self.declined()
+
     def toggle(self) -> str:
         """An edit that puts messages into queues."""
         self.is_origin = not self.is_origin
