@@ -130,6 +130,8 @@ class Lane:
             request.failed(Mistake(FAILED % why))
         except Exception as fault:  # pylint: disable=broad-except
             request.failed(_impossible(fault))
+            # Whoever asked may have gone: the loop's handler tells it.
+            asyncio.get_running_loop().call_exception_handler({"message": "a worker process", "exception": fault})
 
     def _ended(self, request: Request, task: "asyncio.Task[None]") -> None:
         """The task of a request has ended."""

@@ -43,12 +43,12 @@ class SocketMember(asyncio.Protocol, Member):
             raise
 
     def data_received(self, data: bytes) -> None:
-        if self.is_gone:
-            return
-        if not self.is_made:
-            # The event loop closes it for that.
-            raise ConnectionError("a connection was not made, for a fault of the server")
         try:
+            if self.is_gone:
+                return
+            if not self.is_made:
+                # The event loop closes it for that.
+                raise ConnectionError("a connection was not made, for a fault of the server")
             self._received(data)
             self.wake()
         except Exception:  # pylint: disable=broad-except
