@@ -12,7 +12,7 @@ from .language import words_of
 from .meter import Meter
 from .mistakes import Mistake
 from .network import Network
-from .notes import Note, Notes
+from .notes import LATEST, Note, Notes
 from .provenance import Provenance
 from .record import Entry, Log
 from .replies import refusal
@@ -103,7 +103,8 @@ class Ledger:
 
         Notes come first: those of entries that are not there are left out when the log is taken up."""
         kept = self._in_log(entries)
-        now = self.at = self.clock()
+        # A clock may stand anywhere; what is noted has to be taken up again.
+        now = self.at = min(max(0.0, self.clock()), LATEST)
         more = {name: value for name, value in (("by", by), ("undoes", undoes or None)) if value is not None}
         self.notes.add([{"entry": number, "at": now, **more} for number, entry in enumerate(kept, self.log.count + 1)
                         if entry.reply == ["ok"]])

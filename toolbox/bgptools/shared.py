@@ -71,6 +71,8 @@ class Shared:
         self.ledger = Ledger(log, Notes(path), self.program.network, self.happening, most_log, clock)
         self.calling = Calling(self.program, self.ledger)
         self.here: "Counter[int]" = Counter()
+        # What is kept while a request is made: where it stays, an error came up that was not recovered from.
+        self.unfinished: Optional[Kept] = None
         # The seat that somebody enters for the first time just now, whose token he has not yet.
         self.entering: Optional[int] = None
         try:
@@ -193,37 +195,55 @@ class Shared:
         """While a request may change something. After an error that is no Mistake the network is recovered from its
         log, and Interrupted raised: a Mistake that says what of the request stands there.
 
-        Raises Unkept where it cannot be recovered."""
+        Raises Unkept where it cannot be recovered. An error may come up in the midst of all that, too: then `mend`
+        recovers before the next request."""
         try:
-            kept = self._kept()
+            kept, before = self._kept(), self.unfinished
             self.entering = None
+            self.unfinished = kept
         except Exception as error:  # pylint: disable=broad-except
             calls, steps = self.log.count, self.ledger.step
             raise Interrupted(error, Recovered(calls, calls, steps, steps, [])) from error
         try:
             yield
         except Mistake:
+            # Another one stands there where a part of the request was not recovered from.
+            self.unfinished = before if self.unfinished is kept else self.unfinished
             raise
         except Exception as error:  # pylint: disable=broad-except
             # What its calls held may be the memory that is wanting.
             traceback.clear_frames(error.__traceback__)
             raise Interrupted(error, self.recover(described(error), kept)) from error
+        self.unfinished = before if self.unfinished is kept else self.unfinished
+
+    def mend(self) -> None:
+        """Recovers from an error, where that could not be done when it came up. Only while no request is made. Mistake
+        where it cannot be done now, either; Unkept where it never can."""
+        if self.unfinished is not None:
+            self.recover("an error of the server", self.unfinished)
 
     def recover(self, reason: str, kept: Optional[Kept] = None) -> Recovered:
         """Makes all anew from what stands in the log and its notes, as after a start, whatever state it is in. Who is
         here, proposals, and what the workers do are as they were when it was `kept`; now where that is not given.
 
-        `reason` is told to all. How many calls the log had, and has. Raises Unkept where it cannot be done."""
+        `reason` is told to all. How many calls the log had, and has. Raises Unkept where it cannot be done. Where only
+        memory is wanting, a Mistake is raised, and `mend` tries again."""
         broken = self._broken(None if kept is None else self.entering)
         kept = kept or self._kept()
+        self.unfinished = kept
         fault: BaseException = Unkept("no try was made")
         for pause in PAUSES:
             time.sleep(pause)
             try:
                 gc.collect()
-                return self._recover("an error came up (%s)" % reason, kept, broken)
+                found = self._recover("an error came up (%s)" % reason, kept, broken)
+                self.unfinished = None
+                return found
             except Exception as error:  # pylint: disable=broad-except
                 fault = error
+        if isinstance(fault, MemoryError):
+            raise Mistake("an error came up (%s), and memory is wanting to make the network anew from its log: look at "
+                          "it in a moment, and ask again" % reason) from fault
         told = "an error came up (%s), and the network cannot be made anew from its log: %s"
         raise Unkept(told % (reason, described(fault)))
 

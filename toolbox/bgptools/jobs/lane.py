@@ -47,6 +47,13 @@ def answer_of(kind: int, content: bytes) -> bytes:
     return content
 
 
+def _impossible(fault: Exception) -> Mistake:
+    """What is told of a fault to who asked. The fault is its cause."""
+    made = Mistake("it cannot be done: %s" % (str(fault) or type(fault).__name__))
+    made.__cause__ = fault
+    return made
+
+
 class Lane:
     """Answers so many requests at once, each in a task."""
 
@@ -67,21 +74,29 @@ class Lane:
         except Mistake:
             request.release()
             raise
-        self.pump()
         try:
+            self.pump()
             return await request.answer
         finally:
             self._left(request)
 
     def pump(self) -> None:
         """Begins what may begin."""
+        for ended in [request for request, task in self.running.items() if task.done()]:
+            # A fault kept it from being taken away.
+            self._forget(ended)
         while not self.is_closed and len(self.running) < self.places:
             request = self.queue.take(self.may_begin)
             if request is None:
                 return
-            task = asyncio.get_running_loop().create_task(self._run(request))
-            self.running[request] = task
-            task.add_done_callback(functools.partial(self._ended, request))
+            try:
+                task = asyncio.get_running_loop().create_task(self._run(request))
+                self.running[request] = task
+                task.add_done_callback(functools.partial(self._ended, request))
+            except Exception as fault:
+                request.failed(_impossible(fault))
+                request.release()
+                raise
 
     def may_begin(self, request: Request) -> bool:
         """Whether a request that waits may begin."""
@@ -115,7 +130,9 @@ class Lane:
         except Ended as why:
             request.failed(Mistake(FAILED % why))
         except Exception as fault:  # pylint: disable=broad-except
-            request.failed(Mistake("it cannot be done: %s" % fault))
+            request.failed(_impossible(fault))
+            # Whoever asked may have gone: the loop's handler tells it.
+            asyncio.get_running_loop().call_exception_handler({"message": "a worker process", "exception": fault})
         self.share(request)
 
     def share(self, request: Request) -> None:
@@ -123,11 +140,15 @@ class Lane:
 
     def _ended(self, request: Request, task: "asyncio.Task[None]") -> None:
         """The task of a request has ended."""
-        del self.running[request]
-        self.cancelled.discard(request)
+        self._forget(request)
+        self.pump()
+
+    def _forget(self, request: Request) -> None:
+        """Nothing is done for a request any more."""
         request.failed(Mistake(CLOSED))
         request.release()
-        self.pump()
+        self.cancelled.discard(request)
+        self.running.pop(request, None)
 
     def cancel(self, request: Request) -> None:
         """Ends the task of a request, once: it waits for the end of its worker then."""

@@ -100,6 +100,11 @@ class Pool:
         request.file = file
         return (await self.long.ask(request)).decode("utf-8")
 
+    def pump(self) -> None:
+        """Begins what may begin, where a fault kept it from that."""
+        for lane in (self.work, self.look, self.long):
+            lane.pump()
+
     async def close(self) -> None:
         """Ends all workers with every process that they started, and waits for that. Requests that wait end with a
         Mistake, and so do later ones."""

@@ -7,7 +7,7 @@ from __future__ import annotations
 import contextlib
 import os
 import time
-from typing import Any, Awaitable, Callable, Dict, Iterator, Union
+from typing import Any, Awaitable, Callable, Dict, Iterator, Optional, Union
 
 from ..jobs import Asker, Pool
 from ..mistakes import Mistake
@@ -150,6 +150,7 @@ class Answering:
     async def _propose(self, member: Member, seat: int, request: Request) -> Answer:
         if sum(each.seat == seat for each in self.shared.proposals.open.values()) >= PROPOSALS:
             raise Mistake("%d proposals of yours are open: take one back by `decline`" % PROPOSALS)
+        self.shared.mend()
         with self.shared.guarded():
             made = self.shared.proposals.propose(seat, request["name"], list(map(bytes_of, request["lines"])))
         try:
@@ -163,6 +164,7 @@ class Answering:
         """Finds out what a proposal does to the network as it is, and shows that to all."""
         lines, edits = list(self.shared.run.lines), len(self.shared.ledger.history.edits)
         text = await self.pool.what_if(asker_of(member), lines, made.given)
+        self.shared.mend()
         with self.shared.guarded():
             still = self.shared.proposals.open.get(made.number)
             if still is not None:
@@ -183,13 +185,15 @@ class Answering:
         if made.is_showing:
             raise Mistake("the network was edited since proposal %d was shown: it is being shown again" % made.number)
         made.is_showing = True
+        cause: Optional[BaseException] = None
         try:
             await self._show(member, made)
         except Mistake as mistake:
+            cause = mistake.__cause__
             self.shared.proposals.failed(made, mistake)
         finally:
             made.is_showing = False
-        raise Mistake("the network was edited since proposal %d was shown: it is shown again" % made.number)
+        raise Mistake("the network was edited since proposal %d was shown: it is shown again" % made.number) from cause
 
     def _decline(self, _: Member, seat: int, request: Request) -> Answer:
         return {"text": self.shared.proposals.decline(seat, self._numbered(request))}

@@ -1,11 +1,14 @@
 """What went wrong inside the server, told on standard error: each kind once in a while, in one line."""
 from __future__ import annotations
 
+import contextlib
 import os
 import sys
 import time
 import traceback
 from typing import Any, Callable, Dict, Tuple
+
+from ..mistakes import Mistake
 
 # The same kind of fault is told once in so many seconds, and so many kinds are kept apart.
 QUIET_SECONDS, MOST_KINDS = 60.0, 100
@@ -29,7 +32,18 @@ class Faults:
         self.untold: Dict[Kind, int] = {}
 
     def tell(self, where: str, fault: BaseException) -> None:
-        """Tells that a fault came up in something, and at which line of the code."""
+        """Tells that a fault came up in something, and at which line of the code. Raises nothing: it may be memory that
+        is wanting."""
+        with contextlib.suppress(Exception):
+            self._tell(where, fault)
+
+    def tell_cause(self, where: str, mistake: Mistake) -> None:
+        """Tells the fault for which a request was not done, if it was one: a mistake alone is of who made it."""
+        cause = mistake.__cause__
+        if cause is not None and not isinstance(cause, Mistake):
+            self.tell(where, cause)
+
+    def _tell(self, where: str, fault: BaseException) -> None:
         kind = (where, type(fault).__name__, place_of(fault))
         now = self.clock()
         if kind not in self.told and len(self.told) >= MOST_KINDS:
@@ -43,10 +57,13 @@ class Faults:
                                             more and " (and %d more like it)" % more or ""))
 
     def of_loop(self, _: Any, context: Dict[str, Any]) -> None:
-        """Tells what the event loop has caught: its handler of exceptions."""
-        fault = context.get("exception")
-        where = str(context.get("message", "the event loop"))[:200]
-        self.tell("the event loop (%s)" % where, fault if isinstance(fault, BaseException) else RuntimeError(where))
+        """Tells what the event loop has caught: its handler of exceptions. Raises nothing, which would end the loop."""
+        try:
+            fault = context.get("exception")
+            where = str(context.get("message", "the event loop"))[:200]
+            self.tell("the event loop (%s)" % where, fault if isinstance(fault, BaseException) else RuntimeError(where))
+        except Exception:  # pylint: disable=broad-except
+            pass
 
 
 def described(fault: BaseException) -> str:

@@ -6,10 +6,12 @@ from __future__ import annotations
 
 import asyncio
 import contextlib
+import logging
 import signal
 import socket
 import time
-from typing import Any, Awaitable, Callable, List, Optional, Set, Tuple, Union
+from collections import Counter, deque
+from typing import Any, Awaitable, Callable, Deque, List, Optional, Set, Tuple, Union
 
 from ..happening import Event
 from ..jobs import Pool
@@ -32,6 +34,10 @@ REST = 0.1
 AGAIN = 1.0
 # What is to be sent at the end has so many seconds.
 FAREWELL = 0.1
+# So often the system wakes the server, whatever went wrong in a turn, in seconds.
+BEAT = 1.0
+UNKNOWN = "look at the network before you ask again"
+LOST = "a request could not be answered, for a fault of the server: " + UNKNOWN
 
 
 class Hub:
@@ -42,12 +48,13 @@ class Hub:
         self.members: List[Member] = []
         self.pool = Pool(lambda: self.shared.run.lines)
         self.answering = Answering(shared, self.pool, self._quiet)
-        # Others than the members who hear what happens.
+        # Others than the members who hear what happens, and what else is done about every second.
         self.hearers: List[Callable[[Event], None]] = []
-        self.answers: List[Tuple[Member, bytes]] = []
+        self.beaten: List[Callable[[], None]] = [self._count_here, self._drop_hidden, self.pool.pump]
+        self.answers: Deque[Tuple[Member, bytes]] = deque()
         self.tasks: "Set[asyncio.Task[None]]" = set()
         self.waiting: "List[asyncio.Future[Answer]]" = []
-        self.is_awake = self.is_closing = False
+        self.is_awake = self.is_closing = self.is_spreading = False
         self.timer: Optional[asyncio.TimerHandle] = None
         self.ending: "Optional[asyncio.Future[int]]" = None
 
@@ -56,16 +63,23 @@ class Hub:
         ended it."""
         loop = asyncio.get_running_loop()
         loop.set_exception_handler(self.faults.of_loop)
+        # The handler tells all. What a logger cannot write would end the loop.
+        logger = logging.getLogger("asyncio")
+        logger.addHandler(logging.NullHandler())
+        logger.propagate = False
         self.ending = loop.create_future()
         for number in (signal.SIGINT, signal.SIGTERM, signal.SIGHUP):
             if number == signal.SIGINT or signal.getsignal(number) != signal.SIG_IGN:
                 loop.add_signal_handler(number, self.end, number)
         server = await loop.create_unix_server(self._member, sock=at)
         try:
+            loop.add_signal_handler(signal.SIGALRM, self._beat)
+            signal.setitimer(signal.ITIMER_REAL, BEAT, BEAT)
             await ready()
             self.wake()
             return await self.ending
         finally:
+            signal.setitimer(signal.ITIMER_REAL, 0)
             await self._close(server)
 
     def end(self, how: Union[int, BaseException]) -> None:
@@ -77,7 +91,11 @@ class Hub:
                 self.ending.set_result(how)
 
     def _member(self) -> SocketMember:
-        return SocketMember(self.members.append, self.gone, self.wake)
+        try:
+            return SocketMember(self.members.append, self.gone, self.wake)
+        except Exception as fault:
+            self.faults.tell("a connection", fault)
+            raise
 
     async def _close(self, server: asyncio.AbstractServer) -> None:
         """Ends everything. What goes wrong here hides nothing of why it ended."""
@@ -101,21 +119,66 @@ class Hub:
     def wake(self) -> None:
         """A turn is due."""
         if not self.is_awake and not self.is_closing:
-            self.is_awake = True
             asyncio.get_running_loop().call_soon(self._turn)
+            self.is_awake = True
 
     def _turn(self) -> None:
-        self.is_awake = False
         try:
+            self.is_awake = False
+            self.shared.mend()
+            self._sweep()
             self._serve_some()
+            self.shared.mend()
             self._work()
             self._spread()
             self._again()
         except Unkept as fault:
             self.end(fault)
+        except Mistake as mistake:
+            self.faults.tell_cause("a turn", mistake)
+            self._wake_after(REST)
         except Exception as fault:  # pylint: disable=broad-except
             self.faults.tell("a turn", fault)
             self._wake_after(REST)
+
+    def _beat(self) -> None:
+        """The system wakes the server from time to time: no fault of a turn keeps the next ones from coming."""
+        self.is_awake = False
+        self.wake()
+        for each in self.beaten:
+            try:
+                each()
+            except Exception as fault:  # pylint: disable=broad-except
+                self.faults.tell("what is done every second", fault)
+
+    def _drop_hidden(self) -> None:
+        """Proposals go that nobody shows any more, for a fault."""
+        found = self.shared.proposals.open
+        for number in [number for number, made in found.items() if not made.text and not self.tasks]:
+            del found[number]
+
+    def _count_here(self) -> None:
+        here = Counter(member.seat for member in self.members if member.seat is not None)
+        if +self.shared.here != here:
+            self.shared.here = here
+
+    def mend(self) -> None:
+        """Recovers the network where that could not be done when an error came up. Mistake where it cannot be now."""
+        try:
+            self.shared.mend()
+        except Unkept as fault:
+            self.end(fault)
+            raise
+
+    def _sweep(self) -> None:
+        """Ends what a fault left behind: connections that have gone, and requests whose answers were lost."""
+        for member in list(self.members):
+            if member.is_lost:
+                self.gone(member)
+            elif member.is_gone and not member.is_ending:
+                member.let_go(member.why)
+            elif member.owed > len(member.tasks) and not self.answers:
+                member.let_go(LOST)
 
     def _serve_some(self) -> None:
         """Serves one request of each who has one, until the time is up: first of those who took least."""
@@ -133,8 +196,12 @@ class Hub:
     def _serve(self, member: Member, now: float) -> None:
         """Serves the next request of one. Whatever goes wrong ends this request alone."""
         number: Any = None
+        # Where an error comes up here, nothing was done: the request is served by another turn, or he is let go.
+        member.owed += 1
+        line = member.take(now)
         try:
-            request = request_in(member.take(now))
+            self.shared.mend()
+            request = request_in(line)
             number = request.get("id")
             with self.shared.guarded():
                 answer = self.answering.answer(member, request)
@@ -143,15 +210,16 @@ class Hub:
         except Unkept:
             raise
         except Mistake as mistake:
+            self.faults.tell_cause("a request", mistake)
             answer = {"error": str(mistake)}
         except Exception as fault:  # pylint: disable=broad-except
             self.faults.tell("a request", fault)
-            answer = {"error": "an error came up in the server (%s): the request was not done" % described(fault)}
+            what = "the request was not done" if self.shared.unfinished is None else UNKNOWN
+            answer = {"error": "an error came up in the server (%s): %s" % (described(fault), what)}
         if isinstance(answer, dict):
             self._answer(member, number, answer)
         else:
-            member.pending += 1
-            self._begin(self._later(member, number, answer))
+            self._begin(member, self._later(member, number, answer))
 
     def _answer(self, member: Member, number: Any, answer: Answer) -> None:
         """Has an answer sent behind what happened until now."""
@@ -173,29 +241,27 @@ class Hub:
 
     # What takes long
 
-    def _begin(self, work: Awaitable[None]) -> None:
+    def _begin(self, member: Member, work: Awaitable[None]) -> None:
         task = asyncio.ensure_future(work)
-        self.tasks.add(task)
-        task.add_done_callback(self.tasks.discard)
+        for tasks in (self.tasks, member.tasks):
+            tasks.add(task)
+            task.add_done_callback(tasks.discard)
+        task.add_done_callback(lambda _: self.wake())
 
     async def _later(self, member: Member, number: Any, work: Awaitable[Answer]) -> None:
         """Answers a request whose answer comes later, or never, where who asked has gone."""
         try:
             answer = await work
-        except asyncio.CancelledError:
-            member.pending -= 1
-            raise
         except Unkept as fault:
             self.end(fault)
             return
         except Mistake as mistake:
+            self.faults.tell_cause("a request that takes long", mistake)
             answer = {"error": str(mistake)}
         except Exception as fault:  # pylint: disable=broad-except
             self.faults.tell("a request that takes long", fault)
-            answer = {"error": "an error came up in the server (%s): the request was not done" % described(fault)}
-        member.pending -= 1
+            answer = {"error": "an error came up in the server (%s): %s" % (described(fault), UNKNOWN)}
         self._answer(member, number, answer)
-        self.wake()
 
     async def _quiet(self) -> Answer:
         """Waits until all queues are empty."""
@@ -219,7 +285,7 @@ class Hub:
             except Unkept:
                 raise
             except Mistake as mistake:
-                self.faults.tell("deliveries", mistake)
+                self.faults.tell("deliveries", mistake.__cause__ or mistake)
         with contextlib.suppress(Lost):
             self._answer_waiting()
 
@@ -239,17 +305,29 @@ class Hub:
 
     def _spread(self) -> None:
         """Tells what happened, and then the answers."""
+        if self.is_spreading:
+            # A fault of the last turn: what happened until then may not have been told.
+            self._tell_missed()
+        self.is_spreading = True
         for event in self.shared.happening.taken():
             try:
                 self._tell(event)
             except Exception as fault:  # pylint: disable=broad-except
                 self.faults.tell("what happened", fault)
-                for member in list(self.members):
-                    if member.seat is not None and member.watches != "off":
-                        self._send(member, MISSED)
-        answers, self.answers = self.answers, []
-        for member, message in answers:
+                self._tell_missed()
+        self.is_spreading = False
+        while self.answers:
+            member, message = self.answers.popleft()
             self._send(member, message, True)
+            member.owed = max(0, member.owed - 1)
+
+    def _tell_missed(self) -> None:
+        """Tells that something happened which could not be told."""
+        for hear in self.hearers:
+            hear({"event": "missed"})
+        for member in list(self.members):
+            if member.seat is not None and member.watches != "off":
+                self._send(member, MISSED)
 
     def _tell(self, event: Event) -> None:
         for hear in self.hearers:
@@ -272,9 +350,10 @@ class Hub:
     def _again(self) -> None:
         """When the next turn is."""
         now = time.monotonic()
-        for member in [each for each in self.members if each.is_done]:
+        for member in [each for each in self.members if each.is_done and not each.is_ending]:
             member.is_gone = True
             member.finish()
+            member.is_ending = True
         waits = [found for found in (member.wait(now) for member in self.members) if found is not None]
         due = self.shared.deliveries.due(now)
         waits += [] if due is None else [due]
@@ -299,19 +378,20 @@ class Hub:
         self.members.append(member)
 
     def gone(self, member: Member) -> None:
-        """One has gone."""
+        """One has gone. Where a fault leaves that half done, the next turn does it."""
         member.is_gone = True
-        if member in self.members:
-            self.members.remove(member)
-        if member.seat is not None:
-            seat, member.seat = member.seat, None
-            try:
-                with self.shared.guarded():
-                    self.shared.leave(seat, member.why)
-            except Unkept as fault:
-                self.end(fault)
-            except Mistake as mistake:
-                self.faults.tell("a leave", mistake)
+        try:
+            self.shared.mend()
+            with self.shared.guarded():
+                if member.seat is not None:
+                    self.shared.leave(member.seat, member.why)
+                    member.seat = None
+            if member in self.members:
+                self.members.remove(member)
+        except Unkept as fault:
+            self.end(fault)
+        except Mistake as mistake:
+            self.faults.tell("a leave", mistake.__cause__ or mistake)
         if not self.is_closing:
             self.wake()
 

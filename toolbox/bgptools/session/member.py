@@ -1,10 +1,11 @@
 """One person's connection: requests that wait, and messages that are to be sent. All of it is bounded."""
 from __future__ import annotations
 
+import asyncio
 import math
 import time
 from collections import deque
-from typing import Callable, Deque, Optional, Tuple
+from typing import Callable, Deque, Optional, Set, Tuple
 
 from .messages import encoded
 from .roles import QUOTAS, Allowance
@@ -30,8 +31,10 @@ class Member:
         self.outgoing: Deque[Tuple[bytes, int]] = deque()
         # The bytes of `outgoing`: those of events alone, and all.
         self.events_size = self.size = 0
-        self.pending = 0
-        self.has_ended = self.is_gone = False
+        # Requests whose answers were not sent yet, and the tasks that bring some of these.
+        self.owed = 0
+        self.tasks: "Set[asyncio.Task[None]]" = set()
+        self.has_ended = self.is_gone = self.is_ending = False
         self.why = ""
         self.allowance = Allowance(self.quota.requests, self.quota.burst)
         self._cost, self._cost_at = 0.0, 0.0
@@ -40,7 +43,7 @@ class Member:
 
     def wait(self, now: float) -> Optional[float]:
         """After how many seconds its next request can be served; nothing where none can be for now."""
-        if not self.lines or self.is_full or self.is_gone or self.pending >= PENDING:
+        if not self.lines or self.is_full or self.is_gone or len(self.tasks) >= PENDING:
             return None
         return self.allowance.wait(now)
 
@@ -66,7 +69,7 @@ class Member:
     @property
     def is_done(self) -> bool:
         """Whether it has ended what it sends, and was sent all that it asked for."""
-        return self.has_ended and not (self.lines or self.pending or self.outgoing)
+        return self.has_ended and not (self.lines or self.owed or self.outgoing)
 
     # Messages
 
@@ -100,12 +103,19 @@ class Member:
         raise NotImplementedError
 
     def let_go(self, why: str) -> None:
-        """Ends the connection, with a word on why."""
+        """Ends the connection, with a word on why. Where that fails it is ended by another call."""
         if not self.is_gone:
             self.is_gone, self.why = True, why
             self.lines.clear()
             self.outgoing.clear()
-            self.end(encoded({"event": "told", "text": "the server ended the connection: " + why}))
+        if not self.is_ending:
+            self.end(encoded({"event": "told", "text": "the server ended the connection: " + self.why}))
+            self.is_ending = True
+
+    @property
+    def is_lost(self) -> bool:
+        """Whether the transport has ended."""
+        raise NotImplementedError
 
     def end(self, last: bytes) -> None:
         """Sends a last message where that can be done at once, and closes the transport."""

@@ -27,26 +27,34 @@ class SocketMember(asyncio.Protocol, Member):
         Member.__init__(self, TEACH, wake)
         self.come, self.gone = come, gone
         self.part = bytearray()
-        self.is_paused = self.is_reading_paused = False
+        self.is_made = self.is_paused = self.is_reading_paused = False
         self.transport: Optional[asyncio.Transport] = None
 
     # What comes
 
     def connection_made(self, transport: asyncio.BaseTransport) -> None:
         assert isinstance(transport, asyncio.Transport)
-        self.transport = transport
-        self.come(self)
+        try:
+            self.transport = transport
+            self.come(self)
+            self.is_made = True
+        except Exception:  # pylint: disable=broad-except
+            transport.abort()
+            raise
 
     def data_received(self, data: bytes) -> None:
-        if self.is_gone:
-            return
         try:
+            if self.is_gone:
+                return
+            if not self.is_made:
+                # The event loop closes it for that.
+                raise ConnectionError("a connection was not made, for a fault of the server")
             self._received(data)
+            self.wake()
         except Exception:  # pylint: disable=broad-except
             # What of it was read is not known: nothing of it may be done twice.
             self.let_go("a request could not be read, for a fault of the server")
             raise
-        self.wake()
 
     def _received(self, data: bytes) -> None:
         first, *rest = data.split(b"\n")
@@ -74,6 +82,10 @@ class SocketMember(asyncio.Protocol, Member):
 
     def connection_lost(self, _: Optional[Exception]) -> None:
         self.gone(self)
+
+    @property
+    def is_lost(self) -> bool:
+        return self.transport is not None and self.transport.get_protocol() is None
 
     # What goes
 

@@ -4,10 +4,11 @@ A connection is unproven until a request with a secret came over it. Of these th
 one more comes, the oldest goes. So who has no secret keeps nobody out."""
 from __future__ import annotations
 
+import asyncio
 import time
 from collections import Counter, OrderedDict
 from dataclasses import dataclass, field
-from typing import Dict, Optional, Set
+from typing import Any, Dict, Optional, Set
 
 from tornado.iostream import IOStream
 
@@ -37,6 +38,8 @@ class Connections:
         self.lookers = Allowance(LOOKING, LOOKING_BURST)
         self.sending: "Counter[str]" = Counter()
         self.ending: Set[IOStream] = set()
+        # The requests that were begun and not ended, each by the task that answers it.
+        self.begun: "Dict[IOStream, Optional[asyncio.Task[Any]]]" = {}
         self.unproven: "OrderedDict[IOStream, Connection]" = OrderedDict()
         # Of each role, those first that did nothing for the longest time.
         self.proven: "Dict[str, OrderedDict[IOStream, Connection]]" = {role: OrderedDict() for role in QUOTAS}
@@ -79,12 +82,16 @@ class Connections:
     def gone(self, stream: IOStream) -> None:
         """One that was closed."""
         self.ending.discard(stream)
+        self.begun.pop(stream, None)
         self.unproven.pop(stream, None)
         for others in self.proven.values():
             others.pop(stream, None)
 
     def sweep(self, now: float) -> None:
-        """Closes those that were unproven for too long."""
+        """Closes those that were unproven for too long, and those whose request was given up by a fault."""
+        for stream in [stream for stream, task in self.begun.items() if task is None or task.done()]:
+            stream.close()
+            self.begun.pop(stream, None)
         for each in [each for each in self.unproven.values() if now - each.since > UNPROVEN_SECONDS]:
             each.stream.close()
 

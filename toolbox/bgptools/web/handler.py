@@ -76,6 +76,7 @@ class Handler(RequestHandler):
 
     def prepare(self) -> None:
         """Who asks is looked at before anything of a body is read."""
+        self.connections.begun[self._stream] = asyncio.current_task()
         try:
             self._check_head()
             self.role, self.path_in = self._role()
@@ -148,12 +149,14 @@ class Handler(RequestHandler):
         """Answers a request in its turn, and says what is wrong with it."""
         try:
             await self._turn()
+            self.lab.hub.mend()
             await answer()
         except Denied as denied:
             self._deny(denied)
         except Busy as busy:
             self._json({"error": str(busy)}, 503)
         except Mistake as mistake:
+            self.lab.hub.faults.tell_cause("a request of a page", mistake)
             self._json({"error": str(mistake)}, 400)
         except (StreamClosedError, asyncio.TimeoutError):
             # Who asked has gone, or does not read.
@@ -306,7 +309,8 @@ class Handler(RequestHandler):
 
     async def _events(self) -> None:
         """What happens, until the page or the lab goes."""
-        page = self.opened = self.lab.open(self.role, self.query.get("as", ""), self.query.get("token"))
+        page = self.opened = self.lab.open(self.role, self.query.get("as", ""), self.query.get("token"),
+                                            self._stream.closed)
         page.cut = self._stream.close
         self.set_header("Content-Type", "text/event-stream; charset=utf-8")
         self.set_header("Connection", "close")
@@ -338,6 +342,7 @@ class Handler(RequestHandler):
 
     def _ended(self) -> None:
         """The request is over: its page goes, and its connection is idle."""
+        self.connections.begun.pop(self._stream, None)
         connection, self.connection = self.connection, None
         if connection is not None:
             self.connections.answered(connection)

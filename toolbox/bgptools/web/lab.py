@@ -3,8 +3,7 @@ from __future__ import annotations
 
 import hmac
 import secrets
-from collections import Counter
-from typing import Any, Dict, List, Optional
+from typing import Any, Callable, Dict, List, Optional
 
 from .. import provenance, where
 from ..happening import Event
@@ -33,7 +32,6 @@ class Lab:
         self.keys = {role: secrets.token_urlsafe(24) for role in roles}
         self.program = provenance.of(where.program()).as_json()
         self.pages: Dict[str, PageMember] = {}
-        self.count: "Counter[str]" = Counter()
         self.shown: Dict[str, Any] = {"event": "shown", "step": None}
         hub.answering.words["show"] = self._show
         hub.hearers.append(self._heard)
@@ -51,11 +49,17 @@ class Lab:
 
     # Pages
 
-    def open(self, role: str, name: str, token: Optional[str]) -> PageMember:
-        """A page that comes. Mistake where as many are open as may be."""
-        if self.count[role] >= QUOTAS[role].pages:
-            raise Mistake("%d pages of those who %s are open, which is the most: close one" % (self.count[role], role))
-        page = PageMember(secrets.token_urlsafe(12), role, self.hub.wake)
+    def open(self, role: str, name: str, token: Optional[str], is_closed: Callable[[], bool]) -> PageMember:
+        """A page that comes, by a connection of which `is_closed` tells whether it has ended. Mistake where as many are
+        open as may be."""
+        for lost in [page for page in self.pages.values() if page.is_lost]:
+            # A fault kept it from being closed.
+            self.close(lost)
+        count = sum(page.role == role for page in self.pages.values())
+        if count >= QUOTAS[role].pages:
+            raise Mistake("%d pages of those who %s are open, which is the most: close one" % (count, role))
+        page = PageMember(secrets.token_urlsafe(12), role, self.hub.wake, is_closed)
+        self.pages[page.key] = page
         page.send(encoded({"event": "page", "page": page.key, "role": role, "first": self.first,
                            "program": self.program}), True)
         page.send(encoded(self.shown), True)
@@ -67,16 +71,13 @@ class Lab:
             entry = {"id": 0, "do": "enter", "as": name, **({} if token is None else {"token": token})}
             page.lines.extend([encoded(entry), encoded({"id": 0, "do": "watch", "what": "all"})])
             self.hub.come(page)
-        self.pages[page.key] = page
-        self.count[role] += 1
         self.hub.wake()
         return page
 
     def close(self, page: PageMember) -> None:
         """A page has gone."""
-        if self.pages.pop(page.key, None) is not None:
-            self.count[page.role] -= 1
-            self.hub.gone(page)
+        self.hub.gone(page)
+        self.pages.pop(page.key, None)
 
     def page(self, key: str, role: str) -> PageMember:
         """The page of a key. Mistake where there is none with this role."""
@@ -89,8 +90,9 @@ class Lab:
         """Has a request of a page served; whether it was taken."""
         if len(page.lines) >= AHEAD:
             return False
-        page.lines.append(body.replace(b"\n", b" "))
+        # Where the first of these fails nothing is done.
         self.hub.wake()
+        page.lines.append(body.replace(b"\n", b" "))
         return True
 
     # What is shown to those who look
@@ -103,7 +105,7 @@ class Lab:
 
     def _heard(self, event: Event) -> None:
         """Who looks sees what is proposed, and what becomes of it."""
-        if event["event"] == "proposal" or event.get("closes") is not None:
+        if event["event"] in ("proposal", "missed") or event.get("closes") is not None:
             self._tell_lookers(event)
 
     def _tell_lookers(self, event: Event) -> None:

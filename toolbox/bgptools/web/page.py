@@ -13,14 +13,15 @@ CUT_SECONDS = 2.0
 
 
 class PageMember(Member):
-    """One page. `key` is a secret between this page and the server, by which its requests name it, and `cut` ends its
-    connection, whatever waits to be sent."""
+    """One page. `key` is a secret between this page and the server, by which its requests name it. `is_closed` tells
+    whether the connection by which it hears what happens has ended, and `cut` ends that, whatever waits to be sent."""
 
-    def __init__(self, key: str, role: str, wake: Callable[[], None]) -> None:
+    def __init__(self, key: str, role: str, wake: Callable[[], None], is_closed: Callable[[], bool]) -> None:
         super().__init__(role, wake)
         self.key = key
         self.has_more = asyncio.Event()
         self.last: Optional[bytes] = None
+        self.is_closed = is_closed
         self.cut: Callable[[], None] = lambda: None
 
     @property
@@ -29,6 +30,10 @@ class PageMember(Member):
 
     def flush(self) -> None:
         self.has_more.set()
+
+    @property
+    def is_lost(self) -> bool:
+        return self.is_closed()
 
     def end(self, last: bytes) -> None:
         self.last = last

@@ -6,13 +6,14 @@ import errno
 import logging
 import socket
 import time
-from typing import Any, Tuple
+from typing import Any, Optional, Tuple
 
 from tornado.httpserver import HTTPServer
-from tornado.iostream import IOStream
+from tornado.iostream import IOStream, StreamClosedError
 from tornado.web import Application
 
 from ..mistakes import Mistake
+from ..session.faults import Faults
 from .connections import Connections
 from .handler import Handler
 from .lab import Lab
@@ -24,9 +25,24 @@ LONGEST, LONGEST_HEAD, BODY_SECONDS, IDLE_SECONDS = 1 << 16, 1 << 14, 10.0, 60.0
 AT_ONCE, BACKLOG = 16, 128
 # Where descriptors are used up, nothing is accepted for so many seconds.
 PAUSE = 0.5
-SWEEP_SECONDS = 1.0
 USED_UP = (errno.EMFILE, errno.ENFILE, errno.ENOBUFS, errno.ENOMEM)
 PASSING = (errno.EAGAIN, errno.EWOULDBLOCK, errno.ECONNABORTED, errno.EINTR, errno.EPROTO, errno.EPERM)
+
+
+class Told(logging.Handler):
+    """Tells the faults that tornado caught, and nothing else of what it logs: addresses have secrets in them."""
+
+    def __init__(self, faults: Faults) -> None:
+        super().__init__(logging.ERROR)
+        self.faults = faults
+
+    def emit(self, record: logging.LogRecord) -> None:
+        fault = record.exc_info[1] if record.exc_info else None
+        if fault is not None and not isinstance(fault, StreamClosedError):
+            self.faults.tell("a connection of a page", fault)
+
+    def handleError(self, record: logging.LogRecord) -> None:
+        """There is no other place to tell it."""
 
 
 class Tornado(HTTPServer):
@@ -57,13 +73,16 @@ class Server:
             raise Mistake("port %d of %s cannot be had: %s" % (port, ADDRESS, error.strerror or error)) from None
         self.port: int = self.socket.getsockname()[1]
         self.connections = Connections()
+        # One that was accepted, and not given to tornado yet.
+        self.accepted: Optional[socket.socket] = None
+        # Nothing is accepted before this time.
+        self.paused_until = 0.0
 
     def start(self, lab: Lab) -> None:
         """Begins to serve, in the loop that runs. A fault of the socket ends the hub."""
         self.lab, self.loop = lab, asyncio.get_running_loop()
         for name in ("tornado.access", "tornado.application", "tornado.general"):
-            # Addresses have secrets in them: they are written nowhere.
-            logging.getLogger(name).addHandler(logging.NullHandler())
+            logging.getLogger(name).addHandler(Told(lab.hub.faults))
             logging.getLogger(name).propagate = False
         given = {"lab": lab, "connections": self.connections, "here": "%s:%d" % (ADDRESS, self.port)}
         application = Application([(r".*", Handler, given)], log_function=lambda _: None)
@@ -72,7 +91,7 @@ class Server:
                                body_timeout=BODY_SECONDS)
         self.tornado.connections = self.connections
         self._listen()
-        self._sweep()
+        lab.hub.beaten.append(self._sweep)
 
     def _listen(self) -> None:
         if self.socket.fileno() >= 0:
@@ -81,8 +100,9 @@ class Server:
     def _accept(self) -> None:
         """Accepts some of those who wait."""
         for _ in range(AT_ONCE):
+            self._close_accepted()
             try:
-                connection, address = self.socket.accept()
+                self.accepted, address = self.socket.accept()
             except OSError as error:
                 if error.errno in USED_UP:
                     self._pause(error)
@@ -91,23 +111,35 @@ class Server:
                     self.lab.hub.end(Mistake("the socket of the pages failed: %s" % (error.strerror or error)))
                 return
             try:
-                connection.setblocking(False)
-                self.tornado.handle_stream(IOStream(connection, max_buffer_size=4 * LONGEST), address)
+                self.accepted.setblocking(False)
+                self.tornado.handle_stream(IOStream(self.accepted, max_buffer_size=4 * LONGEST), address)
+                self.accepted = None
             except Exception as fault:  # pylint: disable=broad-except
-                connection.close()
                 self.lab.hub.faults.tell("a connection", fault)
+        self._close_accepted()
+
+    def _close_accepted(self) -> None:
+        """Closes a connection that a fault kept from tornado."""
+        accepted, self.accepted = self.accepted, None
+        if accepted is not None:
+            accepted.close()
 
     def _pause(self, error: OSError) -> None:
         """Descriptors are used up: somebody who does nothing has to go, and nobody is accepted for a moment."""
         self.lab.hub.faults.tell("accepting a connection", error)
-        self.connections.close_oldest()
+        self.paused_until = time.monotonic() + PAUSE
         self.loop.remove_reader(self.socket)
         self.loop.call_later(PAUSE, self._listen)
+        self.connections.close_oldest()
 
     def _sweep(self) -> None:
+        """Is done every second, also after faults."""
+        now = time.monotonic()
         if self.socket.fileno() >= 0:
-            self.connections.sweep(time.monotonic())
-            self.loop.call_later(SWEEP_SECONDS, self._sweep)
+            self._close_accepted()
+            if now >= self.paused_until:
+                self._listen()
+            self.connections.sweep(now)
 
     def address(self, role: str) -> str:
         """Where a browser finds the pages of a role."""
