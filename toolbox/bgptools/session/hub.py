@@ -388,6 +388,9 @@ class Hub:
                     member.seat = None
             if member in self.members:
                 self.members.remove(member)
+            # What it waits for is done for nobody.
+            for task in list(member.tasks):
+                task.cancel()
         except Unkept as fault:
             self.end(fault)
         except Mistake as mistake:
