@@ -206,6 +206,7 @@ class Shared:
             raise Interrupted(error, Recovered(calls, calls, steps, steps, [])) from error
         try:
             yield
+            self.unfinished = before if self.unfinished is kept else self.unfinished
         except Mistake:
             # Another one stands there where a part of the request was not recovered from.
             self.unfinished = before if self.unfinished is kept else self.unfinished
@@ -214,7 +215,6 @@ class Shared:
             # What its calls held may be the memory that is wanting.
             traceback.clear_frames(error.__traceback__)
             raise Interrupted(error, self.recover(described(error), kept)) from error
-        self.unfinished = before if self.unfinished is kept else self.unfinished
 
     def mend(self) -> None:
         """Recovers from an error, where that could not be done when it came up. Only while no request is made. Mistake
@@ -226,8 +226,8 @@ class Shared:
         """Makes all anew from what stands in the log and its notes, as after a start, whatever state it is in. Who is
         here, proposals, and what the workers do are as they were when it was `kept`; now where that is not given.
 
-        `reason` is told to all. How many calls the log had, and has. Raises Unkept where it cannot be done. Where only
-        memory is wanting, a Mistake is raised, and `mend` tries again."""
+        `reason` is told to all. How many calls the log had, and has. Raises Unkept where it cannot be done. Where it is
+        only out of memory, a Mistake is raised, and `mend` tries again."""
         broken = self._broken(None if kept is None else self.entering)
         kept = kept or self._kept()
         self.unfinished = kept
@@ -242,8 +242,8 @@ class Shared:
             except Exception as error:  # pylint: disable=broad-except
                 fault = error
         if isinstance(fault, MemoryError):
-            raise Mistake("an error came up (%s), and memory is wanting to make the network anew from its log: look at "
-                          "it in a moment, and ask again" % reason) from fault
+            raise Mistake("an error came up (%s), and the server is out of memory to make the network anew from its log: "
+                          "look at it in a moment, and ask again" % reason) from fault
         told = "an error came up (%s), and the network cannot be made anew from its log: %s"
         raise Unkept(told % (reason, described(fault)))
 

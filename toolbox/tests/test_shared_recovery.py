@@ -348,22 +348,33 @@ class Recoveries(Held):
         self.assertEqual(self.said(shared, anna, "cost 1.0.0.1 2.0.0.1"), ["1 via 2.0.0.1"])
 
     def test_where_it_cannot_be_done_the_reason_is_told(self):
-        for fault, why in ((MemoryError(), "MemoryError$"),
-                           (OSError(errno.EIO, os.strerror(errno.EIO)), "Input/output error")):
-            with self.subTest(fault=fault):
-                shared, anna = self.shared(*TWO)
-                before = self.log.read_bytes()
-                wanted = "\\(ValueError: odd\\), and the network cannot be made anew from its log: .*" + why
-                with self.assertRaisesRegex(Unkept, wanted), shared.guarded():
-                    shared.log.content = unittest.mock.Mock(side_effect=fault)
-                    raise ValueError("odd")
-                shared.close()
-                self.assertEqual(self.log.read_bytes(), before)
-                again, _ = self.shared()
-                self.assertEqual(again.ledger.entries, 4)
-                again.close()
-                self.log.unlink()
-                (self.folder / "net.log.seats").unlink()
+        shared, _ = self.shared(*TWO)
+        before = self.log.read_bytes()
+        wanted = "\\(ValueError: odd\\), and the network cannot be made anew from its log: .*Input/output error"
+        with self.assertRaisesRegex(Unkept, wanted), shared.guarded():
+            shared.log.content = unittest.mock.Mock(side_effect=OSError(errno.EIO, os.strerror(errno.EIO)))
+            raise ValueError("odd")
+        shared.close()
+        self.assertEqual(self.log.read_bytes(), before)
+        again, _ = self.shared()
+        self.assertEqual(again.ledger.entries, 4)
+        again.close()
+
+    def test_a_recovery_without_memory_is_made_later(self):
+        """The request is answered by a mistake, and the next one finds the network as its log has it."""
+        shared, anna = self.shared(*TWO)
+        before, content = self.log.read_bytes(), shared.log.content
+        with self.assertRaisesRegex(Mistake, "\\(ValueError: odd\\), and the server is out of memory") as caught:
+            with shared.guarded():
+                shared.log.content = unittest.mock.Mock(side_effect=MemoryError())
+                raise ValueError("odd")
+        self.assertNotIsInstance(caught.exception, Unkept)
+        self.assertRaisesRegex(Mistake, "out of memory", shared.mend)
+        shared.log.content = content
+        shared.mend()
+        self.assertIsNone(shared.unfinished)
+        self.assertEqual((self.log.read_bytes(), shared.ledger.entries), (before, 4))
+        self.assertEqual(self.said(shared, anna, "cost 1.0.0.1 2.0.0.1"), ["1 via 2.0.0.1"])
 
     def test_an_entry_that_was_written_in_part_goes(self):
         """What stands behind the last whole entry is cut off, and the next one stands there."""
