@@ -114,6 +114,10 @@ def same(scene: Scene, word: Word, fields: Dict[str, Any], outcome: Outcome) -> 
     if outcome.error is not None:
         return ""
     again = made(scene, word, fields)
+    if again.answer is None:
+        # The connection ended behind the answer.
+        scene.renew_actor()
+        again = made(scene, word, fields)
     before, after = ({name: value for name, value in (each or {}).items() if name not in ("id", "at")}
                      for each in (outcome.answer, again.answer))
     return "" if before == after else "it is answered by %s, and then by %s" % (str(before)[:300], str(after)[:300])
