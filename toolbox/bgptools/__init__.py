@@ -13,7 +13,7 @@ if TYPE_CHECKING:
     from .replies import Trace
     from .values import Cost, Delivery, Explanation, Link, Message, Node, Reason, Route, Session, Settled
 
-__version__ = "0.1.0"
+__version__ = "0.2.0"
 __all__ = ["Cost", "Delivery", "Effect", "Explanation", "InBetween", "Link", "Message", "Mistake", "Network", "Node",
            "Reason", "Refusal", "Route", "RouteChange", "Sent", "Session", "Settled", "Trace", "Unsettled", "WayChange"]
 

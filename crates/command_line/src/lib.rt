@@ -104,7 +104,7 @@ fn program<'a>(alloc: Global) -> Result<Command<'a>, AllocError>
     );
     let team = team_command(alloc)?;
     Command::new(alloc, "bgpsim")
-        .version("0.1.0")
+        .version("0.2.0")
         .about("An interactive simulator of BGP-4 networks")
         .subcommand_required(true)
         .subcommand(script)?
