@@ -13,7 +13,7 @@ import tempfile
 import time
 import unittest
 
-from bgptools import where
+from bgptools import __version__, where
 from bgptools.tools import TOOLS
 from common import TOOLBOX, TOP, Case, alone, files_of
 
@@ -361,7 +361,7 @@ class Staged(Case):
         made = self.made()
         self.assertIn(" program bgpsim 7.8 bgpsim (7.8+20231114.221320.%s) unstable; urgency=medium * Commit %s. -- "
                       % (self.commit[:9], self.commit), made)
-        self.assertIn("> Tue, 14 Nov 2023 22:13:20 +0000 bgpsim (0.1.0) unstable; ", made)
+        self.assertIn("> Tue, 14 Nov 2023 22:13:20 +0000 bgpsim (%s) unstable; " % __version__, made)
         self.assertTrue(made.startswith("words --unsigned-source --unsigned-changes --build=binary "), made)
 
     def test_what_the_record_of_the_program_says(self):
