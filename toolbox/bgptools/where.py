@@ -9,6 +9,7 @@ import threading
 from typing import Dict, Optional
 
 from .mistakes import Mistake
+from .provenance import INSTALLED
 
 HERE = pathlib.Path(__file__).resolve().parent
 # The programs that launchers of repositories named, by launcher.
@@ -68,6 +69,6 @@ def _asked(launcher: str) -> str:
 
 
 def _installed() -> Optional[str]:
-    """PREFIX/bin/bgpsim, where this is PREFIX/share/bgpsim/bgptools, as the package has it."""
-    path = HERE.parent.parent.parent / "bin" / "bgpsim"
+    """PREFIX/lib/bgpsim/bgpsim, where this is PREFIX/share/bgpsim/bgptools, as the package has it."""
+    path = HERE.parent.parent.parent / INSTALLED
     return str(path) if HERE.parent.name == "bgpsim" and os.access(str(path), os.X_OK) else None

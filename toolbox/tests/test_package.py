@@ -108,7 +108,9 @@ class Where(Case):
         self.copied("usr/share/bgpsim")
         other = self.program_at("elsewhere/bgpsim")
         self.assertEqual(self.told("usr/share/bgpsim", PATH=self.folder / "elsewhere"), other)
-        here = self.program_at("usr/bin/bgpsim")
+        self.program_at("usr/bin/bgpsim")
+        self.assertEqual(self.told("usr/share/bgpsim", PATH=self.folder / "elsewhere"), other)
+        here = self.program_at("usr/lib/bgpsim/bgpsim")
         self.assertEqual(self.told("usr/share/bgpsim", PATH=self.folder / "elsewhere"), here)
 
     def test_nowhere(self):
