@@ -171,7 +171,8 @@ class Writing(Case):
             self.here.write(path, text)
             shutil.rmtree(str(self.here.out))
             self.assertEqual(self.version()[3], first, path)
-        self.here.run("--prove")
+        told = self.here.run("--prove")
+        self.assertEqual(told[0], 0, told)
         self.assertEqual(self.version()[2:], ["proved: yes, by rattle-kit-test logic 0123", first])
         shutil.rmtree(str(self.here.out))
         found = {first}
