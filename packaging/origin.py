@@ -39,7 +39,8 @@ def program() -> pathlib.Path:
     """The program to be packed: PROGRAM=, or what `./bgpsim` built. Mistake without one, or where a source is newer."""
     path = pathlib.Path(os.environ.get("PROGRAM") or BUILT).resolve()
     if not os.access(str(path), os.X_OK) or not path.is_file():
-        raise Mistake("there is no program: ./bgpsim --prove builds it", str(path))
+        remedy = "`./bgpsim --prove` builds it, or name another one by PROGRAM="
+        raise Mistake("there is no program: " + (remedy if _is_built_here() else "PROGRAM= names it"), str(path))
     newer = _newer_source() if _is_built_here() else None
     if newer:
         raise Mistake("it is newer than the program: ./bgpsim --prove builds it", str(newer.relative_to(TOP)))
@@ -71,7 +72,7 @@ def record(path: pathlib.Path) -> Optional[pathlib.Path]:
 
 
 def proved(path: pathlib.Path, of: Commit) -> str:
-    """Of which commit the program is, and whether it was proved, by which kit, in a sentence; or that it is not known."""
+    """Of which commit the program is, whether it was proved, and by which kit; or that it is not known. In sentences."""
     said = provenance.of(str(path))
     if said.is_proved is None:
         return ("It is not known of which commit the program was built, and whether it was proved. All else is of "

@@ -425,7 +425,9 @@ class Staged(Case):
 
     def test_nothing_is_made_without_the_program(self):
         self.program.unlink()
-        self.assertEqual(self.refused(), "%s: there is no program: ./bgpsim --prove builds it\n" % self.program)
+        remedy = "`./bgpsim --prove` builds it, or name another one by PROGRAM="
+        self.assertEqual(self.refused(), "%s: there is no program: %s\n" % (self.program, remedy))
+        self.assertEqual(self.refused(PROGRAM="/none"), "/none: there is no program: PROGRAM= names it\n")
 
     def test_nothing_is_made_of_an_old_program(self):
         later = time.time() + 100
