@@ -72,7 +72,7 @@ def record(path: pathlib.Path) -> Optional[pathlib.Path]:
 
 
 def proved(path: pathlib.Path, of: Commit) -> str:
-    """Of which commit the program is, whether it was proved, and by which kit; or that it is not known. In sentences."""
+    """Sentences that say of which commit the program is, whether it was proved, and by which kit."""
     said = provenance.of(str(path))
     if said.is_proved is None:
         return ("It is not known of which commit the program was built, and whether it was proved. All else is of "
