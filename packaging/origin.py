@@ -1,16 +1,15 @@
 """Where a package comes from: the program that was built, and the commit of the repository."""
 from __future__ import annotations
 
-import hashlib
-import json
 import os
 import pathlib
 import re
 import subprocess
 import time
 from dataclasses import dataclass
-from typing import Any, Dict, List, Optional, Set
+from typing import List, Optional, Set
 
+from bgptools import provenance
 from bgptools.mistakes import Mistake
 
 TOP = pathlib.Path(__file__).resolve().parent.parent
@@ -40,7 +39,8 @@ def program() -> pathlib.Path:
     """The program to be packed: PROGRAM=, or what `./bgpsim` built. Mistake without one, or where a source is newer."""
     path = pathlib.Path(os.environ.get("PROGRAM") or BUILT).resolve()
     if not os.access(str(path), os.X_OK) or not path.is_file():
-        raise Mistake("there is no program: ./bgpsim --prove builds it", str(path))
+        remedy = "`./bgpsim --prove` builds it, or name another one by PROGRAM="
+        raise Mistake("there is no program: " + (remedy if _is_built_here() else "PROGRAM= names it"), str(path))
     newer = _newer_source() if _is_built_here() else None
     if newer:
         raise Mistake("it is newer than the program: ./bgpsim --prove builds it", str(newer.relative_to(TOP)))
@@ -67,32 +67,19 @@ def commit() -> Commit:
 
 
 def record(path: pathlib.Path) -> Optional[pathlib.Path]:
-    """The file beside a program, as `bgpsim.json`, in which its build has said where it comes from.
-
-    None if there is none, or if it is of another program: it has the SHA-256 of its own."""
-    found = path.with_name(path.name + ".json")
-    return found if _read(found).get("sha256") == hashlib.sha256(path.read_bytes()).hexdigest() else None
+    """The file beside a program in which its build says where it comes from; None without one of this program."""
+    return provenance.record_of(str(path))
 
 
 def proved(path: pathlib.Path, of: Commit) -> str:
-    """Of which commit the program is, and whether it was proved, by which kit, in a sentence; or that it is not known."""
-    found = record(path)
-    said = _read(found) if found else {}
-    if not {"commit", "is_proved", "kit"} <= set(said):
+    """Sentences that say of which commit the program is, whether it was proved, and by which kit."""
+    said = provenance.of(str(path))
+    if said.is_proved is None:
         return ("It is not known of which commit the program was built, and whether it was proved. All else is of "
                 "commit %s." % of)
-    if said["is_proved"]:
-        return "The program was proved and built of commit %(commit)s by %(kit)s." % said
-    return "The program is not proved. It was compiled of commit %(commit)s by %(kit)s." % said
-
-
-def _read(path: pathlib.Path) -> Dict[str, Any]:
-    """The values of a file of JSON; none if it is not there, or if it is something else."""
-    try:
-        found = json.loads(path.read_text(encoding="utf-8"))
-    except (OSError, ValueError):
-        return {}
-    return found if isinstance(found, dict) else {}
+    form = ("The program was proved and built of commit %s by %s." if said.is_proved
+            else "The program is not proved. It was compiled of commit %s by %s.")
+    return form % (said.commit, said.kit)
 
 
 def _is_built_here() -> bool:

@@ -1,19 +1,30 @@
 """The Python libraries that some tools need, and what a user types to get one that is missing.
 
-`need("tornado", "lab")` stands at the start of a tool's `main`. A launcher calls `restart` before: it runs the tool
-under the repository's `.venv`, which tools/setup makes, if that has the libraries and the running Python has not.
+`need("tornado", "lab")` stands at the start of a tool's `main`. A launcher calls `restart` before. Where the running
+Python lacks a library, `restart` runs the tool under the repository's `.venv`, which tools/setup makes. Without a
+`.venv` it takes the system's Python, if that has the library's package.
 """
 from __future__ import annotations
 
 import os
 import pathlib
 import re
+import subprocess
 import sys
-from typing import List, Mapping, NamedTuple, Optional, Tuple
+from typing import List, Mapping, NamedTuple, Optional, Sequence, Tuple
 
 from .mistakes import Mistake
 
 HERE = pathlib.Path(__file__).resolve().parent
+# The Python that finds the packages of Debian, and how long it may take to look, in seconds.
+SYSTEMS, PATIENCE = "/usr/bin/python3", 60
+# How it looks: by these same functions.
+ASKS = """
+import sys
+sys.path.insert(0, sys.argv[1])
+from bgptools import libraries
+sys.exit(any(map(libraries._fault, sys.argv[2:])))
+"""
 
 
 class Library(NamedTuple):
@@ -37,13 +48,15 @@ def need(name: str, extra: str) -> None:
 
 
 def restart(tool: str, words: List[str]) -> None:
-    """Replaces this process by `.venv/bin/python WORDS` if a library of the tool is missing here.
+    """Replaces this process by `PYTHON WORDS` if a library of the tool is missing here.
 
-    Does nothing if none is missing, if there is no `.venv`, or if this is its Python."""
-    python = _environment()
-    if python and any(_fault(name) for name in TOOLS.get(tool, ())):
-        sys.stdout.flush()
-        os.execv(python, [python, *(["-B"] if sys.dont_write_bytecode else []), *words])
+    PYTHON is that of the repository's `.venv`, or without one the system's. Does nothing if no library is missing, if
+    these tools lie in no repository, or if this is that Python."""
+    if _repository() and any(_fault(name) for name in TOOLS.get(tool, ())):
+        python = _environment() or _systems(TOOLS[tool])
+        if python:
+            sys.stdout.flush()
+            os.execv(python, [python, *(["-B"] if sys.dont_write_bytecode else []), *words])
 
 
 def _fault(name: str) -> Optional[str]:
@@ -86,9 +99,22 @@ def _repository() -> Optional[pathlib.Path]:
 
 
 def _environment() -> Optional[str]:
-    """The Python of `.venv`, if there is one and it is not the running one."""
+    """The Python of the repository's `.venv`, if there is one and it is not the running one."""
     top = _repository()
     if top is None or pathlib.Path(sys.prefix) == top / ".venv":
         return None
     python = top / ".venv" / "bin" / "python"
     return str(python) if os.access(str(python), os.X_OK) else None
+
+
+def _systems(names: Sequence[str]) -> Optional[str]:
+    """The system's Python, if these libraries will do there; None under the `.venv`."""
+    top = _repository()
+    if top is None or pathlib.Path(sys.prefix) == top / ".venv":
+        return None
+    try:
+        ran = subprocess.run([SYSTEMS, "-B", "-c", ASKS, str(HERE.parent), *names], stdin=subprocess.DEVNULL,
+                             stdout=subprocess.DEVNULL, stderr=subprocess.DEVNULL, timeout=PATIENCE)
+    except (OSError, subprocess.TimeoutExpired):
+        return None
+    return SYSTEMS if ran.returncode == 0 else None

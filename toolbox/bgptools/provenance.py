@@ -1,7 +1,7 @@
 """Where a program comes from: its version and commit, whether it was proved, by which kit, and of which sources.
 
-A build writes that beside the program, as `bgpsim.json`; an installed program PREFIX/bin/bgpsim has it in
-PREFIX/share/bgpsim/provenance.json. `python3 -m bgptools.provenance PROGRAM` prints it.
+A build writes that beside the program, as `bgpsim.json`. The package has both in PREFIX/lib/bgpsim; its
+PREFIX/bin/bgpsim is a script that runs the program. `python3 -m bgptools.provenance PROGRAM` prints it.
 """
 from __future__ import annotations
 
@@ -19,7 +19,7 @@ from typing import Any, Dict, List, Optional
 from .mistakes import Mistake
 
 UNKNOWN = "unknown"
-ENDING, INSTALLED = ".json", "share/bgpsim/provenance.json"
+ENDING, INSTALLED = ".json", "lib/bgpsim/bgpsim"
 PIECE = 1 << 20
 # How long a program may take to say its version, in seconds.
 PATIENCE = 60
@@ -53,16 +53,39 @@ class Provenance:
 
 
 def of(path: str) -> Provenance:
-    """Where the program at this path, or of this name on the PATH, comes from.
+    """Where the program at this path, or of this name on the PATH, comes from; of the package's script, that which it
+    runs.
 
     The first call reads the program, milliseconds; a further one looks whether it has changed. A record that belongs
     to another program, as after a copy over the first, is left aside."""
-    whole = path if os.sep in path else shutil.which(path) or path
+    whole = _behind(path if os.sep in path else shutil.which(path) or path)
     try:
         told = os.stat(whole)
     except OSError:
         return _unknown(UNKNOWN)
-    return _of(os.path.abspath(whole), told.st_mtime_ns, told.st_size)
+    return _of(whole, told.st_mtime_ns, told.st_size)
+
+
+def record_of(path: str) -> Optional[pathlib.Path]:
+    """The file with the record of a program; None where there is none, or it is of another program."""
+    return _beside(_behind(path)) if of(path).is_proved is not None else None
+
+
+def _behind(path: str) -> str:
+    """The program that the package's script at this path runs; of another file the path, from the root."""
+    real = pathlib.Path(os.path.realpath(path))
+    program = real.parent.parent / INSTALLED
+    if (real.parent.name, real.name) == ("bin", program.name) and program.is_file() and _is_script(real):
+        return str(program)
+    return os.path.abspath(path)
+
+
+def _is_script(path: pathlib.Path) -> bool:
+    try:
+        with open(str(path), "rb") as file:
+            return file.read(2) == b"#!"
+    except OSError:
+        return False
 
 
 @functools.lru_cache(maxsize=64)
@@ -72,8 +95,7 @@ def _of(path: str, _time: int, _size: int) -> Provenance:
         total = _sum(path)
     except OSError:
         return _unknown(UNKNOWN)
-    found = (_recorded(record, total) for record in _records(path))
-    return next((each for each in found if each), _unknown("program-sha256:" + total))
+    return _recorded(_beside(path), total) or _unknown("program-sha256:" + total)
 
 
 def _unknown(digest: str) -> Provenance:
@@ -89,11 +111,10 @@ def _sum(path: str) -> str:
     return made.hexdigest()
 
 
-def _records(path: str) -> List[pathlib.Path]:
-    """Where the record of a program may stand; links to it are followed."""
+def _beside(path: str) -> pathlib.Path:
+    """Where the record of a program stands, if there is one; links to the program are followed."""
     real = pathlib.Path(os.path.realpath(path))
-    beside = [real.with_name(real.name + ENDING)]
-    return beside + ([real.parent.parent / INSTALLED] if real.parent.name == "bin" else [])
+    return real.with_name(real.name + ENDING)
 
 
 def _recorded(record: pathlib.Path, total: str) -> Optional[Provenance]:

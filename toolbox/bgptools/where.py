@@ -9,6 +9,7 @@ import threading
 from typing import Dict, Optional
 
 from .mistakes import Mistake
+from .provenance import INSTALLED
 
 HERE = pathlib.Path(__file__).resolve().parent
 # The programs that launchers of repositories named, by launcher.
@@ -20,22 +21,30 @@ def program() -> str:
     """The program's path: PROGRAM=, else the one that `./bgpsim` of the repository in which this package lies would
     run, else the one that was installed with this package, else `bgpsim` on the PATH.
 
-    In a repository without a current program the quick one is built, once, with its progress on standard error. Mistake
-    where there is no program, or none can be built."""
+    Where PROGRAM= or the PATH leads to the `./bgpsim` of a repository, it is the program which that would run. In a
+    repository without a current program the quick one is built, once, with its progress on standard error. Mistake where
+    there is no program, or none can be built."""
     launcher = _of_repository()
     named = os.environ.get("PROGRAM")
     if named and not (launcher and _is_same(named, launcher)):
-        return named
+        return _resolved(named)
     found = _of_launcher(launcher) if launcher else _installed() or shutil.which("bgpsim")
     if found is None:
         raise Mistake("there is no program `bgpsim` on the PATH: install its package, or name a program by PROGRAM=")
-    return found
+    return _resolved(found)
 
 
 def _of_repository() -> Optional[str]:
     """`./bgpsim`, where this is toolbox/bgptools of a repository."""
     top = HERE.parent.parent
     return str(top / "bgpsim") if HERE.parent.name == "toolbox" and (top / "crates.txt").is_file() else None
+
+
+def _resolved(path: str) -> str:
+    """The program that the `./bgpsim` of a repository at this path would run; of another program the path itself."""
+    real = pathlib.Path(os.path.realpath(path))
+    is_launcher = os.sep in path and real.name == "bgpsim" and (real.parent / "crates.txt").is_file()
+    return _of_launcher(str(real)) if is_launcher else path
 
 
 def _is_same(one: str, other: str) -> bool:
@@ -68,6 +77,6 @@ def _asked(launcher: str) -> str:
 
 
 def _installed() -> Optional[str]:
-    """PREFIX/bin/bgpsim, where this is PREFIX/share/bgpsim/bgptools, as the package has it."""
-    path = HERE.parent.parent.parent / "bin" / "bgpsim"
+    """PREFIX/lib/bgpsim/bgpsim, where this is PREFIX/share/bgpsim/bgptools, as the package has it."""
+    path = HERE.parent.parent.parent / INSTALLED
     return str(path) if HERE.parent.name == "bgpsim" and os.access(str(path), os.X_OK) else None

@@ -79,9 +79,9 @@ class Library(Case):
         told = self.launched("lab", ["a b", "--port", "1"])
         self.assertEqual((told.returncode, told.stdout.decode()), (0, "again -B %s a b --port 1\n" % launcher))
         self.assertEqual(self.launched("lab", ["x"], []).stdout.decode(), "again %s x\n" % launcher)
-        called = [sys.executable, "-B", "-S", "-m", "bgptools", "share", "x"]
+        called = [sys.executable, "-B", "-S", "-m", "bgptools", "lab", "x"]
         told = alone(called, self.folder, PYTHONPATH=self.folder / "tree/toolbox")
-        self.assertEqual((told.stdout, told.stderr), (b"again -B -m bgptools share x\n", b""))
+        self.assertEqual((told.stdout, told.stderr), (b"again -B -m bgptools lab x\n", b""))
 
     def test_a_tool_that_needs_no_library_does_not(self):
         self.file("tree/tools/setup", "")
@@ -108,6 +108,35 @@ class Library(Case):
             libraries.restart("lab", [])
             self.assertFalse(started.called)
             self.assertRaises(Mistake, libraries.need, "tornado", "lab")
+
+    def by_systems_python(self, text):
+        """A run of `lab` of a repository without a `.venv`, by a Python without libraries; the system's is this text."""
+        self.file("tree/tools/setup", "")
+        if not (self.folder / "tree/toolbox").exists():
+            self.place("tree/toolbox")
+        self.file("systems", text).chmod(0o755)
+        module = self.folder / "tree/toolbox/bgptools/libraries.py"
+        source, named = (TOOLBOX / "bgptools/libraries.py").read_text(), '"/usr/bin/python3"'
+        self.assertEqual(source.count(named), 1)
+        module.write_text(source.replace(named, repr(str(self.folder / "systems"))))
+        return self.launched("lab", [self.file("a b", "")])
+
+    def test_without_an_environment_the_systems_python_runs_it_if_its_library_will_do(self):
+        real = "#!/bin/sh\n[ \"$2\" != -c ] || PYTHONPATH=%s exec %s -S \"$@\"\necho \"again $*\"\n"
+        system = real % (self.folder / "of-system", sys.executable)
+        lab = self.folder / "tree/toolbox/lab"
+        for version, is_run in (("6.4", True), ("6.0", False), (None, False)):
+            with self.subTest(version=version):
+                shutil.rmtree(str(self.folder / "of-system"), ignore_errors=True)
+                if version:
+                    self.file("of-system/tornado/__init__.py", "")
+                    self.file("of-system/tornado-%s.dist-info/METADATA" % version, "Name: tornado\nVersion: %s\n" % version)
+                told = self.by_systems_python(system)
+                self.assertEqual(told.stdout.decode() == "again -B %s %s/a b\n" % (lab, self.folder), is_run, told)
+                if not is_run:
+                    said = "this tool needs the Python library tornado 6.1 or later, and "
+                    self.assertTrue(told.stderr.decode().startswith(said), told)
+        self.assertTrue(self.by_systems_python("#!/none\n").stderr.startswith(b"this tool needs the Python library "))
 
     def test_each_extra_has_the_libraries_of_its_tools(self):
         text = (TOOLBOX / "pyproject.toml").read_text()

@@ -75,8 +75,11 @@ class Output(Case):
             os.mknod(self.out, stat.S_IFCHR | 0o666, os.makedev(1, 7))
             with open(self.out, "rb"):
                 pass
-        except OSError as error:
-            self.skipTest("no device can be made here: %s" % error)
+        except OSError:
+            # Where no device may be made or opened, a link leads to the system's.
+            if self.out.exists():
+                self.out.unlink()
+            self.out.symlink_to("/dev/full")
         self.assertIn("out: it cannot be written: No space left on device\n", tool(*MADE, "-o", self.out, status=2).stderr)
         self.assertTrue(stat.S_ISCHR(self.out.stat().st_mode))
         self.assertEqual(self.names(), ["out"])

@@ -108,8 +108,21 @@ class Where(Case):
         self.copied("usr/share/bgpsim")
         other = self.program_at("elsewhere/bgpsim")
         self.assertEqual(self.told("usr/share/bgpsim", PATH=self.folder / "elsewhere"), other)
-        here = self.program_at("usr/bin/bgpsim")
+        self.program_at("usr/bin/bgpsim")
+        self.assertEqual(self.told("usr/share/bgpsim", PATH=self.folder / "elsewhere"), other)
+        here = self.program_at("usr/lib/bgpsim/bgpsim")
         self.assertEqual(self.told("usr/share/bgpsim", PATH=self.folder / "elsewhere"), here)
+
+    def test_the_launcher_of_a_repository_stands_for_its_program(self):
+        """Also for tools that were installed elsewhere: else a program that is built anew would seem to be the old one."""
+        self.copied("site")
+        self.file("tree/crates.txt", "")
+        self.file("tree/bgpsim", "#!/bin/sh\necho \"/built/$1\"\n").chmod(0o755)
+        (self.folder / "bin").mkdir()
+        (self.folder / "bin/bgpsim").symlink_to("../tree/bgpsim")
+        self.assertEqual(self.told("site", PROGRAM=self.folder / "tree/bgpsim"), "/built/--which")
+        self.assertEqual(self.told("site", PROGRAM=self.folder / "bin/bgpsim"), "/built/--which")
+        self.assertEqual(self.told("site", PATH=self.folder / "bin"), "/built/--which")
 
     def test_nowhere(self):
         self.copied("site")

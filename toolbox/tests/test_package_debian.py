@@ -17,6 +17,8 @@ from bgptools import __version__, where
 from bgptools.tools import TOOLS
 from common import TOOLBOX, TOP, Case, alone, files_of
 
+# The program itself: usr/bin/bgpsim is a script that runs it.
+PROGRAM = "usr/lib/bgpsim/bgpsim"
 DOCUMENTS = "usr/share/doc/bgpsim"
 PAGES = "usr/share/man/man1"
 COMPLETION = "usr/share/bash-completion/completions"
@@ -98,7 +100,7 @@ class Package(Case):
     def run_there(self, called, given=b"", **more):
         """A run of what is in the root, in the folder of its documents, with nothing else on the path: only where the
         program is a script, so that what it needs is found."""
-        program = (self.root / "usr/bin/bgpsim").read_bytes()
+        program = (self.root / PROGRAM).read_bytes()
         path = [str(self.root / "usr/bin")] + ([os.environ["PATH"]] if program.startswith(b"#!") else [])
         words_of = [self.root / "usr/bin" / called[0], *called[1:]]
         return alone(words_of, self.root / DOCUMENTS, given, PATH=os.pathsep.join(path), **more)
@@ -113,7 +115,7 @@ class Package(Case):
         for wanted in ("python3 (>= 3.8)", "python3-tornado (>= 6.1)"):
             self.assertIn(wanted, depends)
         self.assertEqual(fields["Recommends"], "graphviz")
-        if (self.root / "usr/bin/bgpsim").read_bytes().startswith(b"\x7fELF"):
+        if (self.root / PROGRAM).read_bytes().startswith(b"\x7fELF"):
             self.assertRegex(fields["Depends"], r"\blibc6 \(>= 2\.\d+\)")
 
     def test_what_it_says_of_its_origin_is_a_paragraph(self):
@@ -124,7 +126,29 @@ class Package(Case):
             self.assertRegex(line, r"^ \S.{,78}$")
 
     def test_it_has_the_record_of_the_program(self):
-        self.assertEqual((self.root / "usr/share/bgpsim/provenance.json").read_text(), self.record)
+        self.assertEqual((self.root / (PROGRAM + ".json")).read_text(), self.record)
+
+    def test_its_version_says_what_the_record_says(self):
+        """No Python is asked: there is only `cat` beside the program's own folder."""
+        only = self.folder / "only"
+        only.mkdir()
+        (only / "cat").symlink_to(shutil.which("cat"))
+        wanted = alone([self.program, "--version"], self.folder, PATH=os.environ["PATH"]).stdout
+        wanted += b"commit: 0a1b\nproved: no, compiled by kit-9\ndigest: sources-sha256:2c\n"
+        for word in ("--version", "-V"):
+            told = alone([self.root / "usr/bin/bgpsim", word], self.folder, PATH=only)
+            self.assertEqual((told.returncode, told.stdout, told.stderr), (0, wanted, b""))
+        told = self.run_there(["bgpsim-settle", "--version"])
+        self.assertEqual((told.returncode, told.stdout, told.stderr), (0, wanted, b""))
+
+    def test_the_script_passes_words_streams_and_exit_statuses(self):
+        (self.folder / "link").symlink_to(self.root / "usr/bin/bgpsim")
+        for words_of in ([], ["--help"], ["script", "x y"], ["--version", "more"], ["none"], ["", "*"]):
+            wanted = alone([self.program, *words_of], self.folder, PATH=os.environ["PATH"])
+            for called in (self.root / "usr/bin/bgpsim", "./link"):
+                told = alone([called, *words_of], self.folder, PATH=os.environ["PATH"])
+                self.assertEqual((told.returncode, told.stdout, told.stderr),
+                                 (wanted.returncode, wanted.stdout, wanted.stderr), words_of)
 
     def test_lintian_finds_nothing(self):
         self.assertTrue(shutil.which("lintian"), "lintian is not installed: tools/setup")
@@ -202,7 +226,7 @@ class Package(Case):
         self.assertEqual((told.stdout.decode(), told.stderr), (wanted, b""))
 
     def test_the_program_the_tools_and_the_documents_are_those_of_here(self):
-        self.assertEqual((self.root / "usr/bin/bgpsim").read_bytes(), self.program.read_bytes())
+        self.assertEqual((self.root / PROGRAM).read_bytes(), self.program.read_bytes())
         scripts = [*(TOP / "examples").rglob("*.bgp"), *(TOP / "toolbox/lessons").glob("*.*")]
         for path in (TOP / "README.md", *(TOP / "docs").glob("*.md"), *scripts):
             self.assertEqual((self.root / DOCUMENTS / path.relative_to(TOP)).read_bytes(), path.read_bytes())
@@ -232,7 +256,8 @@ class Package(Case):
         programs = {entry[5] for entry in self.entries if entry[0] == "-rwxr-xr-x"}
         # The last one has Python compile the modules where the system gets another Python: dh_python3 puts it there.
         self.assertEqual({name for name in programs if not name.startswith("./usr/share/doc/")},
-                         {"./usr/bin/bgpsim", "./usr/share/bgpsim/launch", "./usr/share/python3/runtime.d/bgpsim.rtupdate"})
+                         {"./usr/bin/bgpsim", "./" + PROGRAM, "./usr/share/bgpsim/launch",
+                          "./usr/share/python3/runtime.d/bgpsim.rtupdate"})
         committed = alone([GIT, "log", "-1", "--format=%cd", "--date=format-local:%Y-%m-%d %H:%M"], TOP, TZ="UTC").stdout
         latest = max("%s %s" % (entry[3], entry[4]) for entry in self.entries)
         self.assertEqual(latest, committed.decode().strip())
@@ -400,7 +425,9 @@ class Staged(Case):
 
     def test_nothing_is_made_without_the_program(self):
         self.program.unlink()
-        self.assertEqual(self.refused(), "%s: there is no program: ./bgpsim --prove builds it\n" % self.program)
+        remedy = "`./bgpsim --prove` builds it, or name another one by PROGRAM="
+        self.assertEqual(self.refused(), "%s: there is no program: %s\n" % (self.program, remedy))
+        self.assertEqual(self.refused(PROGRAM="/none"), "/none: there is no program: PROGRAM= names it\n")
 
     def test_nothing_is_made_of_an_old_program(self):
         later = time.time() + 100

@@ -65,13 +65,26 @@ class Reading(Case):
             self.assertEqual(provenance.of(path).commit, "unknown", text)
 
     def test_of_an_installed_program_and_of_a_link(self):
-        path = self.program("usr/bin/bgpsim")
-        self.file("usr/share/bgpsim/provenance.json", json.dumps({**RECORD, "sha256": sum_of(SCRIPT.encode())}))
-        (self.folder / "link").symlink_to(path)
-        for each in (path, str(self.folder / "link")):
+        """The package's script stands for the program that it runs."""
+        path = self.program("usr/lib/bgpsim/bgpsim", **RECORD)
+        script = self.folder / "usr/bin/bgpsim"
+        self.file("usr/bin/bgpsim", (TOP / "debian/launcher/bgpsim").read_text()).chmod(0o755)
+        for name, target in (("link", path), ("other", str(script))):
+            (self.folder / name).symlink_to(target)
+        for each in (path, str(script), str(self.folder / "link"), str(self.folder / "other")):
             self.assertEqual(provenance.of(each).commit, "c0ffee")
+            self.assertEqual(str(provenance.record_of(each)), path + ".json")
         with unittest.mock.patch.dict(os.environ, {"PATH": str(self.folder / "usr/bin")}):
             self.assertEqual(provenance.of("bgpsim").commit, "c0ffee")
+
+    def test_a_program_at_the_place_of_the_script_stands_for_itself(self):
+        """Somebody has copied a program of their own over the package's script."""
+        self.program("usr/lib/bgpsim/bgpsim", **RECORD)
+        path = self.folder / "usr/bin/bgpsim"
+        path.parent.mkdir()
+        path.write_bytes(b"\x7fELF another")
+        self.assertEqual(provenance.of(str(path)).digest, "program-sha256:" + sum_of(b"\x7fELF another"))
+        self.assertIsNone(provenance.record_of(str(path)))
 
     def test_of_no_program(self):
         for path in (str(self.folder / "none"), "no-such-program", str(self.folder)):
@@ -158,7 +171,8 @@ class Writing(Case):
             self.here.write(path, text)
             shutil.rmtree(str(self.here.out))
             self.assertEqual(self.version()[3], first, path)
-        self.here.run("--prove")
+        told = self.here.run("--prove")
+        self.assertEqual(told[0], 0, told)
         self.assertEqual(self.version()[2:], ["proved: yes, by rattle-kit-test logic 0123", first])
         shutil.rmtree(str(self.here.out))
         found = {first}

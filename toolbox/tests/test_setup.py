@@ -95,6 +95,13 @@ class Setup(Case):
         self.program("chromium-browser", "#!/bin/sh\n")
         self.assertNotIn("chromium", self.setup_told("--check")[1])
 
+    def test_a_compiler_without_headers_is_not_enough(self):
+        self.program("cc", "#!/bin/sh\nexit 1\n")
+        said = "missing: the header stdio.h (Debian package libc6-dev)\n"
+        self.assertEqual(self.setup_told("--check"), (1, said + NO_ENVIRONMENT, ""))
+        self.assertEqual(self.setup_told()[0], 1)
+        self.assertIn(INSTALL + "libc6-dev", self.calls())
+
     def test_root_installs_it(self):
         self.lacks("dot", "lintian", libraries=["tornado"])
         self.assertEqual(self.setup_told(), (0, "", ""))
@@ -161,6 +168,17 @@ class Setup(Case):
         depends = (TOP / "debian/control").read_text()
         for library in libraries.LIBRARIES.values():
             self.assertIn(" %s (>= %s)" % (library.package, ".".join(map(str, library.least))), depends)
+
+    def test_it_has_what_the_tests_look_for(self):
+        """A test that does not find it is skipped, and the gate counts that as failed."""
+        rows = re.findall(r"(?m)^(?:command|library) (\S+) \S+$", SETUP)
+        # Each Debian has the first ones; the others come with the kit, and with Graphviz.
+        there = {name for names in rows for name in names.split(",")} | {"bash", "cat", "mount", "rt", "neato"}
+        asked = set()
+        for path in (TOP / "toolbox/tests").glob("*.py"):
+            asked.update(re.findall(r'\b(?:which|find_spec)\("([^"]+)"', path.read_text()))
+        self.assertLessEqual({"chromium", "valgrind", "pandas"}, asked)
+        self.assertEqual(asked - there, set())
 
     def test_mistakes_of_a_call_and_help(self):
         self.assertEqual(self.setup_told("--chek"), (2, "", "tools/setup: `--chek` is no option: there is --check\n"))
