@@ -102,6 +102,12 @@ def prefixes() -> Lines:
     return edit_loads.lines("origins", 3_000)
 
 
+def edits_over_queues() -> Lines:
+    """400 edits while a message waits in each of 250 directions, and one session is down."""
+    lines = growth.star(250) + growth.heard(1) + ["stop %s %s" % (HUB, peer(0))]
+    return lines + ["metric %s %s %d" % (HUB, peer(1), 2 + number % 2) for number in range(400)]
+
+
 def mistakes() -> Iterator[str]:
     """Lines that spell no command, long ones, comments, and calls that are refused."""
     for number in range(300):
@@ -128,6 +134,7 @@ WORKS: Dict[str, Work] = {
     "heard": script(lambda: edit_loads.lines("heard", 1_500)),
     "calm": script(lambda: edit_loads.lines("calm", 60)),
     "moved": script(lambda: edit_loads.lines("moved", 60)),
+    "edits-over-queues": script(edits_over_queues),
     "rules": script(lambda: edit_loads.lines("rules", 120)),
     "rules-in-threads": script(lambda: edit_loads.lines("rules", 2_060)[:4_140], True),
     "trees-in-threads": script(trees, True),
