@@ -103,9 +103,10 @@ def prefixes() -> Lines:
 
 
 def edits_over_queues() -> Lines:
-    """400 edits while a message waits in each of 250 directions, and one session is down."""
+    """400 edits elsewhere, while a message waits in each of 250 directions and one session is down."""
     lines = growth.star(250) + growth.heard(1) + ["stop %s %s" % (HUB, peer(0))]
-    return lines + ["metric %s %s %d" % (HUB, peer(1), 2 + number % 2) for number in range(400)]
+    lines += ["router 1.0.0.1 1", "router 1.0.0.2 1", "link 1.0.0.1 1.0.0.2 1"]
+    return lines + 200 * ["fail 1.0.0.1 1.0.0.2", "mend 1.0.0.1 1.0.0.2"]
 
 
 def mistakes() -> Iterator[str]:
@@ -143,4 +144,5 @@ WORKS: Dict[str, Work] = {
     "bursts": script(bursts),
     "replay": Work(("replay",), lambda: logs.log_of(joined(loads.lines("net", 10)), 3)),
     "team": Work(("team", "--workers", "1", ENGINEER), lambda: joined(engineer()), True),
+    "team-of-eight": Work(("team", "--workers", "8", ENGINEER), lambda: joined(growth.star(2)), True),
 }

@@ -8,7 +8,7 @@
 
 Hash keys and the number of processors are fixed, so a script takes the same in each run, to the last instruction; only
 where threads share the work it varies. More than the recorded figure by over 2 percent fails, by over 10 percent where
-threads share the work. The last line is `N passed, M failed`; exit 1 where one failed. It needs valgrind and cc.
+threads share the work; calls of open and threads have to be as many as recorded. The last line is `N passed, M failed`; exit 1 where one failed. It needs valgrind and cc.
 
 The figures are those of the proved program. PROGRAM= is another program than crates/bgpsim/out/bgpsim, and
 --figures FILE another file of figures, for a program that is built otherwise. --jobs N runs N scripts side by side.
@@ -37,6 +37,8 @@ COLLECTED = re.compile(rb"Collected : ([0-9]+)")
 COLUMNS = ("instructions", "allocations", "bytes", "peak", "reads", "writes", "opens", "threads")
 # By how many percent a run may take more than is recorded; and where threads share the work.
 MORE, MORE_SHARED = 2, 10
+# What has to be as it is recorded: fewer threads are workers that were asked for and are not there.
+EXACT = ("opens", "threads")
 # After so many seconds a run is taken not to end.
 SECONDS = 900
 # The script that is run under other hash keys too.
@@ -94,7 +96,9 @@ def judged(taken: Mapping[str, int], recorded: Mapping[str, int], percent: int) 
     worse, better = [], []
     for column in COLUMNS:
         now, before = taken[column], recorded[column]
-        if now * 100 > before * (100 + percent):
+        if column in EXACT:
+            worse += ["%s: %d, and %d are recorded; they have to be equal" % (column, now, before)] * (now != before)
+        elif now * 100 > before * (100 + percent):
             worse.append("%s: %d, and %d are recorded%s; at most %d percent more is allowed" % (
                 column, now, before, by_percent(now, before), percent))
         elif now * 100 < before * (100 - percent):
