@@ -55,7 +55,7 @@ class Team(Case):
                 self.assertEqual(calls, {b"%d" % seat: turns for seat in range(1, workers + 1)})
 
     def test_a_file_is_opened_once(self):
-        """Who writes into a pipe finds a reader once: a second reading would wait for ever, or lose what was written."""
+        """A pipe gives what was written into it once: who opens it again waits for ever, or reads nothing."""
         pipe = self.folder / "pipe.engineer"
         os.mkfifo(pipe)
         writer = threading.Thread(target=pipe.write_bytes, args=(b"router 1.0.0.1 1\nquiet\n",), daemon=True)

@@ -51,7 +51,8 @@ class Judged(Case):
         self.assertEqual(self.judged(10, instructions=1_100), ([], []))
 
     def test_more_is_told_by_column(self):
-        for column, count in (("instructions", 1_021), ("allocations", 103), ("bytes", 5_101), ("peak", 817), ("reads", 4)):
+        for column, count in (("instructions", 1_021), ("allocations", 103), ("bytes", 5_101), ("peak", 817),
+                              ("reads", 4)):
             with self.subTest(column=column):
                 worse, better = self.judged(2, **{column: count})
                 self.assertEqual((len(worse), better), (1, []))

@@ -1,4 +1,4 @@
-"""The scripts whose cost tools/resources compares with recorded figures: each has a name, and is the same in each run."""
+"""The scripts whose cost tools/resources compares with recorded figures: each is the same in each run."""
 from __future__ import annotations
 
 from typing import Callable, Dict, Iterator, List, NamedTuple, Tuple

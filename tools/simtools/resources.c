@@ -1,5 +1,5 @@
-// For LD_PRELOAD. It counts what a run takes, and writes the counts at its end to the file that RESOURCES names, a line each.
-// Hash keys are KEYS in each byte, and there are always four processors, whatever the host has or allows: so equal runs take the same.
+// For LD_PRELOAD. It counts what a run takes, and writes the counts at its end to the file that RESOURCES names.
+// Each byte of the hash keys is KEYS, and there are four processors, whatever the host has: equal runs take the same.
 #define _GNU_SOURCE
 #include <dlfcn.h>
 #include <errno.h>
@@ -32,7 +32,8 @@ static void tell(void) {
     const char *name = getenv("RESOURCES");
     char text[400];
     int file = name ? syscall(SYS_openat, AT_FDCWD, name, O_WRONLY | O_CREAT | O_TRUNC, 0600) : -1;
-    int length = snprintf(text, sizeof text, "allocations %ld\nbytes %ld\npeak %ld\nreads %ld\nwrites %ld\nopens %ld\nthreads %ld\n",
+    int length = snprintf(text, sizeof text,
+                          "allocations %ld\nbytes %ld\npeak %ld\nreads %ld\nwrites %ld\nopens %ld\nthreads %ld\n",
                           allocations, bytes, peak, reads, writes, opens, threads);
     if (file >= 0) syscall(SYS_write, file, text, length);
 }

@@ -1,4 +1,4 @@
-"""Compares what some twenty scripts take with recorded figures: a slower or larger program fails, whatever it answers.
+"""Compares what some twenty scripts take with recorded figures: a program that takes more fails, whatever it answers.
 
     tools/resources [NAME..]            each script of tools/simtools/resource_scripts.py, or those of these names:
                                         instructions (valgrind's callgrind), allocations, bytes allocated, the peak of
@@ -6,9 +6,11 @@
     tools/resources --record [NAME..]   writes what they take into bench/resources.csv: after a change that is meant to
                                         take more, or that takes less
 
-Hash keys and the number of processors are fixed, so a script takes the same in each run, to the last instruction; only
-where threads share the work it varies. More than the recorded figure by over 2 percent fails, by over 10 percent where
-threads share the work; calls of open and threads have to be as many as recorded. The last line is `N passed, M failed`; exit 1 where one failed. It needs valgrind and cc.
+Hash keys and the number of processors are fixed, so a script takes the same in each run, to the last instruction. Only
+where threads share the work it varies, by less than a thousandth. A script fails that takes over 2 percent more than
+is recorded; over 10 percent more, where threads share the work. Calls of open and threads have to be as many as
+recorded. A script that takes over 2 percent less is named, and passes.
+The last line is `N passed, M failed`; exit 1 where one failed. It needs valgrind and cc.
 
 The figures are those of the proved program. PROGRAM= is another program than crates/bgpsim/out/bgpsim, and
 --figures FILE another file of figures, for a program that is built otherwise. --jobs N runs N scripts side by side.
