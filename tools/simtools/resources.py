@@ -159,7 +159,7 @@ def faults_of(name: str, taken: Union[Figures, str], recorded: Mapping[str, Figu
         return ["no figures are recorded"]
     verdict = judged(taken, recorded[name], MORE_SHARED if WORKS[name].is_shared else MORE)
     for line in verdict.better:
-        print("%s takes less: %s. `tools/resources --record %s` keeps it so" % (name, line, name))
+        print("%s takes less: %s. Record it anew: tools/resources --record %s" % (name, line, name))
     return verdict.worse
 
 
