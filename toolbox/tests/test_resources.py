@@ -75,7 +75,7 @@ class Judged(Case):
     def test_keys_that_decide_nothing(self):
         for steps, is_well in ((1_000, False), (1_001, True), (999, True)):
             other = {**FIGURES, "instructions": steps}
-            self.assertEqual(resources.keys_decide(lambda name, keys: other, "table", FIGURES), is_well, steps)
+            self.assertEqual(resources.keys_decide(lambda name, keys: other, resources.KEYED, FIGURES), is_well, steps)
 
 
 class Table(Case):

@@ -102,6 +102,13 @@ def prefixes() -> Lines:
     return edit_loads.lines("origins", 3_000)
 
 
+def paths() -> Lines:
+    """Routes of one peer, no two with the same path: so many sets of attributes are looked up and kept."""
+    return growth.star(0) + [line for n in range(400) for line in (
+        "feed %s %s update %s 7,%d igp -" % (growth.FEEDER, HUB, prefix(n), 1 + n),
+        "deliver %s %s" % (growth.FEEDER, HUB))]
+
+
 def edits_over_queues() -> Lines:
     """400 edits elsewhere, while a message waits in each of 250 directions and one session is down."""
     lines = growth.star(250) + growth.heard(1) + ["stop %s %s" % (HUB, peer(0))]
@@ -130,6 +137,7 @@ WORKS: Dict[str, Work] = {
     "ring": script(lambda: loads.lines("ring", 30)),
     "net": script(lambda: loads.lines("net", 30)),
     "communities": script(communities),
+    "paths": script(paths),
     "mesh": script(lambda: edit_loads.lines("mesh", 256)),
     "origins": script(prefixes),
     "heard": script(lambda: edit_loads.lines("heard", 1_500)),

@@ -44,7 +44,7 @@ EXACT = ("opens", "threads")
 # After so many seconds a run is taken not to end.
 SECONDS = 900
 # The script that is run under other hash keys too.
-KEYED = "table"
+KEYED = "paths"
 Figures = Dict[str, int]
 Measure = Callable[[str, int], Union[Figures, str]]
 
