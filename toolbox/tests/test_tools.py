@@ -86,7 +86,7 @@ class Commands(Case):
     def test_parts_of_the_gate_count_a_program_that_is_not_there_as_failed(self):
         for call in ("run-cases cases/lines", "refuse-allocations cases/memory", "refuse-growths", "teams faults",
                      "teams storm", "forged-logs", "hostile-scripts", "failing-streams", "small-stacks",
-                     "fault-servers", "run-toolbox-tests"):
+                      "fault-servers", "resources", "run-toolbox-tests"):
             with self.subTest(call=call):
                 name, *words = call.split()
                 ran = command("tools/" + name, *words, PROGRAM=NOWHERE)
