@@ -35,7 +35,7 @@ import tempfile
 import threading
 import time
 from dataclasses import dataclass, field
-from typing import Collection, Dict, Iterator, List, Optional, Sequence, Set, Tuple
+from typing import Callable, Collection, Dict, Iterator, List, Optional, Sequence, Set, Tuple
 
 from . import commands, left_out
 from . import rattle_source as reading
@@ -45,8 +45,9 @@ from .running import side_by_side
 PARTS = ("src", "specs", "proofs", "c")
 # The most edits that are tried in one copy of a crate, and in one check.
 EDITS_A_COPY, EDITS_A_CHECK = 160, 40
-# `rt`, which reads the files of each library once there.
-RT: Sequence[str] = (sys.executable, "-B", str(pathlib.Path(__file__).resolve().parent.parent / "build"), "--rt", "--")
+# `rt`, which reads the files of each library once there, over the libraries that the gate kept.
+BUILD = pathlib.Path(__file__).resolve().parent.parent / "build"
+RT: Sequence[str] = (sys.executable, "-B", str(BUILD), "--rt", "kept", "--")
 # Where checks keep their work, in a crate's folder.
 KEPT = "out/incremental"
 # What is told of a text that cannot be read; an edit that only makes a statement false reads well.
@@ -228,10 +229,12 @@ def verdict(status: int, told: List[str], changed: Collection[str], own: Collect
     return ("BAD", "it did not reach the prover: %s" % why) if why else refusal(told, own)
 
 
-def tell(crate: str, what: str, word: str, start: float, why: Optional[str]) -> None:
+def tell(crate: str, what: str, word: str, start: Optional[float], why: Optional[str]) -> None:
+    """Prints what something came to, with the time since the start where there is one."""
     with printing:
         reason = ": " + why[:140] if why else ""
-        print("%s/%s: %s (%.0f s)%s" % (crate, what, word, time.monotonic() - start, reason), flush=True)
+        took = "" if start is None else " (%.0f s)" % (time.monotonic() - start)
+        print("%s/%s: %s%s%s" % (crate, what, word, took, reason), flush=True)
 
 
 @dataclass
@@ -357,9 +360,10 @@ def at_once(edits: List[pathlib.Path], copied: Copied) -> Dict[pathlib.Path, Out
     return {edit: outcome for edit, outcome in found if outcome}
 
 
-def try_edits(crate: str, others: Set[str], edits: List[pathlib.Path]) -> List[str]:
-    """The words that these edits of the crate came to."""
-    words = []
+def tries(crate: str, others: Set[str], edits: List[pathlib.Path],
+          alone: Callable[[pathlib.Path, Copied], Outcome] = attempt) -> Iterator[Tuple[pathlib.Path, str, Optional[str]]]:
+    """Each of these edits of the crate with what it came to and why. What a check of its function does not settle is
+    tried by `alone`."""
     with tempfile.TemporaryDirectory(prefix="planted-") as room:
         copied = Copied(pathlib.Path(room) / "crates" / crate)
         copy(crate, others, pathlib.Path(room))
@@ -368,10 +372,14 @@ def try_edits(crate: str, others: Set[str], edits: List[pathlib.Path]) -> List[s
             start = time.monotonic()
             found = at_once(at_a_time, copied)
             for edit in at_a_time:
-                word, why = found.get(edit) or attempt(edit, copied)
-                words.append(word)
+                word, why = found.get(edit) or alone(edit, copied)
                 tell(crate, edit.stem, word, start, why)
-    return words
+                yield edit, word, why
+
+
+def try_edits(crate: str, others: Set[str], edits: List[pathlib.Path]) -> List[str]:
+    """The words that these edits of the crate came to."""
+    return [word for _, word, _ in tries(crate, others, edits)]
 
 
 def parts_of(edits: Dict[str, List[pathlib.Path]]) -> List[Tuple[str, List[pathlib.Path]]]:
