@@ -41,6 +41,8 @@ def give(rtlib: Any, folder: str) -> None:
         return
     gate.Crate.allowed = gate.handles_of(root)
     libraries = rtlib.Crate(folder, root, {}).below()
+    if all(library.is_built() for library in libraries):
+        return
     kept = gate.Kept(libraries)
     for library in libraries:
         if not library.is_built():

@@ -28,12 +28,13 @@ class Place(NamedTuple):
 
 class Body(NamedTuple):
     """A function with a body: the module that it stands in; its place, where that is known; its name; the names that
-    its body calls; and whether it calls itself, so that its proof is one of a cycle of calls."""
+    its body calls; whether it calls itself, so that its proof is one of a cycle of calls; and all names in its body."""
     module: Tuple[str, ...]
     place: Optional[Place]
     name: str
     calls: Set[str]
     is_recursive: bool
+    words: Set[str]
 
 
 def module(path: pathlib.PurePath) -> Tuple[str, ...]:
@@ -89,7 +90,7 @@ def bodies(folder: pathlib.Path) -> List[Body]:
                 calls = set(re.findall(r"\b(\w+)\s*(?:::<[^()]*>)?\(", text))
                 itself = (r"(?:self\.|Self::)%s\(" if function.owner else r"(?<!\.)\b%s\(") % function.name
                 found.append(Body(at, place_of(function, at, source, homes), function.name, calls,
-                                  bool(re.search(itself, text))))
+                                  bool(re.search(itself, text)), set(re.findall(r"\b[A-Za-z_]\w*", text))))
     return found
 
 

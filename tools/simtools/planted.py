@@ -151,17 +151,36 @@ def is_unread(line: str, changed: Collection[str]) -> bool:
     return not found[2] or bool(UNREAD.search(re.sub(r"`[^`]*`", "", found[3])))
 
 
-def functions_at(path: pathlib.Path, old: str, new: str) -> Set[str]:
-    """The names of the functions in which a source was changed, by the first and the last byte that differs."""
+def changed_between(path: pathlib.Path, old: str, new: str) -> Optional[Tuple[reading.Source, int, int]]:
+    """What a source was, and where the first and the last byte that differs stands; None where it cannot be read."""
     first = len(os.path.commonprefix((old, new)))
     last = len(old) - len(os.path.commonprefix((old[first:][::-1], new[first:][::-1])))
     try:
         read = reading.Reading(path.name, "", old)
         read.items(reading.nested(old, path.name))
     except reading.Unreadable:
+        return None
+    return read.source, first, last
+
+
+def constants_at(path: pathlib.Path, old: str, new: str) -> Set[str]:
+    """The names of the constants whose value alone was changed."""
+    found = changed_between(path, old, new)
+    if found is None:
         return set()
+    source, first, last = found
+    return {name for name, nodes in source.constants.items()
+            if nodes and nodes[0].start <= first and last <= nodes[-1].end}
+
+
+def functions_at(path: pathlib.Path, old: str, new: str) -> Set[str]:
+    """The names of the functions in which a source was changed, by the first and the last byte that differs."""
+    found_now = changed_between(path, old, new)
+    if found_now is None:
+        return set()
+    source, first, last = found_now
     lines = [0] + [found.end() for found in re.finditer("\n", old)]
-    return {function.name for function in read.source.functions if function.body for at in (first, last)
+    return {function.name for function in source.functions if function.body for at in (first, last)
             if lines[function.line - 1] <= at <= function.body.end}
 
 
@@ -249,6 +268,10 @@ class Copied:
         module = left_out.module(pathlib.PurePath(file).relative_to("src")) if file.startswith("src/") else None
         return [body for body in self.bodies if body.module == module and body.name in own]
 
+    def users(self, constants: Collection[str]) -> List[left_out.Body]:
+        """The functions whose bodies name one of these constants."""
+        return [body for body in self.bodies if body.words & set(constants)]
+
     def check(self, functions: Collection[str]) -> Tuple[int, List[str]]:
         """A check of these functions without the proofs of the others, or of the whole crate."""
         proofs, kept = self.folder / "proofs", self.folder / "out" / "proofs"
@@ -288,14 +311,18 @@ class Applied:
         texts, why = texts_of(edit, copied.folder, self.texts)
         if why:
             return why
-        own = {str(path.relative_to(copied.folder)):
-               functions_at(path, self.texts.get(path) or path.read_text(), text) for path, text in texts.items()}
+        found: List[left_out.Body] = []
+        own: List[Set[str]] = []
+        for path, text in texts.items():
+            was, file = self.texts.get(path) or path.read_text(), str(path.relative_to(copied.folder))
+            bodies = copied.functions(file, functions_at(path, was, text)) or copied.users(constants_at(path, was, text))
+            found += bodies
+            own.append({body.name for body in bodies})
         self.edits.append(edit)
-        self.files.append(set(own))
-        self.own.append(set().union(*own.values()))
-        found = [body for file, names in own.items() for body in copied.functions(file, names)]
+        self.files.append({str(path.relative_to(copied.folder)) for path in texts})
+        self.own.append(set().union(*own))
         names = {body.place.printed(copied.folder.name) for body in found if body.place}
-        can_be_alone = all(own.values()) and all(body.place and not body.is_recursive for body in found)
+        can_be_alone = all(own) and all(body.place and not body.is_recursive for body in found)
         self.functions.append(names if can_be_alone else set())
         self.calls.append(set().union(*(body.calls for body in found)))
         self.texts.update(texts)

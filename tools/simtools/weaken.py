@@ -30,8 +30,7 @@ from . import rattle_source as reading
 from .programs import TOP
 
 OPENING, CLOSING = "([{", ")]}"
-# What ends an operand, then the operators, the loosest first.
-ENDS = re.compile(r"→|↔|≡|≤|<|==|(?<![<≤=])=(?!=)|;|,|\bthen\b|\belse\b|\bif\b|λ[^.]*\.\s|\+\+|∷")
+# The operators, the loosest first, and what no operand goes past.
 OPERATORS = ("⊎", "×", "||", "&&")
 LOOSE = re.compile(r"→|↔|;|,|\bthen\b|\belse\b|\bif\b|λ[^.]*\.\s|(?<=\s)=(?=\s)")
 BINDER = re.compile(r"\s*[({][\w' ]+ : ")
@@ -141,8 +140,7 @@ def tests(text: str, span: Span) -> Iterator[Tuple[str, List[Span]]]:
 def cut(text: str, spans: Sequence[Span]) -> str:
     """The text without these spans."""
     for span in sorted(spans, reverse=True):
-        gone = text[span.start:span.end]
-        text = text[:span.start] + "\n" * gone.count("\n") * 0 + " " + text[span.end:]
+        text = text[:span.start] + " " + text[span.end:]
     return text
 
 
@@ -154,7 +152,7 @@ def equations(text: str, names: Set[str]) -> Iterator[Tuple[str, Span]]:
         head = re.match(r"(\S+)", plain[start:end])
         equals = re.search(r"(?<=\s)=(?=\s)", flat(plain, Span(start, end)))
         if head and head[1] in names and equals:
-            yield head[1], Span(start + equals.end(), end)
+            yield head[1], Span(start + equals.end(), start + len(plain[start:end].rstrip()))
 
 
 def places(text: str, names: Set[str]) -> Iterator[Place]:
