@@ -176,7 +176,7 @@ other n = low n && high n
     def changed(place):
         """The definition as it then stands, on one line."""
         plain = re.sub(r"(?m)^(?=\s)", " ", place.text)
-        found = re.search(r"(?m)^%s [^:]* = (?:.*)(?:\n[ ].*)*" % place.definition, plain)
+        found = re.search(r"(?m)^%s [^:\n]* = .*(?:\n[ ].*)*" % place.definition, plain)
         return " ".join(found[0].split())
 
     def test_what_a_check_says(self):
