@@ -6,10 +6,11 @@ import hashlib
 import io
 import os
 import re
+import subprocess
 import unittest.mock
 
 from common import TOP, Case
-from simtools import commands, left_out, mistyped, mutants, planted, verdicts, weaken
+from simtools import believed, commands, left_out, mistyped, mutants, planted, verdicts, weaken
 
 
 def called(body):
@@ -54,8 +55,8 @@ class Choice(Case):
         found = mutants.chosen_mutants("# none\n\nlate-is-early: low/planted/late # why\n", self.folder)
         self.assertEqual(found, [("late-is-early", edit)])
         for line in ("late: low/planted/gone", "late low/planted/late", "late:", "a b: low/planted/late"):
-            with self.subTest(line=line), self.assertRaisesRegex(commands.Missing, "mutants.list:2: .*%s.* write one" % (
-                    re.escape(line))):
+            wanted = "mutants.list:2: .*%s.* write one" % re.escape(line)
+            with self.subTest(line=line), self.assertRaisesRegex(commands.Missing, wanted):
                 mutants.chosen_mutants("# none\n%s\n" % line, self.folder)
 
     def test_thirty_are_chosen_that_apply_in_functions_alone(self):
@@ -88,7 +89,8 @@ class Choice(Case):
             "2 refused by a goal\n1 refused by a goal, beside a proof file that fits no more\n"
             "2 at a limit of the search, which says nothing\n1 refused by a proof file alone, which shows nothing\n"
             "1 not settled by a check of their functions alone: tools/planted EDIT tries one\n1 PROVED\n"
-            "FAILED crates/low/planted/d.edit: refused BY A PROOF FILE alone\nFAILED crates/low/planted/e.edit: PROVED\n"
+            "FAILED crates/low/planted/d.edit: refused BY A PROOF FILE alone\n"
+            "FAILED crates/low/planted/e.edit: PROVED\n"
             "FAILED crates/low/planted/g.edit: refused at a limit\n3 passed, 3 failed\n")))
 
 
@@ -135,7 +137,8 @@ class Mistyped(Case):
 class Constants(Case):
     def test_an_edit_of_a_constant_is_of_the_functions_that_name_it(self):
         self.file("low/src/limits.rt", "pub const MOST: usize = 9;\npub const LEAST: usize = 1;\n")
-        self.file("low/src/lib.rt", "mod limits;\nfn a() -> usize { MOST + 1 }\nfn b() -> usize { LEAST }\nfn c() { a(); }\n")
+        self.file("low/src/lib.rt", "mod limits;\nfn a() -> usize { MOST + 1 }\nfn b() -> usize { LEAST }\n"
+                                    "fn c() { a(); }\n")
         edit = self.file("low/planted/a.edit", "file: src/limits.rt\nold: MOST: usize = 9\nnew: MOST: usize = 8\n")
         applied, folder = planted.Applied(), self.folder / "low"
         self.assertIsNone(applied.add(edit, planted.Copied(folder, left_out.bodies(folder))))
@@ -184,7 +187,30 @@ other n = low n && high n
         for status, lines, word in (
                 (0, ["only=1 proved=1"], weaken.NOTHING),
                 (1, [goal, "fn low::half: no proof", "only=1"], "by a goal"),
-                (1, [goal + "; `search` gave up at one of its limits", "fn low::half: no proof", "only=1"], "at a limit"),
+                (1, [goal + "; `search` gave up at its limit", "fn low::half: no proof", "only=1"], "at a limit"),
                 (1, ["./proofs/A.antt:3:9: error: `a`: expected type `1 ≡ 2`", "only=1"], "BY A PROOF FILE"),
                 (1, ["specs/A.antt:3:9: error: expected the end of the text"], weaken.UNREAD)):
             self.assertEqual(weaken.judged(status, lines, "specs/A.antt")[0], word, lines)
+
+
+class TrustedBase(Case):
+    def git(self, *words):
+        names = ("-c", "user.name=a", "-c", "user.email=a@b", "-c", "commit.gpgsign=false")
+        subprocess.run(["git", *names, *words], cwd=str(self.folder), check=True, stdout=subprocess.DEVNULL)
+
+    def test_each_changed_line_since_a_commit(self):
+        self.file("docs/ARCHITECTURE.md", "| `low`: `Kept`, `Gone` (for all) | 3 |\n")
+        kept = self.file("crates/low/specs/Kept.antt", "-- is\nis_good n = low n && high n\nsame n = n\n")
+        gone = self.file("crates/low/specs/Gone.antt", "is_gone = true\n")
+        self.git("init", "-q")
+        self.git("add", "-A")
+        self.git("commit", "-q", "-m", "a")
+        kept.write_text("-- is good\nuse A.{b}\nis_good n = low n\nsame n = n\n")
+        gone.unlink()
+        _, told = called(lambda: believed.tell_since(self.folder, {("low", "Kept"), ("low", "New")}, "HEAD"))
+        self.assertEqual(told, (
+            "crates/low/specs/Gone.antt: -is_gone = true\n"
+            "crates/low/specs/Kept.antt: -is_good n = low n && high n\ncrates/low/specs/Kept.antt: +is_good n = low n\n"
+            "3 lines of the trusted base differ from those of HEAD\n"))
+        with self.assertRaisesRegex(commands.Missing, "git knows no commit `nowhere` here: write another"):
+            believed.tell_since(self.folder, set(), "nowhere")

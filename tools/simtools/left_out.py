@@ -67,7 +67,7 @@ def type_homes(sources: Collection[Tuple[Tuple[str, ...], reading.Source]]) -> D
 
 def place_of(function: reading.Function, at: Tuple[str, ...], source: reading.Source,
              homes: Dict[str, List[Tuple[str, ...]]]) -> Optional[Place]:
-    """The place of a function's proof, where it is known: not of a trait's default, of a method of a trait that is given
+    """The place of a function's proof, where it is known: not of a trait's default, of a method of a trait that gets
     types, or of one of a type that another crate declares."""
     if not function.owner:
         return Place(at, function.name)

@@ -4,9 +4,9 @@
 
 An edit is a line `file: src/lib.rt` and pairs of lines `old: TEXT` and `new: TEXT`, as in must-fail/, where it cannot
 stand, since it never reaches the prover; and lines `said: TEXT`, each of which the compiler has to say, at a line of
-that file, of types that do not match; or `said: [KIND] TEXT`, of an error of another kind, with which its text begins. It
-is tried on a copy of the crates, by `rt try --test`, which compiles before any proof: in the crate, or where that has no
-tests in the first crate above it that has. Each such line counts. The last line is `N passed, M failed`.
+that file, of types that do not match; or `said: [KIND] TEXT`, of an error of another kind, which begins with the text.
+It is tried on a copy of the crates, by `rt try --test`, which compiles before any proof: in the crate, or, where that
+has no tests, in the first crate above it that has. Each such line counts. The last line is `N passed, M failed`.
 """
 from __future__ import annotations
 
@@ -34,8 +34,8 @@ def lines_of(edit: pathlib.Path, word: str) -> List[str]:
 
 
 def wrong(edit: pathlib.Path, told: str, is_above: bool = False) -> List[str]:
-    """What the compiler should have told of an edit, and did not; with the first error that it told. Where a crate above
-    is compiled, the crate stands before the file."""
+    """What the compiler should have told of an edit, and did not; with the first error that it told. Where a crate
+    above is compiled, the crate stands before the file."""
     (file,) = lines_of(edit, "file")
     at = "%s/%s" % (edit.parent.parent.name, file) if is_above else file
     errors = [line for line in told.splitlines() if "error" in line] or told.splitlines()[-1:] or ["nothing"]
@@ -58,7 +58,8 @@ def has_tests(crate: str) -> bool:
 def compiled_in(crate: str) -> str:
     """The crate itself, or where it has no tests the first crate above it that has."""
     below = planted.below()
-    return next((name for name in [crate, *below] if (name == crate or crate in below[name]) and has_tests(name)), crate)
+    above = [name for name in below if crate in below[name]]
+    return next((name for name in [crate, *above] if has_tests(name)), crate)
 
 
 def copy(room: pathlib.Path) -> None:

@@ -1,4 +1,4 @@
-"""Tries mutants of code, which the prover has to refuse: those that tools/mutants.list chooses, and as many others as are
+"""Tries mutants of code, which the prover has to refuse: those that tools/mutants.list chooses, and others that are
 drawn. A part of the gate.
 
     tools/mutants                     tries the chosen ones and forty drawn ones
@@ -6,28 +6,27 @@ drawn. A part of the gate.
     tools/mutants --list              prints both, and tries none
     tools/mutants --anew              tries also those whose verdict is kept
 
-tools/mutants.list has of each wrong body that a proof must refuse, and of each of the program's own promises, the mutant
-that spells it. The others are drawn from all of crates/*/planted: in the order of the SHA-256 of the commit and the path,
-the first of each crate, then the first of all, forty together. Without git the digest of the sources stands for the
-commit. So nobody chooses them, and each commit draws others.
+tools/mutants.list has, of each wrong body that a proof must refuse and of each of the program's own promises, the mutant
+that spells it. The others are drawn from all of crates/*/planted: in the order of the SHA-256 of the commit and the
+path, the first of each crate, then the first of all, forty together. Without git the digest of the sources stands for
+the commit. So nobody chooses them, and each commit draws others.
 
 A mutant is tried as `tools/planted` tries it, by a check of its function alone, together with others. Verdicts are kept
-on this machine, by the checksum of all that the check reads. What such a check does not settle is told as such: it takes
-a check of the whole crate, by `tools/planted EDIT`.
+on this machine, by the checksum of all that the check reads. What such a check does not settle is told: it takes a check
+of the whole crate, by `tools/planted EDIT`.
 
-The last lines count, each apart: refused by a goal; by a goal, beside a proof of the function, written by hand, that does
-not fit the mutant either; at a limit of the search, which says nothing; by such a proof alone, which shows nothing; not
-settled. The very last is `N passed, M failed`. Only the first two pass. A drawn mutant at a limit, or not settled, neither
-passes nor fails; all else fails: what is proved, what does not apply, and a chosen one that no goal refuses.
+The last lines count, each apart: refused by a goal; by a goal, beside a proof of the function, written by hand, that
+does not fit the mutant either; at a limit of the search, which says nothing; by such a proof alone, which shows nothing;
+not settled. The very last is `N passed, M failed`. Only the first two pass. A drawn mutant at a limit, or not settled,
+neither passes nor fails. All else fails: what is proved, what does not apply, and a chosen one that no goal refuses.
 """
 from __future__ import annotations
 
 import hashlib
 import pathlib
-import subprocess
 from typing import Collection, Dict, Iterable, List, NamedTuple, Optional, Sequence, Set, Tuple
 
-from . import build_record, commands, planted
+from . import believed, build_record, commands, planted
 from . import rattle_source as reading
 from .programs import TOP
 from .running import side_by_side
@@ -40,14 +39,15 @@ UNSETTLED = "not settled"
 PASSED = (planted.BY_GOAL, planted.ELSEWHERE, planted.BESIDE)
 SAYS_NOTHING = (planted.AT_LIMIT, UNSETTLED)
 KEPT = (*PASSED, planted.AT_LIMIT, planted.BY_PROOF)
+# What the last lines count, each of which words; those of the first four are printed also where there is none.
 COUNTED = (
-    (("refused by a goal", (planted.BY_GOAL, planted.ELSEWHERE))),
-    (("refused by a goal, beside a proof file that fits no more", (planted.BESIDE,))),
-    (("at a limit of the search, which says nothing", (planted.AT_LIMIT,))),
-    (("refused by a proof file alone, which shows nothing", (planted.BY_PROOF,))),
-    (("not settled by a check of their functions alone: tools/planted EDIT tries one", (UNSETTLED,))),
-    (("PROVED", ("PROVED",))),
-    (("BAD: they do not apply or cannot be read", ("BAD",))))
+    ("refused by a goal", (planted.BY_GOAL, planted.ELSEWHERE)),
+    ("refused by a goal, beside a proof file that fits no more", (planted.BESIDE,)),
+    ("at a limit of the search, which says nothing", (planted.AT_LIMIT,)),
+    ("refused by a proof file alone, which shows nothing", (planted.BY_PROOF,)),
+    ("not settled by a check of their functions alone: tools/planted EDIT tries one", (UNSETTLED,)),
+    ("PROVED", ("PROVED",)),
+    ("BAD: they do not apply or cannot be read", ("BAD",)))
 
 
 class Chosen(NamedTuple):
@@ -65,9 +65,9 @@ def chosen_mutants(text: str, top: pathlib.Path) -> List[Chosen]:
             continue
         path = top / "crates" / (words[-1] + ".edit")
         if len(words) != 2 or not words[0].endswith(":") or not path.is_file():
-            raise commands.Missing("tools/mutants.list:%d: `%s` is not `NAME: CRATE/FOLDER/EDIT` of an edit below crates/: "
-                                   "write one, as `trace-takes-any-match: plain_simulator/planted/trace-takes-any-match`"
-                                   % (number, line.strip()))
+            raise commands.Missing(
+                "tools/mutants.list:%d: `%s` is not `NAME: CRATE/FOLDER/EDIT` of an edit below crates/: write one, "
+                "as `trace-takes-any-match: plain_simulator/planted/trace-takes-any-match`" % (number, line.strip()))
         found.append(Chosen(words[0][:-1], path))
     return found
 
@@ -95,12 +95,7 @@ def drawn(edits: Iterable[pathlib.Path], seed: str, top: pathlib.Path, most: int
 
 def git(*words: str) -> Optional[str]:
     """What git answers here; None where it answers nothing."""
-    try:
-        ran = subprocess.run(["git", *words], cwd=TOP, stdin=subprocess.DEVNULL, stdout=subprocess.PIPE,
-                             stderr=subprocess.DEVNULL)
-    except OSError:
-        return None
-    return ran.stdout.decode("utf-8", "replace") if ran.returncode == 0 else None
+    return believed.git(TOP, *words)
 
 
 def seed_of() -> str:
@@ -134,7 +129,7 @@ def owed_mutants(edits: Iterable[pathlib.Path], since: str) -> List[pathlib.Path
     """The edits of functions that were changed since the commit. Raises commands.Missing where git does not know it."""
     told = git("diff", "--name-only", since, "--", "crates")
     if told is None:
-        raise commands.Missing("git knows no commit `%s` here: write another, as `HEAD~1`, or leave --since out" % since)
+        raise commands.Missing("git knows no commit `%s` here: write another, as `HEAD~1`, or no --since" % since)
     files = {file for file in told.splitlines() if "/src/" in file and (TOP / file).is_file()}
     changed = {file: changed_functions(file, git("show", "%s:%s" % (since, file)) or "", (TOP / file).read_text())
                for file in files}
@@ -175,9 +170,9 @@ def unsettled(edit: pathlib.Path, copied: planted.Copied) -> planted.Outcome:
 def counted(words: Dict[pathlib.Path, str], chosen: Collection[pathlib.Path]) -> int:
     """Prints how many came to what. The exit status."""
     came = list(words.values())
-    for said, which in COUNTED:
+    for at, (said, which) in enumerate(COUNTED):
         count = sum(map(came.count, which))
-        if count or which[0] in (planted.BY_GOAL, planted.BESIDE, planted.AT_LIMIT, planted.BY_PROOF):
+        if count or at < 4:
             print("%d %s" % (count, said))
     passed = [edit for edit, word in words.items() if word in PASSED]
     failed = [edit for edit, word in words.items()
@@ -187,8 +182,8 @@ def counted(words: Dict[pathlib.Path, str], chosen: Collection[pathlib.Path]) ->
     return commands.counted(len(passed), len(failed))
 
 
-def part(words: Sequence[str]) -> int:
-    """Tries what the words ask for."""
+def main(words: Sequence[str]) -> int:
+    """The command."""
     asked = commands.parser(__doc__)
     asked.add_argument("--since", metavar="COMMIT")
     asked.add_argument("--list", action="store_true", dest="is_list")
@@ -220,8 +215,3 @@ def try_all(since: Optional[str], is_list: bool, is_anew: bool, jobs: int) -> in
                          sorted(by_crate, key=lambda crate: -len(by_crate[crate])), jobs=jobs)
     words = {edit: word for some in found for edit, word in some.items()}
     return counted(words, chosen)
-
-
-def main(words: Sequence[str]) -> int:
-    """The command."""
-    return part(words)

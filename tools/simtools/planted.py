@@ -315,7 +315,8 @@ class Applied:
         own: List[Set[str]] = []
         for path, text in texts.items():
             was, file = self.texts.get(path) or path.read_text(), str(path.relative_to(copied.folder))
-            bodies = copied.functions(file, functions_at(path, was, text)) or copied.users(constants_at(path, was, text))
+            bodies = copied.functions(file, functions_at(path, was, text))
+            bodies = bodies or copied.users(constants_at(path, was, text))
             found += bodies
             own.append({body.name for body in bodies})
         self.edits.append(edit)
@@ -387,8 +388,11 @@ def at_once(edits: List[pathlib.Path], copied: Copied) -> Dict[pathlib.Path, Out
     return {edit: outcome for edit, outcome in found if outcome}
 
 
+Tried = Tuple[pathlib.Path, str, Optional[str]]
+
+
 def tries(crate: str, others: Set[str], edits: List[pathlib.Path],
-          alone: Callable[[pathlib.Path, Copied], Outcome] = attempt) -> Iterator[Tuple[pathlib.Path, str, Optional[str]]]:
+          alone: Callable[[pathlib.Path, Copied], Outcome] = attempt) -> Iterator[Tried]:
     """Each of these edits of the crate with what it came to and why. What a check of its function does not settle is
     tried by `alone`."""
     with tempfile.TemporaryDirectory(prefix="planted-") as room:

@@ -31,7 +31,7 @@ def sum_of_files(top: pathlib.Path, parts: Sequence[str]) -> str:
 
 @dataclass
 class Verdicts:
-    """The verdicts that are kept. `kit` names the kit that judged; `below` has of each crate those that it stands on."""
+    """The verdicts that are kept. `kit` names the kit that judged, and `below` the crates that each crate stands on."""
     top: pathlib.Path
     kit: str
     below: Dict[str, Set[str]]

@@ -2,16 +2,16 @@
 
     tools/weaken [--list] [--only WORD] [--most N] [CRATE..]        without a crate: all crates
 
-The definitions are those that `tools/believed` finds. In each of them each conjunct (`×`, `&&`), each alternative (`⊎`,
-`||`) and each test (`if .. then .. else ..`, in whose place first one branch stands, then the other) is dropped in turn,
-on a copy. Then those functions of the crate are checked, laws among them, whose clauses reach the definition; all others
-are taken by what they state. Somebody should notice:
+The definitions are those that `tools/believed` finds. In each of them each conjunct (`×`, `&&`), each alternative
+(`⊎`, `||`) and each test (`if .. then .. else ..`, in whose place first one branch stands, then the other) is dropped in
+turn, on a copy. Then those functions of the crate are checked, laws among them, whose clauses reach the definition. All
+others are taken by what they state. Something should notice:
 
     by a goal        a goal of a function has no proof any more; it is named
     at a limit       the search gave up at each such goal, which says nothing
     BY A PROOF FILE  only a proof or a lemma that was written by hand does not fit, which says nothing
-    NOTHING          all these functions are proved as before, or there are none: a crate above, a law, a mutant or a case
-                     has to notice
+    NOTHING          all these functions are proved as before, or there are none: a crate above, a law, a mutant or a
+                     case has to notice
     unread           the text without that place is none
 
 --list prints the places and checks none; --only takes those whose file, definition and text hold the word; --most stops
