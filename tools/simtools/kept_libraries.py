@@ -1,5 +1,5 @@
-"""The libraries that the gate of the kit (`rt ci`) keeps on this machine, given to a copy of a crate, so that a check of
-the copy does not prove what stands below it once more."""
+"""The libraries that the gate of the kit (`rt ci`) keeps on this machine, given to a copy of a crate, so that a check
+of the copy does not prove what stands below it once more."""
 from __future__ import annotations
 
 import importlib.util

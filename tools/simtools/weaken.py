@@ -3,8 +3,8 @@
     tools/weaken [--list] [--only WORD] [--most N] [CRATE..]        without a crate: all crates
 
 The definitions are those that `tools/believed` finds. In each of them each conjunct (`×`, `&&`), each alternative
-(`⊎`, `||`) and each test (`if .. then .. else ..`, in whose place first one branch stands, then the other) is dropped in
-turn, on a copy. Then those functions of the crate are checked, laws among them, whose clauses reach the definition. All
+(`⊎`, `||`) and each test (`if .. then .. else ..`, in whose place first one branch stands, then the other) is
+dropped in turn, on a copy. Then those functions of the crate are checked, laws among them, whose clauses reach the definition. All
 others are taken by what they state. Something should notice:
 
     by a goal        a goal of a function has no proof any more; it is named
