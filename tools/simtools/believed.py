@@ -3,6 +3,9 @@
     tools/believed             compares the table and the sums of docs/ARCHITECTURE.md; exit 1 where they differ
     tools/believed --write     writes both there
     tools/believed --why       tells of each name by what it is reached
+    tools/believed --since COMMIT
+                               prints each line of these files that was changed since the commit or tag, so that a
+                               weaker statement is seen
 
 It begins with the words in the clauses of public calls (PARTS in simtools/believed.py says of which, and in which rows
 of the table what they reach stands), finds each by its `ghost use` line, reads its definition in specs/, and goes on
@@ -13,8 +16,10 @@ told. What the kit defines is not followed, nor are the types and contracts of s
 """
 from __future__ import annotations
 
+import difflib
 import pathlib
 import re
+import subprocess
 from typing import Dict, Iterator, List, NamedTuple, Optional, Sequence, Set, Tuple
 
 from . import commands
@@ -244,14 +249,55 @@ def main(words: Sequence[str]) -> int:
     asked = commands.parser(__doc__)
     asked.add_argument("--write", action="store_true")
     asked.add_argument("--why", action="store_true")
+    asked.add_argument("--since", metavar="COMMIT")
     chosen = asked.parse_args(words)
-    return commands.as_part(lambda: part(chosen.write, chosen.why))
+    return commands.as_part(lambda: part(chosen.write, chosen.why, chosen.since))
 
 
-def part(is_written: bool, is_why: bool) -> int:
+def git(top: pathlib.Path, *words: str) -> Optional[str]:
+    """What git answers at this top; None where it answers nothing."""
+    try:
+        ran = subprocess.run(["git", "-C", str(top), *words], stdin=subprocess.DEVNULL, stdout=subprocess.PIPE,
+                             stderr=subprocess.DEVNULL)
+    except OSError:
+        return None
+    return ran.stdout.decode("utf-8", "replace") if ran.returncode == 0 else None
+
+
+def files_of_page(page: str) -> Set[File]:
+    """The files that the table of a page names."""
+    rows = re.findall(r"(?m)^\| `(\w+)`: ((?:`\w+`(?:, )?)+)", page)
+    return {(crate, file) for crate, files in rows for file in re.findall(r"`(\w+)`", files)}
+
+
+def changed_lines(old: str, new: str) -> List[str]:
+    """The lines that count of which a text lost and got some: `-` and the line, `+` and the line, in order."""
+    told = difflib.unified_diff(bare(old), bare(new), lineterm="", n=0)
+    return [line for line in told if not line.startswith(("---", "+++", "@@"))]
+
+
+def tell_since(top: pathlib.Path, files: Set[File], since: str) -> None:
+    """Prints each changed line of the files, and of those that stood in the table at the commit. Raises
+    commands.Missing where git does not know the commit."""
+    if git(top, "rev-parse", "--verify", "--quiet", since + "^{commit}") is None:
+        raise commands.Missing("git knows no commit `%s` here: write another, as `HEAD~1`, or no --since" % since)
+    page = git(top, "show", "%s:docs/ARCHITECTURE.md" % since) or ""
+    count = 0
+    for crate, file in sorted(files | files_of_page(page)):
+        path = "crates/%s/specs/%s.antt" % (crate, file)
+        now = (top / path).read_text() if (top / path).is_file() else ""
+        for line in changed_lines(git(top, "show", "%s:%s" % (since, path)) or "", now):
+            print("%s: %s" % (path, line))
+            count += 1
+    print("%d lines of the trusted base differ from those of %s" % (count, since))
+
+
+def part(is_written: bool, is_why: bool, since: Optional[str] = None) -> int:
     workspace = Workspace(TOP)
     parts, known = parts_of(workspace)
     rows, sums = [row for some in parts for row in some], sums_of(parts)
+    if since is not None:
+        tell_since(TOP, {(crate, file) for crate, file, _ in known}, since)
     if is_why:
         for (crate, file, name), by in sorted(known.items()):
             print("%s/specs/%s.antt: %s, by %s" % (crate, file, name, by))

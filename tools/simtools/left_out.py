@@ -28,12 +28,13 @@ class Place(NamedTuple):
 
 class Body(NamedTuple):
     """A function with a body: the module that it stands in; its place, where that is known; its name; the names that
-    its body calls; and whether it calls itself, so that its proof is one of a cycle of calls."""
+    its body calls; whether it calls itself, so that its proof is one of a cycle of calls; and all names in its body."""
     module: Tuple[str, ...]
     place: Optional[Place]
     name: str
     calls: Set[str]
     is_recursive: bool
+    words: Set[str]
 
 
 def module(path: pathlib.PurePath) -> Tuple[str, ...]:
@@ -66,7 +67,7 @@ def type_homes(sources: Collection[Tuple[Tuple[str, ...], reading.Source]]) -> D
 
 def place_of(function: reading.Function, at: Tuple[str, ...], source: reading.Source,
              homes: Dict[str, List[Tuple[str, ...]]]) -> Optional[Place]:
-    """The place of a function's proof, where it is known: not of a trait's default, of a method of a trait that is given
+    """The place of a function's proof, where it is known: not of a trait's default, of a method of a trait that gets
     types, or of one of a type that another crate declares."""
     if not function.owner:
         return Place(at, function.name)
@@ -89,7 +90,7 @@ def bodies(folder: pathlib.Path) -> List[Body]:
                 calls = set(re.findall(r"\b(\w+)\s*(?:::<[^()]*>)?\(", text))
                 itself = (r"(?:self\.|Self::)%s\(" if function.owner else r"(?<!\.)\b%s\(") % function.name
                 found.append(Body(at, place_of(function, at, source, homes), function.name, calls,
-                                  bool(re.search(itself, text))))
+                                  bool(re.search(itself, text)), set(re.findall(r"\b[A-Za-z_]\w*", text))))
     return found
 
 

@@ -4,8 +4,9 @@
 
 An edit is a line `file: src/lib.rt` and pairs of lines `old: TEXT` and `new: TEXT`, as in must-fail/, where it cannot
 stand, since it never reaches the prover; and lines `said: TEXT`, each of which the compiler has to say, at a line of
-that file, of types that do not match. It is tried on a copy of the crates, by `rt try --test`, which compiles before any
-proof. Each such line counts. The last line is `N passed, M failed`.
+that file, of types that do not match; or `said: [KIND] TEXT`, of an error of another kind, which begins with the text.
+It is tried on a copy of the crates, by `rt try --test`, which compiles before any proof: in the crate, or, where that
+has no tests, in the first crate above it that has. Each such line counts. The last line is `N passed, M failed`.
 """
 from __future__ import annotations
 
@@ -22,7 +23,9 @@ from .programs import TOP
 
 PARTS = ("src", "specs")
 
-MISTYPED = r"(?m)^(?:\./)?%s:\d+:\d+: error\[mismatched-types\]: %s$"
+MISTYPED = r"(?m)^(?:\S*/)?%s:\d+:\d+: error\[%s\]: %s"
+# What is said of an error of another kind.
+OF_KIND = re.compile(r"\[([a-z-]+)\] (.*)")
 
 
 def lines_of(edit: pathlib.Path, word: str) -> List[str]:
@@ -30,12 +33,33 @@ def lines_of(edit: pathlib.Path, word: str) -> List[str]:
     return [line[len(word) + 2:] for line in edit.read_text().splitlines() if line.startswith(word + ": ")]
 
 
-def wrong(edit: pathlib.Path, told: str) -> List[str]:
-    """What the compiler should have told of an edit, and did not; with the first error that it told."""
+def wrong(edit: pathlib.Path, told: str, is_above: bool = False) -> List[str]:
+    """What the compiler should have told of an edit, and did not; with the first error that it told. Where a crate
+    above is compiled, the crate stands before the file."""
     (file,) = lines_of(edit, "file")
+    at = "%s/%s" % (edit.parent.parent.name, file) if is_above else file
     errors = [line for line in told.splitlines() if "error" in line] or told.splitlines()[-1:] or ["nothing"]
     return ["%s: the compiler says %s" % (said, errors[0]) for said in lines_of(edit, "said")
-            if not re.search(MISTYPED % (re.escape(file), re.escape(said)), told)]
+            if not re.search(pattern(at, said), told)]
+
+
+def pattern(file: str, said: str) -> str:
+    """What the compiler prints of an error at a line of the file."""
+    found = OF_KIND.fullmatch(said)
+    kind, text, end = (found[1], found[2], "") if found else ("mismatched-types", said, "$")
+    return MISTYPED % (re.escape(file), kind, re.escape(text)) + end
+
+
+def has_tests(crate: str) -> bool:
+    """Whether the crate has tests, which `rt try --test` needs."""
+    return any("#[test]" in path.read_text() for path in (TOP / "crates" / crate / "src").rglob("*.rt"))
+
+
+def compiled_in(crate: str) -> str:
+    """The crate itself, or where it has no tests the first crate above it that has."""
+    below = planted.below()
+    above = [name for name in below if crate in below[name]]
+    return next((name for name in [crate, *above] if has_tests(name)), crate)
 
 
 def copy(room: pathlib.Path) -> None:
@@ -62,10 +86,11 @@ def tried(edit: pathlib.Path, folder: pathlib.Path) -> List[str]:
     were = {path: path.read_text() for path in texts}
     for path, text in texts.items():
         path.write_text(text)
-    told = compiled(folder)
+    above = compiled_in(folder.name)
+    told = compiled(folder.parent / above)
     for path, text in were.items():
         path.write_text(text)
-    return wrong(edit, told)
+    return wrong(edit, told, above != folder.name)
 
 
 def try_all(crates: Sequence[str]) -> int:

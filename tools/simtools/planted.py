@@ -35,7 +35,7 @@ import tempfile
 import threading
 import time
 from dataclasses import dataclass, field
-from typing import Collection, Dict, Iterator, List, Optional, Sequence, Set, Tuple
+from typing import Callable, Collection, Dict, Iterator, List, Optional, Sequence, Set, Tuple
 
 from . import commands, left_out
 from . import rattle_source as reading
@@ -45,8 +45,9 @@ from .running import side_by_side
 PARTS = ("src", "specs", "proofs", "c")
 # The most edits that are tried in one copy of a crate, and in one check.
 EDITS_A_COPY, EDITS_A_CHECK = 160, 40
-# `rt`, which reads the files of each library once there.
-RT: Sequence[str] = (sys.executable, "-B", str(pathlib.Path(__file__).resolve().parent.parent / "build"), "--rt", "--")
+# `rt`, which reads the files of each library once there, over the libraries that the gate kept.
+BUILD = pathlib.Path(__file__).resolve().parent.parent / "build"
+RT: Sequence[str] = (sys.executable, "-B", str(BUILD), "--rt", "kept", "--")
 # Where checks keep their work, in a crate's folder.
 KEPT = "out/incremental"
 # What is told of a text that cannot be read; an edit that only makes a statement false reads well.
@@ -150,17 +151,36 @@ def is_unread(line: str, changed: Collection[str]) -> bool:
     return not found[2] or bool(UNREAD.search(re.sub(r"`[^`]*`", "", found[3])))
 
 
-def functions_at(path: pathlib.Path, old: str, new: str) -> Set[str]:
-    """The names of the functions in which a source was changed, by the first and the last byte that differs."""
+def changed_between(path: pathlib.Path, old: str, new: str) -> Optional[Tuple[reading.Source, int, int]]:
+    """What a source was, and where the first and the last byte that differs stands; None where it cannot be read."""
     first = len(os.path.commonprefix((old, new)))
     last = len(old) - len(os.path.commonprefix((old[first:][::-1], new[first:][::-1])))
     try:
         read = reading.Reading(path.name, "", old)
         read.items(reading.nested(old, path.name))
     except reading.Unreadable:
+        return None
+    return read.source, first, last
+
+
+def constants_at(path: pathlib.Path, old: str, new: str) -> Set[str]:
+    """The names of the constants whose value alone was changed."""
+    found = changed_between(path, old, new)
+    if found is None:
         return set()
+    source, first, last = found
+    return {name for name, nodes in source.constants.items()
+            if nodes and nodes[0].start <= first and last <= nodes[-1].end}
+
+
+def functions_at(path: pathlib.Path, old: str, new: str) -> Set[str]:
+    """The names of the functions in which a source was changed, by the first and the last byte that differs."""
+    found_now = changed_between(path, old, new)
+    if found_now is None:
+        return set()
+    source, first, last = found_now
     lines = [0] + [found.end() for found in re.finditer("\n", old)]
-    return {function.name for function in read.source.functions if function.body for at in (first, last)
+    return {function.name for function in source.functions if function.body for at in (first, last)
             if lines[function.line - 1] <= at <= function.body.end}
 
 
@@ -228,10 +248,12 @@ def verdict(status: int, told: List[str], changed: Collection[str], own: Collect
     return ("BAD", "it did not reach the prover: %s" % why) if why else refusal(told, own)
 
 
-def tell(crate: str, what: str, word: str, start: float, why: Optional[str]) -> None:
+def tell(crate: str, what: str, word: str, start: Optional[float], why: Optional[str]) -> None:
+    """Prints what something came to, with the time since the start where there is one."""
     with printing:
         reason = ": " + why[:140] if why else ""
-        print("%s/%s: %s (%.0f s)%s" % (crate, what, word, time.monotonic() - start, reason), flush=True)
+        took = "" if start is None else " (%.0f s)" % (time.monotonic() - start)
+        print("%s/%s: %s%s%s" % (crate, what, word, took, reason), flush=True)
 
 
 @dataclass
@@ -245,6 +267,10 @@ class Copied:
         """The functions of a file with these names."""
         module = left_out.module(pathlib.PurePath(file).relative_to("src")) if file.startswith("src/") else None
         return [body for body in self.bodies if body.module == module and body.name in own]
+
+    def users(self, constants: Collection[str]) -> List[left_out.Body]:
+        """The functions whose bodies name one of these constants."""
+        return [body for body in self.bodies if body.words & set(constants)]
 
     def check(self, functions: Collection[str]) -> Tuple[int, List[str]]:
         """A check of these functions without the proofs of the others, or of the whole crate."""
@@ -285,14 +311,19 @@ class Applied:
         texts, why = texts_of(edit, copied.folder, self.texts)
         if why:
             return why
-        own = {str(path.relative_to(copied.folder)):
-               functions_at(path, self.texts.get(path) or path.read_text(), text) for path, text in texts.items()}
+        found: List[left_out.Body] = []
+        own: List[Set[str]] = []
+        for path, text in texts.items():
+            was, file = self.texts.get(path) or path.read_text(), str(path.relative_to(copied.folder))
+            bodies = copied.functions(file, functions_at(path, was, text))
+            bodies = bodies or copied.users(constants_at(path, was, text))
+            found += bodies
+            own.append({body.name for body in bodies})
         self.edits.append(edit)
-        self.files.append(set(own))
-        self.own.append(set().union(*own.values()))
-        found = [body for file, names in own.items() for body in copied.functions(file, names)]
+        self.files.append({str(path.relative_to(copied.folder)) for path in texts})
+        self.own.append(set().union(*own))
         names = {body.place.printed(copied.folder.name) for body in found if body.place}
-        can_be_alone = all(own.values()) and all(body.place and not body.is_recursive for body in found)
+        can_be_alone = all(own) and all(body.place and not body.is_recursive for body in found)
         self.functions.append(names if can_be_alone else set())
         self.calls.append(set().union(*(body.calls for body in found)))
         self.texts.update(texts)
@@ -357,9 +388,13 @@ def at_once(edits: List[pathlib.Path], copied: Copied) -> Dict[pathlib.Path, Out
     return {edit: outcome for edit, outcome in found if outcome}
 
 
-def try_edits(crate: str, others: Set[str], edits: List[pathlib.Path]) -> List[str]:
-    """The words that these edits of the crate came to."""
-    words = []
+Tried = Tuple[pathlib.Path, str, Optional[str]]
+
+
+def tries(crate: str, others: Set[str], edits: List[pathlib.Path],
+          alone: Callable[[pathlib.Path, Copied], Outcome] = attempt) -> Iterator[Tried]:
+    """Each of these edits of the crate with what it came to and why. What a check of its function does not settle is
+    tried by `alone`."""
     with tempfile.TemporaryDirectory(prefix="planted-") as room:
         copied = Copied(pathlib.Path(room) / "crates" / crate)
         copy(crate, others, pathlib.Path(room))
@@ -368,10 +403,14 @@ def try_edits(crate: str, others: Set[str], edits: List[pathlib.Path]) -> List[s
             start = time.monotonic()
             found = at_once(at_a_time, copied)
             for edit in at_a_time:
-                word, why = found.get(edit) or attempt(edit, copied)
-                words.append(word)
+                word, why = found.get(edit) or alone(edit, copied)
                 tell(crate, edit.stem, word, start, why)
-    return words
+                yield edit, word, why
+
+
+def try_edits(crate: str, others: Set[str], edits: List[pathlib.Path]) -> List[str]:
+    """The words that these edits of the crate came to."""
+    return [word for _, word, _ in tries(crate, others, edits)]
 
 
 def parts_of(edits: Dict[str, List[pathlib.Path]]) -> List[Tuple[str, List[pathlib.Path]]]:
