@@ -30,6 +30,7 @@ from .fault_words import SOCKET, WORDS, Scene, Word
 # A shortage that goes on lets so many lines fail; it is tried at so many lines fewer.
 SUSTAINED, RARER = 50, 20
 NEVER = 1 << 40
+TELLING = "session/faults.py"
 # Where so many kinds of faults were told, others are counted.
 KINDS, FEW_KINDS = 100, 60
 
@@ -127,6 +128,9 @@ def untold(scene: Scene, fired: Sequence[str]) -> str:
     """What is wrong where a fault is not told on standard error."""
     told = scene.server.errors()
     place = fired[0].split(" in ")[0] if fired else ""
+    # What fails while a fault is told is not told.
+    if place.startswith(TELLING):
+        return ""
     return "" if place in told or told.count("fault in ") >= KINDS else "it is not told on standard error"
 
 
