@@ -3,9 +3,9 @@
     tools/weaken [--list] [--only WORD] [--most N] [CRATE..]        without a crate: all crates
 
 The definitions are those that `tools/believed` finds. In each of them each conjunct (`×`, `&&`), each alternative
-(`⊎`, `||`) and each test (`if .. then .. else ..`, in whose place first one branch stands, then the other) is
-dropped in turn, on a copy. Then those functions of the crate are checked, laws among them, whose clauses reach the definition. All
-others are taken by what they state. Something should notice:
+(`⊎`, `||`) and each test (`if .. then .. else ..`, in whose place first one branch stands, then the other) is dropped
+in turn, on a copy. Then those functions of the crate are checked, laws among them, whose clauses reach the
+definition. All others are taken by what they state. Something should notice:
 
     by a goal        a goal of a function has no proof any more; it is named
     at a limit       the search gave up at each such goal, which says nothing
@@ -14,8 +14,8 @@ others are taken by what they state. Something should notice:
                      case has to notice
     unread           the text without that place is none
 
---list prints the places and checks none; --only takes those whose file, definition and text hold the word; --most stops
-after N. The last line is `N noticed, M not`, with what says nothing among the latter.
+--list prints the places and checks none; --only takes those whose file, definition and text hold the word; --most
+stops after N. The last line is `N noticed, M not`, with what says nothing among the latter.
 """
 from __future__ import annotations
 
