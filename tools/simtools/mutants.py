@@ -7,18 +7,19 @@ drawn. A part of the gate.
     tools/mutants --anew              tries also those whose verdict is kept
 
 tools/mutants.list has, of each wrong body that a proof must refuse and of each of the program's own promises, the
-mutant that spells it. The others are drawn from all of crates/*/planted: in the order of the SHA-256 of the commit and the
-path, the first of each crate, then the first of all, forty together. Without git the digest of the sources stands for
-the commit. So nobody chooses them, and each commit draws others.
+mutant that spells it. The others are drawn from all of crates/*/planted: in the order of the SHA-256 of the commit
+and the path, the first of each crate, then the first of all, forty together. Without git the digest of the sources
+stands for the commit. So nobody chooses them, and each commit draws others.
 
 A mutant is tried as `tools/planted` tries it, by a check of its function alone, together with others. Verdicts are
-kept on this machine, by the checksum of all that the check reads. What such a check does not settle is told: it takes a check
-of the whole crate, by `tools/planted EDIT`.
+kept on this machine, by the checksum of all that the check reads. What such a check does not settle is told: it takes
+a check of the whole crate, by `tools/planted EDIT`.
 
 The last lines count, each apart: refused by a goal; by a goal, beside a proof of the function, written by hand, that
 does not fit the mutant either; at a limit of the search, which says nothing; by such a proof alone, which shows
-nothing; not settled. The very last is `N passed, M failed`. Only the first two pass. A drawn mutant at a limit, or not settled,
-neither passes nor fails. All else fails: what is proved, what does not apply, and a chosen one that no goal refuses.
+nothing; not settled. The very last is `N passed, M failed`. Only the first two pass. A drawn mutant at a limit, or
+not settled, neither passes nor fails. All else fails: what is proved, what does not apply, and a chosen one that no
+goal refuses.
 """
 from __future__ import annotations
 

@@ -1,9 +1,9 @@
-"""Tries the planted bugs that the gate leaves out: rt check has to refuse each edit crates/CRATE/planted/*.edit, as
-it does those of must-fail/, and by a goal that has no proof.
+"""Tries the mutants of crates: rt check has to refuse each edit crates/CRATE/planted/*.edit, by a goal that has no
+proof. The gate tries some of them (`tools/mutants`).
 
     tools/planted [--jobs N] [CRATE | EDIT ..]        without a word: all crates that have planted/
 
-An EDIT is such a file; one of must-fail/ is tried in the same way. It is a line `file: src/lib.rt` and pairs of lines
+An EDIT is such a file. It is a line `file: src/lib.rt` and pairs of lines
 `old: TEXT` and `new: TEXT`. Each crate is copied with the crates below it, whose libraries have to be built, and with
 what earlier checks kept in out/, so the files here stay as they are; N copies are tried side by side, as many as there
 are processors where nothing is said. Edits of functions that do not call one another are tried in one check, up to 40

@@ -3,19 +3,19 @@
     tools/weaken [--list] [--only WORD] [--most N] [CRATE..]        without a crate: all crates
 
 The definitions are those that `tools/believed` finds. In each of them each conjunct (`×`, `&&`), each alternative
-(`⊎`, `||`) and each test (`if .. then .. else ..`, in whose place first one branch stands, then the other) is
-dropped in turn, on a copy. Then those functions of the crate are checked, laws among them, whose clauses reach the definition. All
-others are taken by what they state. Something should notice:
+(`⊎`, `||`) and each test (`if .. then .. else ..`, in whose place first one branch stands, then the other) is dropped
+in turn, on a copy. Then those functions of the crate are checked, laws among them, whose clauses reach the
+definition. All others are taken by what they state. Something should notice:
 
     by a goal        a goal of a function has no proof any more; it is named
     at a limit       the search gave up at each such goal, which says nothing
     BY A PROOF FILE  only a proof or a lemma that was written by hand does not fit, which says nothing
-    NOTHING          all these functions are proved as before, or there are none: a crate above, a law, a mutant or a
-                     case has to notice
+    NOTHING          all these functions are proved as before, or there are none; the crates above are told that
+                     have such functions: one of them, a mutant or a case has to notice
     unread           the text without that place is none
 
---list prints the places and checks none; --only takes those whose file, definition and text hold the word; --most stops
-after N. The last line is `N noticed, M not`, with what says nothing among the latter.
+--list prints the places and checks none; --only takes those whose file, definition and text hold the word; --most
+stops after N. The last line is `N noticed, M not`, with what says nothing among the latter.
 """
 from __future__ import annotations
 
@@ -171,27 +171,59 @@ def places(text: str, names: Set[str]) -> Iterator[Place]:
                 yield Place(name, text.count("\n", 0, spans[0].start) + 1, said, cut(plain, spans))
 
 
-def reaching(crate: str, file: str, definition: str, workspace: believed.Workspace,
-             bodies: Sequence[left_out.Body]) -> Set[str]:
-    """The functions of the crate, as a check names them, whose clauses reach the definition."""
-    found = set()
-    for path in sorted((TOP / "crates" / crate / "src").rglob("*.rt")):
+class Reach:
+    """Which functions' clauses reach a definition, crate by crate."""
+
+    def __init__(self, workspace: believed.Workspace) -> None:
+        self.workspace = workspace
+        self.from_name: Dict[believed.Name, Set[believed.Name]] = {}
+        self.of_crate: Dict[str, List[Tuple[Tuple[str, ...], str, Set[believed.Name]]]] = {}
+
+    def names_from(self, name: believed.Name) -> Set[believed.Name]:
+        """What a name's definition leads to."""
+        if name not in self.from_name:
+            known: Dict[believed.Name, str] = {}
+            try:
+                self.workspace.reached(name, "", known)
+            except commands.Missing:
+                # What this reader finds no definition of stands outside the trusted base.
+                known.clear()
+            self.from_name[name] = set(known)
+        return self.from_name[name]
+
+    def functions(self, crate: str) -> List[Tuple[Tuple[str, ...], str, Set[believed.Name]]]:
+        """Of each function of a crate its module, its name, and what its clauses reach."""
+        if crate not in self.of_crate:
+            self.of_crate[crate] = [one for path in sorted((TOP / "crates" / crate / "src").rglob("*.rt"))
+                                    for one in self.functions_in(crate, path)]
+        return self.of_crate[crate]
+
+    def functions_in(self, crate: str,
+                     path: pathlib.Path) -> Iterator[Tuple[Tuple[str, ...], str, Set[believed.Name]]]:
+        """The same of a file; nothing where it cannot be read."""
         try:
             source = reading.read(path, TOP)
         except reading.Unreadable:
-            continue
-        named = believed.imports_of(path.read_text())
+            return
+        named = believed.imports_of(source.text)
         module = left_out.module(path.relative_to(TOP / "crates" / crate / "src"))
         for function in source.functions:
             words = {word for clause in function.clauses
                      for word in believed.WORD.findall(source.text[clause.start:clause.end])}
-            known: Dict[believed.Name, str] = {}
+            found: Set[believed.Name] = set()
             for word in words & set(named):
-                workspace.reached(named[word], function.name, known)
-            if (crate, file, definition) in known:
-                found |= {body.place.printed(crate) for body in bodies
-                          if body.place and (body.module, body.name) == (module, function.name)}
-    return found
+                found |= self.names_from(named[word])
+            yield module, function.name, found
+
+    def of(self, crate: str, name: believed.Name, bodies: Sequence[left_out.Body]) -> Set[str]:
+        """The functions of the crate, as a check names them, whose clauses reach the definition."""
+        here = {(module, function) for module, function, found in self.functions(crate) if name in found}
+        return {body.place.printed(crate) for body in bodies if body.place and (body.module, body.name) in here}
+
+    def crates(self, name: believed.Name, below: Dict[str, Set[str]]) -> List[str]:
+        """The crates above that of the definition, some function of which reaches it."""
+        return [crate for crate in below if name[0] in below[crate]
+                and any(name in found for _, _, found in self.functions(crate))]
 
 
 def judged(status: int, told: List[str], file: str) -> Tuple[str, str]:
@@ -228,6 +260,7 @@ def weaken(crates: Sequence[str], only: str, most: Optional[int], is_list: bool)
     """Tries each place of the crates' definitions. The exit status."""
     workspace = believed.Workspace(TOP)
     _, known = believed.parts_of(workspace)
+    reach = Reach(workspace)
     stands_on, noticed, others, left = planted.below(), 0, 0, most
     for crate in crates:
         with tempfile.TemporaryDirectory(prefix="weaken-") as room:
@@ -247,11 +280,13 @@ def weaken(crates: Sequence[str], only: str, most: Optional[int], is_list: bool)
                         print(said)
                         continue
                     start = time.monotonic()
-                    reach = reaching(crate, file, place.definition, workspace, copied.bodies)
-                    word, why = try_place(place, path, reach, copied)
+                    name = (crate, file, place.definition)
+                    word, why = try_place(place, path, reach.of(crate, name, copied.bodies), copied)
+                    if word == NOTHING:
+                        why += "; above it do some of: " + (" ".join(reach.crates(name, stands_on)) or "none")
                     noticed += word == "by a goal"
                     others += word not in ("by a goal", UNREAD)
-                    print("%s: %s (%.0f s): %s" % (said, word, time.monotonic() - start, why[:140]), flush=True)
+                    print("%s: %s (%.0f s): %s" % (said, word, time.monotonic() - start, why[:200]), flush=True)
     if not is_list:
         print("%d noticed, %d not" % (noticed, others))
     return 1 if others else 0
