@@ -164,19 +164,12 @@ class Running(Case):
 
 
 class Layers(Case):
-    def crate(self, name, source):
-        folder = self.folder / "crates" / name / "src"
-        folder.mkdir(parents=True)
-        (folder / "lib.rt").write_text(source)
-
     def layers(self, text, page):
         words = [sys.executable, "-B", str(TOP / "tools" / "layers"), self.file("crates.txt", text), self.file("map.md", page)]
         ran = subprocess.run(words, capture_output=True, timeout=100)
         return ran.returncode, ran.stdout.decode()
 
     def test_a_crate_names_what_stands_above_it(self):
-        self.crate("side", "use low::Low;\nuse std_of_the_kit::{One, Two};\n")
-        self.crate("top", "ghost use Rattle.low.specs.Low.{IsLow};\n\nfn of() -> side::Side {}\n")
         lists = "## Values\nlow:\nside: low std_of_the_kit\n\n## Rules\ntop: low side\n"
         page = "### Values\n| `low` | it |\n| `side` | it |\n| \u00b7 module `part` | it |\n### Rules\n| `top` | it |\n## Files\n| `other` | 7 |\n"
         self.assertEqual(self.layers(lists, page), (0, "3 crates, 7 ways down their lists\n5 passed, 0 failed\n"))
@@ -187,8 +180,6 @@ class Layers(Case):
 
     def test_too_many_ways(self):
         names = ["c%d" % at for at in range(17)]
-        for at, name in enumerate(names):
-            self.crate(name, "".join("use %s::It;\n" % low for low in names[:at]))
         lists = "## Values\n" + "".join("%s: %s\n" % (name, " ".join(names[:at])) for at, name in enumerate(names))
         page = "### Values\n" + "".join("| `%s` | it |\n" % name for name in names)
         status, told = self.layers(lists, page)
@@ -196,15 +187,8 @@ class Layers(Case):
         self.assertIn("17 crates, 131071 ways down their lists\n", told)
         self.assertIn("at most 40000 ways", told)
 
-    def test_a_crate_that_no_file_names(self):
-        self.crate("low", "")
-        self.crate("top", "//! It is not low::Low.\nuse below::low;\nuse lower::Low;\n// use low::Low;\n")
-        status, told = self.layers("## Values\nlow:\ntop: low\n", "### Values\n| `low` | it |\n| `top` | it |\n")
-        self.assertEqual(status, 1)
-        self.assertIn(":3: top lists low, which no file of crates/top names: take it off the list\n", told)
-
     def test_faults(self):
-        for text, said in (("low:\n", ":1: low stands under no heading"), ("## Values\nlow: top\n## Rules\ntop:\n", ":2: low lists top, which does not"),
+        for text, said in (("low:\n", ":1: low stands under no heading"), ("## Values\nlow: top\n## Rules\ntop:\n", ":2: low names top, which does not"),
                            ("## Values\nlow:\nlow:\n", ":3: low stands here a second time")):
             status, told = self.layers(text, "")
             self.assertEqual(status, 1)

@@ -1,1 +1,1 @@
-mod Played
+mod Unopened

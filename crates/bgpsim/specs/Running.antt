@@ -40,10 +40,10 @@ abbrev pub shown_text : Result ℕ RunFault → List ℕ
 shown_text (Ok status) = []
 shown_text (Err fault) = fault_text fault
 
--- it was printed, and a fault was told; nothing was written where a run writes
-abbrev pub IsShown : ErrorKind → Writing → Writing → ℕ → Writing → Writing → Type 0
-IsShown kind o errors status o' errors' = (shown : Result ℕ RunFault) × IsPrinted kind shown
-    × (status ≡ shown_status shown) × (o' ≡ o) × IsTold errors (shown_text shown) errors'
+-- it was printed, and a fault was told
+abbrev pub IsShown : ErrorKind → Writing → ℕ → Writing → Type 0
+IsShown kind errors status errors' = (shown : Result ℕ RunFault) × IsPrinted kind shown × (status ≡ shown_status shown)
+    × IsTold errors (shown_text shown) errors'
 
 -- ---- where something is
 
@@ -65,26 +65,25 @@ IsReplayed bytes o errors status o' errors' = IsSentOn o' × (i' : Reading)
 abbrev pub AreNamed : List Text → List Source → Type 0
 AreNamed names files = map (λ (file : Source). file.name) files ≡ names
 
--- a team was run on the files of these names, by so many workers, each with so many turns
-pub record IsTeamPlayed (names : List Text) (workers turns : ℕ) (o errors : Writing) (status : ℕ)
-    (o' errors' : Writing) : Type 0 where
+-- a team was run on the files of these names
+pub record IsTeamPlayed (names : List Text) (o errors : Writing) (status : ℕ) (o' errors' : Writing) : Type 0 where
   pub files : List Source
   pub named : AreNamed names files
-  pub run : IsTeamRun files workers turns o errors status o' errors'
+  pub run : IsTeamRun files o errors status o' errors'
 
 -- what was asked for was run
 abbrev pub IsRunOf : Choice → Option (List ℕ) → Writing → Writing → ℕ → Writing → Writing → Type 0
 IsRunOf Script bytes o errors status o' errors' = IsServed bytes o errors status o' errors'
 IsRunOf Replay bytes o errors status o' errors' = IsReplayed bytes o errors status o' errors'
 IsRunOf (ForTeam team) bytes o errors status o' errors' =
-    IsTeamPlayed (map (λ file. file.now) team.files.items) team.workers team.turns o errors status o' errors'
+    IsTeamPlayed (map (λ file. file.now) team.files.items) o errors status o' errors'
 
 -- ---- the program
 
--- the words were read as the commands are: what they ask for was run; or they have a fault, or memory ran out before
--- anything of it began, and that was shown
+-- the words were read as the commands are: what they ask for was run; or they have a fault, or there was no memory, and
+-- that was shown
 abbrev pub IsProgramRun : List Text → Option (List ℕ) → Writing → Writing → ℕ → Writing → Writing → Type 0
 IsProgramRun words bytes o errors status o' errors' = (chosen : Result Choice Error)
     × FailsBy (fault_of commands words) chosen × IfOk chosen (Chooses words)
     × MatchResult chosen (λ choice. IsRunOf choice bytes o errors status o' errors')
-    (λ error. IsShown (kind_of error) o errors status o' errors')
+    (λ error. IsShown (kind_of error) errors status errors')

@@ -1,6 +1,6 @@
 //! What the command line asks for, run on three streams.
 
-ghost use Rattle.std.specs.Prelude.{◌≡◌, false, length, map, string_bytes, vec_len, IfOk, OnErr};
+ghost use Rattle.std.specs.Prelude.{◌≡◌, false, length, map, string_bytes, vec_len, IfOk};
 ghost use Rattle.std.specs.Process.{exit_status};
 ghost use Rattle.clap.specs.Words.{kind_of};
 ghost use Rattle.reply_text.specs.Ending.{IsTold};
@@ -29,7 +29,7 @@ use std::sync::Wait;
 use std::sync::ledger::{Blank, Ledger};
 use std::thread::Threads;
 use team_run::{self, Settings, run_team};
-use watched::{Input, LineBuffer, Output};
+use watched::{Input, Output};
 
 /// The machine that runs scripts: cells that keep groups of one neighbouring AS, in tries.
 type Engine = Sim<GroupCell, TrieTable<Cell<GroupCell>>>;
@@ -76,29 +76,24 @@ fn run_words<
         streams.new.output streams.new.errors }
 {
     match choose(rt.alloc(), words) {
-        Ok(choice) => match run_choice(rt, &choice, reader, streams) {
-            Ok(status) => status,
-            Err(error) => show(rt, &Error::from(error), streams),
-        },
-        Err(error) => show(rt, &error, streams),
+        Ok(choice) => run_choice(rt, &choice, reader, streams),
+        Err(error) => show(rt, &error, &mut streams.errors),
     }
 }
 
-/// Does what was asked for. The exit status, or out of memory before anything of it began.
+/// Does what was asked for. The exit status.
 fn run_choice<
     H: AllocGlobal + Files + RandomSource + Threads + Wait + Sync,
     R: Read + Drop,
     W: Write,
     E: Write + Send,
->(rt: &H, choice: &Choice<'_>, reader: R, streams: &mut Streams<W, E>) -> Result<u8, AllocError>
+>(rt: &H, choice: &Choice<'_>, reader: R, streams: &mut Streams<W, E>) -> u8
     requires within { IsWithin choice.now }
     requires calm { streams.old.output.failed ≡ false }
     requires shown { streams.old.output.held ≡ false }
-    ensures run { IfOk result (λ status. IsRunOf choice.now
-        (R.remaining reader) streams.old.output streams.old.errors status
-        streams.new.output streams.new.errors) }
-    ensures unwritten { OnErr result (streams.new.output ≡ streams.old.output) }
-    ensures untold { OnErr result (streams.new.errors ≡ streams.old.errors) }
+    ensures { IsRunOf choice.now
+        (R.remaining reader) streams.old.output streams.old.errors result
+        streams.new.output streams.new.errors }
 {
     match choice {
         Choice::Script => serve_script(rt, reader, streams),
@@ -107,89 +102,79 @@ fn run_choice<
     }
 }
 
-/// Serves the script that is read. The system takes the machine's memory back at once. Out of memory comes before
-/// anything is read.
+/// Serves the script that is read. The system takes the machine's memory back at once.
 fn serve_script<R: Read + Drop, W: Write, E: Write>(
     rt: &(impl AllocGlobal + RandomSource + Threads + Sync),
     reader: R,
     streams: &mut Streams<W, E>,
-) -> Result<u8, AllocError>
+) -> u8
     requires calm { streams.old.output.failed ≡ false }
     requires shown { streams.old.output.held ≡ false }
-    ensures run { IfOk result (λ status. IsServed (R.remaining reader) streams.old.output streams.old.errors status
-        streams.new.output streams.new.errors) }
-    ensures unwritten { OnErr result (streams.new.output ≡ streams.old.output) }
-    ensures untold { OnErr result (streams.new.errors ≡ streams.old.errors) }
+    ensures { IsServed (R.remaining reader) streams.old.output streams.old.errors result
+        streams.new.output streams.new.errors }
 {
     let alloc = rt.alloc();
-    let buffer = LineBuffer::new(alloc)?;
     let mut input = Input::new(reader);
     let mut machine: Engine = Sim::new(alloc, drawn_keys(rt));
     let status = run_script(
         rt,
         alloc,
-        buffer,
         &mut machine,
         &mut input,
         &mut streams.output,
         &mut streams.errors,
     );
     std::mem::forget(machine);
-    Ok(status)
+    status
 }
 
-/// Replays the log that is read, and writes what it is found to be. Out of memory comes before anything is read.
+/// Replays the log that is read, and writes what it is found to be.
 fn replay_log<R: Read + Drop, W: Write, E: Write>(
     rt: &(impl AllocGlobal + RandomSource + Threads + Sync),
     reader: R,
     streams: &mut Streams<W, E>,
-) -> Result<u8, AllocError>
+) -> u8
     requires calm { streams.old.output.failed ≡ false }
     requires shown { streams.old.output.held ≡ false }
-    ensures run { IfOk result (λ status. IsReplayed (R.remaining reader) streams.old.output streams.old.errors status
-        streams.new.output streams.new.errors) }
-    ensures unwritten { OnErr result (streams.new.output ≡ streams.old.output) }
-    ensures untold { OnErr result (streams.new.errors ≡ streams.old.errors) }
+    ensures { IsReplayed (R.remaining reader) streams.old.output streams.old.errors result
+        streams.new.output streams.new.errors }
 {
     let alloc = rt.alloc();
-    let buffer = LineBuffer::new(alloc)?;
     let mut input = Input::new(reader);
     let mut machine: PlainEngine = Sim::new(alloc, drawn_keys(rt));
     let status = run_replay(
         rt,
         alloc,
-        buffer,
         &mut machine,
         &mut input,
         &mut streams.output,
         &mut streams.errors,
     );
     std::mem::forget(machine);
-    Ok(status)
+    status
 }
 
-/// Runs the team, and writes its log. Out of memory comes before any file is read.
-#[tactic(auto, using(crate::proofs::Played::played))]
+/// Runs the team, and writes its log.
+#[tactic(auto, using(crate::proofs::Unopened::played))]
 fn play_team<
     L: Ledger + Send + Sync,
     H: AllocGlobal + Files + RandomSource + Threads + Wait + Sync,
     W: Write,
     E: Write + Send,
->(rt: &H, blank: Blank, team: &Team<'_>, streams: &mut Streams<W, E>) -> Result<u8, AllocError>
+>(rt: &H, blank: Blank, team: &Team<'_>, streams: &mut Streams<W, E>) -> u8
     requires name { blank.name ≡ L.name }
     requires ledger { blank.parts ≡ L.parts }
     requires parts { blank.parts ≡ 256 }
     requires team { IsTeamWithin team.now }
     requires calm { streams.old.output.failed ≡ false }
     requires shown { streams.old.output.held ≡ false }
-    ensures run { IfOk result (λ status. IsTeamPlayed (map (λ file. file.now) team.now.files.items)
-        team.now.workers team.now.turns streams.old.output streams.old.errors status
-        streams.new.output streams.new.errors) }
-    ensures unwritten { OnErr result (streams.new.output ≡ streams.old.output) }
-    ensures untold { OnErr result (streams.new.errors ≡ streams.old.errors) }
+    ensures { IsTeamPlayed (map (λ file. file.now) team.now.files.items)
+        streams.old.output streams.old.errors result streams.new.output streams.new.errors }
 {
     let alloc = rt.alloc();
-    let files = opened(rt, alloc, team.files.as_slice())?;
+    let Ok(files) = opened(rt, alloc, team.files.as_slice()) else {
+        return end_by(&RunFault::NoMemory, &mut streams.errors);
+    };
     let team = team_run::Team {
         blank,
         keys: drawn_keys(rt),
@@ -200,13 +185,13 @@ fn play_team<
         },
         files,
     };
-    Ok(run_team::<GroupCell, TrieTable<Cell<GroupCell>>, L, _, _, _, _>(
+    run_team::<GroupCell, TrieTable<Cell<GroupCell>>, L, _, _, _, _>(
         rt,
         alloc,
         team,
         &mut streams.output,
         &mut streams.errors,
-    ))
+    )
 }
 
 /// Keys that nobody else knows, if the system has random bytes to draw them from.
@@ -235,16 +220,11 @@ fn opened<R: Files>(
 }
 
 /// Shows why nothing is done. The exit status.
-fn show<W: Write, E: Write>(
-    rt: &(impl Print + Eprint),
-    error: &Error,
-    streams: &mut Streams<W, E>,
-) -> u8
-    ensures { IsShown (kind_of error.now) streams.old.output streams.old.errors result
-        streams.new.output streams.new.errors }
+fn show<E: Write>(rt: &(impl Print + Eprint), error: &Error, errors: &mut Output<E>) -> u8
+    ensures { IsShown (kind_of error.now) errors.old result errors.new }
 {
     let shown = printed(rt, error);
-    end(&shown, &mut streams.errors)
+    end(&shown, errors)
 }
 
 /// Prints help and the version to standard output, and a mistake to standard error. The exit status, or the fault in

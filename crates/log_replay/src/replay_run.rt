@@ -1,12 +1,12 @@
 //! A log on one stream, what it is found to be on a second, and what is told of a fault on a third.
 
-ghost use Rattle.std.specs.Prelude.{◌≡◌, false, true, [], Ok, OnOk, OnErr};
+ghost use Rattle.std.specs.Prelude.{◌≡◌, false, true, Ok, OnOk, OnErr};
 ghost use Rattle.std.specs.Io.KnownBytes.{Appends};
 ghost use Rattle.reference_machine.specs.Machine.{nothing};
 ghost use Rattle.watched.specs.Streams.{Writes, AppendsFront};
 ghost use Rattle.log_replay.specs.ReplayRun.{found_text, replay_status, run_fault, IsAnswered, IsReplayRun};
 
-use crate::limits::{CAPACITY, MOST_LINES};
+use crate::limits::MOST_LINES;
 use crate::replaying::replay;
 use crate::verdict::{ReplayFault, Replayed};
 use reference_machine::Machine;
@@ -16,19 +16,17 @@ use std::io::{Read, Write};
 use std::thread::Threads;
 use watched::{Input, LineBuffer, Output, WriterFailed};
 
-/// Replays the log on the reader, read into the buffer, by a machine that begins with the empty network. Writes what
-/// the log is found to be, and tells a fault on the third stream, whose own failure is passed over. The exit status:
-/// 0 the log agrees, 1 it does not, 3 read fault, 4 write fault, 5 out of memory at a call.
+/// Replays the log on the reader by a machine that begins with the empty network, writes what the log is found to be,
+/// and tells a fault on the third stream, whose own failure is passed over. The exit status: 0 the log agrees, 1 it
+/// does not, 3 read fault, 4 write fault, 5 want of memory.
 pub fn run_replay<M: Machine, R: Read, W: Write, E: Write>(
     rt: &(impl Threads + Sync),
     alloc: Global,
-    buffer: LineBuffer<CAPACITY>,
     machine: &mut M,
     input: &mut Input<R>,
     output: &mut Output<W>,
     errors: &mut Output<E>,
 ) -> u8
-    requires buffer { buffer ≡ [] }
     requires calm_input { input.old.failed ≡ false }
     requires calm_output { output.old.failed ≡ false }
     requires shown { output.old.held ≡ false }
@@ -37,6 +35,9 @@ pub fn run_replay<M: Machine, R: Read, W: Write, E: Write>(
     ensures told_sent { errors.old.held ≡ false → errors.new.failed ≡ false → errors.new.held ≡ false }
     ensures run { IsReplayRun input.old.remaining output.old errors.old result input.new output.new errors.new }
 {
+    let Ok(buffer) = LineBuffer::new(alloc) else {
+        return end_by(&RunFault::NoMemory, errors);
+    };
     match replay(rt, alloc, buffer, input, machine) {
         Ok(found) => answer(found, output, errors),
         Err(fault) => end_by(&run_fault(fault), errors),

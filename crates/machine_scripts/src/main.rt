@@ -26,7 +26,6 @@ use std::marker::Brand;
 use std::process::ExitCode;
 use std::sync::ledger::{Blank, Ledger};
 use std::thread::Threads;
-use watched::LineBuffer;
 
 fn main(rt: HostRuntime) -> ExitCode {
     let alloc = rt.alloc();
@@ -77,16 +76,12 @@ fn serve_streams<M: Machine + Drop>(
     let Ok(writer) = BufWriter::new(alloc, io::writer(rt)) else {
         return without_memory(errors);
     };
-    let Ok(buffer) = LineBuffer::new(alloc) else {
-        return without_memory(errors);
-    };
     let mut input = watched::Input::new(rt.reader());
     let mut output = watched::Output::new(writer);
     let mut errors = watched::Output::new(errors);
     let status = run_script(
         rt,
         alloc,
-        buffer,
         &mut machine,
         &mut input,
         &mut output,

@@ -48,12 +48,13 @@ pub record AreCalledFrom (ls : List (List ℕ)) (old new : SeatBook) : Type 0 wh
 abbrev pub HasPlayed : Engineering → SeatBook → Type 0
 HasPlayed engineer seat = AreCalledFrom (lines engineer.script) engineer.seat seat
 
--- the seats that come back: the workers', who made so many turns for so many shards, and then those of the engineers,
--- who have played
-pub record AreBack (shards turns : ℕ) (engineers : List Engineering) (workers seats : List SeatBook) : Type 0 where
+-- the seats that come back: the workers', and then those of the engineers, who have played
+pub record AreBack (engineers : List Engineering) (workers seats : List SeatBook) : Type 0 where
   pub worked : List SeatBook
   pub played : List SeatBook
   pub together : seats ≡ worked ++ played
+  pub shards : ℕ
+  pub turns : ℕ
   pub work : AllWorked shards turns workers worked
   pub play : AllZip HasPlayed engineers played
 

@@ -1,14 +1,12 @@
 -- What it means to run a team: whose calls its log holds, its exit status, and what is told where no thread is started
 -- (own).
-use Rattle.std.specs.Prelude.{◌≡◌, ◌⊎◌, ℕ, ◌+◌, ◌<◌, ◌≤◌, ◌%◌, true, false, List, [], ◌∷◌, length, All}
+use Rattle.std.specs.Prelude.{◌≡◌, ◌⊎◌, ℕ, ◌+◌, true, false, List, [], ◌∷◌}
 use Rattle.std.specs.Str.Lines.{lines}
 use Rattle.std.specs.Io.KnownBytes.{Appends}
 use Rattle.watched.specs.Streams.{Writing, AppendsFront}
 use Rattle.sim_event.specs.declared.entry.Entry.{Entry}
 use Rattle.sim_event.specs.declared.entry.Call.{Call}
 use Rattle.sim_event.specs.declared.event.Event.{Event}
-use Rattle.sim_event.specs.declared.event.Event.TheVariants.{Deliver}
-use Rattle.net_prefix.specs.declared.addr.Addr.{Addr}
 use Rattle.command_text.specs.Lines.{IsSilent, IsFault, Means}
 use Rattle.reference_machine.specs.Histories.{IsLegal, calls_of}
 use Rattle.reply_text.specs.declared.ending.RunFault.{RunFault}
@@ -36,27 +34,9 @@ AreOfScripts seat [] history = Unit {0}
 AreOfScripts seat (script ∷ more) history = AreCalled (lines script) (calls_of seat history)
     × AreOfScripts (seat + 1) more history
 
--- the call is a delivery to a receiver of the shard: the receiver's address, modulo the shards
-abbrev pub IsDeliveryTo : ℕ → ℕ → Call → Type 0
-IsDeliveryTo shard shards call = (from : Addr) × (to : Addr) × (call.event ≡ Deliver from to)
-    × (to.0 % shards ≡ shard)
-
--- the calls of a worker: no more than it has turns, each a delivery to a receiver of its shard
-pub record IsOfWorker (shard shards turns : ℕ) (calls : List Call) : Type 0 where
-  pub most : length calls ≤ turns
-  pub deliveries : All (IsDeliveryTo shard shards) calls
-
--- the seats behind those of the engineers are the workers': each serves a shard of its own, of as many as there are
--- workers
-abbrev pub AreOfWorkers : ℕ → ℕ → ℕ → List Entry → Type 0
-AreOfWorkers engineers workers turns history = (worker : ℕ) → worker < workers →
-    IsOfWorker worker workers turns (calls_of (engineers + worker) history)
-
--- a legal history, in which the seats from 0 on call the scripts, and the workers behind them deliver
-pub record IsTeamHistory (scripts : List (List ℕ)) (workers turns : ℕ) (history : List Entry) : Type 0 where
-  pub legal : IsLegal history
-  pub called : AreOfScripts 0 scripts history
-  pub delivered : AreOfWorkers (length scripts) workers turns history
+-- a legal history, in which the seats from 0 on call the scripts
+abbrev pub IsTeamHistory : List (List ℕ) → List Entry → Type 0
+IsTeamHistory scripts history = IsLegal history × AreOfScripts 0 scripts history
 
 -- ---- what was written
 
@@ -72,13 +52,11 @@ pub record IsFrontOf (history : List Entry) (o o' : Writing) : Type 0 where
   pub failed : o'.failed ≡ true
 
 -- that of a team's history
-abbrev pub IsLogged : List (List ℕ) → ℕ → ℕ → Writing → Writing → Type 0
-IsLogged scripts workers turns o o' = (history : List Entry) × IsTeamHistory scripts workers turns history
-    × IsLogOf history o o'
+abbrev pub IsLogged : List (List ℕ) → Writing → Writing → Type 0
+IsLogged scripts o o' = (history : List Entry) × IsTeamHistory scripts history × IsLogOf history o o'
 
-abbrev pub IsCutOff : List (List ℕ) → ℕ → ℕ → Writing → Writing → Type 0
-IsCutOff scripts workers turns o o' = (history : List Entry) × IsTeamHistory scripts workers turns history
-    × IsFrontOf history o o'
+abbrev pub IsCutOff : List (List ℕ) → Writing → Writing → Type 0
+IsCutOff scripts o o' = (history : List Entry) × IsTeamHistory scripts history × IsFrontOf history o o'
 
 -- ---- how it ends
 
@@ -91,12 +69,12 @@ abbrev pub IsBroken : Writing → Writing → Writing → Type 0
 IsBroken o o' errors' = (o' ≡ o)
     × (IsToldLast (fault_text NoMemory) errors' ⊎ IsToldLast (fault_text BookDiffers) errors')
 
--- scripts that were read were played, with so many workers, each with so many turns: the log was written; or it was cut
--- off, which was told last; or nothing was written
-abbrev pub IsPlayed : List (List ℕ) → ℕ → ℕ → Writing → ℕ → Writing → Writing → Type 0
-IsPlayed scripts workers turns o status o' errors' =
-    ((status ≡ success) × IsLogged scripts workers turns o o')
-    ⊎ (((status ≡ write_fault) × IsCutOff scripts workers turns o o' × IsToldLast (fault_text Unwritten) errors')
+-- scripts that were read were played: the log was written; or it was cut off, which was told last; or nothing was
+-- written
+abbrev pub IsPlayed : List (List ℕ) → Writing → ℕ → Writing → Writing → Type 0
+IsPlayed scripts o status o' errors' =
+    ((status ≡ success) × IsLogged scripts o o')
+    ⊎ (((status ≡ write_fault) × IsCutOff scripts o o' × IsToldLast (fault_text Unwritten) errors')
     ⊎ ((status ≡ no_memory) × IsBroken o o' errors'))
 
 -- nothing was written, since a file was not read, the first such, and that alone was told
@@ -105,7 +83,7 @@ IsUnread files o errors status o' errors' = (status ≡ read_fault) × (o' ≡ o
     × IsFirstUnread files name × IsTold errors (unread_text name) errors'
 
 -- a team was run: its scripts were read and played, or not all were read, or there was no memory for them
-abbrev pub IsTeamRun : List Source → ℕ → ℕ → Writing → Writing → ℕ → Writing → Writing → Type 0
-IsTeamRun files workers turns o errors status o' errors' =
-    ((scripts : List (List ℕ)) × AreRead files scripts × IsPlayed scripts workers turns o status o' errors')
+abbrev pub IsTeamRun : List Source → Writing → Writing → ℕ → Writing → Writing → Type 0
+IsTeamRun files o errors status o' errors' =
+    ((scripts : List (List ℕ)) × AreRead files scripts × IsPlayed scripts o status o' errors')
     ⊎ (IsUnread files o errors status o' errors' ⊎ IsWithoutMemory o errors status o' errors')

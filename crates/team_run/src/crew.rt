@@ -69,7 +69,7 @@ fn join_all<L: Ledger, R: Threads>(
 ) -> Result<Vec<Seat<L>>, AllocError>
     ensures { IfOk result (λ back. (shards turns : ℕ) (workers : List SeatBook) (engineers : List Engineering) →
         AllWorked shards turns workers seats.items → AreToPlay engineers threads.items →
-        AreBack shards turns engineers workers back.items) }
+        AreBack engineers workers back.items) }
 {
     for thread in threads {
         seats.push(thread.join(rt))?;
@@ -116,15 +116,13 @@ impl<
         engineers: Vec<Engineer<L>>,
         workers: Vec<Seat<L>>,
     ) -> Result<Vec<Seat<L>>, AllocError>
-        ensures { IfOk result (λ seats. AreBack self.now.desk.now.shards self.now.turns engineers.items workers.items
-            seats.items) }
+        ensures { IfOk result (λ seats. AreBack engineers.items workers.items seats.items) }
     {
         thread::scope(
             thread::scope_env(),
             self.rt,
             |scope| -> Result<Vec<Seat<L>>, AllocError>
-                ensures { IfOk result (λ seats. AreBack self.entry.now.desk.now.shards self.entry.now.turns
-                    engineers.items workers.items seats.items) }
+                ensures { IfOk result (λ seats. AreBack engineers.items workers.items seats.items) }
             { self.run_within(scope, engineers, workers) },
         )
     }
@@ -136,8 +134,7 @@ impl<
         engineers: Vec<Engineer<L>>,
         workers: Vec<Seat<L>>,
     ) -> Result<Vec<Seat<L>>, AllocError>
-        ensures { IfOk result (λ seats. AreBack self.now.desk.now.shards self.now.turns engineers.items workers.items
-            seats.items) }
+        ensures { IfOk result (λ seats. AreBack engineers.items workers.items seats.items) }
     {
         let threads = Vec::with_capacity(self.alloc, engineers.len())?;
         let started = self.start_all(scope, engineers, threads);

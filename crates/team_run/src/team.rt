@@ -7,7 +7,7 @@ ghost use Rattle.room.specs.Books.{blank_seats};
 ghost use Rattle.room.specs.Closing.{AllAgree};
 ghost use Rattle.desk.specs.Desks.{IsDeskLedger};
 ghost use Rattle.team_run.specs.Playing.{AreBack, IsOfPlay, engineers_of};
-ghost use Rattle.team_run.specs.TeamRun.{AreOfScripts, AreOfWorkers, IsFrontOf, IsLogOf, IsPlayed, IsTeamRun};
+ghost use Rattle.team_run.specs.TeamRun.{AreOfScripts, IsFrontOf, IsLogOf, IsPlayed, IsTeamRun};
 ghost use Rattle.watched.specs.Streams.{AppendsFront};
 
 use crate::crew::Crew;
@@ -87,8 +87,7 @@ pub fn run_team<
     requires hands { team.settings.workers ≤ 64 }
     requires calm { output.old.failed ≡ false }
     requires shown { output.old.held ≡ false }
-    ensures run { IsTeamRun team.files.items team.settings.workers team.settings.turns output.old errors.old result
-        output.new errors.new }
+    ensures run { IsTeamRun team.files.items output.old errors.old result output.new errors.new }
 {
     let Team {
         blank,
@@ -128,8 +127,7 @@ fn play<
     requires hands { team.settings.workers ≤ 64 }
     requires calm { output.old.failed ≡ false }
     requires shown { output.old.held ≡ false }
-    ensures { IsPlayed team.scripts.items team.settings.workers team.settings.turns output.old result output.new
-        errors.new }
+    ensures { IsPlayed team.scripts.items output.old result output.new errors.new }
 {
     let workers = team.settings.workers;
     let record = match recorded::<S, T, L, E, R>(rt, alloc, team, errors) {
@@ -158,8 +156,6 @@ fn recorded<
     requires workers { 1 ≤ team.settings.workers }
     requires hands { team.settings.workers ≤ 64 }
     ensures calls { IfOk result (AreOfScripts 0 team.scripts.items) }
-    ensures deliveries { IfOk result (AreOfWorkers (length team.scripts.items) team.settings.workers
-        team.settings.turns) }
     ensures fault { IfErr result IsOfPlay }
 {
     let ReadyTeam {
@@ -236,8 +232,8 @@ fn at_desk<
 ) -> Result<Vec<Seat<L>>, AllocError>
     requires most { vec_len scripts ≤ 64 }
     requires enough { vec_len scripts ≤ vec_len seats }
-    ensures { IfOk result (λ back. AreBack crew.now.desk.now.shards crew.now.turns
-        (engineers_of 1 scripts.items seats.items) (drop (length scripts.items) seats.items) back.items) }
+    ensures { IfOk result (λ back. AreBack (engineers_of 1 scripts.items seats.items)
+        (drop (length scripts.items) seats.items) back.items) }
 {
     let (engineers, workers) = seated(crew.alloc, scripts, seats)?;
     crew.run(engineers, workers)
