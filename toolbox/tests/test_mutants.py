@@ -192,6 +192,21 @@ other n = low n && high n
                 (1, ["specs/A.antt:3:9: error: expected the end of the text"], weaken.UNREAD)):
             self.assertEqual(weaken.judged(status, lines, "specs/A.antt")[0], word, lines)
 
+    def test_which_functions_and_crates_reach_a_definition(self):
+        self.file("crates.txt", "low:\nhigh: low\n")
+        self.file("crates/low/specs/Good.antt", "abbrev pub is_low : N → N\nis_low n = n\nabbrev pub is_good : N → N\n"
+                                               "is_good n = is_low n\n")
+        self.file("crates/low/src/lib.rt", "fn a()\n    ensures { x }\n{ }\n")
+        self.file("crates/high/src/lib.rt", "ghost use Rattle.low.specs.Good.{is_good};\nfn b()\n"
+                                            "    ensures { is_good }\n{ }\nfn c()\n    ensures { x }\n{ }\n")
+        name, below = ("low", "Good", "is_low"), {"low": set(), "high": {"low"}}
+        with unittest.mock.patch.object(weaken, "TOP", self.folder):
+            reach = weaken.Reach(believed.Workspace(self.folder))
+            bodies = {crate: left_out.bodies(self.folder / "crates" / crate) for crate in below}
+            self.assertEqual(reach.of("high", name, bodies["high"]), {"high::b"})
+            self.assertEqual(reach.of("low", name, bodies["low"]), set())
+            self.assertEqual(reach.crates(name, below), ["high"])
+
 
 class TrustedBase(Case):
     def git(self, *words):
