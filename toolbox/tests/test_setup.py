@@ -7,7 +7,7 @@ from common import TOP, Case, alone
 
 SETUP = (TOP / "tools" / "setup").read_text()
 # What it needs itself.
-OWN = ("bash", "awk", "cat", "cp", "dirname", "env", "mkdir", "readlink", "rm", "sed", "sort", "touch", "tr")
+OWN = ("find", "bash", "awk", "cat", "cp", "dirname", "env", "mkdir", "readlink", "rm", "sed", "sort", "touch", "tr")
 COMMANDS = [names.split(",")[0] for names in re.findall(r"(?m)^command (\S+) \S+$", SETUP)]
 # A Python: the file `absent` has the libraries that it does not find, `calls` what its modules were called with.
 PYTHON = """\
@@ -72,8 +72,18 @@ class Setup(Case):
             (self.bin / name).unlink()
         self.file("bin/absent", "".join("%s\n" % name for name in libraries))
 
+    def test_an_environment_with_links_is_made_anew(self):
+        """The kit's `rt` refuses a repository with links."""
+        self.assertEqual(self.setup_told()[0], 0)
+        (self.environment / "lib64").symlink_to("lib")
+        self.calls()
+        self.assertEqual(self.setup_told("--check"), (1, NO_ENVIRONMENT, ""))
+        self.assertEqual(self.setup_told()[0], 0)
+        self.assertEqual(self.calls(), [self.made()])
+        self.assertFalse((self.environment / "lib64").is_symlink())
+
     def made(self):
-        return "python -m venv --clear --without-pip --system-site-packages %s" % self.environment
+        return "python -m venv --clear --copies --without-pip --system-site-packages %s" % self.environment
 
     def test_where_all_is_there_only_the_environment_is_made(self):
         self.assertEqual(self.setup_told("--check"), (1, NO_ENVIRONMENT, ""))
@@ -147,7 +157,7 @@ class Setup(Case):
         (self.bin / "apt-get").unlink()
         self.lacks(libraries=["tornado", "shtab"])
         self.assertEqual(self.setup_told(), (0, "", ""))
-        self.assertEqual(self.calls(), ["python -m venv --clear %s" % self.environment, "python -m pip --version",
+        self.assertEqual(self.calls(), ["python -m venv --clear --copies %s" % self.environment, "python -m pip --version",
                                         "python -m pip install shtab tornado"])
 
     def test_without_a_python(self):
