@@ -105,6 +105,14 @@ class Version(Case):
                             ("README.md", "Apache-2.0"), ("toolbox/pyproject.toml", "Apache Software License")):
             self.assertIn(words, (TOP / name).read_text())
 
+    def test_the_licence_of_the_python_package_is_the_same(self):
+        self.assertEqual((TOP / "toolbox" / "LICENSE").read_text(), (TOP / "LICENSE").read_text())
+
+    def test_the_repository_has_no_links(self):
+        """The kit's `rt` refuses them."""
+        told = subprocess.run(["git", "ls-files", "-s"], cwd=str(TOP), capture_output=True, text=True, check=True).stdout
+        self.assertEqual([line for line in told.splitlines() if line.startswith("120000")], [])
+
     @unittest.skipUnless(os.path.exists("/usr/share/common-licenses/Apache-2.0"), "no licences of Debian")
     def test_the_licence_is_whole(self):
         with open("/usr/share/common-licenses/Apache-2.0", encoding="utf-8") as file:
