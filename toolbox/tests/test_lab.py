@@ -248,6 +248,7 @@ class Served(AtServer):
 
     def test_a_page_that_goes_has_left_its_seat(self):
         anna, ben = self.page("anna"), self.page("ben")
+        self.assertEqual(ben.ask("who")["people"][1]["here"], 1)
         anna.close()
         for number in range(100):
             ben.ask("call", line="metric 1.0.0.1 2.0.0.1 %d" % (number + 1))

@@ -478,7 +478,7 @@ class Staged(Case):
             self.assertEqual((told.returncode, told.stderr), (0, b""))
         [made] = (self.top / "out").iterdir()
         self.assertEqual(told.stdout.decode(), "%s\n" % made)
-        self.assertNotIn("changed", made.read_text())
+        self.assertNotIn(".changed", made.read_text())
 
     def test_no_such_folder(self):
         called = [sys.executable, "-B", self.top / "tools/package", "-o", self.folder / "none"]

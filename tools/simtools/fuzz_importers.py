@@ -136,7 +136,7 @@ def exemptions(path: pathlib.Path = LIST) -> List[Exemption]:
         rows = [line.split(": ", 1) for line in stanza.split("\n") if line.strip() and not line.startswith("#")]
         given = {name: text for name, text in rows if name != "about"}
         found += [Exemption(given["importer"], re.compile(text), re.compile(given.get("word", ".*"), re.DOTALL),
-                            re.compile(given.get("input", ".*")), given["why"])
+                            re.compile(given.get("input", ".*"), re.DOTALL), given["why"])
                   for name, text in rows if name == "about"]
     return found
 

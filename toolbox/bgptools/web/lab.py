@@ -70,6 +70,8 @@ class Lab:
         else:
             entry = {"id": 0, "do": "enter", "as": name, **({} if token is None else {"token": token})}
             page.lines.extend([encoded(entry), encoded({"id": 0, "do": "watch", "what": "all"})])
+            # It hears all that happens from the moment on at which it has a seat.
+            page.watches = "all"
             self.hub.come(page)
         self.hub.wake()
         return page
