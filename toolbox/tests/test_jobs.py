@@ -694,7 +694,8 @@ class Ends(Pooled):
         every = children(server.pid)
         self.assertGreaterEqual(len(every), 8)
         workers = [each for each in every if b"worker.py" in pathlib.Path("/proc/%d/cmdline" % each).read_bytes()]
-        self.assertEqual(len(workers), 4)
+        # (a copy of a worker that is about to become a program looks like one)
+        self.assertGreaterEqual(len(workers), 4)
         os.kill(workers[-1], signal.SIGSTOP)
         server.kill()
         last = time.monotonic() + 60
