@@ -9,8 +9,8 @@ import time
 from dataclasses import dataclass
 from typing import List, Optional, Set
 
-from bgptools import provenance
-from bgptools.mistakes import Mistake
+from bgptools.program import provenance
+from bgptools.program.mistakes import Mistake
 
 TOP = pathlib.Path(__file__).resolve().parent.parent
 BUILT = TOP / "crates" / "bgpsim" / "out" / "bgpsim"

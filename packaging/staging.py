@@ -10,7 +10,7 @@ import time
 from typing import List
 
 import origin
-from bgptools.mistakes import Mistake
+from bgptools.program.mistakes import Mistake
 from origin import TOP, Commit, git
 
 # What goes into the package, and what makes it.

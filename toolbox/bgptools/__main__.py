@@ -4,9 +4,9 @@ from __future__ import annotations
 import sys
 from typing import List
 
-from . import libraries
-from .mistakes import ended
-from .tools import TOOLS, run, sentence_of
+from .cli import libraries
+from .cli.tools import TOOLS, run, sentence_of
+from .program.mistakes import ended
 
 CALLED = "python3 -m bgptools"
 

@@ -14,7 +14,9 @@ import sys
 import threading
 import time
 
-from bgptools import where
+import pytest
+
+from bgptools.program import location
 from common import TOOLBOX, Case
 from test_lab import Page
 from test_share import Person
@@ -147,6 +149,7 @@ class Server:
         self.process.stdout.close()
 
 
+@pytest.mark.xdist_group("attacks")
 class Attack(Case):
     """A test that attacks a server. Whatever a server tells on standard error is a fault, if no test says otherwise."""
 
@@ -177,7 +180,7 @@ class Attack(Case):
     def slow(self, before="", seconds=0.5):
         """A program that begins so much later where a worker process runs it, and first runs these lines of shell."""
         late = '[ -z "$BGPSIM_JOB" ] || sleep %s' % seconds
-        path = self.file("slow", '#!/bin/sh\n%s\n%s\nexec %s "$@"\n' % (before, late, os.path.abspath(where.program())))
+        path = self.file("slow", '#!/bin/sh\n%s\n%s\nexec %s "$@"\n' % (before, late, os.path.abspath(location.program())))
         path.chmod(0o755)
         return str(path)
 

@@ -10,12 +10,12 @@ import sys
 import tempfile
 import unittest
 
-from bgptools import where
-from bgptools.language import ended
-from bgptools.mistakes import Mistake
-from bgptools.program import Program
-from bgptools.replies import refusal
-from bgptools.script import lines_of
+from bgptools.program import location
+from bgptools.program.language import ended
+from bgptools.program.mistakes import Mistake
+from bgptools.program.process import Program
+from bgptools.program.replies import refusal
+from bgptools.program.script import lines_of
 
 TOP = pathlib.Path(__file__).resolve().parent.parent.parent
 TOOLBOX = TOP / "toolbox"
@@ -37,7 +37,7 @@ def tool(name, *words, given=b"", status=None):
 
 def inside(name, *words):
     """The same without a process of its own, for many runs."""
-    main = importlib.import_module("bgptools." + name.replace("-", "_")).main
+    main = importlib.import_module("bgptools.cli." + name.replace("-", "_")).main
     kept, told = (sys.stdout, sys.stderr), (io.TextIOWrapper(io.BytesIO(), "latin-1"), io.StringIO())
     sys.stdout, sys.stderr = told
     try:
@@ -66,7 +66,7 @@ def files_of(folder):
 def program(script):
     """The lines that the program replies to a script."""
     given = script.encode("latin-1") if isinstance(script, str) else script
-    ran = subprocess.run([where.program(), "script"], input=given, capture_output=True, timeout=300, check=True)
+    ran = subprocess.run([location.program(), "script"], input=given, capture_output=True, timeout=300, check=True)
     return ran.stdout.decode("latin-1").split("\n")[:-1]
 
 

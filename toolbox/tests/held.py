@@ -1,6 +1,6 @@
 """Networks that are shared without a socket, for tests."""
-from bgptools import replaying
-from bgptools.shared import Shared
+from bgptools.session import replay
+from bgptools.session.shared_network import Shared
 from common import Case
 
 TWO = ("router 1.0.0.1 1", "router 2.0.0.1 2", "link 1.0.0.1 2.0.0.1 1", "join 1.0.0.1 2.0.0.1")
@@ -33,7 +33,7 @@ class Held(Case):
     def ended(self, shared):
         """Ends it: what replay says of its log."""
         shared.end()
-        return replaying.verdict(str(self.log), shared.log.size, b"")
+        return replay.verdict(str(self.log), shared.log.size, b"")
 
     def said(self, shared, seat, line):
         """The reply to one line."""

@@ -2,6 +2,8 @@
 import json
 import tempfile
 
+import pytest
+
 from browser import Browser
 from common import Case
 from test_lab import Lab
@@ -59,6 +61,7 @@ CROWDED = """() => {
 }"""
 
 
+@pytest.mark.xdist_group("browsers")
 class InABrowser(Case):
     """Tests with one browser, and a lab for each."""
     @classmethod

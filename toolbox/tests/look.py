@@ -16,7 +16,7 @@ import sys
 import tempfile
 
 HERE = pathlib.Path(__file__).resolve().parent
-sys.path[:0] = [str(HERE), str(HERE.parent)]
+sys.path[:0] = [str(HERE), *sorted({str(path.parent) for path in HERE.glob("*/test_*.py")}), str(HERE.parent)]
 
 from browser import Browser  # noqa: E402
 from common import DATA, TOOLBOX, TOP  # noqa: E402

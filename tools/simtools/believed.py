@@ -1,11 +1,12 @@
 """The files of definitions that one has to believe, from what the public contracts cite.
 
-    tools/believed             compares the table and the sums of docs/ARCHITECTURE.md; exit 1 where they differ
+    tools/believed             compares the table and the sums of docs/explanation/trusted-base.md; exit 1 if they differ
     tools/believed --write     writes both there
     tools/believed --why       tells of each name by what it is reached
-    tools/believed --since COMMIT
+    tools/believed --since [COMMIT]
                                prints each line of these files that was changed since the commit or tag, so that a
-                               weaker statement is seen
+                               weaker statement is seen; without one, since where this branch left origin/main, or
+                               since the last tag where it has not left it, or else since the commit before
 
 It begins with the words in the clauses of public calls (PARTS in simtools/believed.py says of which, and in which rows
 of the table what they reach stands), finds each by its `ghost use` line, reads its definition in specs/, and goes on
@@ -26,12 +27,15 @@ from . import commands
 from . import rattle_source as reading
 from .programs import TOP
 
-PAGE = TOP / "docs" / "ARCHITECTURE.md"
-HEADING = "## The files that one has to believe"
+PAGE = TOP / "docs" / "explanation" / "trusted-base.md"
+# Where the table stood at earlier commits.
+PAGES = ("docs/explanation/trusted-base.md", "docs/ARCHITECTURE.md")
+HEADING = "## Files of the trusted base"
 IMPORT = re.compile(r"(?:pub )?(?:ghost )?use Rattle\.(\w+)\.specs\.(\w+)\.\{([^}]*)\}")
 STARTS = re.compile(r"(?:abbrev |unfoldable |opaque |private )*(?:pub )?(?:record |data )?(\S+)(.*)")
 # Not what stands after a point: a field.
 WORD = re.compile(r"(?<![\w'.])[^\s(){}\[\],;.]+")
+UNKNOWN = "git knows no commit `%s` here: write another, as `HEAD~1`, or no --since"
 Name = Tuple[str, str, str]
 File = Tuple[str, str]
 
@@ -57,7 +61,7 @@ PARTS = (
     Part("for `bgpsim team`", (Root("bgpsim/src/running.rt", ("*",)), Root("team_run/src/team.rt", ("run_team",)))),
     Part("laws beside the program", (Root("*/src/laws.rt"), Root("session_law/src/lib.rt"))),
     Part("what the desk's own calls promise", (Root("room/src/**/*.rt"), Root("desk/src/**/*.rt"))),
-    Part("trees over a change", (Root("igp_cost/src/graph.rt"),)),
+    Part("shortest-path trees over a change", (Root("igp_cost/src/graph.rt"),)),
 )
 
 
@@ -208,12 +212,11 @@ def parts_of(workspace: Workspace) -> Tuple[List[List[Row]], Dict[Name, str]]:
 def sums_of(parts: Sequence[Sequence[Row]]) -> str:
     """The sentence with the sums."""
     each = [sum(row.lines for row in rows) for rows in parts]
-    return ("{:,} for `bgpsim script`, down to its command line, {:,} with `replay` and `team`, {:,} with what stands "
-            "beside the program").format(each[0], sum(each[:3]), sum(each))
+    return "{:,} for `bgpsim script`, {:,} with `replay` and `team`, {:,} with laws and the desk".format(
+        each[0], sum(each[:3]), sum(each))
 
 
-SUMS = re.compile(r"[\d,]+ for `bgpsim script`, down to its command line, [\d,]+ with `replay` and `team`, "
-                  r"[\d,]+ with what stands beside the program")
+SUMS = re.compile(r"[\d,]+ for `bgpsim script`, [\d,]+ with `replay` and `team`, [\d,]+ with laws and the desk")
 
 
 def section_of(page: str) -> Tuple[int, int]:
@@ -249,9 +252,10 @@ def main(words: Sequence[str]) -> int:
     asked = commands.parser(__doc__)
     asked.add_argument("--write", action="store_true")
     asked.add_argument("--why", action="store_true")
-    asked.add_argument("--since", metavar="COMMIT")
+    asked.add_argument("--since", metavar="COMMIT", nargs="?", const="")
     chosen = asked.parse_args(words)
-    return commands.as_part(lambda: part(chosen.write, chosen.why, chosen.since))
+    return commands.as_part(
+        lambda: part(chosen.write, chosen.why, base(TOP) if chosen.since == "" else chosen.since))
 
 
 def git(top: pathlib.Path, *words: str) -> Optional[str]:
@@ -262,6 +266,16 @@ def git(top: pathlib.Path, *words: str) -> Optional[str]:
     except OSError:
         return None
     return ran.stdout.decode("utf-8", "replace") if ran.returncode == 0 else None
+
+
+def base(top: pathlib.Path) -> Optional[str]:
+    """The commit that a change is measured from: where the branch left origin/main; the last tag, where it did not
+    leave it; or the commit before. None where git has none of them."""
+    head = git(top, "rev-parse", "--verify", "HEAD")
+    asked = (("merge-base", "HEAD", "origin/main"), ("describe", "--tags", "--abbrev=0", "HEAD"),
+             ("rev-parse", "--verify", "HEAD~1"))
+    found = (git(top, *words) for words in asked)
+    return next((one.strip() for one in found if one and one != head), None)
 
 
 def files_of_page(page: str) -> Set[File]:
@@ -280,8 +294,8 @@ def tell_since(top: pathlib.Path, files: Set[File], since: str) -> None:
     """Prints each changed line of the files, and of those that stood in the table at the commit. Raises
     commands.Missing where git does not know the commit."""
     if git(top, "rev-parse", "--verify", "--quiet", since + "^{commit}") is None:
-        raise commands.Missing("git knows no commit `%s` here: write another, as `HEAD~1`, or no --since" % since)
-    page = git(top, "show", "%s:docs/ARCHITECTURE.md" % since) or ""
+        raise commands.Missing(UNKNOWN % since)
+    page = "".join(git(top, "show", "%s:%s" % (since, page)) or "" for page in PAGES)
     count = 0
     for crate, file in sorted(files | files_of_page(page)):
         path = "crates/%s/specs/%s.antt" % (crate, file)

@@ -1,6 +1,6 @@
 """The record beside a built program: what it was built of, whether it was proved, and whether it is still current.
 
-A program `bgpsim` has `bgpsim.json` beside it, which toolbox/bgptools/provenance.py reads, and `bgpsim.crates`: the
+A program `bgpsim` has `bgpsim.json` beside it, which toolbox/bgptools/program/provenance.py reads, and `bgpsim.crates`: the
 lines of crates.txt of the program and of all crates that it stands on. `./bgpsim` takes a program as current where
 neither crates.txt nor a file of these crates is newer. Where one is newer, `is_current` compares digests."""
 from __future__ import annotations

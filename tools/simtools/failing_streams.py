@@ -5,7 +5,7 @@
 Each byte of a small script, of its log and of a team's files cannot be read, in turn; each write, and each byte of
 what is written, fails. Read a byte at a time and written so, all is as ever. A user who types a line only once the
 reply to the last one stands there is answered. Then a full device, help and version there too; a pipe that nobody
-reads; and Ctrl-C. A fault is told as docs/LANGUAGE.md says, with status 3 or 4; what was written is the replies to the
+reads; and Ctrl-C. A fault is told as docs/reference/program.md says, with status 3 or 4; what was written is the replies to the
 lines before it, whole lines where writes are whole. The script is also given to each machine, by machine_scripts, where
 that is built; with MACHINES=1 it has to be. The last line is `N passed, M failed`. PROGRAM= is another program than
 crates/bgpsim/out/bgpsim, and no machines.

@@ -34,11 +34,11 @@ from typing import Any, BinaryIO, Callable, Dict, List, Optional, Tuple, cast
 
 TOP = pathlib.Path(__file__).resolve().parent.parent.parent
 PACKAGE = str(TOP / "toolbox" / "bgptools") + os.sep
-# The request path: these folders of the package, and these modules.
+# The request path: these packages but for some modules, and these modules of others.
 FOLDERS = ("session", "web", "jobs")
-MODULES = ("shared", "calling", "delivering", "ledger", "notes", "record", "lasting", "recovery", "proposing",
-           "proposals", "happening", "taking_up", "workers", "seats", "meter", "history", "names", "network", "run",
-           "counted", "program", "settling", "kept_file", "telling", "replies", "language")
+OTHERS = ("session/client", "session/journal", "session/lifecycle", "session/replay", "web/lesson")
+MODULES = ("convergence/delivery", "convergence/run", "convergence/transcript", "network/configuration",
+           "program/language", "program/line_count", "program/names", "program/process", "program/replies")
 # A shortage is over after so many seconds.
 SHORTAGE = 0.5
 # What begins so needs no memory: the line only leads on.
@@ -51,8 +51,8 @@ def is_traced(path: str) -> bool:
     """Whether a file is of the request path."""
     if not path.startswith(PACKAGE):
         return False
-    folder, _, name = path[len(PACKAGE):].rpartition(os.sep)
-    return folder in FOLDERS or not folder and name[:-len(".py")] in MODULES
+    name = path[len(PACKAGE):-len(".py")]
+    return name.rpartition(os.sep)[0] in FOLDERS and name not in OTHERS or name in MODULES
 
 
 class Lines:
@@ -206,12 +206,12 @@ def wrap(calls: Calls) -> None:
 
 def wrap_package(calls: Calls) -> None:
     """Wraps what the package has under names of its own."""
-    from bgptools import notes, record
-    kept = record.write_all
+    from bgptools.session import log, notes
+    kept = log.write_all
 
     def write_all(file: Any, content: bytes, size: int, path: str) -> None:
         kept(cast(BinaryIO, FailingFile(file, path, calls)), content, size, path)
-    setattr(record, "write_all", write_all)
+    setattr(log, "write_all", write_all)
     setattr(notes, "write_all", write_all)
     begin = subprocess.Popen.__init__
 
@@ -265,9 +265,10 @@ class Commands:
 def main(words: List[str]) -> int:
     """Runs a tool as its launcher does."""
     sys.path.insert(0, str(TOP / "toolbox"))
-    from bgptools import libraries, mistakes
+    from bgptools.cli import libraries
+    from bgptools.cli.tools import run
     from bgptools.jobs import confinement
-    from bgptools.tools import run
+    from bgptools.program import mistakes
     libraries.restart(words[2], [os.path.abspath(__file__), *words])
     # It ends with who started it.
     call = confinement.prctl()

@@ -1,7 +1,7 @@
 """A `share` or `lab` that is fuzzed, and its clients: at the socket, and pages over HTTP.
 
 A client notes what it sent and checks all that it hears: each answer is one JSON object with the `id` of its request,
-and with `error` or what docs/SHARE.md has for the word. Fault says what is otherwise."""
+and with `error` or what docs/reference/share.md has for the word. Fault says what is otherwise."""
 from __future__ import annotations
 
 import contextlib
@@ -299,10 +299,19 @@ class Page(Client):
             self.hear(line[len(b"data: "):])
 
     def send(self, content: bytes) -> None:
-        status = self.server.get("do?page=" + self.page, self.key, content)[0]
+        status = self._status(content)
         self.owed += status == 200
         if status not in (200, 429) and len(content) <= 1 << 16 and self.is_open and self.page:
             raise Fault("a request of a page has the status %d" % status)
+
+    def _status(self, content: bytes) -> int:
+        """The status of a request. What is too long the server may refuse and close before all of it is sent."""
+        try:
+            return self.server.get("do?page=" + self.page, self.key, content)[0]
+        except (BrokenPipeError, ConnectionResetError):
+            if len(content) <= 1 << 16:
+                raise
+            return 413
 
     def ask(self, request: Request) -> Dict[str, Any]:
         if not self.page:

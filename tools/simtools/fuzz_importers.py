@@ -98,9 +98,9 @@ def _module(importer: str) -> Tuple[Any, Type[Exception]]:
     """The importer's module, and the class of what a user has to mend."""
     if str(TOP / "toolbox") not in sys.path:
         sys.path.append(str(TOP / "toolbox"))
-    mistakes = importlib.import_module("bgptools.mistakes")
+    mistakes = importlib.import_module("bgptools.program.mistakes")
     mistake: Type[Exception] = mistakes.Mistake
-    return importlib.import_module("bgptools." + importer.replace("-", "_")), mistake
+    return importlib.import_module("bgptools.cli." + importer.replace("-", "_")), mistake
 
 
 def ended(importer: str, words: Sequence[str]) -> Ended:

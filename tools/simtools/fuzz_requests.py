@@ -1,4 +1,4 @@
-"""Requests of the protocol of `share` and `lab` (docs/SHARE.md): valid ones at random, and ones that are mutated."""
+"""Requests of the protocol of `share` and `lab` (docs/reference/share.md): valid ones at random, and ones that are mutated."""
 from __future__ import annotations
 
 import json

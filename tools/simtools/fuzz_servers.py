@@ -7,7 +7,7 @@
                                                  the midst
 
 After each case the server lives, and was asked rightly by a person and a page of each role who behave; each request has
-its answer, one JSON object with its `id` and with `error` or the fields of docs/SHARE.md; the shared program was not
+its answer, one JSON object with its `id` and with `error` or the fields of docs/reference/share.md; the shared program was not
 restarted; standard error tells of no fault. In the end each call that was answered is in the log, in order and with its
 reply, none is there more often than it was made, and `bgpsim replay` says ok.
 

@@ -1,6 +1,6 @@
 """Measures what grows with what: the steps and the memory that small scripts make the program take.
 
-    tools/growth        each row of the table in docs/LIMITS.md ("What grows with what"): how many instructions of a
+    tools/growth        each row of the table in bench/README.md ("What one more costs"): how many instructions of a
                         processor one more of it takes, counted by valgrind's callgrind, and how many bytes of memory
 
 For each row two scripts are run, the second with more of it than the first, and nothing else; the difference is shared
@@ -95,11 +95,11 @@ def links(count: int) -> Lines:
 ROWS: Sequence[Row] = (
     Row("a message that is put into a queue", lambda n: star(PEERS) + heard(ROUTES) + turned(n, "deny"),
         lambda n: 2 * n * ROUTES * PEERS, (10, 20), (300, 1_300)),
-    Row("a route that an edit has a router choose anew, from one",
+    Row("a recomputed RIB entry with one route",
         lambda n: star(1) + heard(200) + turned(n, "permit pref=5"), lambda n: 2 * n * 200, (5, 15), None),
-    Row("a feed, its delivery, and that it is told to one peer", lambda n: star(1) + heard(n), lambda n: n,
+    Row("a feed, its delivery, and the update to one peer", lambda n: star(1) + heard(n), lambda n: n,
         (100, 300), (5_000, 25_000)),
-    Row("a message that a question tells", queued, lambda n: 100 * n, (10, 30), None),
+    Row("a message that a question lists", queued, lambda n: 100 * n, (10, 30), None),
     Row("a cost that a metric moves, at one router towards another", lambda n: ring(40) + metrics(n),
         lambda n: 2 * n * 40 * 20, (5, 15), None),
     Row("a router", routers, lambda n: n, (300, 600), None),

@@ -2,7 +2,7 @@
 
     tools/mistyped [CRATE..]        without a crate: all that have mistyped/; a part of the gate
 
-An edit is a line `file: src/lib.rt` and pairs of lines `old: TEXT` and `new: TEXT`, as in must-fail/, where it cannot
+An edit is a line `file: src/lib.rt` and pairs of lines `old: TEXT` and `new: TEXT`, as in planted/, where it cannot
 stand, since it never reaches the prover; and lines `said: TEXT`, each of which the compiler has to say, at a line of
 that file, of types that do not match; or `said: [KIND] TEXT`, of an error of another kind, which begins with the text.
 It is tried on a copy of the crates, by `rt try --test`, which compiles before any proof: in the crate, or, where that

@@ -2,74 +2,88 @@
 drawn. A part of the gate.
 
     tools/mutants                     tries the chosen ones and forty drawn ones
-    tools/mutants --since COMMIT      draws those first whose functions were changed since that commit
+    tools/mutants --since [COMMIT]    draws those first whose functions were changed since that commit; without one
+                                      since the base that `tools/believed --since` takes
     tools/mutants --list              prints both, and tries none
     tools/mutants --anew              tries also those whose verdict is kept
+    tools/mutants --until FILE        waits for libraries that are not kept yet, until the file is there
+    tools/mutants --table FILE        writes what the chosen ones came to, as CSV: bench/mutants.csv
 
 tools/mutants.list has, of each wrong body that a proof must refuse and of each of the program's own promises, the
 mutant that spells it. The others are drawn from all of crates/*/planted: in the order of the SHA-256 of the commit
 and the path, the first of each crate, then the first of all, forty together. Without git the digest of the sources
 stands for the commit. So nobody chooses them, and each commit draws others.
 
-A mutant is tried as `tools/planted` tries it, by a check of its function alone, together with others. Verdicts are
-kept on this machine, by the checksum of all that the check reads. What such a check does not settle is told: it takes
-a check of the whole crate, by `tools/planted EDIT`.
+A mutant is tried as `tools/planted` tries it, by a check of its function alone, together with others. The libraries
+below come from what `rt ci` kept on this machine. Where it kept too few, that is told at once, and nothing is proved.
+Verdicts are kept on this machine too, by the checksum of all that the check reads. What such a check does not settle
+is told: it takes a check of the whole crate, by `tools/planted EDIT`.
 
-The last lines count, each apart: refused by a goal; by a goal, beside a proof of the function, written by hand, that
-does not fit the mutant either; at a limit of the search, which says nothing; by such a proof alone, which shows
-nothing; not settled. The very last is `N passed, M failed`. Only the first two pass. A drawn mutant at a limit, or
-not settled, neither passes nor fails. All else fails: what is proved, what does not apply, and a chosen one that no
-goal refuses.
+The line before the last counts, each apart: refused by a goal; by a goal, beside a proof of the function, written by
+hand, that does not fit the mutant either; at a limit of the search, which says nothing; by such a proof alone, which
+shows nothing. The very last is `N passed, M failed`. Only the first two pass. A drawn mutant that comes to something
+else neither passes nor fails, but where it is PROVED or does not apply: that fails, if tools/mutants.list does not
+name it as known to be open, with the reason. A chosen one fails where no goal refuses it.
 """
 from __future__ import annotations
 
+import argparse
+import csv
 import hashlib
 import pathlib
-from typing import Collection, Dict, Iterable, List, NamedTuple, Optional, Sequence, Set, Tuple
+import tempfile
+import time
+from dataclasses import dataclass, field
+from typing import Collection, Dict, Iterable, Iterator, List, NamedTuple, Optional, Sequence, Set, Tuple
 
-from . import believed, build_record, commands, planted
+from . import believed, build_record, commands, kept_libraries, planted
 from . import rattle_source as reading
 from .programs import TOP
-from .running import side_by_side
-from .verdicts import Verdicts, folder
+from .verdicts import Verdict, Verdicts, folder
 
 LIST = TOP / "tools" / "mutants.list"
 DRAWN = 40
+# The name of a line whose edit is known to be open.
+OPEN = "open"
 # A mutant that a check of its function alone does not settle.
 UNSETTLED = "not settled"
 PASSED = (planted.BY_GOAL, planted.ELSEWHERE, planted.BESIDE)
-SAYS_NOTHING = (planted.AT_LIMIT, UNSETTLED)
+FAILED = (planted.PROVED, planted.BAD)
 KEPT = (*PASSED, planted.AT_LIMIT, planted.BY_PROOF)
-# What the last lines count, each of which words; those of the first four are printed also where there is none.
+# What the line before the last counts, each of which words.
 COUNTED = (
     ("refused by a goal", (planted.BY_GOAL, planted.ELSEWHERE)),
-    ("refused by a goal, beside a proof file that fits no more", (planted.BESIDE,)),
-    ("at a limit of the search, which says nothing", (planted.AT_LIMIT,)),
-    ("refused by a proof file alone, which shows nothing", (planted.BY_PROOF,)),
-    ("not settled by a check of their functions alone: tools/planted EDIT tries one", (UNSETTLED,)),
-    ("PROVED", ("PROVED",)),
-    ("BAD: they do not apply or cannot be read", ("BAD",)))
+    ("by a goal beside a hand proof that fits no more", (planted.BESIDE,)),
+    ("at a limit, which says nothing", (planted.AT_LIMIT,)),
+    ("by a hand proof alone, which shows nothing", (planted.BY_PROOF,)))
+HEAD = ("wrong body", "crate", "mutant", "what it does", "outcome", "by", "processor seconds")
+# After so many seconds it is looked once more which libraries are kept.
+A_WHILE = 20
 
 
 class Chosen(NamedTuple):
-    """A line of tools/mutants.list: the name of the wrong body or the promise, and the edit that spells it."""
+    """A line of tools/mutants.list: the name of the wrong body or the promise, the edit that spells it, and what that
+    does, or the reason why it is known to be open."""
     name: str
     edit: pathlib.Path
+    said: str
 
 
 def chosen_mutants(text: str, top: pathlib.Path) -> List[Chosen]:
     """The lines of the list. Raises commands.Missing for one that is none, or whose edit is not there."""
     found = []
     for number, line in enumerate(text.splitlines(), 1):
-        words = line.partition("#")[0].split()
+        named, _, said = line.partition("#")
+        words = named.split()
         if not words:
             continue
         path = top / "crates" / (words[-1] + ".edit")
-        if len(words) != 2 or not words[0].endswith(":") or not path.is_file():
+        if len(words) != 2 or not words[0].endswith(":") or not path.is_file() or not said.strip():
             raise commands.Missing(
-                "tools/mutants.list:%d: `%s` is not `NAME: CRATE/FOLDER/EDIT` of an edit below crates/: write one, "
-                "as `trace-takes-any-match: plain_simulator/planted/trace-takes-any-match`" % (number, line.strip()))
-        found.append(Chosen(words[0][:-1], path))
+                "tools/mutants.list:%d: `%s` is not `NAME: CRATE/FOLDER/EDIT # WHAT IT DOES` of an edit below crates/: "
+                "write one, as `trace-takes-any-match: plain_simulator/planted/trace-takes-any-match # the trace ..`"
+                % (number, line.strip()))
+        found.append(Chosen(words[0][:-1], path, said.strip()))
     return found
 
 
@@ -130,7 +144,7 @@ def owed_mutants(edits: Iterable[pathlib.Path], since: str) -> List[pathlib.Path
     """The edits of functions that were changed since the commit. Raises commands.Missing where git does not know it."""
     told = git("diff", "--name-only", since, "--", "crates")
     if told is None:
-        raise commands.Missing("git knows no commit `%s` here: write another, as `HEAD~1`, or no --since" % since)
+        raise commands.Missing(believed.UNKNOWN % since)
     files = {file for file in told.splitlines() if "/src/" in file and (TOP / file).is_file()}
     changed = {file: changed_functions(file, git("show", "%s:%s" % (since, file)) or "", (TOP / file).read_text())
                for file in files}
@@ -145,74 +159,126 @@ def owed_mutants(edits: Iterable[pathlib.Path], since: str) -> List[pathlib.Path
     return found
 
 
-def tried(crate: str, others: Set[str], edits: List[pathlib.Path], verdicts: Verdicts,
-          is_anew: bool) -> Dict[pathlib.Path, str]:
-    """What each of these edits of a crate comes to, by what is kept or by checks of their functions alone."""
-    kept = {} if is_anew else {edit: verdicts.kept(crate, edit) for edit in edits}
-    words = {}
-    for edit, verdict in kept.items():
-        if verdict:
-            words[edit] = verdict[0]
-            planted.tell(crate, edit.stem, "%s, as is kept" % verdict[0], None, verdict[1])
-    left = [edit for edit in edits if edit not in words]
-    for edit, word, why in planted.tries(crate, others, left, unsettled) if left else ():
-        words[edit] = word
-        if word in KEPT:
-            verdicts.keep(crate, edit, (word, why))
-    return words
+@dataclass
+class Trial:
+    """A run of the tool: what each crate stands on, what is kept, a folder of its own, and the verdicts."""
+    below: Dict[str, Set[str]]
+    verdicts: Verdicts
+    room: pathlib.Path
+    found: Dict[pathlib.Path, Verdict] = field(default_factory=dict)
+
+    def take_kept(self, edits: Iterable[pathlib.Path]) -> None:
+        """Takes the verdicts that are kept of these edits."""
+        for edit in edits:
+            verdict = self.verdicts.kept(crate_of(edit), edit)
+            if verdict:
+                self.found[edit] = verdict
+                planted.tell(crate_of(edit), edit.stem, "%s, as is kept" % verdict.word, None, verdict.why)
+
+    def left(self, edits: Iterable[pathlib.Path]) -> Dict[str, List[pathlib.Path]]:
+        """The edits that have no verdict yet, by their crates in the order of crates.txt."""
+        without = [edit for edit in edits if edit not in self.found]
+        by_crate = {crate: [edit for edit in without if crate_of(edit) == crate] for crate in self.below}
+        return {crate: own for crate, own in by_crate.items() if own}
+
+    def try_crate(self, crate: str, edits: List[pathlib.Path]) -> None:
+        """Tries these edits of a crate, and keeps what is known of them for certain."""
+        for one in planted.tries(crate, self.below[crate], edits, unsettled, self.room):
+            self.found[one.edit] = Verdict(one.word, one.why, one.seconds)
+            if one.word in KEPT:
+                self.verdicts.keep(crate, one.edit, self.found[one.edit])
+
+    def try_all(self, edits: Sequence[pathlib.Path], until: Optional[pathlib.Path]) -> None:
+        """Tries these edits, those first whose libraries are kept. Raises commands.Missing where others are left, and
+        nothing is to be waited for."""
+        left = self.left(edits)
+        needed = set().union(*(self.below[crate] for crate in left))
+        libraries = kept_libraries.repository(
+            TOP, self.room, [crate for crate in self.below if crate in needed | set(left)])
+        if libraries is None:
+            raise commands.Missing(kept_libraries.NOT_KEPT % "this kit's `rt` keeps them in a way not known here")
+        while left:
+            is_last = until is None or until.exists()
+            lacking = needed & set(libraries.take())
+            ready = [crate for crate in left if not self.below[crate] & lacking]
+            if is_last and len(ready) < len(left):
+                raise commands.Missing(kept_libraries.NOT_KEPT % " ".join(sorted(lacking)))
+            for crate in ready:
+                self.try_crate(crate, left.pop(crate))
+            if left and not ready:
+                time.sleep(A_WHILE)
 
 
 def unsettled(edit: pathlib.Path, copied: planted.Copied) -> planted.Outcome:
     """What is said of an edit that a check of its function alone does not settle."""
     _, why = planted.texts_of(edit, copied.folder)
-    return ("BAD", why) if why else (UNSETTLED, "tools/planted %s tries it" % edit.relative_to(TOP).as_posix())
+    said = "a check of its function alone does not settle it: tools/planted %s tries it"
+    return (planted.BAD, why) if why else (UNSETTLED, said % edit.relative_to(TOP).as_posix())
 
 
-def counted(words: Dict[pathlib.Path, str], chosen: Collection[pathlib.Path]) -> int:
-    """Prints how many came to what. The exit status."""
-    came = list(words.values())
-    for at, (said, which) in enumerate(COUNTED):
-        count = sum(map(came.count, which))
-        if count or at < 4:
-            print("%d %s" % (count, said))
-    passed = [edit for edit, word in words.items() if word in PASSED]
-    failed = [edit for edit, word in words.items()
-              if word not in PASSED and (edit in chosen or word not in SAYS_NOTHING)]
+def counted(found: Dict[pathlib.Path, Verdict], chosen: Collection[pathlib.Path],
+            are_open: Collection[pathlib.Path]) -> int:
+    """Prints what failed, and how many came to what. The exit status."""
+    passed = [edit for edit, verdict in found.items() if verdict.word in PASSED]
+    failed = [edit for edit, verdict in found.items() if edit not in passed and edit not in are_open
+              and (edit in chosen or verdict.word in FAILED)]
     for edit in failed:
-        print("FAILED %s: %s" % (edit.relative_to(TOP).as_posix(), words[edit]))
+        print("FAILED %s: %s: %s" % (edit.relative_to(TOP).as_posix(), found[edit].word, found[edit].why))
+    came = [verdict.word for verdict in found.values()]
+    other = len(came) - sum(came.count(word) for _, words in COUNTED for word in words)
+    print(", ".join("%d %s" % (sum(map(came.count, words)), said) for said, words in COUNTED)
+          + (", %d otherwise" % other if other else ""))
     return commands.counted(len(passed), len(failed))
+
+
+def table(chosen: Sequence[Chosen], found: Dict[pathlib.Path, Verdict]) -> Iterator[Sequence[str]]:
+    """The rows of bench/mutants.csv."""
+    yield HEAD
+    for name, edit, said in chosen:
+        verdict = found.get(edit)
+        if verdict:
+            yield (name, crate_of(edit), edit.stem, said, verdict.word, verdict.why or "", "%.0f" % verdict.seconds)
 
 
 def main(words: Sequence[str]) -> int:
     """The command."""
     asked = commands.parser(__doc__)
-    asked.add_argument("--since", metavar="COMMIT")
+    asked.add_argument("--since", metavar="COMMIT", nargs="?", const="")
     asked.add_argument("--list", action="store_true", dest="is_list")
     asked.add_argument("--anew", action="store_true")
-    asked.add_argument("--jobs", type=commands.number, default=1, metavar="N")
-    given = asked.parse_args(words)
-    return commands.as_part(lambda: try_all(given.since, given.is_list, given.anew, given.jobs))
+    asked.add_argument("--until", type=pathlib.Path, metavar="FILE")
+    asked.add_argument("--table", type=pathlib.Path, metavar="FILE")
+    asked.add_argument("--drawn", type=commands.number, default=DRAWN, metavar="N", help="draw N, and not forty")
+    asked.add_argument("crates", nargs="*", metavar="CRATE", help="of these crates alone")
+    return commands.as_part(lambda: try_all(asked.parse_args(words)))
 
 
-def try_all(since: Optional[str], is_list: bool, is_anew: bool, jobs: int) -> int:
+def try_all(given: argparse.Namespace) -> int:
     """Tries the chosen and the drawn mutants, or lists them."""
-    stands_on, seed = planted.below(), seed_of()
-    every = sorted(edit for crate in stands_on for edit in (TOP / "crates" / crate / "planted").glob("*.edit"))
-    all_chosen = chosen_mutants(LIST.read_text(), TOP)
-    chosen = [one.edit for one in all_chosen if one.edit.parent.name == "planted"]
+    below, seed = planted.below(), seed_of()
+    every = sorted(edit for crate in below for edit in (TOP / "crates" / crate / "planted").glob("*.edit"))
+    listed = chosen_mutants(LIST.read_text(), TOP)
+    are_open = {one.edit for one in listed if one.name == OPEN}
+    chosen = [one for one in listed if one.edit.parent.name == "planted" and one.name != OPEN]
+    since = believed.base(TOP) if given.since == "" else given.since
     owed = owed_mutants(every, since) if since else []
-    by_lot = drawn([edit for edit in every if edit not in chosen], seed, TOP, DRAWN, owed)
-    print("%d chosen mutants (%d more must not compile: tools/mistyped), and %d drawn of %d by %s" % (
-        len(chosen), len(all_chosen) - len(chosen), len(by_lot), len(every), seed), flush=True)
-    if is_list:
-        print("".join("%s: %s\n" % (one.name, one.edit.relative_to(TOP).as_posix()) for one in all_chosen), end="")
+    edits = [one.edit for one in chosen]
+    others = [edit for edit in every if edit not in edits]
+    by_lot = drawn(others, seed, TOP, given.drawn, owed) if given.drawn else []
+    asked = [edit for edit in edits + by_lot if not given.crates or crate_of(edit) in given.crates]
+    print("%d chosen mutants, and %d drawn of %d by %s%s" % (
+        len(edits), len(by_lot), len(every), seed, ", %d of them owed since %s" % (
+            len(set(owed) & set(by_lot)), since) if since else ""), flush=True)
+    if given.is_list:
+        print("".join("%s: %s\n" % (one.name, one.edit.relative_to(TOP).as_posix()) for one in listed), end="")
         print("".join("drawn: %s\n" % edit.relative_to(TOP).as_posix() for edit in by_lot), end="")
         return 0
-    by_crate: Dict[str, List[pathlib.Path]] = {}
-    for edit in chosen + by_lot:
-        by_crate.setdefault(crate_of(edit), []).append(edit)
-    verdicts = Verdicts(TOP, build_record.kit(), stands_on, folder())
-    found = side_by_side(lambda crate: tried(crate, stands_on[crate], by_crate[crate], verdicts, is_anew),
-                         sorted(by_crate, key=lambda crate: -len(by_crate[crate])), jobs=jobs)
-    words = {edit: word for some in found for edit, word in some.items()}
-    return counted(words, chosen)
+    with tempfile.TemporaryDirectory(prefix="mutants-") as room:
+        trial = Trial(below, Verdicts(TOP, build_record.kit(), below, folder()), pathlib.Path(room))
+        if not given.anew:
+            trial.take_kept(asked)
+        trial.try_all(asked, given.until)
+    if given.table:
+        with given.table.open("w", newline="") as file:
+            csv.writer(file, lineterminator="\n").writerows(table(chosen, trial.found))
+    return counted(trial.found, edits, are_open)

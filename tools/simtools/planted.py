@@ -18,6 +18,7 @@ it was refused:
     elsewhere             the edit stands in no function, or only others have such a goal: one is named
     at a limit            the search gave up at each such goal, and says nothing of it
     BY A PROOF FILE       only a proof that was written by hand does not fit: evidence of nothing
+    PROVED                its functions are proved as they are edited: no clause refuses it
     BAD                   it does not apply or does not compile, and shows nothing
 
 The last lines count each; the very last is `N refused, M proved`. Exit 1 where one is proved, is refused by a proof
@@ -28,6 +29,7 @@ from __future__ import annotations
 import os
 import pathlib
 import re
+import resource
 import shutil
 import subprocess
 import sys
@@ -35,7 +37,7 @@ import tempfile
 import threading
 import time
 from dataclasses import dataclass, field
-from typing import Callable, Collection, Dict, Iterator, List, Optional, Sequence, Set, Tuple
+from typing import Callable, Collection, Dict, Iterator, List, NamedTuple, Optional, Sequence, Set, Tuple
 
 from . import commands, left_out
 from . import rattle_source as reading
@@ -55,9 +57,12 @@ UNREAD = re.compile(r"is not in scope|has no field|is no name|operand is missing
 # How an edit is refused.
 BY_GOAL, BESIDE, ELSEWHERE = "refused by a goal", "refused by a goal, beside a proof file", "refused elsewhere"
 AT_LIMIT, BY_PROOF = "refused at a limit", "refused BY A PROOF FILE alone"
+PROVED, BAD = "PROVED", "BAD"
 # What a check prints of a goal that has no proof, then of its function; and of a proof that does not fit.
 GOAL = re.compile(r"note: \S+:\d+:\d+: .* \(`(\S+)`\)(.*)")
 FUNCTION = re.compile(r"fn (\S+): (not proved|no proof)?")
+# What it prints of a function whose proof it takes, if there are holes elsewhere: none here, or these.
+ADMITTED = re.compile(r"fn (\S+): (?:no holes|depends on a hole in (.*))")
 PROOF = re.compile(r"(?:\./)?(proofs/\S+)\.antt:\d+:\d+: error")
 Texts = Dict[pathlib.Path, str]
 printing = threading.Lock()
@@ -92,17 +97,18 @@ def link_what_was_checked(source: str, target: str) -> None:
         shutil.copy2(source, target)
 
 
-def copy(crate: str, others: Set[str], room: pathlib.Path) -> None:
-    """A repository of the crate and those below it, with what was kept of them: of those below, their libraries
-    alone."""
-    shutil.copy(TOP / "HANDLES", room)
-    lines = (TOP / "crates.txt").read_text().splitlines()
+def copy(crate: str, others: Set[str], room: pathlib.Path, top: Optional[pathlib.Path] = None) -> None:
+    """A repository of the crate and those below it, with what was kept of them at the top: of those below, their
+    libraries alone."""
+    top = top or TOP
+    shutil.copy(top / "HANDLES", room)
+    lines = (top / "crates.txt").read_text().splitlines()
     kept = [line for line in lines if set(line.partition(":")[0].split()[:1]) & (others | {crate})]
     (room / "crates.txt").write_text("\n".join(kept) + "\n")
     how = {KEPT: link_what_was_checked, "out/rlib": link}
     for name, part in [(name, part) for name in others | {crate}
                        for part in [*PARTS, KEPT if name == crate else "out/rlib"]]:
-        source = TOP / "crates" / name / part
+        source = top / "crates" / name / part
         if source.is_dir():
             shutil.copytree(source, room / "crates" / name / part, copy_function=how.get(part, shutil.copy2))
 
@@ -141,6 +147,12 @@ def check(folder: pathlib.Path, functions: Collection[str] = ()) -> Tuple[int, L
     ran = subprocess.run([*RT, "check", "--jobs", "1", *holes, *words], cwd=folder, stdin=subprocess.DEVNULL,
                          stdout=subprocess.PIPE, stderr=subprocess.STDOUT, text=True, errors="replace")
     return ran.returncode, ran.stdout.splitlines()
+
+
+def processor_time() -> float:
+    """The processor seconds of all commands that ended here."""
+    used = resource.getrusage(resource.RUSAGE_CHILDREN)
+    return used.ru_utime + used.ru_stime
 
 
 def is_unread(line: str, changed: Collection[str]) -> bool:
@@ -222,16 +234,26 @@ def refusal(told: List[str], own: Collection[str]) -> Tuple[str, str]:
     return (AT_LIMIT, why) if goals else (BY_PROOF, (proofs + ["no goal is open"])[0])
 
 
-def settled(told: List[str], own: Collection[str]) -> Optional[Tuple[str, str]]:
+def admitted(told: List[str]) -> Set[str]:
+    """The functions whose own proofs a check takes, some of them past holes in the proofs of others."""
+    states = [found for found in map(ADMITTED.match, told) if found]
+    return {found[1] for found in states if ".proofs.%s.Proof." % ".".join(found[1].split("::")[1:]) not in
+            (found[2] or "")}
+
+
+def settled(told: List[str], own: Collection[str], asked: Collection[str] = ()) -> Optional[Tuple[str, str]]:
     """How a check in which other functions are edited too refused an edit of these functions, where what it told of
-    them says so."""
+    them says so; or that it took the proofs of all these, which are named as a check names them."""
     goals = [goal for goal in open_goals(told) if is_of(goal[0], own)]
     if goals:
         of_limits = (AT_LIMIT, "`%s` of %s" % (goals[0][1], goals[0][0]))
         return of_limits if all(is_at_limit for _, _, is_at_limit in goals) else refusal(told, own)
     states = [(found[1], found[2]) for found in map(FUNCTION.match, told) if found and is_of(found[1], own)]
     proofs = [line for line in told if PROOF.match(line) and is_by(line, own)]
-    return (BY_PROOF, proofs[0]) if proofs and any(state for _, state in states) else None
+    if proofs and any(state for _, state in states):
+        return BY_PROOF, proofs[0]
+    is_proved = asked and not proofs and set(asked) <= admitted(told)
+    return (PROVED, "its functions are proved as they are edited") if is_proved else None
 
 
 def not_read(told: List[str], changed: Collection[str]) -> Optional[str]:
@@ -243,9 +265,9 @@ def not_read(told: List[str], changed: Collection[str]) -> Optional[str]:
 
 def verdict(status: int, told: List[str], changed: Collection[str], own: Collection[str]) -> Tuple[str, str]:
     if status == 0:
-        return "PROVED", "the crate is still proved with this edit"
+        return PROVED, "the crate is still proved with this edit"
     why = not_read(told, changed)
-    return ("BAD", "it did not reach the prover: %s" % why) if why else refusal(told, own)
+    return (BAD, "it did not reach the prover: %s" % why) if why else refusal(told, own)
 
 
 def tell(crate: str, what: str, word: str, start: Optional[float], why: Optional[str]) -> None:
@@ -356,7 +378,7 @@ def attempt(edit: pathlib.Path, copied: Copied) -> Outcome:
     applied = Applied()
     why = applied.add(edit, copied)
     if why or not copied.is_proved():
-        return "BAD", why or "the crate is not proved as it is"
+        return BAD, why or "the crate is not proved as it is"
     return verdict(*applied.check(copied, ()), applied.files[0], applied.own[0])
 
 
@@ -384,33 +406,41 @@ def at_once(edits: List[pathlib.Path], copied: Copied) -> Dict[pathlib.Path, Out
     status, told = applied.check(copied, set().union(*applied.functions))
     if status and not_read(told, set().union(*applied.files)):
         return {edit: word for one in edits for edit, word in at_once([one], copied).items()} if len(edits) > 1 else {}
-    found = [(edit, settled(told, own)) for edit, own in zip(applied.edits, applied.own)]
+    found = [(edit, settled(told, *of)) for edit, *of in zip(applied.edits, applied.own, applied.functions)]
     return {edit: outcome for edit, outcome in found if outcome}
 
 
-Tried = Tuple[pathlib.Path, str, Optional[str]]
+class Tried(NamedTuple):
+    """An edit, what it came to and why, and its share of the processor seconds of the check that it was tried in. They
+    are right where one check runs at a time."""
+    edit: pathlib.Path
+    word: str
+    why: Optional[str]
+    seconds: float
 
 
 def tries(crate: str, others: Set[str], edits: List[pathlib.Path],
-          alone: Callable[[pathlib.Path, Copied], Outcome] = attempt) -> Iterator[Tried]:
-    """Each of these edits of the crate with what it came to and why. What a check of its function does not settle is
-    tried by `alone`."""
+          alone: Callable[[pathlib.Path, Copied], Outcome] = attempt,
+          top: Optional[pathlib.Path] = None) -> Iterator[Tried]:
+    """Each of these edits of the crate with what it came to. What a check of its function does not settle is tried by
+    `alone`. The crates below are taken as they stand at the top."""
     with tempfile.TemporaryDirectory(prefix="planted-") as room:
         copied = Copied(pathlib.Path(room) / "crates" / crate)
-        copy(crate, others, pathlib.Path(room))
+        copy(crate, others, pathlib.Path(room), top)
         copied.bodies = left_out.bodies(copied.folder)
         for at_a_time in rounds_of(edits, copied):
-            start = time.monotonic()
+            start, used = time.monotonic(), processor_time()
             found = at_once(at_a_time, copied)
+            share = (processor_time() - used) / len(at_a_time)
             for edit in at_a_time:
                 word, why = found.get(edit) or alone(edit, copied)
                 tell(crate, edit.stem, word, start, why)
-                yield edit, word, why
+                yield Tried(edit, word, why, share)
 
 
 def try_edits(crate: str, others: Set[str], edits: List[pathlib.Path]) -> List[str]:
     """The words that these edits of the crate came to."""
-    return [word for _, word, _ in tries(crate, others, edits)]
+    return [one.word for one in tries(crate, others, edits)]
 
 
 def parts_of(edits: Dict[str, List[pathlib.Path]]) -> List[Tuple[str, List[pathlib.Path]]]:
@@ -441,10 +471,10 @@ def counted(came: Sequence[str]) -> int:
     for word in words:
         if came.count(word):
             print("%d %s" % (came.count(word), word))
-    if came.count("BAD"):
-        print("%d that show nothing" % came.count("BAD"))
-    print("%d refused, %d proved" % (sum(map(came.count, words)), came.count("PROVED")))
-    return 1 if {"BAD", "PROVED", BY_PROOF} & set(came) else 0
+    if came.count(BAD):
+        print("%d that show nothing" % came.count(BAD))
+    print("%d refused, %d proved" % (sum(map(came.count, words)), came.count(PROVED)))
+    return 1 if {BAD, PROVED, BY_PROOF} & set(came) else 0
 
 
 def main(words: Sequence[str]) -> int:

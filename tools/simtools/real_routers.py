@@ -29,14 +29,13 @@ from typing import Any, Collection, Dict, List, Optional, Sequence, Tuple
 import model
 
 from . import commands, programs
-from .language import WELL_KNOWN
+from .language import EXCLUSIONS, WELL_KNOWN
 from .programs import TOP
 
 WORK = "/tmp/real-routers"
 SOCKETS = "/var/run/frr"
 # The well-known communities (RFC 1997) as FRR's routers name them.
 NAMED = dict(zip(("noExport", "noAdvertise", "localAs"), map(int, WELL_KNOWN)))
-EXCLUSIONS = ("loop", "originator", "cluster", "denied", "unresolved")
 SILENT = {"stdout": subprocess.DEVNULL, "stderr": subprocess.DEVNULL}
 show = model.show
 Net = model.Net

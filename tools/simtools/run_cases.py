@@ -1,10 +1,10 @@
-"""Runs the built programs on the cases of cases/ and examples/, and looks up the examples of docs/LANGUAGE.md.
+"""Runs the built programs on the cases of cases/ and examples/, and looks up the examples of docs/reference/language.md.
 
     tools/run-cases [PATH..]        PATH is a folder of cases, or one case by any of its files; without one: all
 
 A case is some files of one name. cases/README.md says which there are, and how a case is added. A case of `bgpsim
 script` is also run on each machine, by machine_scripts, where that is built, and each run counts; with MACHINES=1
-it has to be built. Of docs/LANGUAGE.md, each line that begins with > and the line of reply under it have to stand
+it has to be built. Of docs/reference/language.md, each line that begins with > and the line of reply under it have to stand
 among the commands and replies of examples/tour.
 What differs is told for each run that fails. The last line is `N passed, M failed`; exit 1 where one failed.
 PROGRAM= is another program, which is then run alone.
@@ -23,7 +23,7 @@ from .language import REPORTS
 from .programs import TOP
 from .running import SECONDS, Ran, run, side_by_side
 
-LANGUAGE = TOP / "docs" / "LANGUAGE.md"
+LANGUAGE = TOP / "docs" / "reference" / "language.md"
 BEGINS = (".bgp", ".log", ".team", ".make", ".args")
 # The scripts of a team belong to no case of their own.
 OF_TEAMS = ".engineer"
@@ -181,7 +181,7 @@ def conversation(script: str, replies: str) -> Iterator[Tuple[str, List[str]]]:
 
 
 def language_examples() -> Iterator[Tuple[str, bool]]:
-    """Each example of docs/LANGUAGE.md, and whether it is in the tour."""
+    """Each example of docs/reference/language.md, and whether it is in the tour."""
     tour = TOP / "examples" / "tour"
     said = list(conversation(tour.with_suffix(".bgp").read_text(), tour.with_suffix(".out").read_text()))
     lines = LANGUAGE.read_text().splitlines()
@@ -198,7 +198,7 @@ def results(paths: Iterable[pathlib.Path], machines: Sequence[str]) -> Iterator[
     found = [cases_in(path) for path in paths if path != LANGUAGE]
     yield from ((name(file), ["no file of a case"]) for _, stray in found for file in sorted(stray))
     for text, is_there in language_examples() if LANGUAGE in paths else ():
-        yield "docs/LANGUAGE.md", [] if is_there else ["not in the tour: " + text]
+        yield "docs/reference/language.md", [] if is_there else ["not in the tour: " + text]
     runs = [one for case in sorted(set().union(*(cases for cases, _ in found))) for one in runs_of(case, machines)]
     yield from zip(map(str, runs), side_by_side(faults, runs))
 

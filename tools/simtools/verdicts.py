@@ -8,10 +8,16 @@ import os
 import pathlib
 import tempfile
 from dataclasses import dataclass, field
-from typing import Dict, Optional, Sequence, Set, Tuple
+from typing import Dict, NamedTuple, Optional, Sequence, Set
 
-Verdict = Tuple[str, Optional[str]]
 PARTS = ("src", "specs", "proofs", "c")
+
+
+class Verdict(NamedTuple):
+    """What a check of a mutant came to, and why; and its share of the check's processor seconds."""
+    word: str
+    why: Optional[str]
+    seconds: float
 
 
 def folder() -> pathlib.Path:
@@ -58,7 +64,7 @@ class Verdicts:
         key = self.key(crate, edit)
         try:
             said = json.loads((self.at / key).read_text())
-            return (str(said["word"]), said["why"]) if said["key"] == key else None
+            return Verdict(said["word"], said["why"], float(said["seconds"])) if said["key"] == key else None
         except (OSError, ValueError, KeyError, TypeError):
             return None
 
@@ -68,7 +74,7 @@ class Verdicts:
         try:
             self.at.mkdir(parents=True, exist_ok=True)
             with tempfile.NamedTemporaryFile("w", dir=str(self.at), delete=False) as file:
-                json.dump({"key": key, "word": verdict[0], "why": verdict[1]}, file)
+                json.dump({"key": key, **verdict._asdict()}, file)
             os.replace(file.name, str(self.at / key))
         except OSError:
             pass

@@ -1,31 +1,35 @@
 """Weakens the definitions of the trusted base, one place at a time, and tells what notices. By hand, for hours.
 
-    tools/weaken [--list] [--only WORD] [--most N] [CRATE..]        without a crate: all crates
+    tools/weaken [--list] [--only WORD] [--table FILE] [CRATE..]        without a crate: all crates
 
 The definitions are those that `tools/believed` finds. In each of them each conjunct (`×`, `&&`), each alternative
 (`⊎`, `||`) and each test (`if .. then .. else ..`, in whose place first one branch stands, then the other) is dropped
-in turn, on a copy. Then those functions of the crate are checked, laws among them, whose clauses reach the
-definition. All others are taken by what they state. Something should notice:
+in turn, on a copy. Then a few functions of the crate are checked, laws among them, whose clauses reach the definition:
+the shortest. All others are taken by what they state. Places of several definitions share a check, where functions
+tell of each that have nothing to do with the others. Something should notice:
 
     by a goal        a goal of a function has no proof any more; it is named
     at a limit       the search gave up at each such goal, which says nothing
     BY A PROOF FILE  only a proof or a lemma that was written by hand does not fit, which says nothing
-    NOTHING          all these functions are proved as before, or there are none; the crates above are told that
-                     have such functions: one of them, a mutant or a case has to notice
+    NOTHING          these functions are proved as before, or there are none; the crates above are told that have such
+                     functions: one of them, a mutant or a case has to notice
     unread           the text without that place is none
 
---list prints the places and checks none; --only takes those whose file, definition and text hold the word; --most
-stops after N. The last line is `N noticed, M not`, with what says nothing among the latter.
+The libraries below come from what `rt ci` kept on this machine. --list prints the places and checks none; --only takes
+those whose file, definition and text hold the word; --table writes a row for each place, and leaves out the places
+that have one. The last line is `N noticed, M not`.
 """
 from __future__ import annotations
 
+import argparse
+import csv
 import pathlib
 import re
 import tempfile
-import time
-from typing import Dict, Iterator, List, NamedTuple, Optional, Sequence, Set, Tuple
+from dataclasses import dataclass, field
+from typing import Collection, Dict, Iterator, List, NamedTuple, Optional, Sequence, Set, Tuple
 
-from . import believed, commands, left_out, planted
+from . import believed, commands, kept_libraries, left_out, planted
 from . import rattle_source as reading
 from .programs import TOP
 
@@ -34,21 +38,26 @@ OPENING, CLOSING = "([{", ")]}"
 OPERATORS = ("⊎", "×", "||", "&&")
 LOOSE = re.compile(r"→|↔|;|,|\bthen\b|\belse\b|\bif\b|λ[^.]*\.\s|(?<=\s)=(?=\s)")
 BINDER = re.compile(r"\s*[({][\w' ]+ : ")
-UNREAD, NOTHING = "unread", "NOTHING"
-
-
-class Place(NamedTuple):
-    """What can be dropped: of which definition, at which line, what is said of it, and the text of the file without."""
-    definition: str
-    line: int
-    said: str
-    text: str
+UNREAD, NOTHING, BY_GOAL, AT_LIMIT, BY_PROOF = "unread", "NOTHING", "by a goal", "at a limit", "BY A PROOF FILE"
+# The most places that are dropped at once, and the most functions that are asked of each.
+PLACES_A_CHECK, FUNCTIONS_A_PLACE = 12, 4
+HEAD = ("crate", "file", "definition", "line", "without", "outcome", "by", "reached by crates above",
+        "processor seconds")
 
 
 class Span(NamedTuple):
     """A part of a text, from a place to before another."""
     start: int
     end: int
+
+
+class Place(NamedTuple):
+    """What can be dropped: of which definition, at which line, what is said of it, and the parts of the text that
+    go."""
+    definition: str
+    line: int
+    said: str
+    spans: Sequence[Span]
 
 
 def blanked(text: str) -> str:
@@ -168,7 +177,17 @@ def places(text: str, names: Set[str]) -> Iterator[Place]:
                         found.append(("`%s` of `%s`" % (said, operator), [without(parts, at)]))
             found += tests(plain, level)
             for said, spans in found:
-                yield Place(name, text.count("\n", 0, spans[0].start) + 1, said, cut(plain, spans))
+                yield Place(name, text.count("\n", 0, spans[0].start) + 1, said, spans)
+
+
+class Function(NamedTuple):
+    """A function of a crate as a check names it; the definitions that its clauses reach; those that may have a part in
+    its proof: what the clauses of all that it calls reach, the types that it names, and its proof files; and how many
+    bytes it has."""
+    name: str
+    cited: Set[believed.Name]
+    touched: Set[believed.Name]
+    size: int
 
 
 class Reach:
@@ -177,7 +196,7 @@ class Reach:
     def __init__(self, workspace: believed.Workspace) -> None:
         self.workspace = workspace
         self.from_name: Dict[believed.Name, Set[believed.Name]] = {}
-        self.of_crate: Dict[str, List[Tuple[Tuple[str, ...], str, Set[believed.Name]]]] = {}
+        self.of_crate: Dict[str, List[Function]] = {}
 
     def names_from(self, name: believed.Name) -> Set[believed.Name]:
         """What a name's definition leads to."""
@@ -191,105 +210,244 @@ class Reach:
             self.from_name[name] = set(known)
         return self.from_name[name]
 
-    def functions(self, crate: str) -> List[Tuple[Tuple[str, ...], str, Set[believed.Name]]]:
-        """Of each function of a crate its module, its name, and what its clauses reach."""
+    def named(self, text: str, imports: Dict[str, believed.Name]) -> Set[believed.Name]:
+        """What the words of a text reach by these imports."""
+        words = set(believed.WORD.findall(text)) & set(imports)
+        return set().union(*(self.names_from(imports[word]) for word in words))
+
+    def functions(self, crate: str) -> List[Function]:
+        """The functions of a crate that can be checked alone."""
         if crate not in self.of_crate:
-            self.of_crate[crate] = [one for path in sorted((TOP / "crates" / crate / "src").rglob("*.rt"))
-                                    for one in self.functions_in(crate, path)]
+            self.of_crate[crate] = list(Sources(self, TOP / "crates" / crate).functions())
         return self.of_crate[crate]
-
-    def functions_in(self, crate: str,
-                     path: pathlib.Path) -> Iterator[Tuple[Tuple[str, ...], str, Set[believed.Name]]]:
-        """The same of a file; nothing where it cannot be read."""
-        try:
-            source = reading.read(path, TOP)
-        except reading.Unreadable:
-            return
-        named = believed.imports_of(source.text)
-        module = left_out.module(path.relative_to(TOP / "crates" / crate / "src"))
-        for function in source.functions:
-            words = {word for clause in function.clauses
-                     for word in believed.WORD.findall(source.text[clause.start:clause.end])}
-            found: Set[believed.Name] = set()
-            for word in words & set(named):
-                found |= self.names_from(named[word])
-            yield module, function.name, found
-
-    def of(self, crate: str, name: believed.Name, bodies: Sequence[left_out.Body]) -> Set[str]:
-        """The functions of the crate, as a check names them, whose clauses reach the definition."""
-        here = {(module, function) for module, function, found in self.functions(crate) if name in found}
-        return {body.place.printed(crate) for body in bodies if body.place and (body.module, body.name) in here}
 
     def crates(self, name: believed.Name, below: Dict[str, Set[str]]) -> List[str]:
         """The crates above that of the definition, some function of which reaches it."""
         return [crate for crate in below if name[0] in below[crate]
-                and any(name in found for _, _, found in self.functions(crate))]
+                and any(name in function.cited for function in self.functions(crate))]
 
 
-def judged(status: int, told: List[str], file: str) -> Tuple[str, str]:
-    """What a check of a weakened definition says, and by what."""
-    if status == 0:
-        return NOTHING, "all that reach it are proved as before"
-    unread = planted.not_read(told, [file])
-    if unread:
-        return UNREAD, unread
-    goals = list(planted.open_goals(told))
+class Sources:
+    """The sources of a crate: each with its module and its imports; and what the clauses of all functions of a name
+    reach, and the declarations beside a type of a name."""
+
+    def __init__(self, reach: Reach, folder: pathlib.Path) -> None:
+        self.reach, self.folder = reach, folder
+        self.read = [(at, source, believed.imports_of(source.text)) for at, source in left_out.read(folder)]
+        self.clauses: Dict[str, Set[believed.Name]] = {}
+        self.types: Dict[str, Set[believed.Name]] = {}
+        for _, source, imports in self.read:
+            self.add(source, imports)
+
+    def add(self, source: reading.Source, imports: Dict[str, believed.Name]) -> None:
+        """Adds what a source has of both."""
+        beside = self.reach.named(outside(source), imports)
+        for name in re.findall(r"\b(?:struct|enum|trait|Model for) (\w+)", source.text):
+            self.types.setdefault(name, set()).update(beside)
+        for one in source.functions:
+            self.clauses.setdefault(one.name, set()).update(self.reach.named(said_of(source, one), imports))
+
+    def functions(self) -> Iterator[Function]:
+        """The functions that can be checked alone."""
+        bodies = {(body.module, body.name): body for body in left_out.bodies(self.folder) if not body.is_recursive}
+        for at, source, imports in self.read:
+            found = ((one, bodies.get((at, one.name))) for one in source.functions)
+            yield from (self.function(source, imports, one, body, body.place) for one, body in found
+                        if body and body.place)
+
+    def function(self, source: reading.Source, imports: Dict[str, believed.Name], one: reading.Function,
+                 body: left_out.Body, place: left_out.Place) -> Function:
+        """A function with what it reaches."""
+        said = said_of(source, one)
+        types = (reading.shown(source.text, nodes) for nodes in (*one.parameters.values(), one.gives))
+        words = body.words.union(*(re.findall(r"\w+", text) for text in types))
+        proofs = self.folder.joinpath("proofs", *place.above, place.name).rglob("*.antt")
+        touched = [self.clauses[call] for call in body.calls & set(self.clauses)]
+        touched += [self.types[word] for word in words & set(self.types)]
+        touched += [self.reach.named(text, believed.imports_of(text)) for text in (path.read_text() for path in proofs)]
+        cited = self.reach.named(said, imports)
+        size = one.body.end - one.body.start if one.body else 0
+        return Function(place.printed(self.folder.name), cited, cited.union(*touched), size)
+
+
+def said_of(source: reading.Source, one: reading.Function) -> str:
+    """The clauses of a function."""
+    return " ".join(source.text[clause.start:clause.end] for clause in one.clauses)
+
+
+def outside(source: reading.Source) -> str:
+    """The text of a source without its functions."""
+    lines, text = [0] + [found.end() for found in re.finditer("\n", source.text)], source.text
+    for one in sorted(source.functions, key=lambda one: -one.line):
+        text = text[:lines[one.line - 1]] + text[one.body.end if one.body else lines[one.line - 1]:]
+    return text
+
+
+@dataclass
+class Batch:
+    """Places of several definitions that are dropped at once: the definitions, and of each the functions that reach it
+    and have nothing to do with the others."""
+    places: List[Tuple[str, Place]] = field(default_factory=list)
+    names: List[believed.Name] = field(default_factory=list)
+    own: List[List[Function]] = field(default_factory=list)
+
+    def with_one(self, file: str, place: Place, name: believed.Name, functions: List[Function]) -> Optional[Batch]:
+        """The batch with one place more, if of each some function is left that tells of it alone."""
+        if name in self.names or len(self.names) == PLACES_A_CHECK:
+            return None
+        names, every = [*self.names, name], [*self.own, functions]
+        own = [[one for one in some if len(one.touched & set(names)) == 1] for some in every]
+        return Batch([*self.places, (file, place)], names, own) if all(own) else None
+
+    def alone(self, at: int) -> Batch:
+        """One of the places."""
+        return Batch([self.places[at]], [self.names[at]], [self.own[at]])
+
+    def asked(self, at: int) -> Set[str]:
+        """The functions that are asked of a place: a few, the shortest."""
+        some = sorted(self.own[at], key=lambda one: (one.size, one.name))[:FUNCTIONS_A_PLACE]
+        return {one.name for one in some}
+
+
+def batches(crate: str, found: List[Tuple[str, Place]], functions: List[Function]) -> Iterator[Batch]:
+    """The places of a crate that some function of it reaches, in batches."""
+    made: List[Batch] = []
+    for file, place in found:
+        name = (crate, file, place.definition)
+        own = [one for one in functions if name in one.cited]
+        for at, batch in enumerate(made):
+            larger = batch.with_one(file, place, name, own)
+            if larger:
+                made[at] = larger
+                break
+        else:
+            if own:
+                made.append(Batch([(file, place)], [name], [own]))
+    yield from made
+
+
+def judged(told: List[str], asked: Set[str]) -> Tuple[str, str]:
+    """What a check of weakened definitions says of one of them, by the functions that are asked of it."""
+    goals = [goal for goal in planted.open_goals(told) if goal[0] in asked or is_closure(goal[0], asked)]
     open_now = [(function, name) for function, name, is_at_limit in goals if not is_at_limit]
     if open_now:
-        return "by a goal", "`%s` of %s" % (open_now[0][1], open_now[0][0])
+        return BY_GOAL, "`%s` of %s" % (open_now[0][1], open_now[0][0])
     if goals:
-        return "at a limit", "`%s` of %s" % (goals[0][1], goals[0][0])
-    proofs = [line for line in told if "error" in line] or told[-1:]
-    return "BY A PROOF FILE", proofs[0]
+        return AT_LIMIT, "`%s` of %s" % (goals[0][1], goals[0][0])
+    if asked <= planted.admitted(told):
+        return NOTHING, "proved as before: " + " ".join(sorted(asked))
+    proofs = [line for line in told if "error" in line and ".antt" in line] or told[-1:]
+    return BY_PROOF, proofs[0]
 
 
-def try_place(place: Place, file: str, functions: Set[str], copied: planted.Copied) -> Tuple[str, str]:
-    """What notices that the place is dropped."""
-    if not functions:
-        return NOTHING, "no function of the crate reaches it"
-    path = copied.folder / file
-    was = path.read_text()
-    path.write_text(place.text)
+def is_closure(function: str, asked: Set[str]) -> bool:
+    """Whether a check names a closure of one of these functions."""
+    crate, _, rest = function.partition("::fn::")
+    return any(rest.startswith("::".join(name.split("::")[1:]) + "::") and name.startswith(crate) for name in asked)
+
+
+def tried(batch: Batch, copied: planted.Copied) -> List[Tuple[str, str]]:
+    """What notices each place of a batch that is dropped."""
+    files = {"specs/%s.antt" % file for file, _ in batch.places}
+    were = {file: (copied.folder / file).read_text() for file in files}
+    asked = [batch.asked(at) for at in range(len(batch.places))]
     try:
-        return judged(*copied.check(functions), file)
+        for file, was in were.items():
+            spans = [span for one, place in batch.places if "specs/%s.antt" % one == file for span in place.spans]
+            (copied.folder / file).write_text(cut(blanked(was), spans))
+        status, told = copied.check(set().union(*asked))
     finally:
-        path.write_text(was)
+        for file, was in were.items():
+            (copied.folder / file).write_text(was)
+    unread = planted.not_read(told, files) if status else None
+    found = [(UNREAD, unread) if unread else judged(told, some) for some in asked]
+    if len(found) == 1:
+        return found
+    # A file that does not fit may hide what another place comes to.
+    return [outcome if outcome[0] not in (UNREAD, BY_PROOF) else tried(batch.alone(at), copied)[0]
+            for at, outcome in enumerate(found)]
 
 
-def weaken(crates: Sequence[str], only: str, most: Optional[int], is_list: bool) -> int:
-    """Tries each place of the crates' definitions. The exit status."""
+@dataclass
+class Run:
+    """A run of the tool: what is left of the places, and the rows of the table that it writes."""
+    reach: Reach
+    below: Dict[str, Set[str]]
+    table: Optional[pathlib.Path]
+    rows: List[List[str]] = field(default_factory=list)
+
+    def read_table(self) -> None:
+        """Takes the rows that stand in the table."""
+        if self.table and self.table.is_file():
+            with self.table.open(newline="") as file:
+                self.rows = list(csv.reader(file))[1:]
+
+    def is_done(self, crate: str, file: str, place: Place) -> bool:
+        """Whether a row tells of this place."""
+        return any(row[:3] + row[4:5] == [crate, file, place.definition, place.said] for row in self.rows)
+
+    def add(self, crate: str, file: str, place: Place, word: str, why: str, seconds: float) -> None:
+        """Tells what a place came to, and writes the table."""
+        above = " ".join(self.reach.crates((crate, file, place.definition), self.below)) if word != BY_GOAL else ""
+        row = [crate, file, place.definition, str(place.line), place.said, word, why[:200], above, "%.0f" % seconds]
+        self.rows.append(row)
+        print("%s: %s: %s" % (named(crate, file, place), word, why[:200]), flush=True)
+        if self.table:
+            with self.table.open("w", newline="") as table:
+                csv.writer(table, lineterminator="\n").writerows([HEAD, *self.rows])
+
+    def weaken(self, crate: str, found: List[Tuple[str, Place]], room: pathlib.Path) -> None:
+        """Tries these places of a crate."""
+        functions = self.reach.functions(crate)
+        for file, place in found:
+            if not any((crate, file, place.definition) in one.cited for one in functions):
+                self.add(crate, file, place, NOTHING, "no function of the crate reaches it", 0)
+        left = [(file, place) for file, place in found if not self.is_done(crate, file, place)]
+        with tempfile.TemporaryDirectory(prefix="weaken-") as own:
+            copied = planted.Copied(pathlib.Path(own) / "crates" / crate)
+            planted.copy(crate, self.below[crate], pathlib.Path(own), room)
+            copied.bodies = left_out.bodies(copied.folder)
+            for batch in batches(crate, left, functions):
+                used = planted.processor_time()
+                outcomes = tried(batch, copied)
+                share = (planted.processor_time() - used) / len(outcomes)
+                for (file, place), (word, why) in zip(batch.places, outcomes):
+                    self.add(crate, file, place, word, why, share)
+
+
+def places_of(crate: str, known: Collection[believed.Name]) -> Iterator[Tuple[str, Place]]:
+    """All that can be dropped from the definitions of a crate, each with its file."""
+    for file in sorted({name[1] for name in known if name[0] == crate}):
+        text = (TOP / "crates" / crate / "specs" / (file + ".antt")).read_text()
+        names = {name[2] for name in known if name[:2] == (crate, file)}
+        yield from ((file, place) for place in places(text, names))
+
+
+def named(crate: str, file: str, place: Place) -> str:
+    """What is said of a place."""
+    return "%s/specs/%s.antt:%d: %s without %s" % (crate, file, place.line, place.definition, place.said)
+
+
+def weaken(given: argparse.Namespace, crates: Sequence[str]) -> int:
+    """Tries or lists each place of the crates' definitions. The exit status."""
     workspace = believed.Workspace(TOP)
     _, known = believed.parts_of(workspace)
-    reach = Reach(workspace)
-    stands_on, noticed, others, left = planted.below(), 0, 0, most
+    run = Run(Reach(workspace), planted.below(), given.table)
+    run.read_table()
     for crate in crates:
-        with tempfile.TemporaryDirectory(prefix="weaken-") as room:
-            copied = planted.Copied(pathlib.Path(room) / "crates" / crate)
-            if not is_list:
-                planted.copy(crate, stands_on[crate], pathlib.Path(room))
-                copied.bodies = left_out.bodies(copied.folder)
-            for file in sorted({name[1] for name in known if name[0] == crate}):
-                path = "specs/%s.antt" % file
-                names = {name[2] for name in known if name[:2] == (crate, file)}
-                for place in places((TOP / "crates" / crate / path).read_text(), names):
-                    said = "%s/%s:%d: %s without %s" % (crate, path, place.line, place.definition, place.said)
-                    if only not in said or left == 0:
-                        continue
-                    left = None if left is None else left - 1
-                    if is_list:
-                        print(said)
-                        continue
-                    start = time.monotonic()
-                    name = (crate, file, place.definition)
-                    word, why = try_place(place, path, reach.of(crate, name, copied.bodies), copied)
-                    if word == NOTHING:
-                        why += "; above it do some of: " + (" ".join(reach.crates(name, stands_on)) or "none")
-                    noticed += word == "by a goal"
-                    others += word not in ("by a goal", UNREAD)
-                    print("%s: %s (%.0f s): %s" % (said, word, time.monotonic() - start, why[:200]), flush=True)
-    if not is_list:
-        print("%d noticed, %d not" % (noticed, others))
-    return 1 if others else 0
+        found = [(file, place) for file, place in places_of(crate, known)
+                 if given.only in named(crate, file, place) and not run.is_done(crate, file, place)]
+        if given.is_list:
+            for file, place in found:
+                print(named(crate, file, place))
+        elif found:
+            with tempfile.TemporaryDirectory(prefix="weaken-") as room:
+                kept_libraries.needed(TOP, pathlib.Path(room), crate, run.below[crate])
+                run.weaken(crate, found, pathlib.Path(room))
+    noticed, unread = (sum(row[5] == word for row in run.rows) for word in (BY_GOAL, UNREAD))
+    if not given.is_list:
+        print("%d noticed, %d not" % (noticed, len(run.rows) - noticed - unread))
+    return 1 if noticed + unread < len(run.rows) else 0
 
 
 def main(words: Sequence[str]) -> int:
@@ -297,10 +455,10 @@ def main(words: Sequence[str]) -> int:
     asked = commands.parser(__doc__)
     asked.add_argument("--list", action="store_true", dest="is_list")
     asked.add_argument("--only", default="", metavar="WORD")
-    asked.add_argument("--most", type=commands.number, metavar="N")
+    asked.add_argument("--table", type=pathlib.Path, metavar="FILE")
     asked.add_argument("crates", nargs="*", metavar="CRATE")
     given, known = asked.parse_args(words), list(planted.below())
     unknown = [crate for crate in given.crates if crate not in known]
     if unknown:
         asked.error("crates.txt has no `%s`: name crates of it" % unknown[0])
-    return weaken(given.crates or known, given.only, given.most, given.is_list)
+    return weaken(given, given.crates or known)

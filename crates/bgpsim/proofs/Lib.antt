@@ -1,1 +1,1 @@
-mod Unopened
+mod ProgramRuns

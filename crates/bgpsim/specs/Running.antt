@@ -1,6 +1,6 @@
 -- What the program does: what the words of its command line ask for, on three streams, and with which exit status
 -- (own).
-use Rattle.std.specs.Prelude.{◌≡◌, ◌⊎◌, ℕ, false, List, [], map, Option, Result, Ok, Err, IfOk, MatchResult}
+use Rattle.std.specs.Prelude.{◌≡◌, ◌⊎◌, ℕ, false, List, [], map, Result, Ok, Err, IfOk, MatchResult}
 use Rattle.clap.specs.Words.{Text, FailsBy, fault_of, kind_of}
 use Rattle.clap.specs.declared.error.Error.{Error}
 use Rattle.clap.specs.declared.error.kind.ErrorKind.{ErrorKind}
@@ -12,7 +12,7 @@ use Rattle.reply_text.specs.declared.ending.RunFault.TheVariants.{NoMemory, Unwr
 use Rattle.reply_text.specs.Ending.{success, mistaken, fault_status, fault_text, IsTold}
 use Rattle.sim_text.specs.ScriptRun.{IsScriptRun}
 use Rattle.log_replay.specs.ReplayRun.{IsReplayRun}
-use Rattle.script_files.specs.Sources.{Source}
+use Rattle.script_files.specs.Sources.{FileBook}
 use Rattle.team_run.specs.TeamRun.{IsTeamRun}
 use Rattle.command_line.specs.CommandLine.{commands, Chooses}
 use Rattle.command_line.specs.declared.Choice.{Choice}
@@ -42,8 +42,8 @@ shown_text (Err fault) = fault_text fault
 
 -- it was printed, and a fault was told
 abbrev pub IsShown : ErrorKind → Writing → ℕ → Writing → Type 0
-IsShown kind errors status errors' = (shown : Result ℕ RunFault) × IsPrinted kind shown × (status ≡ shown_status shown)
-    × IsTold errors (shown_text shown) errors'
+IsShown kind errors status errors' = (shown : Result ℕ RunFault) × IsPrinted kind shown
+    × (status ≡ shown_status shown) × IsTold errors (shown_text shown) errors'
 
 -- ---- where something is
 
@@ -51,39 +51,46 @@ IsShown kind errors status errors' = (shown : Result ℕ RunFault) × IsPrinted 
 abbrev pub IsSentOn : Writing → Type 0
 IsSentOn o' = o'.failed ≡ false → o'.held ≡ false
 
--- a script was run, which left the reader at some place and the machine in some network; all replies were sent on
-abbrev pub IsServed : Option (List ℕ) → Writing → Writing → ℕ → Writing → Writing → Type 0
-IsServed bytes o errors status o' errors' = IsSentOn o' × (end : Network) × (i' : Reading)
-    × IsScriptRun bytes o errors status end i' o' errors'
+-- a script was run, which left the machine in some network; all replies were sent on
+abbrev pub IsServed : Reading → Writing → Writing → ℕ → Reading → Writing → Writing → Type 0
+IsServed i o errors status i' o' errors' = IsSentOn o' × (end : Network)
+    × IsScriptRun i.remaining o errors status end i' o' errors'
 
--- a log was replayed, which left the reader at some place; what it was found to be was sent on
-abbrev pub IsReplayed : Option (List ℕ) → Writing → Writing → ℕ → Writing → Writing → Type 0
-IsReplayed bytes o errors status o' errors' = IsSentOn o' × (i' : Reading)
-    × IsReplayRun bytes o errors status i' o' errors'
+-- a log was replayed; what it was found to be was sent on
+abbrev pub IsReplayed : Reading → Writing → Writing → ℕ → Reading → Writing → Writing → Type 0
+IsReplayed i o errors status i' o' errors' = IsSentOn o' × IsReplayRun i.remaining o errors status i' o' errors'
 
 -- the files of these names, in their order
-abbrev pub AreNamed : List Text → List Source → Type 0
-AreNamed names files = map (λ (file : Source). file.name) files ≡ names
+abbrev pub AreNamed : List Text → List FileBook → Type 0
+AreNamed names files = map (λ (file : FileBook). file.name) files ≡ names
 
--- a team was run on the files of these names
-pub record IsTeamPlayed (names : List Text) (o errors : Writing) (status : ℕ) (o' errors' : Writing) : Type 0 where
-  pub files : List Source
+-- a team was run on the files of these names, of which something is left, by so many workers, each with so many turns;
+-- nothing else was read
+pub record IsTeamPlayed (names : List Text) (workers turns : ℕ) (i : Reading) (o errors : Writing) (status : ℕ)
+    (i' : Reading) (o' errors' : Writing) : Type 0 where
+  pub files : List FileBook
+  pub left : List FileBook
   pub named : AreNamed names files
-  pub run : IsTeamRun files o errors status o' errors'
+  pub run : IsTeamRun files left workers turns o errors status o' errors'
+  pub unread : i' ≡ i
 
 -- what was asked for was run
-abbrev pub IsRunOf : Choice → Option (List ℕ) → Writing → Writing → ℕ → Writing → Writing → Type 0
-IsRunOf Script bytes o errors status o' errors' = IsServed bytes o errors status o' errors'
-IsRunOf Replay bytes o errors status o' errors' = IsReplayed bytes o errors status o' errors'
-IsRunOf (ForTeam team) bytes o errors status o' errors' =
-    IsTeamPlayed (map (λ file. file.now) team.files.items) o errors status o' errors'
+abbrev pub IsRunOf : Choice → Reading → Writing → Writing → ℕ → Reading → Writing → Writing → Type 0
+IsRunOf Script i o errors status i' o' errors' = IsServed i o errors status i' o' errors'
+IsRunOf Replay i o errors status i' o' errors' = IsReplayed i o errors status i' o' errors'
+IsRunOf (ForTeam team) i o errors status i' o' errors' =
+    IsTeamPlayed (map (λ file. file.now) team.files.items) team.workers team.turns i o errors status i' o' errors'
 
 -- ---- the program
 
--- the words were read as the commands are: what they ask for was run; or they have a fault, or there was no memory, and
--- that was shown
-abbrev pub IsProgramRun : List Text → Option (List ℕ) → Writing → Writing → ℕ → Writing → Writing → Type 0
-IsProgramRun words bytes o errors status o' errors' = (chosen : Result Choice Error)
+-- nothing was read, nor written where a run writes, and why nothing is run was shown
+abbrev pub IsRefused : ErrorKind → Reading → Writing → Writing → ℕ → Reading → Writing → Writing → Type 0
+IsRefused kind i o errors status i' o' errors' = (i' ≡ i) × (o' ≡ o) × IsShown kind errors status errors'
+
+-- the words were read as the commands are: what they ask for was run; or they have a fault, or memory ran out before
+-- anything of it began, and that was shown
+abbrev pub IsProgramRun : List Text → Reading → Writing → Writing → ℕ → Reading → Writing → Writing → Type 0
+IsProgramRun words i o errors status i' o' errors' = (chosen : Result Choice Error)
     × FailsBy (fault_of commands words) chosen × IfOk chosen (Chooses words)
-    × MatchResult chosen (λ choice. IsRunOf choice bytes o errors status o' errors')
-    (λ error. IsShown (kind_of error) errors status errors')
+    × MatchResult chosen (λ choice. IsRunOf choice i o errors status i' o' errors')
+    (λ error. IsRefused (kind_of error) i o errors status i' o' errors')

@@ -10,15 +10,15 @@ ghost use Rattle.reply_text.specs.Ending.{fault_text, memory_fault, no_memory, I
 use reply_text::{MISTAKEN, RunFault, end_by};
 use running::{Streams, run};
 use std::env;
-use std::io::{self, BufWriter, IsTerminal, Write};
+use std::io::{self, BufWriter, IsTerminal};
 use std::process::ExitCode;
-use watched::Output;
+use watched::{Input, Output, Reader, Sink, Writer};
 
 /// Runs the words of the command line on the three streams of the system.
 fn main(rt: HostRuntime) -> ExitCode {
     let alloc = rt.alloc();
     let is_terminal = rt.stderr().is_terminal();
-    let mut errors = Output::new(rt.stderr());
+    let mut errors = Output::new(Writer::new(rt.stderr()));
     let words = match env::args(&rt) {
         Ok(words) => words,
         Err(error) if error.kind() == io::ErrorKind::OutOfMemory => {
@@ -37,15 +37,16 @@ fn main(rt: HostRuntime) -> ExitCode {
         return without_memory(&mut errors);
     };
     let mut streams = Streams {
-        output: Output::new(writer),
+        input: Input::new(Reader::new(rt.reader())),
+        output: Output::new(Writer::new(writer)),
         errors,
         is_terminal,
     };
-    run(&rt, words.as_slice(), rt.reader(), &mut streams)
+    run(&rt, words.as_slice(), &mut streams)
 }
 
 /// Ends the program where there is no memory to begin.
-fn without_memory<E: Write>(errors: &mut Output<E>) -> ExitCode
+fn without_memory<E: Sink>(errors: &mut Output<E>) -> ExitCode
     ensures status { exit_status result ≡ no_memory }
     ensures told { IsTold errors.old (fault_text memory_fault) errors.new }
 {

@@ -1,10 +1,10 @@
 //! What the command line asks for, run on three streams.
 
-ghost use Rattle.std.specs.Prelude.{◌≡◌, false, length, map, string_bytes, vec_len, IfOk};
+ghost use Rattle.std.specs.Prelude.{◌≡◌, false, length, map, string_bytes, vec_len, IfErr, IfOk, OnErr};
 ghost use Rattle.std.specs.Process.{exit_status};
-ghost use Rattle.clap.specs.Words.{kind_of};
+ghost use Rattle.clap.specs.Words.{fault_of, kind_of, HasKind};
 ghost use Rattle.reply_text.specs.Ending.{IsTold};
-ghost use Rattle.command_line.specs.CommandLine.{IsTeamWithin, IsWithin};
+ghost use Rattle.command_line.specs.CommandLine.{commands, IsTeamWithin, IsWithin};
 ghost use Rattle.bgpsim.specs.Running.{shown_status, shown_text, AreNamed, IsPrinted, IsProgramRun, IsReplayed, IsRunOf, IsServed, IsShown, IsTeamPlayed};
 
 use cell_engine::Cell;
@@ -21,7 +21,6 @@ use sim_text::run_script;
 use std::alloc::{AllocError, Global};
 use std::fs::{File, Files};
 use std::hash::RandomState;
-use std::io::{Read, Write};
 use std::marker::Brand;
 use std::process::ExitCode;
 use std::random::RandomSource;
@@ -29,7 +28,7 @@ use std::sync::Wait;
 use std::sync::ledger::{Blank, Ledger};
 use std::thread::Threads;
 use team_run::{self, Settings, run_team};
-use watched::{Input, Output};
+use watched::{Input, LineBuffer, Output, Reader, Sink, Source};
 
 /// The machine that runs scripts: cells that keep groups of one neighbouring AS, in tries.
 type Engine = Sim<GroupCell, TrieTable<Cell<GroupCell>>>;
@@ -37,9 +36,10 @@ type Engine = Sim<GroupCell, TrieTable<Cell<GroupCell>>>;
 /// The machine that replays logs: cells that keep all standings in one list, in sorted tables.
 type PlainEngine = Sim<FilterCell, SortedTable<Cell<FilterCell>>>;
 
-/// Where the program writes, and where it tells faults.
+/// What the program reads, where it writes, and where it tells faults.
 #[derive(Drop)]
-pub(crate) struct Streams<W: Write, E: Write> {
+pub(crate) struct Streams<R: Source, W: Sink, E: Sink> {
+    pub(crate) input: Input<R>,
     pub(crate) output: Output<W>,
     pub(crate) errors: Output<E>,
     /// Whether faults are told to a terminal.
@@ -49,132 +49,176 @@ pub(crate) struct Streams<W: Write, E: Write> {
 /// Does what the words ask for, or shows why nothing is done. Only a script or a log is read.
 pub(crate) fn run<
     H: Print + Eprint + AllocGlobal + Files + RandomSource + Threads + Wait + Sync,
-    R: Read + Drop,
-    W: Write,
-    E: Write + Send,
->(rt: &H, words: &[String], reader: R, streams: &mut Streams<W, E>) -> ExitCode
+    R: Source,
+    W: Sink,
+    E: Sink + Send,
+>(rt: &H, words: &[String], streams: &mut Streams<R, W, E>) -> ExitCode
+    requires fresh { streams.old.input.failed ≡ false }
     requires calm { streams.old.output.failed ≡ false }
     requires shown { streams.old.output.held ≡ false }
     ensures { IsProgramRun (map string_bytes words.now)
-        (R.remaining reader) streams.old.output streams.old.errors (exit_status result)
-        streams.new.output streams.new.errors }
+        streams.old.input streams.old.output streams.old.errors (exit_status result)
+        streams.new.input streams.new.output streams.new.errors }
 {
-    ExitCode::from(run_words(rt, words, reader, streams))
+    ExitCode::from(run_words(rt, words, streams))
 }
 
 /// Does what the words ask for, or shows why nothing is done. The exit status.
 fn run_words<
     H: Print + Eprint + AllocGlobal + Files + RandomSource + Threads + Wait + Sync,
-    R: Read + Drop,
-    W: Write,
-    E: Write + Send,
->(rt: &H, words: &[String], reader: R, streams: &mut Streams<W, E>) -> u8
+    R: Source,
+    W: Sink,
+    E: Sink + Send,
+>(rt: &H, words: &[String], streams: &mut Streams<R, W, E>) -> u8
+    requires fresh { streams.old.input.failed ≡ false }
     requires calm { streams.old.output.failed ≡ false }
     requires shown { streams.old.output.held ≡ false }
     ensures { IsProgramRun (map string_bytes words.now)
-        (R.remaining reader) streams.old.output streams.old.errors result
-        streams.new.output streams.new.errors }
+        streams.old.input streams.old.output streams.old.errors result
+        streams.new.input streams.new.output streams.new.errors }
 {
-    match choose(rt.alloc(), words) {
-        Ok(choice) => run_choice(rt, &choice, reader, streams),
+    match run_chosen(rt, words, streams) {
+        Ok(status) => status,
         Err(error) => show(rt, &error, &mut streams.errors),
     }
 }
 
-/// Does what was asked for. The exit status.
-fn run_choice<
+/// Does what the words ask for. The exit status, or the fault that the words have, or out of memory before anything of
+/// it began.
+#[tactic(auto, using(crate::proofs::ProgramRuns::begun))]
+fn run_chosen<
     H: AllocGlobal + Files + RandomSource + Threads + Wait + Sync,
-    R: Read + Drop,
-    W: Write,
-    E: Write + Send,
->(rt: &H, choice: &Choice<'_>, reader: R, streams: &mut Streams<W, E>) -> u8
-    requires within { IsWithin choice.now }
+    R: Source,
+    W: Sink,
+    E: Sink + Send,
+>(rt: &H, words: &[String], streams: &mut Streams<R, W, E>) -> Result<u8, Error>
+    requires fresh { streams.old.input.failed ≡ false }
     requires calm { streams.old.output.failed ≡ false }
     requires shown { streams.old.output.held ≡ false }
-    ensures { IsRunOf choice.now
-        (R.remaining reader) streams.old.output streams.old.errors result
-        streams.new.output streams.new.errors }
+    ensures run { IfOk result (λ status. IsProgramRun (map string_bytes words.now)
+        streams.old.input streams.old.output streams.old.errors status
+        streams.new.input streams.new.output streams.new.errors) }
+    ensures fault { IfErr result (HasKind (fault_of commands (map string_bytes words.now))) }
+    ensures unread { OnErr result (streams.new.input ≡ streams.old.input) }
+    ensures unwritten { OnErr result (streams.new.output ≡ streams.old.output) }
+    ensures untold { OnErr result (streams.new.errors ≡ streams.old.errors) }
+{
+    let choice = choose(rt.alloc(), words)?;
+    Ok(run_choice(rt, &choice, streams)?)
+}
+
+/// Does what was asked for. The exit status, or out of memory before anything of it began.
+fn run_choice<
+    H: AllocGlobal + Files + RandomSource + Threads + Wait + Sync,
+    R: Source,
+    W: Sink,
+    E: Sink + Send,
+>(rt: &H, choice: &Choice<'_>, streams: &mut Streams<R, W, E>) -> Result<u8, AllocError>
+    requires within { IsWithin choice.now }
+    requires fresh { streams.old.input.failed ≡ false }
+    requires calm { streams.old.output.failed ≡ false }
+    requires shown { streams.old.output.held ≡ false }
+    ensures run { IfOk result (λ status. IsRunOf choice.now
+        streams.old.input streams.old.output streams.old.errors status
+        streams.new.input streams.new.output streams.new.errors) }
+    ensures unread { OnErr result (streams.new.input ≡ streams.old.input) }
+    ensures unwritten { OnErr result (streams.new.output ≡ streams.old.output) }
+    ensures untold { OnErr result (streams.new.errors ≡ streams.old.errors) }
 {
     match choice {
-        Choice::Script => serve_script(rt, reader, streams),
-        Choice::Replay => replay_log(rt, reader, streams),
-        Choice::ForTeam(team) => { play_team::<Brand, _, _, _>(rt, Blank::new(256), team, streams) }
+        Choice::Script => serve_script(rt, streams),
+        Choice::Replay => replay_log(rt, streams),
+        Choice::ForTeam(team) => {
+            play_team::<Brand, _, _, _, _>(rt, Blank::new(256), team, streams)
+        }
     }
 }
 
-/// Serves the script that is read. The system takes the machine's memory back at once.
-fn serve_script<R: Read + Drop, W: Write, E: Write>(
+/// Serves the script that is read. The system takes the machine's memory back at once. Out of memory comes before
+/// anything is read.
+fn serve_script<R: Source, W: Sink, E: Sink>(
     rt: &(impl AllocGlobal + RandomSource + Threads + Sync),
-    reader: R,
-    streams: &mut Streams<W, E>,
-) -> u8
+    streams: &mut Streams<R, W, E>,
+) -> Result<u8, AllocError>
+    requires fresh { streams.old.input.failed ≡ false }
     requires calm { streams.old.output.failed ≡ false }
     requires shown { streams.old.output.held ≡ false }
-    ensures { IsServed (R.remaining reader) streams.old.output streams.old.errors result
-        streams.new.output streams.new.errors }
+    ensures run { IfOk result (λ status. IsServed streams.old.input streams.old.output streams.old.errors status
+        streams.new.input streams.new.output streams.new.errors) }
+    ensures unread { OnErr result (streams.new.input ≡ streams.old.input) }
+    ensures unwritten { OnErr result (streams.new.output ≡ streams.old.output) }
+    ensures untold { OnErr result (streams.new.errors ≡ streams.old.errors) }
 {
     let alloc = rt.alloc();
-    let mut input = Input::new(reader);
+    let buffer = LineBuffer::new(alloc)?;
     let mut machine: Engine = Sim::new(alloc, drawn_keys(rt));
     let status = run_script(
         rt,
         alloc,
+        buffer,
         &mut machine,
-        &mut input,
+        &mut streams.input,
         &mut streams.output,
         &mut streams.errors,
     );
     std::mem::forget(machine);
-    status
+    Ok(status)
 }
 
-/// Replays the log that is read, and writes what it is found to be.
-fn replay_log<R: Read + Drop, W: Write, E: Write>(
+/// Replays the log that is read, and writes what it is found to be. Out of memory comes before anything is read.
+fn replay_log<R: Source, W: Sink, E: Sink>(
     rt: &(impl AllocGlobal + RandomSource + Threads + Sync),
-    reader: R,
-    streams: &mut Streams<W, E>,
-) -> u8
+    streams: &mut Streams<R, W, E>,
+) -> Result<u8, AllocError>
+    requires fresh { streams.old.input.failed ≡ false }
     requires calm { streams.old.output.failed ≡ false }
     requires shown { streams.old.output.held ≡ false }
-    ensures { IsReplayed (R.remaining reader) streams.old.output streams.old.errors result
-        streams.new.output streams.new.errors }
+    ensures run { IfOk result (λ status. IsReplayed streams.old.input streams.old.output streams.old.errors status
+        streams.new.input streams.new.output streams.new.errors) }
+    ensures unread { OnErr result (streams.new.input ≡ streams.old.input) }
+    ensures unwritten { OnErr result (streams.new.output ≡ streams.old.output) }
+    ensures untold { OnErr result (streams.new.errors ≡ streams.old.errors) }
 {
     let alloc = rt.alloc();
-    let mut input = Input::new(reader);
+    let buffer = LineBuffer::new(alloc)?;
     let mut machine: PlainEngine = Sim::new(alloc, drawn_keys(rt));
     let status = run_replay(
         rt,
         alloc,
+        buffer,
         &mut machine,
-        &mut input,
+        &mut streams.input,
         &mut streams.output,
         &mut streams.errors,
     );
     std::mem::forget(machine);
-    status
+    Ok(status)
 }
 
-/// Runs the team, and writes its log.
-#[tactic(auto, using(crate::proofs::Unopened::played))]
+/// Runs the team, and writes its log. Out of memory comes before any file is read.
+#[tactic(auto, using(crate::proofs::ProgramRuns::played))]
 fn play_team<
     L: Ledger + Send + Sync,
     H: AllocGlobal + Files + RandomSource + Threads + Wait + Sync,
-    W: Write,
-    E: Write + Send,
->(rt: &H, blank: Blank, team: &Team<'_>, streams: &mut Streams<W, E>) -> u8
+    R: Source,
+    W: Sink,
+    E: Sink + Send,
+>(rt: &H, blank: Blank, team: &Team<'_>, streams: &mut Streams<R, W, E>) -> Result<u8, AllocError>
     requires name { blank.name ≡ L.name }
     requires ledger { blank.parts ≡ L.parts }
     requires parts { blank.parts ≡ 256 }
     requires team { IsTeamWithin team.now }
     requires calm { streams.old.output.failed ≡ false }
     requires shown { streams.old.output.held ≡ false }
-    ensures { IsTeamPlayed (map (λ file. file.now) team.now.files.items)
-        streams.old.output streams.old.errors result streams.new.output streams.new.errors }
+    ensures run { IfOk result (λ status. IsTeamPlayed (map (λ file. file.now) team.now.files.items)
+        team.now.workers team.now.turns streams.old.input streams.old.output streams.old.errors status
+        streams.new.input streams.new.output streams.new.errors) }
+    ensures unread { OnErr result (streams.new.input ≡ streams.old.input) }
+    ensures unwritten { OnErr result (streams.new.output ≡ streams.old.output) }
+    ensures untold { OnErr result (streams.new.errors ≡ streams.old.errors) }
 {
     let alloc = rt.alloc();
-    let Ok(files) = opened(rt, alloc, team.files.as_slice()) else {
-        return end_by(&RunFault::NoMemory, &mut streams.errors);
-    };
+    let mut files = opened(rt, alloc, team.files.as_slice())?;
     let team = team_run::Team {
         blank,
         keys: drawn_keys(rt),
@@ -183,15 +227,15 @@ fn play_team<
             turns: team.turns,
             is_terminal: streams.is_terminal,
         },
-        files,
     };
-    run_team::<GroupCell, TrieTable<Cell<GroupCell>>, L, _, _, _, _>(
+    Ok(run_team::<GroupCell, TrieTable<Cell<GroupCell>>, L, _, _, _, _>(
         rt,
         alloc,
         team,
+        files.as_mut_slice(),
         &mut streams.output,
         &mut streams.errors,
-    )
+    ))
 }
 
 /// Keys that nobody else knows, if the system has random bytes to draw them from.
@@ -200,11 +244,11 @@ fn drawn_keys(rt: &impl RandomSource) -> Option<RandomState> {
 }
 
 /// The files of these names, each opened where that can be done.
-fn opened<R: Files>(
-    rt: &R,
+fn opened<H: Files>(
+    rt: &H,
     alloc: Global,
     names: &[&str],
-) -> Result<Vec<ScriptFile<R::File>>, AllocError>
+) -> Result<Vec<ScriptFile<Reader<H::File>>>, AllocError>
     ensures named { IfOk result (λ files. AreNamed (map (λ name. name.now) names.now) files.items) }
     ensures count { IfOk result (λ files. vec_len files ≡ length names.now) }
 {
@@ -212,7 +256,10 @@ fn opened<R: Files>(
     for name in names {
         let file = ScriptFile {
             name: String::from_str(alloc, name)?,
-            reader: File::open(rt, *name).ok(),
+            reader: match File::open(rt, *name) {
+                Ok(file) => Some(Input::new(Reader::new(file))),
+                Err(_) => None,
+            },
         };
         files.push(file)?;
     }
@@ -220,7 +267,7 @@ fn opened<R: Files>(
 }
 
 /// Shows why nothing is done. The exit status.
-fn show<E: Write>(rt: &(impl Print + Eprint), error: &Error, errors: &mut Output<E>) -> u8
+fn show<E: Sink>(rt: &(impl Print + Eprint), error: &Error, errors: &mut Output<E>) -> u8
     ensures { IsShown (kind_of error.now) errors.old result errors.new }
 {
     let shown = printed(rt, error);
@@ -246,7 +293,7 @@ fn printed(rt: &(impl Print + Eprint), error: &Error) -> Result<u8, RunFault>
 }
 
 /// Tells a fault, if there is one. The exit status.
-fn end<E: Write>(shown: &Result<u8, RunFault>, errors: &mut Output<E>) -> u8
+fn end<E: Sink>(shown: &Result<u8, RunFault>, errors: &mut Output<E>) -> u8
     ensures status { result ≡ shown_status shown.now }
     ensures told { IsTold errors.old (shown_text shown.now) errors.new }
 {

@@ -1,9 +1,13 @@
 -- No public contract cites this file. Workers between the start of their threads and the end.
-use Rattle.std.specs.Prelude.{◌≡◌, ℕ, ◌+◌, ◌%◌, List, [], ◌∷◌}
+use Rattle.std.specs.Prelude.{◌≡◌, ◌<◌, ℕ, ◌+◌, ◌%◌, List, [], ◌∷◌}
 use Rattle.room.specs.Books.{SeatBook}
 use Rattle.desk.specs.Desks.{IsWorkedAt}
 use Rattle.desk.specs.declared.worker_threads.Worker.{Worker}
 use Rattle.desk.specs.declared.worker_threads.Worker.TheVariants.{Started, LeftOut}
+
+-- of the worker's first n jobs, if there are any, a gate was told of the last
+abbrev pub IsTold : (ℕ → Type 0) → ℕ → Type 0
+IsTold told n = 0 < n → told n
 
 -- the worker at this place was given the seat: its thread promises so many turns of it, for the shard of its place,
 -- modulo the shards; or it is left out, and so the seat is back

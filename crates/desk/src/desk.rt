@@ -171,10 +171,9 @@ impl<S: Chosen, T: PrefixTable<Cell<S>>, L: Ledger> Desk<S, T, L> {
     /// A worker makes way for the others till it is woken, unless no other is at work.
     pub(crate) fn back_off<R: Wait>(&self, rt: &R) {
         let mut guarded = self.guarded.lock(rt);
-        if guarded.workers.at_work() < 2 {
+        if !guarded.workers.back_off() {
             return;
         }
-        guarded.workers.back_off();
         let mut guarded = self
             .scheduler
             .backoff_ends()
@@ -237,7 +236,7 @@ impl<S: Chosen, T: PrefixTable<Cell<S>>, L: Ledger> Desk<S, T, L> {
         requires { shard < self.now.shards }
     {
         let condition = self.scheduler.condition(shard);
-        let mut guarded = condition.wait_while(
+        let mut guarded = condition.get().wait_while(
             rt,
             guarded,
             |now| now.workers.is_none_of_shard_woken(shard),
@@ -259,11 +258,17 @@ impl<S: Chosen, T: PrefixTable<Cell<S>>, L: Ledger> Desk<S, T, L> {
         }
     }
 
-    /// Makes all ready. Where nobody is at work, the workers of a shard for which a message waits are woken.
+    /// Makes all ready. Where nobody is at work, the workers of the first shard for which a message waits are woken.
     fn make_all_ready(&self, guarded: &mut Guarded<S, T, L>) {
-        self.scheduler.make_all_ready(&mut guarded.workers);
-        if guarded.workers.at_work() == 0 {
-            self.wake_next(guarded);
+        let shards = self.scheduler.shards();
+        for shard in 0..shards {
+            if !guarded.workers.is_idle(shard) {
+                continue;
+            }
+            if guarded.workers.is_nobody_at_work() && !guarded.has_message(shard, shards) {
+                continue;
+            }
+            self.scheduler.make_shard_ready(&mut guarded.workers, shard);
         }
     }
 
@@ -450,8 +455,8 @@ impl<S: Selector + Drop, T: PrefixTable<Cell<S>> + Drop, L: Ledger> Desk<S, T, L
             return Ok(Some(jobs));
         }
         drop(jobs);
-        guarded.workers.add_idle(shard);
-        self.wake_next(guarded);
+        self.make_idle(guarded);
+        self.scheduler.add_idle(&mut guarded.workers, shard);
         if guarded.workers.is_over(guarded.is_quiet()) {
             guarded.workers.remove_idle(shard);
             return Err(NoJobs::AnyMore);

@@ -9,6 +9,7 @@ ghost use Rattle.cell_engine.specs.State.{network};
 ghost use Rattle.room.specs.Books.{IsKept, blank_seats, is_memory, noted, recorded, stepped, version_of};
 ghost use Rattle.room.specs.Jobs.{AreApart, IsOfShard, IsSeenIn, NoneWaits};
 ghost use Rattle.room.specs.Commits.{AreCommitted, IsBrokenOff, IsCommitted, IsUnchanged};
+ghost use Rattle.scheduler.specs.Waiting.{no_workers};
 ghost use Rattle.desk.specs.Desks.{AreSeats, IsDeskLedger};
 
 use cell_engine::Cell;
@@ -45,7 +46,7 @@ impl<S: Chosen, T: PrefixTable<Cell<S>>, L: Ledger> Guarded<S, T, L> {
         ensures history { IfOk result (λ made. made.0.room.history ≡ []) }
         ensures network { IfOk result (λ made. network made.0.room.engine ≡ nothing) }
         ensures count { IfOk result (λ made. made.0.room.seats ≡ seats) }
-        ensures shards { IfOk result (λ made. made.0.workers ≡ shards) }
+        ensures workers { IfOk result (λ made. made.0.workers ≡ no_workers shards) }
         ensures seats { IfOk result (λ made. made.1.items ≡ blank_seats seats) }
     {
         let workers = Workers::new(alloc, shards)?;

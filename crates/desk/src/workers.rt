@@ -1,9 +1,10 @@
 //! Worker threads at a desk.
 
-ghost use Rattle.std.specs.Prelude.{◌≡◌, ◌<◌, ◌≤◌, ◌%◌, ◌++◌, ℕ, List, All, length};
+ghost use Rattle.std.specs.Prelude.{◌≡◌, ◌<◌, ◌≤◌, ◌+◌, ◌-◌, ◌^◌, ◌%◌, ◌++◌, true, ℕ, List, All, length};
 ghost use Rattle.room.specs.Jobs as taken;
 ghost use Rattle.room.specs.Jobs.{IsOfShard};
 ghost use Rattle.desk.specs.Desks.{AllWorked, IsWorked, IsWorkedAt};
+ghost use Rattle.desk.specs.WorkerThreads.{IsTold};
 
 use crate::desk::{Desk, NoJobs};
 use cell_engine::Cell;
@@ -18,18 +19,30 @@ use std::thread::Threads;
 /// How many turns a worker makes at once at most.
 const TURNS_AT_ONCE: u64 = 16;
 
-/// What is told of the workers' jobs. The n-th of a worker has the number n, from 1 on.
+/// What is told of the workers' jobs. The n-th of a worker has the number n, from 1 on. Of each job in turn it is told
+/// that the worker took it and, where there was memory to work it, that the worker has its outcome: so the order of the
+/// calls is what they require.
 pub trait Gate {
-    /// A worker took a job.
+    /// It was told that the worker took its n-th job. Whoever knows only that this is a gate has it from the call alone.
+    ghost was_taken: { Self → ℕ → ℕ → Type 0 } = { λ gate worker n. Unit {0} };
+
+    /// It was told that the worker has the outcome of its n-th job.
+    ghost was_worked: { Self → ℕ → ℕ → Type 0 } = { λ gate worker n. Unit {0} };
+
+    /// A worker took a job. Of the one before it was told.
     fn taken(&self, worker: usize, n: u64)
-        requires { 1 ≤ n };
+        requires first { 1 ≤ n }
+        requires before { 1 < n → was_taken self.now worker (n - 1) }
+        ensures { was_taken self.now worker n };
 
-    /// A worker has the outcome of its job.
+    /// A worker has the outcome of its job. It was told that the worker took that.
     fn worked(&self, worker: usize, n: u64)
-        requires { 1 ≤ n };
+        requires first { 1 ≤ n }
+        requires taken { was_taken self.now worker n }
+        ensures { was_worked self.now worker n };
 
-    /// Whether it may hold one worker until another has gone on. Where it does not, a worker who finds the lock taken
-    /// may back off, and leave it to others for a while.
+    /// Whether it may hold one worker until another has gone on. Where it may, turns are made one by one. Where it does
+    /// not, a worker who finds the lock taken may back off, and leave it to others for a while.
     fn may_hold(&self) -> bool {
         true
     }
@@ -37,13 +50,14 @@ pub trait Gate {
 
 /// A thread for each seat: the worker of the i-th, from 0 on, serves the shard i modulo the shards. A turn takes a job,
 /// works it without the lock, and commits the outcome; want of memory ends the turn, and so does an outcome that came
-/// too late. Up to sixteen turns are made at once, where as many deliveries wait of which none changes what another
-/// depends on: their jobs are taken together, worked one after another, and committed together. A worker begins with
-/// one turn at once, may make twice as many after turns whose outcomes were all put in, and one after others. Where
-/// there is no job the worker waits. Where the gate holds nobody, a worker who often finds the lock taken after
-/// deliveries that are little work backs off while another is at work: so of such deliveries one worker makes as many
-/// as it can, and then another. It ends after so many turns, or once `finish_calls` was called and no message waits, or
-/// none that a worker who is left could bring. A thread that cannot be started is left out, with its seat as it was.
+/// too late. Where the gate holds nobody, up to sixteen turns are made at once, where as many deliveries wait of which
+/// none changes what another depends on: their jobs are taken together, worked one after another, and committed
+/// together. A worker begins with one turn at once, may make twice as many after turns whose outcomes were all put in,
+/// and one after others. Where there is no job the worker waits. Where the gate holds nobody, a worker who often finds
+/// the lock taken after deliveries that are little work backs off while another is at work: so of such deliveries one
+/// worker makes as many as it can, and then another. It ends after so many turns, or once `finish_calls` was called and
+/// no message waits, or none that a worker who is left could bring. A thread that cannot be started is left out, with
+/// its seat as it was.
 pub fn run_workers<
     S: Selector + Drop + Send,
     T: PrefixTable<Cell<S>> + Drop + Send,
@@ -100,13 +114,13 @@ impl<'a, S: Selector + Drop, T: PrefixTable<Cell<S>> + Drop, L: Ledger, G: Gate,
             if turns >= self.turns {
                 return;
             }
-            let at_once = turns_at_once(most, self.turns - turns);
+            let at_once = turns_at_once(self.gate.may_hold(), most, self.turns - turns);
             match self.desk.next_turn(self.rt, shard, at_once, &mut backoff) {
                 Ok(jobs) => {
                     let count = jobs.len() as u64;
                     let put_in = self.do_jobs(worker, jobs_before, jobs, seat, &mut backoff);
                     most = most_after(most, count, put_in);
-                    jobs_before = count.saturating_add(jobs_before);
+                    jobs_before += count;
                     turns += count;
                     self.back_off_or_wake(&mut backoff);
                 }
@@ -128,8 +142,9 @@ impl<'a, S: Selector + Drop, T: PrefixTable<Cell<S>> + Drop, L: Ledger, G: Gate,
         }
     }
 
-    /// Works jobs one after another, of which the first is one more than so many, and commits their outcomes. How many
-    /// were put in. Outcomes for which there is no memory are let go: their messages still wait.
+    /// Works jobs one after another, of which the first is one more than so many, and commits their outcomes. The gate
+    /// is told of each. How many were put in. Outcomes for which there is no memory are let go: their messages still
+    /// wait.
     fn do_jobs(
         &self,
         worker: usize,
@@ -138,8 +153,11 @@ impl<'a, S: Selector + Drop, T: PrefixTable<Cell<S>> + Drop, L: Ledger, G: Gate,
         seat: &mut Seat<L>,
         backoff: &mut Backoff,
     ) -> u64
-        ensures { (shard shards : ℕ) → All (IsOfShard shard shards) jobs →
+        requires few { jobs_before + length jobs < 2 ^ 64 }
+        requires before { IsTold (G.was_taken self.now.gate.now worker) jobs_before }
+        ensures worked { (shard shards : ℕ) → All (IsOfShard shard shards) jobs →
             IsWorked shard shards (length jobs) seat.old seat.new }
+        ensures told { IsTold (G.was_taken self.now.gate.now worker) (jobs_before + length jobs) }
     {
         let outcomes = self.outcomes_of(worker, jobs_before, jobs);
         let calls_before = seat.count();
@@ -149,6 +167,9 @@ impl<'a, S: Selector + Drop, T: PrefixTable<Cell<S>> + Drop, L: Ledger, G: Gate,
 
     /// The outcomes of jobs, but of those for which there is no memory.
     fn outcomes_of(&self, worker: usize, jobs_before: u64, jobs: Jobs<S>) -> Outcomes<S>
+        requires few { jobs_before + length jobs < 2 ^ 64 }
+        requires before { IsTold (G.was_taken self.now.gate.now worker) jobs_before }
+        ensures told { IsTold (G.was_taken self.now.gate.now worker) (jobs_before + length jobs) }
         ensures of_shard { (shard shards : ℕ) → All (IsOfShard shard shards) jobs →
             All (IsOfShard shard shards) result }
         ensures most { length result ≤ length jobs }
@@ -156,16 +177,21 @@ impl<'a, S: Selector + Drop, T: PrefixTable<Cell<S>> + Drop, L: Ledger, G: Gate,
         let mut outcomes = Vec::new(self.desk.alloc());
         let mut n = jobs_before;
         for job in jobs.into_vec() {
-            n = n.saturating_add(1);
+            n += 1;
             self.do_job(worker, n, job, &mut outcomes);
         }
         Outcomes::of(outcomes)
     }
 
-    /// Works a job, and keeps its outcome where there is memory.
+    /// Works a job, and keeps its outcome where there is memory. The gate is told that it was taken and, before its
+    /// outcome is kept, that it was worked.
     fn do_job(&self, worker: usize, n: u64, job: Job<S>, outcomes: &mut Vec<Done<S>>)
-        requires { 1 ≤ n }
-        ensures { (more : List taken.Job) × (outcomes.new.items ≡ outcomes.old.items ++ more) × (length more ≤ 1) ×
+        requires first { 1 ≤ n }
+        requires before { 1 < n → G.was_taken self.now.gate.now worker (n - 1) }
+        ensures taken { G.was_taken self.now.gate.now worker n }
+        ensures worked { length outcomes.old.items < length outcomes.new.items →
+            G.was_worked self.now.gate.now worker n }
+        ensures kept { (more : List taken.Job) × (outcomes.new.items ≡ outcomes.old.items ++ more) × (length more ≤ 1) ×
             All (λ done. done ≡ job) more }
     {
         self.gate.taken(worker, n);
@@ -177,10 +203,12 @@ impl<'a, S: Selector + Drop, T: PrefixTable<Cell<S>> + Drop, L: Ledger, G: Gate,
     }
 }
 
-/// How many turns are made at once where so many are left.
-fn turns_at_once(most: u64, left: u64) -> usize
-    ensures { result ≤ left }
+/// How many turns are made at once where so many are left: one where the gate may hold the worker.
+fn turns_at_once(may_hold: bool, most: u64, left: u64) -> usize
+    ensures left { result ≤ left }
+    ensures one { may_hold ≡ true → result ≤ 1 }
 {
+    let most = if may_hold { 1 } else { most };
     most.min(left) as usize
 }
 

@@ -19,7 +19,7 @@ use std::process::Abort;
 use std::sync::Wait;
 use std::sync::ledger::{Blank, Ledger};
 use std::thread::Threads;
-use watched::{Input, LineBuffer, Output};
+use watched::{Input, LineBuffer, Output, Reader, Writer};
 
 /// The cells that keep groups of one neighbouring AS.
 pub type Tries = TrieTable<Cell<GroupCell>>;
@@ -129,11 +129,11 @@ pub fn is_answered<L: Ledger, R: Threads + Wait + Sync>(
 
 /// Whether this is the text of the reply.
 fn is_text(alloc: Global, reply: &Reply, text: &str) -> bool {
-    let mut output = Output::new(Vec::new(alloc));
+    let mut output = Output::new(Writer::new(Vec::new(alloc)));
     if write_reply(reply, &mut output).is_err() {
         return false;
     }
-    output.into_inner().as_slice() == text.as_bytes()
+    output.into_inner().into_inner().as_slice() == text.as_bytes()
 }
 
 /// What the record's log is found to be, by the plainest form of the engine.
@@ -145,7 +145,7 @@ pub fn replayed<R: Threads + Sync>(rt: &R, alloc: Global, record: &Record) -> Op
         rt,
         alloc,
         buffer,
-        &mut Input::new(log.as_slice()),
+        &mut Input::new(Reader::new(log.as_slice())),
         &mut machine,
     )
     .ok();
@@ -154,7 +154,7 @@ pub fn replayed<R: Threads + Sync>(rt: &R, alloc: Global, record: &Record) -> Op
 }
 
 fn log_of(alloc: Global, record: &Record) -> Option<Vec<u8>> {
-    let mut output = Output::new(Vec::new(alloc));
+    let mut output = Output::new(Writer::new(Vec::new(alloc)));
     write_log(record.entries(), &mut output).ok()?;
-    Some(output.into_inner())
+    Some(output.into_inner().into_inner())
 }

@@ -2,7 +2,7 @@
 
 use crate::common::equal;
 use std::io::{self, Read};
-use watched::Input;
+use watched::{Input, Reader};
 
 /// A reader that only fails.
 #[derive(Drop)]
@@ -16,7 +16,7 @@ impl Read for Failing {
 
 #[test]
 fn a_readers_own_error_is_given(rt: HostRuntime) {
-    let mut input = Input::new(Failing);
+    let mut input = Input::new(Reader::new(Failing));
     let mut buffer = [0; 2];
     let kind = input.read(&mut buffer).map_err(|error| error.kind());
     equal(&rt, kind, Err(io::ErrorKind::UnexpectedEof));

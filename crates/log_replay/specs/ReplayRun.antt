@@ -6,7 +6,7 @@ use Rattle.watched.specs.Streams.{Reading, Writing, AppendsFront}
 use Rattle.reply_text.specs.Replies.{line_end}
 use Rattle.reply_text.specs.declared.ending.RunFault.{RunFault}
 use Rattle.reply_text.specs.declared.ending.RunFault.TheVariants.{LineUnread, Unwritten, NoMemory}
-use Rattle.reply_text.specs.Ending.{success, disagrees, write_fault, fault_status, fault_text, IsTold, IsWithoutMemory}
+use Rattle.reply_text.specs.Ending.{success, disagrees, write_fault, fault_status, fault_text, IsTold}
 use Rattle.log_replay.specs.Replaying.{IsReplay, is_read_fault, most_lines}
 use Rattle.log_replay.specs.Exactness.{IsProof, IsFair}
 use Rattle.log_replay.specs.declared.verdict.Replayed.{Replayed}
@@ -47,19 +47,9 @@ IsEnding (Ok found) o errors status o' errors' = IsAnswered found o errors statu
 IsEnding (Err fault) o errors status o' errors' = (status ≡ replay_status (Err fault)) × (o' ≡ o)
     × IsTold errors (fault_text (run_fault fault)) errors'
 
--- it was replayed, as far as its bytes are known: where it is found to agree it is the log of a legal history, and each
--- such log is; the reader failed just where that was the fault; and what was found is how it ended
-abbrev pub IsReplayedRun : Option (List ℕ) → Writing → Writing → ℕ → Reading → Writing → Writing → Type 0
-IsReplayedRun bytes o errors status i' o' errors' = (found : Result Replayed ReplayFault)
+-- a log was replayed, as far as its bytes are known: where it is found to agree it is the log of a legal history, and
+-- each such log is; the reader failed just where that was the fault; and what was found is how it ended
+abbrev pub IsReplayRun : Option (List ℕ) → Writing → Writing → ℕ → Reading → Writing → Writing → Type 0
+IsReplayRun bytes o errors status i' o' errors' = (found : Result Replayed ReplayFault)
     × IfSome bytes (λ known. IsReplay known found i' × IsProof known found × IsFair known found)
     × (i'.failed ≡ is_read_fault found) × IsEnding found o errors status o' errors'
-
--- there was no memory to read a line: nothing was read
-abbrev pub IsUnreplayed : Option (List ℕ) → Writing → Writing → ℕ → Reading → Writing → Writing → Type 0
-IsUnreplayed bytes o errors status i' o' errors' = (i'.remaining ≡ bytes) × (i'.failed ≡ false)
-    × IsWithoutMemory o errors status o' errors'
-
--- a log was replayed, or there was no memory to begin
-abbrev pub IsReplayRun : Option (List ℕ) → Writing → Writing → ℕ → Reading → Writing → Writing → Type 0
-IsReplayRun bytes o errors status i' o' errors' = IsReplayedRun bytes o errors status i' o' errors'
-    ⊎ IsUnreplayed bytes o errors status i' o' errors'

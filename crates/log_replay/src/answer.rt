@@ -11,7 +11,7 @@ use reply_text::write_marked_reply;
 use sim_event::{Event, Reply};
 use std::alloc::{AllocError, Global};
 use std::thread::Threads;
-use watched::Output;
+use watched::{Output, Writer};
 
 /// Runs the command. The lines of its reply, each with its mark.
 pub(crate) fn answer<M: Machine>(
@@ -34,9 +34,9 @@ pub(crate) fn answer<M: Machine>(
 fn marked_text(alloc: Global, reply: &Reply) -> Result<Vec<u8>, AllocError>
     ensures { IfOk result (λ text. text.items ≡ marked reply_mark (reply_lines reply.now)) }
 {
-    let mut output = Output::new(Vec::new(alloc));
+    let mut output = Output::new(Writer::new(Vec::new(alloc)));
     match write_marked_reply(b"= ", reply, &mut output) {
-        Ok(()) => Ok(output.into_inner()),
+        Ok(()) => Ok(output.into_inner().into_inner()),
         Err(_) => Err(AllocError),
     }
 }

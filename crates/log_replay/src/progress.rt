@@ -15,9 +15,8 @@ use crate::place::{Checked, Checker, Next};
 use crate::verdict::{ReplayFault, Replayed};
 use reference_machine::Machine;
 use std::alloc::{AllocError, Global};
-use std::io::Read;
 use std::thread::Threads;
-use watched::{Input, LineBuffer};
+use watched::{Input, LineBuffer, Source};
 
 /// How far a log was read.
 #[derive(Drop)]
@@ -119,7 +118,7 @@ fn ending(progress: &Progress) -> Replayed
 }
 
 /// Reads more bytes. At the end of the input, what the log is.
-fn read_on<R: Read>(
+fn read_on<R: Source>(
     progress: &mut Progress,
     input: &mut Input<R>,
 ) -> Result<Option<Replayed>, ReplayFault>
@@ -143,7 +142,7 @@ fn read_on<R: Read>(
 }
 
 /// Takes a line that was read, or reads more. What the log is, where that is known.
-pub(crate) fn advance<R: Read, M: Machine>(
+pub(crate) fn advance<R: Source, M: Machine>(
     rt: &(impl Threads + Sync),
     alloc: Global,
     progress: &mut Progress,

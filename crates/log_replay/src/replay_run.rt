@@ -1,32 +1,33 @@
 //! A log on one stream, what it is found to be on a second, and what is told of a fault on a third.
 
-ghost use Rattle.std.specs.Prelude.{◌≡◌, false, true, Ok, OnOk, OnErr};
+ghost use Rattle.std.specs.Prelude.{◌≡◌, false, true, [], Ok, OnOk, OnErr};
 ghost use Rattle.std.specs.Io.KnownBytes.{Appends};
 ghost use Rattle.reference_machine.specs.Machine.{nothing};
 ghost use Rattle.watched.specs.Streams.{Writes, AppendsFront};
 ghost use Rattle.log_replay.specs.ReplayRun.{found_text, replay_status, run_fault, IsAnswered, IsReplayRun};
 
-use crate::limits::MOST_LINES;
+use crate::limits::{CAPACITY, MOST_LINES};
 use crate::replaying::replay;
 use crate::verdict::{ReplayFault, Replayed};
 use reference_machine::Machine;
 use reply_text::{DISAGREES, RunFault, SUCCESS, end_by, write_numbered};
 use std::alloc::Global;
-use std::io::{Read, Write};
 use std::thread::Threads;
-use watched::{Input, LineBuffer, Output, WriterFailed};
+use watched::{Input, LineBuffer, Output, Sink, Source, WriterFailed};
 
-/// Replays the log on the reader by a machine that begins with the empty network, writes what the log is found to be,
-/// and tells a fault on the third stream, whose own failure is passed over. The exit status: 0 the log agrees, 1 it
-/// does not, 3 read fault, 4 write fault, 5 want of memory.
-pub fn run_replay<M: Machine, R: Read, W: Write, E: Write>(
+/// Replays the log on the reader, read into the buffer, by a machine that begins with the empty network. Writes what
+/// the log is found to be, and tells a fault on the third stream, whose own failure is passed over. The exit status:
+/// 0 the log agrees, 1 it does not, 3 read fault, 4 write fault, 5 out of memory at a call.
+pub fn run_replay<M: Machine, R: Source, W: Sink, E: Sink>(
     rt: &(impl Threads + Sync),
     alloc: Global,
+    buffer: LineBuffer<CAPACITY>,
     machine: &mut M,
     input: &mut Input<R>,
     output: &mut Output<W>,
     errors: &mut Output<E>,
 ) -> u8
+    requires buffer { buffer ≡ [] }
     requires calm_input { input.old.failed ≡ false }
     requires calm_output { output.old.failed ≡ false }
     requires shown { output.old.held ≡ false }
@@ -35,9 +36,6 @@ pub fn run_replay<M: Machine, R: Read, W: Write, E: Write>(
     ensures told_sent { errors.old.held ≡ false → errors.new.failed ≡ false → errors.new.held ≡ false }
     ensures run { IsReplayRun input.old.remaining output.old errors.old result input.new output.new errors.new }
 {
-    let Ok(buffer) = LineBuffer::new(alloc) else {
-        return end_by(&RunFault::NoMemory, errors);
-    };
     match replay(rt, alloc, buffer, input, machine) {
         Ok(found) => answer(found, output, errors),
         Err(fault) => end_by(&run_fault(fault), errors),
@@ -45,7 +43,7 @@ pub fn run_replay<M: Machine, R: Read, W: Write, E: Write>(
 }
 
 /// Writes what the log is found to be, and sends it on. Where the writer fails, that is told.
-fn answer<W: Write, E: Write>(found: Replayed, output: &mut Output<W>, errors: &mut Output<E>) -> u8
+fn answer<W: Sink, E: Sink>(found: Replayed, output: &mut Output<W>, errors: &mut Output<E>) -> u8
     requires calm { output.old.failed ≡ false }
     ensures sent { output.new.failed ≡ false → output.new.held ≡ false }
     ensures told_sent { errors.old.held ≡ false → errors.new.failed ≡ false → errors.new.held ≡ false }
@@ -58,7 +56,7 @@ fn answer<W: Write, E: Write>(found: Replayed, output: &mut Output<W>, errors: &
 }
 
 /// Writes what the log is found to be, and sends it on.
-fn show<W: Write>(found: Replayed, output: &mut Output<W>) -> Result<(), WriterFailed>
+fn show<W: Sink>(found: Replayed, output: &mut Output<W>) -> Result<(), WriterFailed>
     requires { output.old.failed ≡ false }
     ensures written { OnOk result (Appends output.old.written output.new.written (found_text found)) }
     ensures calm { OnOk result (output.new.failed ≡ false) }
@@ -71,7 +69,7 @@ fn show<W: Write>(found: Replayed, output: &mut Output<W>) -> Result<(), WriterF
 }
 
 /// Writes the line of what the log is found to be. At an error a front of it went out.
-fn write_found<W: Write>(found: Replayed, output: &mut Output<W>) -> Result<(), WriterFailed>
+fn write_found<W: Sink>(found: Replayed, output: &mut Output<W>) -> Result<(), WriterFailed>
     ensures { Writes output.old (found_text found) result output.new }
 {
     match found {

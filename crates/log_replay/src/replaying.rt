@@ -13,9 +13,8 @@ use command_text::one_meaning;
 use reference_machine::Machine;
 use reply_text::replies_are_lines;
 use std::alloc::Global;
-use std::io::Read;
 use std::thread::Threads;
-use watched::{Input, LineBuffer};
+use watched::{Input, LineBuffer, Source};
 
 /// Reads a log line by line into the buffer, runs each of its commands on the machine, which has done nothing yet, and
 /// compares each line of the reply. Ends at the first line that differs or is bad, and else at the end of the input.
@@ -23,7 +22,7 @@ use watched::{Input, LineBuffer};
 /// It agrees just where the input is the log, of either version, of a legal history of so many calls, each command of
 /// at most 4,096 bytes, in at most 16,000,000 lines of at most 1,048,576 bytes each; unless the reader failed, or
 /// memory was wanted for a call. Holds one line and one reply at a time. More may have been read than was looked at.
-pub fn replay<R: Read, M: Machine>(
+pub fn replay<R: Source, M: Machine>(
     rt: &(impl Threads + Sync),
     alloc: Global,
     buffer: LineBuffer<CAPACITY>,
@@ -48,7 +47,7 @@ pub fn replay<R: Read, M: Machine>(
 }
 
 /// Goes on until it is known what the log is.
-fn read_through<R: Read, M: Machine>(
+fn read_through<R: Source, M: Machine>(
     rt: &(impl Threads + Sync),
     alloc: Global,
     progress: &mut Progress,

@@ -16,12 +16,11 @@ use net_conf::{Edit, PolicySide};
 use net_prefix::{Addr, Prefix};
 use reply_text::{Part, write_joined};
 use sim_event::{Ask, Event, FedRoute, Feed, News};
-use std::io::Write;
-use watched::{Output, WriterFailed};
+use watched::{Output, Sink, WriterFailed};
 
 /// Writes the command that spells the event: its words, with one space between each and the next. At an error a front
 /// of it went out.
-pub fn write_command<W: Write>(event: &Event, output: &mut Output<W>) -> Result<(), WriterFailed>
+pub fn write_command<W: Sink>(event: &Event, output: &mut Output<W>) -> Result<(), WriterFailed>
     ensures { Writes output.old (command_text event.now) result output.new }
 {
     match event {
@@ -33,7 +32,7 @@ pub fn write_command<W: Write>(event: &Event, output: &mut Output<W>) -> Result<
 }
 
 /// Writes the words of a change of the configuration.
-fn write_edit<W: Write>(edit: &Edit, output: &mut Output<W>) -> Result<(), WriterFailed>
+fn write_edit<W: Sink>(edit: &Edit, output: &mut Output<W>) -> Result<(), WriterFailed>
     ensures { Writes output.old (join_with_byte 32 (edit_words edit.now)) result output.new }
 {
     match edit {
@@ -58,7 +57,7 @@ fn write_edit<W: Write>(edit: &Edit, output: &mut Output<W>) -> Result<(), Write
 }
 
 /// Writes the words of a question.
-fn write_ask<W: Write>(ask: &Ask, output: &mut Output<W>) -> Result<(), WriterFailed>
+fn write_ask<W: Sink>(ask: &Ask, output: &mut Output<W>) -> Result<(), WriterFailed>
     ensures { Writes output.old (join_with_byte 32 (ask_words ask.now)) result output.new }
 {
     match ask {
@@ -79,7 +78,7 @@ fn write_ask<W: Write>(ask: &Ask, output: &mut Output<W>) -> Result<(), WriterFa
 }
 
 /// Writes the words of a feed.
-fn write_feed<W: Write>(feed: &Feed, output: &mut Output<W>) -> Result<(), WriterFailed>
+fn write_feed<W: Sink>(feed: &Feed, output: &mut Output<W>) -> Result<(), WriterFailed>
     ensures { Writes output.old
         (join_with_byte 32 (codes "feed" ∷ addr_text feed.now.from ∷ addr_text feed.now.to ∷ news_words feed.now.news))
         result output.new }
@@ -103,7 +102,7 @@ fn write_feed<W: Write>(feed: &Feed, output: &mut Output<W>) -> Result<(), Write
 }
 
 /// Writes the words of a route that is fed, but for its communities.
-fn write_route<W: Write>(
+fn write_route<W: Sink>(
     from: Addr,
     to: Addr,
     route: &FedRoute,
@@ -128,7 +127,7 @@ fn write_route<W: Write>(
 }
 
 /// Writes the word of the communities after a space. Nothing where there are none.
-fn write_communities<W: Write>(
+fn write_communities<W: Sink>(
     communities: &[u32],
     output: &mut Output<W>,
 ) -> Result<(), WriterFailed>
@@ -142,7 +141,7 @@ fn write_communities<W: Write>(
 }
 
 /// Writes a verb and two addresses.
-fn write_pair<W: Write>(
+fn write_pair<W: Sink>(
     verb: &[u8],
     first: Addr,
     second: Addr,
@@ -156,7 +155,7 @@ fn write_pair<W: Write>(
 }
 
 /// Writes a verb, an address and a number.
-fn write_numbered<W: Write>(
+fn write_numbered<W: Sink>(
     verb: &[u8],
     addr: Addr,
     number: u32,
@@ -174,7 +173,7 @@ fn write_numbered<W: Write>(
 }
 
 /// Writes a verb, two addresses and a cost.
-fn write_cost<W: Write>(
+fn write_cost<W: Sink>(
     verb: &[u8],
     first: Addr,
     second: Addr,
@@ -194,7 +193,7 @@ fn write_cost<W: Write>(
 }
 
 /// Writes a verb, an address and a prefix.
-fn write_prefixed<W: Write>(
+fn write_prefixed<W: Sink>(
     verb: &[u8],
     addr: Addr,
     prefix: Prefix,
@@ -208,7 +207,7 @@ fn write_prefixed<W: Write>(
 }
 
 /// Writes a verb, two addresses and a switch.
-fn write_switch<W: Write>(
+fn write_switch<W: Sink>(
     verb: &[u8],
     first: Addr,
     second: Addr,
@@ -229,7 +228,7 @@ fn write_switch<W: Write>(
 }
 
 /// Writes the words by which a router is told how to compare MULTI_EXIT_DISC.
-fn write_comparison<W: Write>(
+fn write_comparison<W: Sink>(
     router: Addr,
     always: bool,
     output: &mut Output<W>,
@@ -247,7 +246,7 @@ fn write_comparison<W: Write>(
 }
 
 /// Writes the words by which a policy is emptied.
-fn write_clear<W: Write>(
+fn write_clear<W: Sink>(
     first: Addr,
     second: Addr,
     side: PolicySide,

@@ -10,10 +10,9 @@ ghost use Rattle.watched.specs.Streams.{Writes};
 use crate::log::{write_end, write_entries, write_header, write_log};
 use sim_event::Entry;
 use std::alloc::Global;
-use std::io::Write;
 use std::thread::Threads;
 use text::text_by_threads;
-use watched::{Output, WriterFailed};
+use watched::{Output, Sink, WriterFailed};
 
 /// The most calls of which one thread makes the text before it is written.
 const CALLS_AT_A_TIME: usize = 4_096;
@@ -21,7 +20,7 @@ const CALLS_AT_A_TIME: usize = 4_096;
 /// Writes the log of the history, as `write_log` does. Where there are to be several threads, these make the text, of
 /// some thousand calls each at a time, and this one writes it; where there is no memory for that, this one does all. At
 /// an error a front of the log went out.
-pub fn write_log_in_threads<W: Write, R: Threads + Sync>(
+pub fn write_log_in_threads<W: Sink, R: Threads + Sync>(
     rt: &R,
     alloc: Global,
     threads: u16,
@@ -39,7 +38,7 @@ pub fn write_log_in_threads<W: Write, R: Threads + Sync>(
 }
 
 /// Writes the calls, turn by turn.
-fn write_turns<W: Write, R: Threads + Sync>(
+fn write_turns<W: Sink, R: Threads + Sync>(
     rt: &R,
     alloc: Global,
     threads: u16,
@@ -59,7 +58,7 @@ fn write_turns<W: Write, R: Threads + Sync>(
 }
 
 /// Writes the calls of one turn. Where there is no memory for their text, they are written one by one.
-fn write_turn<W: Write, R: Threads + Sync>(
+fn write_turn<W: Sink, R: Threads + Sync>(
     rt: &R,
     alloc: Global,
     threads: u16,

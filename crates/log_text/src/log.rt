@@ -12,12 +12,11 @@ ghost use Rattle.watched.specs.Streams.{Writes};
 use crate::command::write_command;
 use reply_text::{Part, write_each, write_marked_reply, write_numbered};
 use sim_event::{Entry, Event};
-use std::io::Write;
-use watched::{Output, WriterFailed};
+use watched::{Output, Sink, WriterFailed};
 
 /// Writes the log of the history: a header, each call with its seat and its reply, and how many calls there are. Takes
 /// no memory. At an error a front of it went out.
-pub fn write_log<W: Write>(entries: &[Entry], output: &mut Output<W>) -> Result<(), WriterFailed>
+pub fn write_log<W: Sink>(entries: &[Entry], output: &mut Output<W>) -> Result<(), WriterFailed>
     ensures { Writes output.old (log_text entries.now) result output.new }
 {
     write_header(output)?;
@@ -27,24 +26,21 @@ pub fn write_log<W: Write>(entries: &[Entry], output: &mut Output<W>) -> Result<
 
 /// Writes the first line of a log, which names the second version. At an error a front of it went out, here and in the
 /// calls below.
-pub fn write_header<W: Write>(output: &mut Output<W>) -> Result<(), WriterFailed>
+pub fn write_header<W: Sink>(output: &mut Output<W>) -> Result<(), WriterFailed>
     ensures { Writes output.old (header Two ++ line_end) result output.new }
 {
     output.write(b"bgpsim log 2\n")
 }
 
 /// Writes the last line of a log of so many calls.
-pub fn write_end<W: Write>(count: u64, output: &mut Output<W>) -> Result<(), WriterFailed>
+pub fn write_end<W: Sink>(count: u64, output: &mut Output<W>) -> Result<(), WriterFailed>
     ensures { Writes output.old (end_line count) result output.new }
 {
     write_numbered(b"end ", count, output)
 }
 
 /// Writes the calls, each with its reply, as they stand between the first line and the last.
-pub fn write_entries<W: Write>(
-    entries: &[Entry],
-    output: &mut Output<W>,
-) -> Result<(), WriterFailed>
+pub fn write_entries<W: Sink>(entries: &[Entry], output: &mut Output<W>) -> Result<(), WriterFailed>
     ensures { Writes output.old (flat_map entry_text entries.now) result output.new }
 {
     for entry in entries {
@@ -55,7 +51,7 @@ pub fn write_entries<W: Write>(
 
 /// Writes a call and its reply.
 #[tactic(auto, unfolding(crate::specs::Logs::entry_text))]
-fn write_entry<W: Write>(entry: &Entry, output: &mut Output<W>) -> Result<(), WriterFailed>
+fn write_entry<W: Sink>(entry: &Entry, output: &mut Output<W>) -> Result<(), WriterFailed>
     ensures { Writes output.old (entry_text entry.now) result output.new }
 {
     write_call(entry.seat, &entry.event, output)?;
@@ -63,7 +59,7 @@ fn write_entry<W: Write>(entry: &Entry, output: &mut Output<W>) -> Result<(), Wr
 }
 
 /// Writes the line of a call.
-fn write_call<W: Write>(seat: u8, event: &Event, output: &mut Output<W>) -> Result<(), WriterFailed>
+fn write_call<W: Sink>(seat: u8, event: &Event, output: &mut Output<W>) -> Result<(), WriterFailed>
     ensures { Writes output.old (call_line seat event.now ++ line_end) result output.new }
 {
     write_seat(seat, output)?;
@@ -72,7 +68,7 @@ fn write_call<W: Write>(seat: u8, event: &Event, output: &mut Output<W>) -> Resu
 }
 
 /// Writes the number of a seat, and a space.
-fn write_seat<W: Write>(seat: u8, output: &mut Output<W>) -> Result<(), WriterFailed>
+fn write_seat<W: Sink>(seat: u8, output: &mut Output<W>) -> Result<(), WriterFailed>
     ensures { Writes output.old (codes "@" ++ decimal seat ++ codes " ") result output.new }
 {
     let parts = [

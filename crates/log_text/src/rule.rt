@@ -14,11 +14,10 @@ use net_conf::PolicySide;
 use net_prefix::{Addr, Prefix};
 use reply_text::{Part, write_each, write_joined};
 use route_policy::{Action, Match, Repeat, Rule, Settings};
-use std::io::Write;
-use watched::{Output, WriterFailed};
+use watched::{Output, Sink, WriterFailed};
 
 /// Writes the words by which a rule is added to a policy.
-pub(crate) fn write_rule<W: Write>(
+pub(crate) fn write_rule<W: Sink>(
     first: Addr,
     second: Addr,
     side: PolicySide,
@@ -35,7 +34,7 @@ pub(crate) fn write_rule<W: Write>(
 }
 
 /// Writes the words that name the policy to which a rule is added.
-fn write_policy<W: Write>(
+fn write_policy<W: Sink>(
     first: Addr,
     second: Addr,
     side: PolicySide,
@@ -55,7 +54,7 @@ fn write_policy<W: Write>(
 }
 
 /// Writes which routes a rule is about, a space before each word.
-fn write_match<W: Write>(cond: Match, output: &mut Output<W>) -> Result<(), WriterFailed>
+fn write_match<W: Sink>(cond: Match, output: &mut Output<W>) -> Result<(), WriterFailed>
     ensures { Writes output.old (spaced (match_words cond)) result output.new }
 {
     match cond {
@@ -69,7 +68,7 @@ fn write_match<W: Write>(cond: Match, output: &mut Output<W>) -> Result<(), Writ
 }
 
 /// Writes what becomes of a route, a space before each word.
-fn write_action<W: Write>(act: Action, output: &mut Output<W>) -> Result<(), WriterFailed>
+fn write_action<W: Sink>(act: Action, output: &mut Output<W>) -> Result<(), WriterFailed>
     ensures { Writes output.old (spaced (action_words act)) result output.new }
 {
     match act {
@@ -79,7 +78,7 @@ fn write_action<W: Write>(act: Action, output: &mut Output<W>) -> Result<(), Wri
 }
 
 /// Writes the words of a permit, a space before each.
-fn write_permit<W: Write>(settings: Settings, output: &mut Output<W>) -> Result<(), WriterFailed>
+fn write_permit<W: Sink>(settings: Settings, output: &mut Output<W>) -> Result<(), WriterFailed>
     ensures { Writes output.old (spaced (codes "permit" ∷ settings_words settings)) result output.new }
 {
     output.write(b" permit")?;
@@ -87,7 +86,7 @@ fn write_permit<W: Write>(settings: Settings, output: &mut Output<W>) -> Result<
 }
 
 /// Writes the settings that are made, a space before each.
-fn write_settings<W: Write>(settings: Settings, output: &mut Output<W>) -> Result<(), WriterFailed>
+fn write_settings<W: Sink>(settings: Settings, output: &mut Output<W>) -> Result<(), WriterFailed>
     ensures { Writes output.old (spaced (settings_words settings)) result output.new }
 {
     write_setting(b"pref=", settings.pref, output)?;
@@ -107,7 +106,7 @@ fn count_of(prepend: Option<Repeat>) -> Option<u32>
 }
 
 /// Writes the setting by its name after a space, where it is made.
-fn write_setting<W: Write>(
+fn write_setting<W: Sink>(
     name: &[u8],
     value: Option<u32>,
     output: &mut Output<W>,
@@ -126,7 +125,7 @@ fn write_setting<W: Write>(
 }
 
 /// Writes the bytes and a prefix.
-fn write_prefixed<W: Write>(
+fn write_prefixed<W: Sink>(
     bytes: &[u8],
     prefix: Prefix,
     output: &mut Output<W>,
@@ -137,7 +136,7 @@ fn write_prefixed<W: Write>(
 }
 
 /// Writes the bytes and a number.
-fn write_numbered<W: Write>(
+fn write_numbered<W: Sink>(
     bytes: &[u8],
     number: u32,
     output: &mut Output<W>,

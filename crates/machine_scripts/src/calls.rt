@@ -7,16 +7,15 @@ use crate::hands::Hands;
 use reply_text::RunFault;
 use sim_text::CAPACITY;
 use std::alloc::Global;
-use std::io::{Read, Write};
 use std::sync::ledger::{Blank, Ledger};
 use std::thread::Threads;
-use watched::{Input, LineBuffer, Output};
+use watched::{Input, LineBuffer, Output, Sink, Source};
 
 /// The most lines.
 const MOST_LINES: u64 = 1_000_000;
 
 /// Answers each line in turn, in a new room. It ends with the input, or with the line `close`.
-pub(crate) fn serve_calls<L: Ledger, R: Read, W: Write>(
+pub(crate) fn serve_calls<L: Ledger, R: Source, W: Sink>(
     rt: &(impl Threads + Sync),
     alloc: Global,
     blank: Blank,
@@ -41,7 +40,7 @@ pub(crate) fn serve_calls<L: Ledger, R: Read, W: Write>(
 }
 
 /// Answers each line in turn. Whether the room is to be closed.
-fn answer_lines<L: Ledger, R: Read, W: Write>(
+fn answer_lines<L: Ledger, R: Source, W: Sink>(
     rt: &(impl Threads + Sync),
     buffer: &mut LineBuffer<CAPACITY>,
     hands: &mut Hands<L>,
@@ -66,7 +65,7 @@ fn answer_lines<L: Ledger, R: Read, W: Write>(
 
 /// The index of the end of the line of that number, once it was read. None at the end of the input. All that was
 /// written is sent on before more is read.
-fn next_line<R: Read, W: Write>(
+fn next_line<R: Source, W: Sink>(
     buffer: &mut LineBuffer<CAPACITY>,
     line: u64,
     input: &mut Input<R>,

@@ -13,11 +13,10 @@ use reply_text::{Part, RunFault, write_each, write_numbered, write_refusal, writ
 use room::{Audit, CommitFault, Committed, Done, Job, Jobs, Newer, Outcomes, Record, Room, Seat};
 use route_select::GroupCell;
 use std::alloc::{AllocError, Global};
-use std::io::Write;
 use std::marker::Brand;
 use std::sync::ledger::{Blank, Ledger};
 use std::thread::Threads;
-use watched::{Output, WriterFailed};
+use watched::{Output, Sink, WriterFailed};
 
 type Tries = TrieTable<Cell<GroupCell>>;
 
@@ -91,7 +90,7 @@ impl<L: Ledger> Hands<L> {
     }
 
     /// Makes the call of the line, and answers it.
-    pub(crate) fn answer<W: Write>(
+    pub(crate) fn answer<W: Sink>(
         &mut self,
         rt: &(impl Threads + Sync),
         line: &[u8],
@@ -110,7 +109,7 @@ impl<L: Ledger> Hands<L> {
     }
 
     /// The engineer gives the command.
-    fn step<W: Write>(
+    fn step<W: Sink>(
         &mut self,
         rt: &(impl Threads + Sync),
         line: &[u8],
@@ -129,7 +128,7 @@ impl<L: Ledger> Hands<L> {
     }
 
     /// The worker takes a job.
-    fn take<W: Write>(&mut self, output: &mut Output<W>) -> Result<(), WriterFailed> {
+    fn take<W: Sink>(&mut self, output: &mut Output<W>) -> Result<(), WriterFailed> {
         match self.room.job(0, 1) {
             Ok(Some(job)) => self.keep_job(job, output),
             Ok(None) => output.write(b"none\n"),
@@ -138,7 +137,7 @@ impl<L: Ledger> Hands<L> {
     }
 
     /// Keeps the job in hand, and tells its ends.
-    fn keep_job<W: Write>(
+    fn keep_job<W: Sink>(
         &mut self,
         job: Job<GroupCell>,
         output: &mut Output<W>,
@@ -158,7 +157,7 @@ impl<L: Ledger> Hands<L> {
     }
 
     /// The worker works a job, once there is a place for its outcome. One that is handed back is in hand again.
-    fn work<W: Write>(&mut self, output: &mut Output<W>) -> Result<(), WriterFailed> {
+    fn work<W: Sink>(&mut self, output: &mut Output<W>) -> Result<(), WriterFailed> {
         if self.jobs.is_empty() {
             return output.write(b"none\n");
         }
@@ -181,7 +180,7 @@ impl<L: Ledger> Hands<L> {
     }
 
     /// The worker commits an outcome. One that is handed back is in hand again.
-    fn commit<W: Write>(&mut self, output: &mut Output<W>) -> Result<(), WriterFailed> {
+    fn commit<W: Sink>(&mut self, output: &mut Output<W>) -> Result<(), WriterFailed> {
         let Some(done) = self.outcomes.pop() else {
             return output.write(b"none\n");
         };
@@ -201,7 +200,7 @@ impl<L: Ledger> Hands<L> {
     }
 
     /// The worker makes turns: takes jobs, works them, and commits all their outcomes.
-    fn make_turns<W: Write>(&mut self, output: &mut Output<W>) -> Result<(), WriterFailed> {
+    fn make_turns<W: Sink>(&mut self, output: &mut Output<W>) -> Result<(), WriterFailed> {
         let Ok(jobs) = self.room.jobs(0, 1, JOBS_AT_ONCE) else {
             return write_refusal(Refusal::Memory, output);
         };
@@ -216,7 +215,7 @@ impl<L: Ledger> Hands<L> {
 
     /// Tells what the calls have come to: how many edits and calls were made, whether each seat's notes agree, and what
     /// is in hand.
-    fn tell<W: Write>(&self, output: &mut Output<W>) -> Result<(), WriterFailed> {
+    fn tell<W: Sink>(&self, output: &mut Output<W>) -> Result<(), WriterFailed> {
         write_numbered(b"edits ", self.room.version(), output)?;
         write_numbered(b"calls ", self.room.progress().calls, output)?;
         for seat in [&self.engineer, &self.worker] {
@@ -230,7 +229,7 @@ impl<L: Ledger> Hands<L> {
     }
 
     /// Closes the room with both seats, and tells its log, and how many routes were decided anew.
-    pub(crate) fn close<W: Write>(self, output: &mut Output<W>) -> Result<(), RunFault> {
+    pub(crate) fn close<W: Sink>(self, output: &mut Output<W>) -> Result<(), RunFault> {
         let Hands {
             alloc,
             room,
@@ -263,7 +262,7 @@ impl<L: Ledger> Hands<L> {
 }
 
 /// Writes the log, and how many routes were decided anew.
-fn write_end<W: Write>(
+fn write_end<W: Sink>(
     record: &Record,
     decided: u64,
     output: &mut Output<W>,
@@ -305,7 +304,7 @@ fn outcomes_of(alloc: Global, jobs: Jobs<GroupCell>) -> Result<Outcomes<GroupCel
 }
 
 /// Opens another desk, the largest, and lets it go.
-fn open_another<L: Ledger, W: Write>(
+fn open_another<L: Ledger, W: Sink>(
     alloc: Global,
     blank: Blank,
     output: &mut Output<W>,
@@ -323,7 +322,7 @@ fn open_another<L: Ledger, W: Write>(
 }
 
 /// Writes what has moved.
-fn write_newer<W: Write>(newer: &Newer, output: &mut Output<W>) -> Result<(), WriterFailed> {
+fn write_newer<W: Sink>(newer: &Newer, output: &mut Output<W>) -> Result<(), WriterFailed> {
     match newer {
         Newer::ConfMoved { had, now } => {
             let parts = [

@@ -26,6 +26,7 @@ use std::marker::Brand;
 use std::process::ExitCode;
 use std::sync::ledger::{Blank, Ledger};
 use std::thread::Threads;
+use watched::{LineBuffer, Reader, Writer};
 
 fn main(rt: HostRuntime) -> ExitCode {
     let alloc = rt.alloc();
@@ -59,7 +60,7 @@ fn without_machine(rt: &impl Eprint) -> ExitCode
 fn without_memory(errors: impl Write + Drop) -> ExitCode
     ensures { exit_status result ≡ no_memory }
 {
-    let mut errors = watched::Output::new(errors);
+    let mut errors = watched::Output::new(Writer::new(errors));
     ExitCode::from(end_by(&RunFault::NoMemory, &mut errors))
 }
 
@@ -76,12 +77,16 @@ fn serve_streams<M: Machine + Drop>(
     let Ok(writer) = BufWriter::new(alloc, io::writer(rt)) else {
         return without_memory(errors);
     };
-    let mut input = watched::Input::new(rt.reader());
-    let mut output = watched::Output::new(writer);
-    let mut errors = watched::Output::new(errors);
+    let Ok(buffer) = LineBuffer::new(alloc) else {
+        return without_memory(errors);
+    };
+    let mut input = watched::Input::new(Reader::new(rt.reader()));
+    let mut output = watched::Output::new(Writer::new(writer));
+    let mut errors = watched::Output::new(Writer::new(errors));
     let status = run_script(
         rt,
         alloc,
+        buffer,
         &mut machine,
         &mut input,
         &mut output,
@@ -102,10 +107,13 @@ fn call_streams<L: Ledger>(
     let Ok(writer) = BufWriter::new(alloc, io::writer(rt)) else {
         return without_memory(errors);
     };
-    let mut input = watched::Input::new(rt.reader());
-    let mut output = watched::Output::new(writer);
+    let mut input = watched::Input::new(Reader::new(rt.reader()));
+    let mut output = watched::Output::new(Writer::new(writer));
     match serve_calls::<L, _, _>(rt, alloc, blank, &mut input, &mut output) {
         Ok(()) => ExitCode::from(SUCCESS),
-        Err(fault) => ExitCode::from(end_by(&fault, &mut watched::Output::new(errors))),
+        Err(fault) => ExitCode::from(end_by(
+            &fault,
+            &mut watched::Output::new(Writer::new(errors)),
+        )),
     }
 }

@@ -54,18 +54,53 @@ lacks_node c (NoOrigin a p) = not (has_node c a)
 abbrev pub repeats_node : Configuration → Edit → Bool
 repeats_node c (Router a n) = has_node c a
 repeats_node c (Virtual a n) = has_node c a
-repeats_node c _ = false
+repeats_node c (Link a b m) = false
+repeats_node c (Metric a b m) = false
+repeats_node c (Fail a b) = false
+repeats_node c (Mend a b) = false
+repeats_node c (Join a b) = false
+repeats_node c (Stop a b) = false
+repeats_node c (Start a b) = false
+repeats_node c (Client a b on) = false
+repeats_node c (OwnNext a b on) = false
+repeats_node c (Cluster a id) = false
+repeats_node c (MedAlways a on) = false
+repeats_node c (AddRule a b side rule) = false
+repeats_node c (Clear a b side) = false
+repeats_node c (Origin a p) = false
+repeats_node c (NoOrigin a p) = false
 
 -- 4: both ends are one
 abbrev pub has_one_end : Edit → Bool
+has_one_end (Router a n) = false
+has_one_end (Virtual a n) = false
 has_one_end (Link a b m) = a.0 == b.0
+has_one_end (Metric a b m) = false
+has_one_end (Fail a b) = false
+has_one_end (Mend a b) = false
 has_one_end (Join a b) = a.0 == b.0
-has_one_end _ = false
+has_one_end (Stop a b) = false
+has_one_end (Start a b) = false
+has_one_end (Client a b on) = false
+has_one_end (OwnNext a b on) = false
+has_one_end (Cluster a id) = false
+has_one_end (MedAlways a on) = false
+has_one_end (AddRule a b side rule) = false
+has_one_end (Clear a b side) = false
+has_one_end (Origin a p) = false
+has_one_end (NoOrigin a p) = false
 
 -- 5: both ends are virtual, or a virtual peer stands where a router is needed
 abbrev pub has_bad_end : Configuration → Edit → Bool
+has_bad_end c (Router a n) = false
+has_bad_end c (Virtual a n) = false
 has_bad_end c (Link a b m) = is_virtual c a && is_virtual c b
+has_bad_end c (Metric a b m) = false
+has_bad_end c (Fail a b) = false
+has_bad_end c (Mend a b) = false
 has_bad_end c (Join a b) = is_virtual c a && is_virtual c b
+has_bad_end c (Stop a b) = false
+has_bad_end c (Start a b) = false
 has_bad_end c (Client a b on) = is_virtual c a
 has_bad_end c (OwnNext a b on) = is_virtual c a
 has_bad_end c (Cluster a id) = is_virtual c a
@@ -74,7 +109,6 @@ has_bad_end c (AddRule a b side rule) = is_virtual c a
 has_bad_end c (Clear a b side) = is_virtual c a
 has_bad_end c (Origin a p) = is_virtual c a
 has_bad_end c (NoOrigin a p) = is_virtual c a
-has_bad_end c _ = false
 
 -- one of the two is virtual, and both are in one AS
 abbrev pub has_virtual_inside : Configuration → Addr → Addr → Bool
@@ -82,47 +116,143 @@ has_virtual_inside c a b = (is_virtual c a || is_virtual c b) && not (is_externa
 
 -- 6: a virtual peer would be linked or joined within its own AS
 abbrev pub is_inside : Configuration → Edit → Bool
+is_inside c (Router a n) = false
+is_inside c (Virtual a n) = false
 is_inside c (Link a b m) = has_virtual_inside c a b
+is_inside c (Metric a b m) = false
+is_inside c (Fail a b) = false
+is_inside c (Mend a b) = false
 is_inside c (Join a b) = has_virtual_inside c a b
-is_inside c _ = false
+is_inside c (Stop a b) = false
+is_inside c (Start a b) = false
+is_inside c (Client a b on) = false
+is_inside c (OwnNext a b on) = false
+is_inside c (Cluster a id) = false
+is_inside c (MedAlways a on) = false
+is_inside c (AddRule a b side rule) = false
+is_inside c (Clear a b side) = false
+is_inside c (Origin a p) = false
+is_inside c (NoOrigin a p) = false
 
 -- 7: the two have no link
 abbrev pub lacks_link : Configuration → Edit → Bool
+lacks_link c (Router a n) = false
+lacks_link c (Virtual a n) = false
+lacks_link c (Link a b m) = false
 lacks_link c (Metric a b m) = not (has_link c a b)
 lacks_link c (Fail a b) = not (has_link c a b)
 lacks_link c (Mend a b) = not (has_link c a b)
-lacks_link c _ = false
+lacks_link c (Join a b) = false
+lacks_link c (Stop a b) = false
+lacks_link c (Start a b) = false
+lacks_link c (Client a b on) = false
+lacks_link c (OwnNext a b on) = false
+lacks_link c (Cluster a id) = false
+lacks_link c (MedAlways a on) = false
+lacks_link c (AddRule a b side rule) = false
+lacks_link c (Clear a b side) = false
+lacks_link c (Origin a p) = false
+lacks_link c (NoOrigin a p) = false
 
 -- 8: the two have a link
 abbrev pub repeats_link : Configuration → Edit → Bool
+repeats_link c (Router a n) = false
+repeats_link c (Virtual a n) = false
 repeats_link c (Link a b m) = has_link c a b
-repeats_link c _ = false
+repeats_link c (Metric a b m) = false
+repeats_link c (Fail a b) = false
+repeats_link c (Mend a b) = false
+repeats_link c (Join a b) = false
+repeats_link c (Stop a b) = false
+repeats_link c (Start a b) = false
+repeats_link c (Client a b on) = false
+repeats_link c (OwnNext a b on) = false
+repeats_link c (Cluster a id) = false
+repeats_link c (MedAlways a on) = false
+repeats_link c (AddRule a b side rule) = false
+repeats_link c (Clear a b side) = false
+repeats_link c (Origin a p) = false
+repeats_link c (NoOrigin a p) = false
 
 -- 9: the two are in different ASes and have no link
 abbrev pub is_unlinked : Configuration → Edit → Bool
+is_unlinked c (Router a n) = false
+is_unlinked c (Virtual a n) = false
+is_unlinked c (Link a b m) = false
+is_unlinked c (Metric a b m) = false
+is_unlinked c (Fail a b) = false
+is_unlinked c (Mend a b) = false
 is_unlinked c (Join a b) = is_external c a b && not (has_link c a b)
-is_unlinked c _ = false
+is_unlinked c (Stop a b) = false
+is_unlinked c (Start a b) = false
+is_unlinked c (Client a b on) = false
+is_unlinked c (OwnNext a b on) = false
+is_unlinked c (Cluster a id) = false
+is_unlinked c (MedAlways a on) = false
+is_unlinked c (AddRule a b side rule) = false
+is_unlinked c (Clear a b side) = false
+is_unlinked c (Origin a p) = false
+is_unlinked c (NoOrigin a p) = false
 
 -- 10: the two have no session
 abbrev pub lacks_session : Configuration → Edit → Bool
+lacks_session c (Router a n) = false
+lacks_session c (Virtual a n) = false
+lacks_session c (Link a b m) = false
+lacks_session c (Metric a b m) = false
+lacks_session c (Fail a b) = false
+lacks_session c (Mend a b) = false
+lacks_session c (Join a b) = false
 lacks_session c (Stop a b) = not (has_session c a b)
 lacks_session c (Start a b) = not (has_session c a b)
 lacks_session c (Client a b on) = not (has_session c a b)
 lacks_session c (OwnNext a b on) = not (has_session c a b)
+lacks_session c (Cluster a id) = false
+lacks_session c (MedAlways a on) = false
 lacks_session c (AddRule a b side rule) = not (has_session c a b)
 lacks_session c (Clear a b side) = not (has_session c a b)
-lacks_session c _ = false
+lacks_session c (Origin a p) = false
+lacks_session c (NoOrigin a p) = false
 
 -- 11: the two have a session
 abbrev pub repeats_session : Configuration → Edit → Bool
+repeats_session c (Router a n) = false
+repeats_session c (Virtual a n) = false
+repeats_session c (Link a b m) = false
+repeats_session c (Metric a b m) = false
+repeats_session c (Fail a b) = false
+repeats_session c (Mend a b) = false
 repeats_session c (Join a b) = has_session c a b
-repeats_session c _ = false
+repeats_session c (Stop a b) = false
+repeats_session c (Start a b) = false
+repeats_session c (Client a b on) = false
+repeats_session c (OwnNext a b on) = false
+repeats_session c (Cluster a id) = false
+repeats_session c (MedAlways a on) = false
+repeats_session c (AddRule a b side rule) = false
+repeats_session c (Clear a b side) = false
+repeats_session c (Origin a p) = false
+repeats_session c (NoOrigin a p) = false
 
 -- 12: a setting of internal sessions, on an external one
 abbrev pub needs_internal : Configuration → Edit → Bool
+needs_internal c (Router a n) = false
+needs_internal c (Virtual a n) = false
+needs_internal c (Link a b m) = false
+needs_internal c (Metric a b m) = false
+needs_internal c (Fail a b) = false
+needs_internal c (Mend a b) = false
+needs_internal c (Join a b) = false
+needs_internal c (Stop a b) = false
+needs_internal c (Start a b) = false
 needs_internal c (Client a b on) = is_external c a b
 needs_internal c (OwnNext a b on) = is_external c a b
-needs_internal c _ = false
+needs_internal c (Cluster a id) = false
+needs_internal c (MedAlways a on) = false
+needs_internal c (AddRule a b side rule) = false
+needs_internal c (Clear a b side) = false
+needs_internal c (Origin a p) = false
+needs_internal c (NoOrigin a p) = false
 
 -- the rule gives a setting
 abbrev pub sets_anything : Settings → Bool
@@ -138,18 +268,63 @@ sets_too_much true Export (Permit s) = is_some s.pref
 
 -- 13: the rule sets what it may not set there
 abbrev pub breaks_rule : Configuration → Edit → Bool
+breaks_rule c (Router a n) = false
+breaks_rule c (Virtual a n) = false
+breaks_rule c (Link a b m) = false
+breaks_rule c (Metric a b m) = false
+breaks_rule c (Fail a b) = false
+breaks_rule c (Mend a b) = false
+breaks_rule c (Join a b) = false
+breaks_rule c (Stop a b) = false
+breaks_rule c (Start a b) = false
+breaks_rule c (Client a b on) = false
+breaks_rule c (OwnNext a b on) = false
+breaks_rule c (Cluster a id) = false
+breaks_rule c (MedAlways a on) = false
 breaks_rule c (AddRule a b side rule) = sets_too_much (is_external c a b) side rule.act
-breaks_rule c _ = false
+breaks_rule c (Clear a b side) = false
+breaks_rule c (Origin a p) = false
+breaks_rule c (NoOrigin a p) = false
 
 -- 14: the router originates the prefix
 abbrev pub repeats_origin : Configuration → Edit → Bool
+repeats_origin c (Router a n) = false
+repeats_origin c (Virtual a n) = false
+repeats_origin c (Link a b m) = false
+repeats_origin c (Metric a b m) = false
+repeats_origin c (Fail a b) = false
+repeats_origin c (Mend a b) = false
+repeats_origin c (Join a b) = false
+repeats_origin c (Stop a b) = false
+repeats_origin c (Start a b) = false
+repeats_origin c (Client a b on) = false
+repeats_origin c (OwnNext a b on) = false
+repeats_origin c (Cluster a id) = false
+repeats_origin c (MedAlways a on) = false
+repeats_origin c (AddRule a b side rule) = false
+repeats_origin c (Clear a b side) = false
 repeats_origin c (Origin a p) = originates c a p
-repeats_origin c _ = false
+repeats_origin c (NoOrigin a p) = false
 
 -- 15: the router does not originate the prefix
 abbrev pub lacks_origin : Configuration → Edit → Bool
+lacks_origin c (Router a n) = false
+lacks_origin c (Virtual a n) = false
+lacks_origin c (Link a b m) = false
+lacks_origin c (Metric a b m) = false
+lacks_origin c (Fail a b) = false
+lacks_origin c (Mend a b) = false
+lacks_origin c (Join a b) = false
+lacks_origin c (Stop a b) = false
+lacks_origin c (Start a b) = false
+lacks_origin c (Client a b on) = false
+lacks_origin c (OwnNext a b on) = false
+lacks_origin c (Cluster a id) = false
+lacks_origin c (MedAlways a on) = false
+lacks_origin c (AddRule a b side rule) = false
+lacks_origin c (Clear a b side) = false
+lacks_origin c (Origin a p) = false
 lacks_origin c (NoOrigin a p) = not (originates c a p)
-lacks_origin c _ = false
 
 -- the rules of the router for what comes from the peer, or goes to it
 abbrev pub rules_of : Configuration → Addr → Addr → PolicySide → List Rule
@@ -161,9 +336,20 @@ abbrev pub is_past_limit : Configuration → Edit → Bool
 is_past_limit c (Router a n) = nat_le most_nodes (length c.nodes)
 is_past_limit c (Virtual a n) = nat_le most_nodes (length c.nodes)
 is_past_limit c (Link a b m) = nat_le most_links (length c.links)
+is_past_limit c (Metric a b m) = false
+is_past_limit c (Fail a b) = false
+is_past_limit c (Mend a b) = false
 is_past_limit c (Join a b) = nat_le most_sessions (session_count c a) || nat_le most_sessions (session_count c b)
+is_past_limit c (Stop a b) = false
+is_past_limit c (Start a b) = false
+is_past_limit c (Client a b on) = false
+is_past_limit c (OwnNext a b on) = false
+is_past_limit c (Cluster a id) = false
+is_past_limit c (MedAlways a on) = false
 is_past_limit c (AddRule a b side rule) = is_full (rules_of c a b side)
-is_past_limit c _ = false
+is_past_limit c (Clear a b side) = false
+is_past_limit c (Origin a p) = false
+is_past_limit c (NoOrigin a p) = false
 
 -- the first refusal whose test holds
 abbrev pub first_of : List (Bool × Refusal) → Option Refusal

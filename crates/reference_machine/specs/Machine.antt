@@ -189,17 +189,24 @@ abbrev pub asks_peer : Configuration → Ask → Bool
 asks_peer c (Routes r) = is_virtual c r
 asks_peer c (Best r p) = is_virtual c r
 asks_peer c (Why r p) = is_virtual c r
+asks_peer c (In r u) = false
 asks_peer c (Out r t) = is_virtual c r
+asks_peer c (QueueOf a b) = false
+asks_peer c Quiet = false
 asks_peer c (Cost r x) = is_virtual c r
 asks_peer c (Trace r d) = is_virtual c r
-asks_peer c _ = false
 
 -- 10: the two have no session
 abbrev pub asks_unjoined : Configuration → Ask → Bool
+asks_unjoined c (Routes r) = false
+asks_unjoined c (Best r p) = false
+asks_unjoined c (Why r p) = false
 asks_unjoined c (In r u) = not (has_session c r u)
 asks_unjoined c (Out r t) = not (has_session c r t)
 asks_unjoined c (QueueOf a b) = not (has_session c a b)
-asks_unjoined c _ = false
+asks_unjoined c Quiet = false
+asks_unjoined c (Cost r x) = false
+asks_unjoined c (Trace r d) = false
 
 -- why the question is refused: the first test that holds
 unfoldable pub ask_refusal : Configuration → Ask → Option Refusal
@@ -228,10 +235,12 @@ abbrev pub decider_asked : Ask → Option Addr
 decider_asked (Routes r) = Some r
 decider_asked (Best r p) = Some r
 decider_asked (Why r p) = Some r
+decider_asked (In r u) = None
 decider_asked (Out r t) = Some r
+decider_asked (QueueOf a b) = None
+decider_asked Quiet = None
 decider_asked (Cost r x) = Some r
 decider_asked (Trace r d) = Some r
-decider_asked _ = None
 
 -- STEPS AND RUNS
 

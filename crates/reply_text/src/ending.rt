@@ -8,8 +8,8 @@ use crate::part::Part;
 use crate::reply::write_numbered;
 use crate::text::write_each;
 use std::alloc::AllocError;
-use std::io::Write;
-use watched::{Output, WriterFailed};
+use thiserror::Error;
+use watched::{Output, Sink, WriterFailed};
 
 /// The exit status where all was done.
 pub const SUCCESS: u8 = 0;
@@ -30,17 +30,25 @@ pub const WRITE_FAULT: u8 = 4;
 pub const NO_MEMORY: u8 = 5;
 
 /// Why a run ended early.
-#[derive(Debug, Drop)]
+///
+/// What is told of it is exact: `end_by` writes the text that `fault_text` defines. No contract says what `Display`
+/// writes, which is that text without its line feed. `From` is written by hand, since the derived one has no contract.
+#[derive(Debug, Drop, Error)]
 pub enum RunFault {
     /// The line of this number was not read whole, or is one too many. Lines count from 1.
+    #[error("read fault at line {line}")]
     LineUnread { line: u64 },
     /// The file of this name could not be read, or is past the limits of a script.
+    #[error("cannot read {0}")]
     FileUnread(String),
     /// Standard output failed.
+    #[error("write fault")]
     Unwritten,
     /// There was no memory, be it for a thread.
+    #[error("memory")]
     NoMemory,
     /// The notes of a seat are not its calls in the history.
+    #[error("the book differs")]
     BookDiffers,
 }
 
@@ -53,7 +61,7 @@ impl From<AllocError> for RunFault {
 }
 
 /// Tells the fault, sends that on, and gives the exit status. A failure to tell it is passed over.
-pub fn end_by<E: Write>(fault: &RunFault, errors: &mut Output<E>) -> u8
+pub fn end_by<E: Sink>(fault: &RunFault, errors: &mut Output<E>) -> u8
     ensures status { result ≡ fault_status fault.now }
     ensures told { IsTold errors.old (fault_text fault.now) errors.new }
     ensures sent { errors.new.failed ≡ false → errors.new.held ≡ false }
@@ -74,7 +82,7 @@ fn status_of(fault: &RunFault) -> u8
 }
 
 /// Tells the fault, and sends that on. A failure to do so is passed over.
-fn tell<E: Write>(fault: &RunFault, errors: &mut Output<E>)
+fn tell<E: Sink>(fault: &RunFault, errors: &mut Output<E>)
     ensures told { IsTold errors.old (fault_text fault.now) errors.new }
     ensures sent { errors.new.failed ≡ false → errors.new.held ≡ false }
 {
@@ -82,7 +90,7 @@ fn tell<E: Write>(fault: &RunFault, errors: &mut Output<E>)
 }
 
 /// Writes the line of the fault, and sends it on.
-fn send_line<W: Write>(fault: &RunFault, output: &mut Output<W>) -> Result<(), WriterFailed>
+fn send_line<W: Sink>(fault: &RunFault, output: &mut Output<W>) -> Result<(), WriterFailed>
     ensures told { IsTold output.old (fault_text fault.now) output.new }
     ensures sent { output.new.failed ≡ false → output.new.held ≡ false }
 {
@@ -91,7 +99,7 @@ fn send_line<W: Write>(fault: &RunFault, output: &mut Output<W>) -> Result<(), W
 }
 
 /// Writes the line of the fault. At an error a front of it went out.
-fn write_line<W: Write>(fault: &RunFault, output: &mut Output<W>) -> Result<(), WriterFailed>
+fn write_line<W: Sink>(fault: &RunFault, output: &mut Output<W>) -> Result<(), WriterFailed>
     ensures { Writes output.old (fault_text fault.now) result output.new }
 {
     match fault {

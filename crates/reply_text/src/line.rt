@@ -14,8 +14,7 @@ use path_attr::{Attr, SharedAttr};
 use route_select::{Reason, Source};
 use session_queue::Message;
 use sim_event::{Held, TraceEnd};
-use std::io::Write;
-use watched::{Output, WriterFailed};
+use watched::{Output, Sink, WriterFailed};
 
 impl Text for Held {
     ghost use Rattle.reply_text.specs.Replies.{held_line};
@@ -24,7 +23,7 @@ impl Text for Held {
 
     /// Writes the line of a chosen route.
     #[tactic(auto, unfolding(crate::specs::Replies::held_line))]
-    fn write<W: Write>(&self, output: &mut Output<W>) -> Result<(), WriterFailed> {
+    fn write<W: Sink>(&self, output: &mut Output<W>) -> Result<(), WriterFailed> {
         let head = [
             Part::Prefix(self.prefix),
             Part::Bytes(b" from "),
@@ -42,7 +41,7 @@ impl Text for (Source, Reason) {
 
     /// Writes the line of a source: why its route was chosen or dropped.
     #[tactic(auto, unfolding(crate::specs::Replies::reason_line))]
-    fn write<W: Write>(&self, output: &mut Output<W>) -> Result<(), WriterFailed> {
+    fn write<W: Sink>(&self, output: &mut Output<W>) -> Result<(), WriterFailed> {
         let parts = [
             Part::Source(self.0),
             Part::Bytes(b" "),
@@ -60,7 +59,7 @@ impl Text for (Prefix, SharedAttr) {
 
     /// Writes the line of a route.
     #[tactic(auto, unfolding(crate::specs::Replies::route_line))]
-    fn write<W: Write>(&self, output: &mut Output<W>) -> Result<(), WriterFailed> {
+    fn write<W: Sink>(&self, output: &mut Output<W>) -> Result<(), WriterFailed> {
         let head = [Part::Prefix(self.0), Part::Bytes(b" ")];
         write_with_shared(&head, &self.1, output)
     }
@@ -73,7 +72,7 @@ impl Text for Message {
 
     /// Writes the line of a message.
     #[tactic(auto, unfolding(crate::specs::Replies::message_line))]
-    fn write<W: Write>(&self, output: &mut Output<W>) -> Result<(), WriterFailed> {
+    fn write<W: Sink>(&self, output: &mut Output<W>) -> Result<(), WriterFailed> {
         match self {
             Message::Update(prefix, attr) => {
                 let head = [
@@ -102,7 +101,7 @@ impl Text for (Addr, Prefix) {
 
     /// Writes the line of a router that forwards.
     #[tactic(auto, unfolding(crate::specs::Replies::hop_line))]
-    fn write<W: Write>(&self, output: &mut Output<W>) -> Result<(), WriterFailed> {
+    fn write<W: Sink>(&self, output: &mut Output<W>) -> Result<(), WriterFailed> {
         let parts = [
             Part::Addr(self.0),
             Part::Bytes(b" "),
@@ -120,7 +119,7 @@ impl Text for TraceEnd {
 
     /// Writes the line that says how forwarding ends.
     #[tactic(auto, unfolding(crate::specs::Replies::trace_end_line))]
-    fn write<W: Write>(&self, output: &mut Output<W>) -> Result<(), WriterFailed> {
+    fn write<W: Sink>(&self, output: &mut Output<W>) -> Result<(), WriterFailed> {
         match self {
             TraceEnd::Reached(addr) => write_word_and_addr(b"reached ", *addr, output),
             TraceEnd::NoRoute(addr) => write_word_and_addr(b"noroute ", *addr, output),
@@ -130,7 +129,7 @@ impl Text for TraceEnd {
 }
 
 /// Writes a line that begins with these parts and ends with the attributes.
-fn write_with_shared<W: Write>(
+fn write_with_shared<W: Sink>(
     head: &[Part<'_>],
     attr: &SharedAttr,
     output: &mut Output<W>,
@@ -142,7 +141,7 @@ fn write_with_shared<W: Write>(
 }
 
 /// Writes a line that begins with these parts and ends with the attributes, with this LOCAL_PREF in place of theirs.
-fn write_with_attr<W: Write>(
+fn write_with_attr<W: Sink>(
     head: &[Part<'_>],
     attr: &Attr,
     pref: Option<u32>,
@@ -174,7 +173,7 @@ fn write_with_attr<W: Write>(
 }
 
 /// Writes a line of a word and an address.
-fn write_word_and_addr<W: Write>(
+fn write_word_and_addr<W: Sink>(
     word: &[u8],
     addr: Addr,
     output: &mut Output<W>,

@@ -11,11 +11,10 @@ use crate::report::{trace_line_count, write_end, write_report};
 use crate::text::Text;
 use net_prefix::{Addr, Prefix};
 use sim_event::{Reply, Report, TraceEnd};
-use std::io::Write;
-use watched::{Output, WriterFailed};
+use watched::{Output, Sink, WriterFailed};
 
 /// Writes the reply's lines, each with the mark in front. At an error a front of this went out.
-pub fn write_marked_reply<W: Write>(
+pub fn write_marked_reply<W: Sink>(
     mark: &[u8],
     reply: &Reply,
     output: &mut Output<W>,
@@ -31,7 +30,7 @@ pub fn write_marked_reply<W: Write>(
 }
 
 /// Writes the mark, and the text of a reply that is one line.
-fn write_marked_line<W: Write>(
+fn write_marked_line<W: Sink>(
     mark: &[u8],
     reply: &Reply,
     output: &mut Output<W>,
@@ -43,7 +42,7 @@ fn write_marked_line<W: Write>(
 }
 
 /// Writes the report's lines, each with the mark in front.
-fn write_marked_report<W: Write>(
+fn write_marked_report<W: Sink>(
     mark: &[u8],
     report: &Report,
     output: &mut Output<W>,
@@ -63,7 +62,7 @@ fn write_marked_report<W: Write>(
 }
 
 /// Writes the mark, and the text of a report that is one line.
-fn write_marked_answer<W: Write>(
+fn write_marked_answer<W: Sink>(
     mark: &[u8],
     report: &Report,
     output: &mut Output<W>,
@@ -75,7 +74,7 @@ fn write_marked_answer<W: Write>(
 }
 
 /// Writes the lines and how many there are, the mark in front of each.
-fn write_marked_lines<T: Text, W: Write>(
+fn write_marked_lines<T: Text, W: Sink>(
     mark: &[u8],
     lines: &[T],
     output: &mut Output<W>,
@@ -88,7 +87,7 @@ fn write_marked_lines<T: Text, W: Write>(
 }
 
 /// Writes the routers that forward, how that ends, and how many lines these are, the mark in front of each.
-fn write_marked_trace<W: Write>(
+fn write_marked_trace<W: Sink>(
     mark: &[u8],
     hops: &[(Addr, Prefix)],
     end: TraceEnd,
@@ -104,7 +103,7 @@ fn write_marked_trace<W: Write>(
 }
 
 /// Writes the items, the mark in front of each.
-fn write_each_marked<T: Text, W: Write>(
+fn write_each_marked<T: Text, W: Sink>(
     mark: &[u8],
     items: &[T],
     output: &mut Output<W>,
@@ -118,7 +117,7 @@ fn write_each_marked<T: Text, W: Write>(
 }
 
 /// Writes the mark and the item.
-fn write_marked_text<T: Text, W: Write>(
+fn write_marked_text<T: Text, W: Sink>(
     mark: &[u8],
     item: &T,
     output: &mut Output<W>,
@@ -130,7 +129,7 @@ fn write_marked_text<T: Text, W: Write>(
 }
 
 /// Writes the mark and the last line of a report: how many lines there were before it.
-fn write_marked_end<W: Write>(
+fn write_marked_end<W: Sink>(
     mark: &[u8],
     count: u64,
     output: &mut Output<W>,

@@ -7,11 +7,10 @@ use crate::text::Text;
 use itoa::{Buffer, Integer};
 use net_prefix::{Addr, Prefix};
 use path_attr::Asn;
-use std::io::Write;
-use watched::{Output, WriterFailed};
+use watched::{Output, Sink, WriterFailed};
 
 /// Writes the number in decimal.
-pub(crate) fn write_number<N: Integer, W: Write>(
+pub(crate) fn write_number<N: Integer, W: Sink>(
     number: N,
     output: &mut Output<W>,
 ) -> Result<(), WriterFailed>
@@ -26,7 +25,7 @@ impl Text for u8 {
 
     ghost text = { decimal };
 
-    fn write<W: Write>(&self, output: &mut Output<W>) -> Result<(), WriterFailed> {
+    fn write<W: Sink>(&self, output: &mut Output<W>) -> Result<(), WriterFailed> {
         write_number(*self, output)
     }
 }
@@ -36,7 +35,7 @@ impl Text for u32 {
 
     ghost text = { decimal };
 
-    fn write<W: Write>(&self, output: &mut Output<W>) -> Result<(), WriterFailed> {
+    fn write<W: Sink>(&self, output: &mut Output<W>) -> Result<(), WriterFailed> {
         write_number(*self, output)
     }
 }
@@ -46,7 +45,7 @@ impl Text for Asn {
 
     ghost text = { decimal };
 
-    fn write<W: Write>(&self, output: &mut Output<W>) -> Result<(), WriterFailed> {
+    fn write<W: Sink>(&self, output: &mut Output<W>) -> Result<(), WriterFailed> {
         write_number(self.number(), output)
     }
 }
@@ -56,7 +55,7 @@ impl Text for Addr {
 
     ghost text = { addr_text };
 
-    fn write<W: Write>(&self, output: &mut Output<W>) -> Result<(), WriterFailed> {
+    fn write<W: Sink>(&self, output: &mut Output<W>) -> Result<(), WriterFailed> {
         let mut buffer = [0; ADDR_BYTES];
         let start = put_addr(*self, &mut buffer, ADDR_BYTES);
         output.write(&buffer[start..])
@@ -68,7 +67,7 @@ impl Text for Prefix {
 
     ghost text = { prefix_text };
 
-    fn write<W: Write>(&self, output: &mut Output<W>) -> Result<(), WriterFailed> {
+    fn write<W: Sink>(&self, output: &mut Output<W>) -> Result<(), WriterFailed> {
         let mut buffer = [0; PREFIX_BYTES];
         let start = put_prefix(*self, &mut buffer, PREFIX_BYTES);
         output.write(&buffer[start..])

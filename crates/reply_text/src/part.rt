@@ -11,8 +11,7 @@ use net_prefix::{Addr, Prefix};
 use path_attr::{AsPath, Communities, Origin};
 use route_select::Source;
 use seq::SharedSeq;
-use std::io::Write;
-use watched::{Output, WriterFailed};
+use watched::{Output, Sink, WriterFailed};
 
 /// A part of a line.
 #[derive(Clone, Copy)]
@@ -39,7 +38,7 @@ impl Text for Part<'_> {
 
     ghost text = { part_text };
 
-    fn write<W: Write>(&self, output: &mut Output<W>) -> Result<(), WriterFailed> {
+    fn write<W: Sink>(&self, output: &mut Output<W>) -> Result<(), WriterFailed> {
         match self {
             Part::Bytes(bytes) => output.write(bytes),
             Part::Number(number) => write_number(*number, output),
@@ -57,7 +56,7 @@ impl Text for Part<'_> {
 }
 
 /// Writes the number, or a dash.
-fn write_maybe_number<W: Write>(
+fn write_maybe_number<W: Sink>(
     number: Option<u32>,
     output: &mut Output<W>,
 ) -> Result<(), WriterFailed>
@@ -70,10 +69,7 @@ fn write_maybe_number<W: Write>(
 }
 
 /// Writes the address, or a dash.
-fn write_maybe_addr<W: Write>(
-    addr: Option<Addr>,
-    output: &mut Output<W>,
-) -> Result<(), WriterFailed>
+fn write_maybe_addr<W: Sink>(addr: Option<Addr>, output: &mut Output<W>) -> Result<(), WriterFailed>
     ensures { Writes output.old (maybe_addr_text addr) result output.new }
 {
     match addr {
@@ -83,7 +79,7 @@ fn write_maybe_addr<W: Write>(
 }
 
 /// Writes where a route comes from.
-fn write_source<W: Write>(source: Source, output: &mut Output<W>) -> Result<(), WriterFailed>
+fn write_source<W: Sink>(source: Source, output: &mut Output<W>) -> Result<(), WriterFailed>
     ensures { Writes output.old (source_text source) result output.new }
 {
     match source {
@@ -93,7 +89,7 @@ fn write_source<W: Write>(source: Source, output: &mut Output<W>) -> Result<(), 
 }
 
 /// Writes the word for how a route came into being.
-fn write_origin<W: Write>(origin: Origin, output: &mut Output<W>) -> Result<(), WriterFailed>
+fn write_origin<W: Sink>(origin: Origin, output: &mut Output<W>) -> Result<(), WriterFailed>
     ensures { Writes output.old (origin_text origin) result output.new }
 {
     match origin {

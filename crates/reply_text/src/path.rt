@@ -9,8 +9,7 @@ ghost use Rattle.reply_text.specs.Parts.{dash_or_joined};
 use crate::text::{Text, write_joined};
 use net_prefix::Addr;
 use path_attr::{Asn, Segment};
-use std::io::Write;
-use watched::{Output, WriterFailed};
+use watched::{Output, Sink, WriterFailed};
 
 impl Text for Segment {
     ghost use Rattle.sim_event.specs.Wording.{segment_text};
@@ -18,7 +17,7 @@ impl Text for Segment {
     ghost text = { segment_text };
 
     /// Writes the numbers, joined by commas. A set stands in braces.
-    fn write<W: Write>(&self, output: &mut Output<W>) -> Result<(), WriterFailed> {
+    fn write<W: Sink>(&self, output: &mut Output<W>) -> Result<(), WriterFailed> {
         match self {
             Segment::Seq(numbers) => write_joined(b',', numbers.as_slice(), output),
             Segment::Set(numbers) => write_set(numbers.as_slice(), output),
@@ -27,7 +26,7 @@ impl Text for Segment {
 }
 
 /// Writes the numbers, joined by commas, in braces.
-fn write_set<W: Write>(numbers: &[Asn], output: &mut Output<W>) -> Result<(), WriterFailed>
+fn write_set<W: Sink>(numbers: &[Asn], output: &mut Output<W>) -> Result<(), WriterFailed>
     ensures { Writes output.old (123 ∷ numbers_text numbers.now ++ (125 ∷ [])) result output.new }
 {
     output.write(b"{")?;
@@ -36,7 +35,7 @@ fn write_set<W: Write>(numbers: &[Asn], output: &mut Output<W>) -> Result<(), Wr
 }
 
 /// Writes the items, the separator between each and the next. A dash where there is none.
-fn write_list<T: Text, W: Write>(
+fn write_list<T: Text, W: Sink>(
     separator: u8,
     items: &[T],
     output: &mut Output<W>,
@@ -51,7 +50,7 @@ fn write_list<T: Text, W: Write>(
 
 /// Writes the segments, joined by underscores.
 #[tactic(auto, unfolding(sim_event::specs::Wording::path_text))]
-pub(crate) fn write_path<W: Write>(
+pub(crate) fn write_path<W: Sink>(
     segments: &[Segment],
     output: &mut Output<W>,
 ) -> Result<(), WriterFailed>
@@ -61,7 +60,7 @@ pub(crate) fn write_path<W: Write>(
 }
 
 /// Writes the addresses, joined by commas.
-pub(crate) fn write_clusters<W: Write>(
+pub(crate) fn write_clusters<W: Sink>(
     clusters: &[Addr],
     output: &mut Output<W>,
 ) -> Result<(), WriterFailed>
@@ -71,7 +70,7 @@ pub(crate) fn write_clusters<W: Write>(
 }
 
 /// Writes the name of communities and the numbers, joined by commas. Nothing where there is none.
-pub(crate) fn write_communities<W: Write>(
+pub(crate) fn write_communities<W: Sink>(
     communities: &[u32],
     output: &mut Output<W>,
 ) -> Result<(), WriterFailed>

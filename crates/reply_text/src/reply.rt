@@ -13,14 +13,13 @@ use net_conf::Refusal;
 use net_prefix::Prefix;
 use session_queue::MessageKind;
 use sim_event::Reply;
-use std::io::Write;
-use watched::{Output, WriterFailed};
+use watched::{Output, Sink, WriterFailed};
 
 /// The most bytes of the line of a message that was taken.
 const TOOK_BYTES: usize = 5 + PREFIX_BYTES + 10;
 
 /// Writes the reply's lines. At an error a front of them went out.
-pub fn write_reply<W: Write>(reply: &Reply, output: &mut Output<W>) -> Result<(), WriterFailed>
+pub fn write_reply<W: Sink>(reply: &Reply, output: &mut Output<W>) -> Result<(), WriterFailed>
     ensures { Writes output.old (reply_text reply.now) result output.new }
 {
     match reply {
@@ -32,7 +31,7 @@ pub fn write_reply<W: Write>(reply: &Reply, output: &mut Output<W>) -> Result<()
 }
 
 /// Writes the line of a refusal: its number and its name. At an error a front of it went out.
-pub fn write_refusal<W: Write>(refusal: Refusal, output: &mut Output<W>) -> Result<(), WriterFailed>
+pub fn write_refusal<W: Sink>(refusal: Refusal, output: &mut Output<W>) -> Result<(), WriterFailed>
     ensures { Writes output.old (refusal_text refusal) result output.new }
 {
     let parts = [
@@ -46,7 +45,7 @@ pub fn write_refusal<W: Write>(refusal: Refusal, output: &mut Output<W>) -> Resu
 }
 
 /// Writes a line of words and a number in decimal, as a fault's that names a line. At an error a front of it went out.
-pub fn write_numbered<W: Write>(
+pub fn write_numbered<W: Sink>(
     words: &[u8],
     number: u64,
     output: &mut Output<W>,
@@ -58,7 +57,7 @@ pub fn write_numbered<W: Write>(
 }
 
 /// Writes the line of a message that was taken.
-fn write_took<W: Write>(
+fn write_took<W: Sink>(
     prefix: Prefix,
     kind: MessageKind,
     output: &mut Output<W>,

@@ -9,11 +9,10 @@ use crate::part::Part;
 use crate::text::{Text, write_each};
 use net_prefix::{Addr, Prefix};
 use sim_event::{Held, Report, TraceEnd};
-use std::io::Write;
-use watched::{Output, WriterFailed};
+use watched::{Output, Sink, WriterFailed};
 
 /// Writes the report's lines.
-pub(crate) fn write_report<W: Write>(
+pub(crate) fn write_report<W: Sink>(
     report: &Report,
     output: &mut Output<W>,
 ) -> Result<(), WriterFailed>
@@ -32,7 +31,7 @@ pub(crate) fn write_report<W: Write>(
 }
 
 /// Writes the lines, and how many there are.
-fn write_lines<T: Text, W: Write>(lines: &[T], output: &mut Output<W>) -> Result<(), WriterFailed>
+fn write_lines<T: Text, W: Sink>(lines: &[T], output: &mut Output<W>) -> Result<(), WriterFailed>
     ensures { Writes output.old (flat_map T.text lines.now ++ end_line (length lines.now)) result output.new }
 {
     write_each(lines, output)?;
@@ -40,7 +39,7 @@ fn write_lines<T: Text, W: Write>(lines: &[T], output: &mut Output<W>) -> Result
 }
 
 /// Writes the last line of a report: how many lines there were before it.
-pub(crate) fn write_end<W: Write>(count: u64, output: &mut Output<W>) -> Result<(), WriterFailed>
+pub(crate) fn write_end<W: Sink>(count: u64, output: &mut Output<W>) -> Result<(), WriterFailed>
     ensures { Writes output.old (end_line count) result output.new }
 {
     let parts = [
@@ -52,7 +51,7 @@ pub(crate) fn write_end<W: Write>(count: u64, output: &mut Output<W>) -> Result<
 }
 
 /// Writes the line of the chosen route, or that there is none.
-fn write_best<W: Write>(held: &Option<Held>, output: &mut Output<W>) -> Result<(), WriterFailed>
+fn write_best<W: Sink>(held: &Option<Held>, output: &mut Output<W>) -> Result<(), WriterFailed>
     ensures { Writes output.old (best_text held.now) result output.new }
 {
     match held {
@@ -62,7 +61,7 @@ fn write_best<W: Write>(held: &Option<Held>, output: &mut Output<W>) -> Result<(
 }
 
 /// Writes whether all is quiet.
-fn write_quiet<W: Write>(quiet: bool, output: &mut Output<W>) -> Result<(), WriterFailed>
+fn write_quiet<W: Sink>(quiet: bool, output: &mut Output<W>) -> Result<(), WriterFailed>
     ensures { Writes output.old (quiet_text quiet) result output.new }
 {
     match quiet {
@@ -72,7 +71,7 @@ fn write_quiet<W: Write>(quiet: bool, output: &mut Output<W>) -> Result<(), Writ
 }
 
 /// Writes the cost and the first hop, or that there is no way.
-fn write_way<W: Write>(way: Option<(u32, Addr)>, output: &mut Output<W>) -> Result<(), WriterFailed>
+fn write_way<W: Sink>(way: Option<(u32, Addr)>, output: &mut Output<W>) -> Result<(), WriterFailed>
     ensures { Writes output.old (way_text way) result output.new }
 {
     let Some((cost, hop)) = way else {
@@ -88,7 +87,7 @@ fn write_way<W: Write>(way: Option<(u32, Addr)>, output: &mut Output<W>) -> Resu
 }
 
 /// Writes the routers that forward, how that ends, and how many lines these are.
-fn write_trace<W: Write>(
+fn write_trace<W: Sink>(
     hops: &[(Addr, Prefix)],
     end: TraceEnd,
     output: &mut Output<W>,

@@ -4,8 +4,7 @@ ghost use Rattle.std.specs.Prelude.{◌++◌, ◌∷◌, map};
 ghost use Rattle.std.specs.List.{flat_map, join_with_byte};
 ghost use Rattle.watched.specs.Streams.{Writes};
 
-use std::io::Write;
-use watched::{Output, WriterFailed};
+use watched::{Output, Sink, WriterFailed};
 
 /// A value that has a text.
 pub trait Text {
@@ -14,15 +13,12 @@ pub trait Text {
     ghost text: { Self → List ℕ };
 
     /// Writes the text.
-    fn write<W: Write>(&self, output: &mut Output<W>) -> Result<(), WriterFailed>
+    fn write<W: Sink>(&self, output: &mut Output<W>) -> Result<(), WriterFailed>
         ensures { Writes output.old (text self.now) result output.new };
 }
 
 /// Writes the items, one after the other.
-pub fn write_each<T: Text, W: Write>(
-    items: &[T],
-    output: &mut Output<W>,
-) -> Result<(), WriterFailed>
+pub fn write_each<T: Text, W: Sink>(items: &[T], output: &mut Output<W>) -> Result<(), WriterFailed>
     ensures { Writes output.old (flat_map T.text items.now) result output.new }
 {
     for item in items {
@@ -32,7 +28,7 @@ pub fn write_each<T: Text, W: Write>(
 }
 
 /// Writes the separator and the item.
-fn write_after<T: Text, W: Write>(
+fn write_after<T: Text, W: Sink>(
     separator: u8,
     item: &T,
     output: &mut Output<W>,
@@ -44,7 +40,7 @@ fn write_after<T: Text, W: Write>(
 }
 
 /// Writes the items, the separator before each.
-fn write_each_after<T: Text, W: Write>(
+fn write_each_after<T: Text, W: Sink>(
     separator: u8,
     items: &[T],
     output: &mut Output<W>,
@@ -58,7 +54,7 @@ fn write_each_after<T: Text, W: Write>(
 }
 
 /// Writes the items, the separator between each and the next.
-pub fn write_joined<T: Text, W: Write>(
+pub fn write_joined<T: Text, W: Sink>(
     separator: u8,
     items: &[T],
     output: &mut Output<W>,

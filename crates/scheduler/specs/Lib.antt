@@ -1,1 +1,5 @@
+pub mod Backing
+pub mod Counts
+pub mod Receiving
 pub mod Shards
+pub mod Waiting

@@ -1,5 +1,9 @@
 //! Workers who back off from a lock that others hold often.
 
+ghost use Rattle.std.specs.Prelude.{◌≡◌, ◌≢◌, ◌<◌, ◌+◌, ◌==◌, not, if◌then◌else◌};
+ghost use Rattle.scheduler.specs.Counts.{plus};
+ghost use Rattle.scheduler.specs.Backing.{none_backed_off, one_backs_off, one_is_woken, all_are_woken, one_resumes, with_turn, begun_anew, between, after_turn};
+
 /// After how many turns at once of little work a worker wakes another, at first and at most: twice as many after each
 /// one who backs off.
 const FIRST_TURNS_TO_A_WAKEUP: u64 = 1_024;
@@ -35,7 +39,10 @@ pub struct Backoff {
 
 impl Backoff {
     /// That of a worker who begins.
-    pub fn new() -> Self {
+    pub fn new() -> Self
+        ensures contended { result.contended ≡ 0 }
+        ensures turns { result.turns ≡ 0 }
+    {
         Backoff {
             contended: 0,
             turns: 0,
@@ -46,26 +53,39 @@ impl Backoff {
     }
 
     /// The worker begins anew, after it has waited or backed off.
-    pub fn reset(&mut self) {
+    pub fn reset(&mut self)
+        ensures { self.new ≡ begun_anew self.old }
+    {
         self.contended = 0;
         self.turns = 0;
     }
 
     /// The lock was held by somebody else, or free.
-    pub fn note_lock(&mut self, is_contended: bool) {
+    pub fn note_lock(&mut self, is_contended: bool)
+        ensures { self.new ≡ (if is_contended then record self.old { contended = plus self.old.contended 1 } else
+            self.old) }
+    {
         if is_contended {
             self.contended = self.contended.saturating_add(1);
         }
     }
 
     /// The jobs were much work, or little, and so many turns at once of little work are made to a wakeup.
-    pub fn note_work(&mut self, is_much_work: bool, turns_to_a_wakeup: u64) {
+    pub fn note_work(&mut self, is_much_work: bool, turns_to_a_wakeup: u64)
+        ensures { self.new ≡ record self.old {
+          is_much_work = is_much_work;
+          turns_to_a_wakeup = turns_to_a_wakeup;
+        } }
+    {
         self.is_much_work = is_much_work;
         self.turns_to_a_wakeup = turns_to_a_wakeup;
     }
 
     /// Whether the version is another than that of the last look.
-    pub fn sees_edits(&mut self, version: u64) -> bool {
+    pub fn sees_edits(&mut self, version: u64) -> bool
+        ensures seen { result ≡ not (version == self.old.version) }
+        ensures version { self.new ≡ record self.old { version = version } }
+    {
         let is_new = version != self.version;
         self.version = version;
         is_new
@@ -74,7 +94,10 @@ impl Backoff {
     /// What the worker does after its turns at once. After much work it wakes another. After little it backs off where
     /// it has found the lock taken often for the turns that it made: so who has just come makes way for who has long
     /// been at work.
-    pub fn after_turns(&mut self) -> Between {
+    pub fn after_turns(&mut self) -> Between
+        ensures between { result ≡ between (with_turn self.old) }
+        ensures after { self.new ≡ after_turn (with_turn self.old) }
+    {
         self.turns = self.turns.saturating_add(1);
         if self.is_much_work {
             return Between::WakeOne;
@@ -103,7 +126,9 @@ pub(crate) struct BackedOff {
 
 impl BackedOff {
     /// Nobody has.
-    pub(crate) fn new() -> Self {
+    pub(crate) fn new() -> Self
+        ensures { result ≡ none_backed_off }
+    {
         BackedOff {
             asleep: 0,
             woken: 0,
@@ -112,47 +137,57 @@ impl BackedOff {
     }
 
     /// After how many turns at once of little work a worker wakes another.
-    pub(crate) fn turns_to_a_wakeup(&self) -> u64 {
+    pub(crate) fn turns_to_a_wakeup(&self) -> u64
+        ensures { result ≡ self.now.turns_to_a_wakeup }
+    {
         self.turns_to_a_wakeup
     }
 
     /// How many workers sleep, and are not woken.
-    pub(crate) fn asleep(&self) -> u64 {
+    pub(crate) fn asleep(&self) -> u64
+        ensures { result ≡ self.now.asleep }
+    {
         self.asleep
     }
 
     /// One more has backed off: it was woken too early.
-    pub(crate) fn add(&mut self) {
-        self.asleep = self.asleep.wrapping_add(1);
+    pub(crate) fn add(&mut self)
+        ensures { self.new ≡ one_backs_off self.old }
+    {
+        self.asleep = self.asleep.saturating_add(1);
         self.turns_to_a_wakeup = self
             .turns_to_a_wakeup
             .saturating_mul(2)
             .min(MOST_TURNS_TO_A_WAKEUP);
     }
 
-    /// Wakes one who sleeps. Whether there is one.
-    pub(crate) fn wake_one(&mut self) -> bool {
-        if self.asleep == 0 {
-            return false;
-        }
-        self.asleep -= 1;
-        self.woken = self.woken.wrapping_add(1);
-        true
+    /// Wakes one who sleeps.
+    pub(crate) fn wake_one(&mut self)
+        ensures { self.new ≡ one_is_woken self.old }
+    {
+        self.asleep = self.asleep.saturating_sub(1);
+        self.woken = self.woken.saturating_add(1);
     }
 
     /// Wakes all who sleep.
-    pub(crate) fn wake_all(&mut self) {
-        self.woken = self.woken.wrapping_add(self.asleep);
+    pub(crate) fn wake_all(&mut self)
+        ensures { self.new ≡ all_are_woken self.old }
+    {
+        self.woken = self.woken.saturating_add(self.asleep);
         self.asleep = 0;
     }
 
     /// Whether nobody is woken who does not run yet.
-    pub(crate) fn is_none_woken(&self) -> bool {
+    pub(crate) fn is_none_woken(&self) -> bool
+        ensures { result ≡ (self.now.woken == 0) }
+    {
         self.woken == 0
     }
 
     /// One who was woken runs.
-    pub(crate) fn resume(&mut self) {
-        self.woken = self.woken.wrapping_sub(1);
+    pub(crate) fn resume(&mut self)
+        ensures { self.new ≡ one_resumes self.old }
+    {
+        self.woken = self.woken.saturating_sub(1);
     }
 }

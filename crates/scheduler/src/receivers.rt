@@ -1,6 +1,10 @@
 //! For whom a call can put messages on their way.
 
-use net_conf::{Edit, Scope};
+ghost use Rattle.std.specs.Prelude.{◌≡◌};
+ghost use Rattle.net_conf.specs.Scopes.{router_in, scope};
+ghost use Rattle.scheduler.specs.Receiving.{receivers_of, receivers_of_router};
+
+use net_conf::Edit;
 use net_prefix::Addr;
 use sim_event::Event;
 
@@ -19,7 +23,9 @@ pub enum Receivers {
 
 impl Receivers {
     /// Those for whom the event can put messages on their way.
-    pub fn by(event: &Event) -> Self {
+    pub fn by(event: &Event) -> Self
+        ensures { result ≡ receivers_of event.now }
+    {
         match event {
             Event::Ask(_) => Receivers::Nobody,
             Event::Feed(feed) => Receivers::One(feed.to),
@@ -28,10 +34,12 @@ impl Receivers {
         }
     }
 
-    fn by_edit(edit: &Edit) -> Self {
-        match edit.scope() {
-            Scope::Network => Receivers::Everybody,
-            Scope::Site(router) | Scope::Route(router, _) => Receivers::OfSender(router),
+    fn by_edit(edit: &Edit) -> Self
+        ensures { result ≡ receivers_of_router (router_in (scope edit.now)) }
+    {
+        match edit.scope().router() {
+            Some(router) => Receivers::OfSender(router),
+            None => Receivers::Everybody,
         }
     }
 }

@@ -5,8 +5,8 @@ use Rattle.std.specs.Str.Lines.{lines, strip_carriage_return}
 use Rattle.std.proofs.lemmas.List.{take-append-drop, drop_more, get_or_at, length_push, length-append, length-take-le, nil_from_length}
 use Rattle.std.proofs.lemmas.List.Elements.{All-push, All-nil, All-same}
 use Rattle.watched.specs.LineFeeds.{Whole}
-use Rattle.script_files.specs.Sources.{IsFit, IsWhole}
-use Rattle.script_files.specs.Reading.{IsMeasured, IsUnfit, is_returned}
+use Rattle.script_files.specs.Sources.{IsFit, IsUnfit, IsWhole}
+use Rattle.script_files.specs.Reading.{IsMeasured, is_returned}
 use Rattle.script_files.specs.declared.files.Measure.{Measure}
 use Rattle.watched.specs.Limits.{most_bytes, most_lines}
 use Rattle.watched.proofs.Lines.{lines_begin, lines_cut, lines_long, lines_whole}

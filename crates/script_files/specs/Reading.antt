@@ -1,11 +1,11 @@
 -- No public contract cites this file. Scripts that are read piece by piece.
-use Rattle.std.specs.Prelude.{◌≡◌, ◌⊎◌, ◌≤◌, ◌<◌, ◌-◌, ◌+◌, ◌==◌, ℕ, ⊤, Bool, true, List, [], ◌++◌, length, slice_index, All, Option, Some, None, string_bytes}
+use Rattle.std.specs.Prelude.{◌≡◌, ◌≤◌, ◌<◌, ◌-◌, ◌+◌, ◌==◌, ℕ, ⊤, Bool, List, ◌++◌, length, slice_index, All, string_bytes}
 use Rattle.std.specs.Str.Lines.{lines}
 use Rattle.watched.specs.LineFeeds.{Whole}
 use Rattle.watched.specs.Limits.{most_bytes, most_lines}
 use Rattle.reply_text.specs.declared.ending.RunFault.{RunFault}
 use Rattle.reply_text.specs.declared.ending.RunFault.TheVariants.{FileUnread, NoMemory}
-use Rattle.script_files.specs.Sources.{Source, IsFit}
+use Rattle.script_files.specs.Sources.{FileBook, IsUnreadable}
 use Rattle.script_files.specs.declared.files.Measure.{Measure}
 use Rattle.script_files.specs.declared.files.Unread.{Unread}
 use Rattle.script_files.specs.declared.files.Unread.TheVariants.{Memory}
@@ -33,19 +33,8 @@ pub record IsMeasured (bytes : List ℕ) (measure : Measure) : Type 0 where
   pub room : 0 < length part → length whole < most_lines
   pub most : length part ≤ most_bytes + 1
 
--- what was read and what is left make no script, where that is known
-abbrev pub IsUnfit : List ℕ → Option (List ℕ) → Type 0
-IsUnfit read None = ⊤
-IsUnfit read (Some left) = IsFit (read ++ left) → ⊥
-
--- the fault of the file of this name: its reader failed, or it is no script; or there was no memory
-abbrev pub IsFaultOf : List ℕ → Option (List ℕ) → Bool → RunFault → Type 0
-IsFaultOf name bytes failed (FileUnread other) = (string_bytes other ≡ name) × ((failed ≡ true) ⊎ IsUnfit [] bytes)
-IsFaultOf name bytes failed NoMemory = ⊤
-IsFaultOf name bytes failed _ = ⊥
-
--- a file was not read, or there was no memory
-abbrev pub IsFileFault : Source → RunFault → Type 0
-IsFileFault file (FileUnread name) = string_bytes name ≡ file.name
-IsFileFault file NoMemory = ⊤
-IsFileFault file _ = ⊥
+-- why the file was not read, of which this is left: it could not be; or there was no memory
+abbrev pub IsFileFault : FileBook → FileBook → RunFault → Type 0
+IsFileFault file rest (FileUnread name) = (string_bytes name ≡ file.name) × IsUnreadable file.reader rest.reader
+IsFileFault file rest NoMemory = ⊤
+IsFileFault file rest _ = ⊥

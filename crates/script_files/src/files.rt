@@ -1,16 +1,16 @@
 //! The scripts, each read whole.
 
-ghost use Rattle.std.specs.Prelude.{◌≡◌, ◌⊎◌, ◌++◌, ◌∷◌, ◌<◌, ◌≤◌, ℕ, List, [], true, false, length, string_bytes, vec_len, IfOk, IfErr, OnOk};
+ghost use Rattle.std.specs.Prelude.{◌≡◌, ◌⊎◌, ◌++◌, ◌∷◌, ◌<◌, ◌≤◌, ℕ, List, [], true, false, length, vec_len, IfOk, IfErr, OnOk};
 ghost use Rattle.std.specs.Io.KnownBytes.{Consumes, IsAtEnd};
-ghost use Rattle.script_files.specs.Sources.{IsFit, IsRead, AreRead, IsWhole};
+ghost use Rattle.script_files.specs.Sources.{IsFit, IsRead, IsReadAs, AreRead, IsUnfit, IsUnreadable, IsWhole};
 ghost use Rattle.script_files.specs.Scripts.{IsReadingFault};
-ghost use Rattle.script_files.specs.Reading.{IsFaultOf, IsFileFault, IsMeasured, IsUnfit, no_memory};
+ghost use Rattle.script_files.specs.Reading.{IsFileFault, IsMeasured, no_memory};
 
 use reply_text::RunFault;
 use std::alloc::{AllocError, Global};
-use std::io::Read;
 use std::marker::Model;
-use watched::Input;
+use std::mem::replace;
+use watched::{Input, Source};
 
 /// The most bytes of a line, its end not counted.
 const MOST_BYTES: u64 = 65_536;
@@ -23,22 +23,18 @@ const AT_A_TIME: usize = 16_384;
 
 /// The script of an engineer: what its file is called, and a reader of it, if it could be opened.
 #[derive(Drop)]
-pub struct ScriptFile<F: Read> {
+pub struct ScriptFile<F: Source> {
     pub name: String,
-    pub reader: Option<F>,
+    pub reader: Option<Input<F>>,
 }
 
-impl<F: Read> Model for ScriptFile<F> {
+impl<F: Source> Model for ScriptFile<F> {
     ghost use Rattle.std.specs.Prelude.{string_bytes};
-    ghost use Rattle.std.specs.Option.{option_map};
-    ghost use Rattle.script_files.specs.Sources.{Source};
+    ghost use Rattle.script_files.specs.Sources.{FileBook};
 
-    ghost Value = { Source };
+    ghost Value = { FileBook };
 
-    ghost view = { λ f. record {
-      name = string_bytes f.name;
-      bytes = option_map (λ reader. F.remaining reader) f.reader;
-    } };
+    ghost view = { λ f. record { name = string_bytes f.name; reader = f.reader } };
 }
 
 /// A script that was read whole, as its bytes.
@@ -167,7 +163,7 @@ impl Measure {
 }
 
 /// Reads some bytes more, into the buffer, to the end of the script. False at the end of the input.
-fn read_on<F: Read>(
+fn read_on<F: Source>(
     reader: &mut Input<F>,
     buffer: &mut [u8],
     script: &mut Vec<u8>,
@@ -192,7 +188,7 @@ fn read_on<F: Read>(
 }
 
 /// All bytes that the reader has, where they are a script. They are read through the buffer.
-fn read_through<F: Read>(
+fn read_through<F: Source>(
     alloc: Global,
     reader: &mut Input<F>,
     buffer: &mut [u8],
@@ -219,7 +215,7 @@ fn read_through<F: Read>(
 }
 
 /// All bytes that the reader has, where they are a script.
-fn read_whole<F: Read>(alloc: Global, reader: &mut Input<F>) -> Result<Script, Unread>
+fn read_whole<F: Source>(alloc: Global, reader: &mut Input<F>) -> Result<Script, Unread>
     ensures whole { IfOk result (λ script. IsWhole reader.old.remaining script) }
     ensures fit { IfOk result (λ script. IsFit script) }
     ensures fault { IfErr result (λ unread. unread ≡ Unread.Fault →
@@ -229,48 +225,44 @@ fn read_whole<F: Read>(alloc: Global, reader: &mut Input<F>) -> Result<Script, U
     read_through(alloc, reader, buffer.as_mut_slice())
 }
 
-/// The script of a file of this name that could be opened.
-fn read_opened<F: Read>(
-    alloc: Global,
-    name: String,
-    reader: &mut Input<F>,
-) -> Result<Script, RunFault>
-    ensures whole { IfOk result (λ script. IsWhole reader.old.remaining script) }
-    ensures fit { IfOk result (λ script. IsFit script) }
-    ensures fault { IfErr result (IsFaultOf (string_bytes name) reader.old.remaining reader.new.failed) }
+/// The script that the reader has, if there is one.
+fn read_if_opened<F: Source>(alloc: Global, reader: &mut Option<Input<F>>) -> Result<Script, Unread>
+    ensures script { IfOk result (IsReadAs reader.old) }
+    ensures fault { IfErr result (λ unread. unread ≡ Unread.Fault → IsUnreadable reader.old reader.new) }
 {
-    match read_whole(alloc, reader) {
+    match reader {
+        Some(input) => read_whole(alloc, input),
+        None => Err(Unread::Fault),
+    }
+}
+
+/// The script of the file: all its bytes. A file that could not be read gives its name to the fault.
+fn read_script<F: Source>(alloc: Global, file: &mut ScriptFile<F>) -> Result<Script, RunFault>
+    ensures script { IfOk result (IsRead file.old) }
+    ensures fault { IfErr result (IsFileFault file.old file.new) }
+{
+    match read_if_opened(alloc, &mut file.reader) {
         Ok(script) => Ok(script),
-        Err(Unread::Fault) => Err(RunFault::FileUnread(name)),
+        Err(Unread::Fault) => {
+            let name = replace(&mut file.name, String::new(alloc));
+            Err(RunFault::FileUnread(name))
+        }
         Err(Unread::Memory) => Err(RunFault::NoMemory),
     }
 }
 
-/// The script of the file: all its bytes.
-fn read_script<F: Read + Drop>(alloc: Global, file: ScriptFile<F>) -> Result<Script, RunFault>
-    ensures script { IfOk result (IsRead file) }
-    ensures fault { IfErr result (IsFileFault file) }
-{
-    let ScriptFile { name, reader } = file;
-    let Some(reader) = reader else {
-        return Err(RunFault::FileUnread(name));
-    };
-    let mut input = Input::new(reader);
-    read_opened(alloc, name, &mut input)
-}
-
 /// The scripts of the files, in their order. The fault is that of the first that was not read.
-pub fn read_scripts<F: Read + Drop>(
+pub fn read_scripts<F: Source>(
     alloc: Global,
-    files: Vec<ScriptFile<F>>,
+    files: &mut [ScriptFile<F>],
 ) -> Result<Vec<Script>, RunFault>
-    ensures scripts { IfOk result (λ scripts. AreRead files.items scripts.items) }
-    ensures count { IfOk result (λ scripts. vec_len scripts ≡ vec_len files) }
-    ensures fault { IfErr result (IsReadingFault files.items) }
+    ensures scripts { IfOk result (λ scripts. AreRead files.old scripts.items) }
+    ensures count { IfOk result (λ scripts. vec_len scripts ≡ length files.old) }
+    ensures fault { IfErr result (IsReadingFault files.old files.new) }
 {
     let mut scripts = Vec::new(alloc);
-    for file in files {
-        let script = read_script(alloc, file)?;
+    for place in 0..files.len() {
+        let script = read_script(alloc, &mut files[place])?;
         scripts.push(script).map_err(AllocError::from)?;
     }
     Ok(scripts)

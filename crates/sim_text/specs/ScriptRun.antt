@@ -1,11 +1,11 @@
 -- What it means to run a script: its exit status, and what is told of a fault (own).
-use Rattle.std.specs.Prelude.{◌≡◌, ◌⊎◌, ℕ, true, false, List, [], Option, IfSome, Result, Ok, Err}
+use Rattle.std.specs.Prelude.{◌≡◌, ℕ, true, List, [], Option, IfSome, Result, Ok, Err}
 use Rattle.watched.specs.Streams.{Reading, Writing}
 use Rattle.reference_machine.specs.Network.{Network}
 use Rattle.reference_machine.specs.Machine.{nothing}
 use Rattle.reply_text.specs.declared.ending.RunFault.{RunFault}
 use Rattle.reply_text.specs.declared.ending.RunFault.TheVariants.{LineUnread, Unwritten}
-use Rattle.reply_text.specs.Ending.{success, fault_status, fault_text, IsTold, IsWithoutMemory}
+use Rattle.reply_text.specs.Ending.{success, fault_status, fault_text, IsTold}
 use Rattle.sim_text.specs.Serving.{IsServing, is_read_fault, is_write_fault}
 use Rattle.sim_text.specs.declared.fault.ServeFault.{ServeFault}
 use Rattle.sim_text.specs.declared.fault.ServeFault.TheVariants.{Read, Write}
@@ -25,21 +25,11 @@ abbrev pub told : Result ℕ ServeFault → List ℕ
 told (Ok lines) = []
 told (Err fault) = fault_text (run_fault fault)
 
--- it was served, from the empty network to this one, as far as its bytes are known; the status tells how serving ended;
--- the writer failed just where that was a fault of writing, and the reader only where it was one of reading; and a
--- fault was told
-abbrev pub IsServedRun : Option (List ℕ) → Writing → Writing → ℕ → Network → Reading → Writing → Writing → Type 0
-IsServedRun bytes o errors status end i' o' errors' = (served : Result ℕ ServeFault) × (status ≡ status_of served)
+-- a script was served, from the empty network to this one, as far as its bytes are known; the status tells how serving
+-- ended; the writer failed just where that was a fault of writing, and the reader only where it was one of reading; and
+-- a fault was told
+abbrev pub IsScriptRun : Option (List ℕ) → Writing → Writing → ℕ → Network → Reading → Writing → Writing → Type 0
+IsScriptRun bytes o errors status end i' o' errors' = (served : Result ℕ ServeFault) × (status ≡ status_of served)
     × IfSome bytes (λ known. IsServing known nothing o served end o' i')
     × (o'.failed ≡ is_write_fault served) × (i'.failed ≡ true → is_read_fault served ≡ true)
     × IsTold errors (told served) errors'
-
--- there was no memory to read a line: nothing was read, and the network is empty
-abbrev pub IsUnserved : Option (List ℕ) → Writing → Writing → ℕ → Network → Reading → Writing → Writing → Type 0
-IsUnserved bytes o errors status end i' o' errors' = (end ≡ nothing) × (i'.remaining ≡ bytes) × (i'.failed ≡ false)
-    × IsWithoutMemory o errors status o' errors'
-
--- a script was run, or there was no memory to begin
-abbrev pub IsScriptRun : Option (List ℕ) → Writing → Writing → ℕ → Network → Reading → Writing → Writing → Type 0
-IsScriptRun bytes o errors status end i' o' errors' = IsServedRun bytes o errors status end i' o' errors'
-    ⊎ IsUnserved bytes o errors status end i' o' errors'

@@ -11,12 +11,11 @@ use reference_machine::Machine;
 use reply_text::{write_refusal, write_reply};
 use sim_event::Event;
 use std::alloc::Global;
-use std::io::Write;
 use std::thread::Threads;
-use watched::{Output, WriterFailed};
+use watched::{Output, Sink, WriterFailed};
 
 /// Takes a line and writes its answer. Where the writer fails, the line's event was taken all the same.
-pub(crate) fn answer_line<W: Write, M: Machine>(
+pub(crate) fn answer_line<W: Sink, M: Machine>(
     rt: &(impl Threads + Sync),
     alloc: Global,
     line: &[u8],
@@ -31,7 +30,7 @@ pub(crate) fn answer_line<W: Write, M: Machine>(
 }
 
 /// Writes the answer to what was read of a line. An event is always taken.
-fn answer<W: Write, M: Machine>(
+fn answer<W: Sink, M: Machine>(
     rt: &(impl Threads + Sync),
     reading: &Result<Option<Event>, Refusal>,
     output: &mut Output<W>,

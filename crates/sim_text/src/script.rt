@@ -14,9 +14,8 @@ use crate::line::{MOST_BYTES, Next, next_line, without_carriage_return};
 use crate::typist::{CAPACITY, Typist};
 use reference_machine::Machine;
 use std::alloc::Global;
-use std::io::Write;
 use std::thread::Threads;
-use watched::{LineBuffer, Output};
+use watched::{LineBuffer, Output, Sink};
 
 #[derive(Drop)]
 pub(crate) struct Script {
@@ -39,7 +38,7 @@ impl Script {
 }
 
 /// Sends on what was written, if any of it may be held back.
-fn flush<W: Write>(answered: u64, output: &mut Output<W>) -> Result<(), ServeFault>
+fn flush<W: Sink>(answered: u64, output: &mut Output<W>) -> Result<(), ServeFault>
     requires writes { output.old.failed ≡ false }
     requires some { output.old.held ≡ true → 0 < answered }
     ensures kept { Keeps output.old.written output.new.written }
@@ -59,7 +58,7 @@ fn flush<W: Write>(answered: u64, output: &mut Output<W>) -> Result<(), ServeFau
 
 /// Answers the line that ends in the buffer. What follows it is not known yet, so all is said for every rest of the
 /// input.
-fn answer_first<W: Write, M: Machine>(
+fn answer_first<W: Sink, M: Machine>(
     rt: &(impl Threads + Sync),
     alloc: Global,
     script: &mut Script,
@@ -92,7 +91,7 @@ fn answer_first<W: Write, M: Machine>(
 
 /// Answers a last line with no line feed, if there is one: at the end of the input, where nothing follows, and its
 /// length is still to be tested. So it is no call of `answer_first`.
-fn answer_last<W: Write, M: Machine>(
+fn answer_last<W: Sink, M: Machine>(
     rt: &(impl Threads + Sync),
     alloc: Global,
     script: &mut Script,
@@ -130,7 +129,7 @@ fn answer_last<W: Write, M: Machine>(
 }
 
 /// Answers what is left at the end, and sends on all that was written.
-fn finish<W: Write, M: Machine>(
+fn finish<W: Sink, M: Machine>(
     rt: &(impl Threads + Sync),
     alloc: Global,
     script: &mut Script,
@@ -153,7 +152,7 @@ fn finish<W: Write, M: Machine>(
 }
 
 /// Reads more, once all that was written is sent on. False at the end, where the last line has been answered too.
-fn read_on<I: Typist<W>, W: Write, M: Machine>(
+fn read_on<I: Typist<W>, W: Sink, M: Machine>(
     rt: &(impl Threads + Sync),
     alloc: Global,
     script: &mut Script,
@@ -187,7 +186,7 @@ fn read_on<I: Typist<W>, W: Write, M: Machine>(
 }
 
 /// Answers a line that was read, or reads more. False at the end.
-pub(crate) fn advance<I: Typist<W>, W: Write, M: Machine>(
+pub(crate) fn advance<I: Typist<W>, W: Sink, M: Machine>(
     rt: &(impl Threads + Sync),
     alloc: Global,
     script: &mut Script,

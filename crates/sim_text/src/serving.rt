@@ -8,9 +8,8 @@ use crate::script::{Script, advance};
 use crate::typist::{CAPACITY, Typist};
 use reference_machine::Machine;
 use std::alloc::Global;
-use std::io::Write;
 use std::thread::Threads;
-use watched::{LineBuffer, Output};
+use watched::{LineBuffer, Output, Sink};
 
 /// Answers each line of the input in turn, read into the buffer, and says how many there were.
 ///
@@ -18,7 +17,7 @@ use watched::{LineBuffer, Output};
 /// and a script at most 1,000,000 lines. All that was written is sent on before more is read, for which `Typist`
 /// asks, and at the end: then nothing is held back, unless the writer failed. Takes no memory beside that of the events
 /// and the machine.
-pub fn serve<I: Typist<W>, W: Write, M: Machine>(
+pub fn serve<I: Typist<W>, W: Sink, M: Machine>(
     rt: &(impl Threads + Sync),
     alloc: Global,
     buffer: LineBuffer<CAPACITY>,

@@ -4,14 +4,13 @@ ghost use Rattle.std.specs.Prelude.{◌≡◌, ℕ, ◌<◌, ◌==◌, List, [],
 ghost use Rattle.std.specs.Io.KnownBytes.{Consumes, IsAtEnd, Keeps};
 
 use std::io;
-use std::io::{Read, Write};
-use watched::{Input, LineBuffer, Output};
+use watched::{Input, LineBuffer, Output, Sink, Source};
 
 /// Holds the longest line with its end: 65,536 bytes, CR and LF.
 pub const CAPACITY: usize = 65_538;
 
 /// Whoever types lines and reads the replies on `W`: more is asked for only where nothing of them is held back.
-pub trait Typist<W: Write> {
+pub trait Typist<W: Sink> {
     ghost use Rattle.watched.specs.Streams.{Reading};
 
     /// What is still to come, and whether a read has failed.
@@ -35,7 +34,7 @@ pub trait Typist<W: Write> {
         ensures left { OnErr result (Keeps (reading self.old).remaining (reading self.new).remaining) };
 }
 
-impl<R: Read, W: Write> Typist<W> for Input<R> {
+impl<R: Source, W: Sink> Typist<W> for Input<R> {
     ghost reading = { λ input. input };
 
     fn read_more(

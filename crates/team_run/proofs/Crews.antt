@@ -87,13 +87,11 @@ none_left L engineers done (engineer ∷ left) played parts play none = absurd n
 pub coming_none : (L : Type 0) (engineers : List Engineering) (before back : List SeatBook) →
     Coming {L = L} engineers [] before back
     → (shards turns : ℕ) (workers : List SeatBook) → AllWorked shards turns workers before →
-    AreBack engineers workers back
+    AreBack shards turns engineers workers back
 coming_none L engineers before back so shards turns workers work = record {
   worked = before;
   played = so.played;
   together = so.behind;
-  shards = shards;
-  turns = turns;
   work = work;
   play = none_left L engineers so.done so.left so.played so.parts so.play so.to_play;
 }

@@ -1,5 +1,5 @@
 -- No public contract cites this file. Engineers, who call the lines of their scripts from their seats.
-use Rattle.std.specs.Prelude.{◌≡◌, ◌⊎◌, ⊤, ℕ, ◌+◌, false, List, [], ◌∷◌, ◌++◌, Option, Some, None}
+use Rattle.std.specs.Prelude.{◌≡◌, ◌⊎◌, ⊤, ℕ, ◌+◌, false, List, [], ◌∷◌, ◌++◌, map, slice_get, Option, Some, None}
 use Rattle.std.specs.List.{AllZip}
 use Rattle.std.specs.Str.Lines.{lines}
 use Rattle.net_conf.specs.declared.refusal.Refusal.{Refusal}
@@ -11,8 +11,8 @@ use Rattle.command_text.specs.Lines.{IsSilent, IsFault, Means}
 use Rattle.reply_text.specs.declared.ending.RunFault.{RunFault}
 use Rattle.reply_text.specs.declared.ending.RunFault.TheVariants.{NoMemory, BookDiffers}
 use Rattle.room.specs.Books.{SeatBook, is_memory, with_call}
-use Rattle.desk.specs.Desks.{AllWorked}
-use Rattle.team_run.specs.TeamRun.{AreCalled}
+use Rattle.desk.specs.Desks.{AllWorked, IsUnlike}
+use Rattle.team_run.specs.TeamRun.{Notes, AreCalled, HaveOtherBooks}
 
 -- an engineer: the number of the file, from 1 on, its script, and the seat
 pub record Engineering : Type 0 where
@@ -48,18 +48,30 @@ pub record AreCalledFrom (ls : List (List ℕ)) (old new : SeatBook) : Type 0 wh
 abbrev pub HasPlayed : Engineering → SeatBook → Type 0
 HasPlayed engineer seat = AreCalledFrom (lines engineer.script) engineer.seat seat
 
--- the seats that come back: the workers', and then those of the engineers, who have played
-pub record AreBack (engineers : List Engineering) (workers seats : List SeatBook) : Type 0 where
+-- the seats that come back: the workers', who made so many turns for so many shards, and then those of the engineers,
+-- who have played
+pub record AreBack (shards turns : ℕ) (engineers : List Engineering) (workers seats : List SeatBook) : Type 0 where
   pub worked : List SeatBook
   pub played : List SeatBook
   pub together : seats ≡ worked ++ played
-  pub shards : ℕ
-  pub turns : ℕ
   pub work : AllWorked shards turns workers worked
   pub play : AllZip HasPlayed engineers played
+
+-- one of the seats is unlike its calls
+abbrev pub HasUnlike : List SeatBook → Type 0
+HasUnlike seats = (place : ℕ) × (seat : SeatBook) × (slice_get seats place ≡ Some seat) × IsUnlike seat
+
+-- what is told of a seat that came back
+abbrev pub notes_of : SeatBook → Notes
+notes_of seat = (seat.number, seat.notes)
+
+-- why there is no record, with these seats back: their books differ
+abbrev pub IsOfBooks : List SeatBook → RunFault → Type 0
+IsOfBooks seats BookDiffers = HaveOtherBooks (map notes_of seats)
+IsOfBooks seats _ = ⊥
 
 -- a fault of a team that plays, before the log is written
 abbrev pub IsOfPlay : RunFault → Type 0
 IsOfPlay NoMemory = ⊤
-IsOfPlay BookDiffers = ⊤
+IsOfPlay BookDiffers = (seats : List Notes) × HaveOtherBooks seats
 IsOfPlay _ = ⊥

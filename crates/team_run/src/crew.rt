@@ -13,26 +13,26 @@ use desk::{Desk, Gate, Seat, run_workers};
 use prefix_table::PrefixTable;
 use route_select::Selector;
 use std::alloc::{AllocError, Global};
-use std::io::Write;
 use std::snapshot::Snapshot;
 use std::sync::Wait;
 use std::sync::atomic::{AtomicU64, Ordering};
 use std::sync::ledger::Ledger;
 use std::thread;
 use std::thread::{Promise, PromisedHandle, Scope, Threads};
+use watched::Sink;
 
 /// After how many jobs a worker tells anew how far the team is.
 const JOBS_BETWEEN: u64 = 1_000;
 
 /// Lets all workers pass, and where that is wanted tells how far the team is.
 #[derive(Drop)]
-struct Teller<'a, 'e, S: Selector, T: PrefixTable<Cell<S>>, L: Ledger, E: Write, R: Wait> {
+struct Teller<'a, 'e, S: Selector, T: PrefixTable<Cell<S>>, L: Ledger, E: Sink, R: Wait> {
     rt: &'a R,
     desk: &'a Desk<S, T, L>,
     told: &'a Told<'e, E>,
 }
 
-impl<'a, 'e, S: Selector, T: PrefixTable<Cell<S>>, L: Ledger, E: Write, R: Wait> Gate
+impl<'a, 'e, S: Selector, T: PrefixTable<Cell<S>>, L: Ledger, E: Sink, R: Wait> Gate
     for Teller<'a, 'e, S, T, L, E, R> {
     fn taken(&self, _worker: usize, _n: u64) {}
 
@@ -69,7 +69,7 @@ fn join_all<L: Ledger, R: Threads>(
 ) -> Result<Vec<Seat<L>>, AllocError>
     ensures { IfOk result (λ back. (shards turns : ℕ) (workers : List SeatBook) (engineers : List Engineering) →
         AllWorked shards turns workers seats.items → AreToPlay engineers threads.items →
-        AreBack engineers workers back.items) }
+        AreBack shards turns engineers workers back.items) }
 {
     for thread in threads {
         seats.push(thread.join(rt))?;
@@ -85,7 +85,7 @@ pub(crate) struct Crew<
     S: Selector,
     T: PrefixTable<Cell<S>>,
     L: Ledger,
-    E: Write,
+    E: Sink,
     R: Threads + Wait,
 > {
     pub(crate) rt: &'a R,
@@ -104,7 +104,7 @@ impl<
     S: Selector + Send + Sync + Drop,
     T: PrefixTable<Cell<S>> + Drop + Send,
     L: Ledger + Send + Sync,
-    E: Write + Send,
+    E: Sink + Send,
     R: Threads + Wait + Sync,
 > Crew<'a, 'e, S, T, L, E, R> {
     /// Starts a thread for each engineer, and those of the workers, and waits for all. The seats of all come back, of
@@ -116,13 +116,15 @@ impl<
         engineers: Vec<Engineer<L>>,
         workers: Vec<Seat<L>>,
     ) -> Result<Vec<Seat<L>>, AllocError>
-        ensures { IfOk result (λ seats. AreBack engineers.items workers.items seats.items) }
+        ensures { IfOk result (λ seats. AreBack self.now.desk.now.shards self.now.turns engineers.items workers.items
+            seats.items) }
     {
         thread::scope(
             thread::scope_env(),
             self.rt,
             |scope| -> Result<Vec<Seat<L>>, AllocError>
-                ensures { IfOk result (λ seats. AreBack engineers.items workers.items seats.items) }
+                ensures { IfOk result (λ seats. AreBack self.entry.now.desk.now.shards self.entry.now.turns
+                    engineers.items workers.items seats.items) }
             { self.run_within(scope, engineers, workers) },
         )
     }
@@ -134,7 +136,8 @@ impl<
         engineers: Vec<Engineer<L>>,
         workers: Vec<Seat<L>>,
     ) -> Result<Vec<Seat<L>>, AllocError>
-        ensures { IfOk result (λ seats. AreBack engineers.items workers.items seats.items) }
+        ensures { IfOk result (λ seats. AreBack self.now.desk.now.shards self.now.turns engineers.items workers.items
+            seats.items) }
     {
         let threads = Vec::with_capacity(self.alloc, engineers.len())?;
         let started = self.start_all(scope, engineers, threads);

@@ -15,11 +15,11 @@ use route_select::Selector;
 use script_files::{Line, Lines, Script};
 use sim_event::Reply;
 use std::alloc::Global;
-use std::io::Write;
 use std::marker::Model;
 use std::sync::Wait;
 use std::sync::ledger::Ledger;
 use std::thread::Threads;
+use watched::Sink;
 
 /// An engineer: the number of the file, from 1 on, its script, and the seat.
 #[derive(Drop)]
@@ -42,7 +42,7 @@ pub(crate) fn play<
     S: Selector + Send + Sync + Drop,
     T: PrefixTable<Cell<S>> + Drop,
     L: Ledger,
-    E: Write,
+    E: Sink,
     R: Threads + Wait + Sync,
 >(rt: &R, alloc: Global, desk: &Desk<S, T, L>, told: &Told<'_, E>, engineer: Engineer<L>) -> Seat<L>
     ensures { HasPlayed engineer result }

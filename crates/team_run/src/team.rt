@@ -6,8 +6,8 @@ ghost use Rattle.reference_machine.specs.Histories.{IsLegal};
 ghost use Rattle.room.specs.Books.{blank_seats};
 ghost use Rattle.room.specs.Closing.{AllAgree};
 ghost use Rattle.desk.specs.Desks.{IsDeskLedger};
-ghost use Rattle.team_run.specs.Playing.{AreBack, IsOfPlay, engineers_of};
-ghost use Rattle.team_run.specs.TeamRun.{AreOfScripts, IsFrontOf, IsLogOf, IsPlayed, IsTeamRun};
+ghost use Rattle.team_run.specs.Playing.{AreBack, HasUnlike, IsOfBooks, IsOfPlay, engineers_of};
+ghost use Rattle.team_run.specs.TeamRun.{AreOfScripts, AreOfWorkers, IsFrontOf, IsLogOf, IsPlayed, IsTeamRun};
 ghost use Rattle.watched.specs.Streams.{AppendsFront};
 
 use crate::crew::Crew;
@@ -23,13 +23,12 @@ use script_files::{Script, ScriptFile, read_scripts};
 use sim_event::Entry;
 use std::alloc::{AllocError, Global};
 use std::hash::RandomState;
-use std::io::{Read, Write};
 use std::mem::forget;
 use std::sync::Wait;
 use std::sync::atomic::AtomicU64;
 use std::sync::ledger::{Blank, Ledger};
 use std::thread::Threads;
-use watched::{Output, WriterFailed};
+use watched::{Output, Sink, Source, WriterFailed};
 
 /// How a team is run.
 #[derive(Clone, Copy, Debug, PartialEq, Eq)]
@@ -42,17 +41,15 @@ pub struct Settings {
     pub is_terminal: bool,
 }
 
-/// A team: on what it works, how, and on which files.
+/// A team: on what it works, and how.
 #[derive(Drop)]
-pub struct Team<F: Read> {
+pub struct Team {
     /// The ledger of its calls, with a part for each seat that there may be.
     pub blank: Blank,
     /// The keys of its machine, if there are any.
     pub keys: Option<RandomState>,
     /// How it is run.
     pub settings: Settings,
-    /// The script of each engineer: 1 to 64.
-    pub files: Vec<ScriptFile<F>>,
 }
 
 /// A team whose scripts were read.
@@ -64,7 +61,7 @@ struct ReadyTeam {
     scripts: Vec<Script>,
 }
 
-/// Runs a team on its files, each the script of an engineer, from the empty network, its machine under its keys: a
+/// Runs a team on files, 1 to 64, each the script of an engineer, from the empty network, its machine under its keys: a
 /// thread calls the lines of each script in turn, and the workers' threads deliver what waits, until the engineers have
 /// ended and no message waits, or their turns have. The log of all calls goes to the output. What makes no call is told
 /// on the third stream, and so is a fault; its own failure is passed over. The exit status: 0 done, 3 a file was not
@@ -73,27 +70,34 @@ pub fn run_team<
     S: Selector + Send + Sync + Drop,
     T: PrefixTable<Cell<S>> + Drop + Send,
     L: Ledger + Send + Sync,
-    F: Read + Drop,
-    W: Write,
-    E: Write + Send,
+    F: Source,
+    W: Sink,
+    E: Sink + Send,
     R: Threads + Wait + Sync,
->(rt: &R, alloc: Global, team: Team<F>, output: &mut Output<W>, errors: &mut Output<E>) -> u8
+>(
+    rt: &R,
+    alloc: Global,
+    team: Team,
+    files: &mut [ScriptFile<F>],
+    output: &mut Output<W>,
+    errors: &mut Output<E>,
+) -> u8
     requires name { team.blank.name ≡ L.name }
     requires ledger { team.blank.parts ≡ L.parts }
     requires parts { team.blank.parts ≡ 256 }
-    requires some { 1 ≤ vec_len team.files }
-    requires most { vec_len team.files ≤ 64 }
+    requires some { 1 ≤ length files.old }
+    requires most { length files.old ≤ 64 }
     requires workers { 1 ≤ team.settings.workers }
     requires hands { team.settings.workers ≤ 64 }
     requires calm { output.old.failed ≡ false }
     requires shown { output.old.held ≡ false }
-    ensures run { IsTeamRun team.files.items output.old errors.old result output.new errors.new }
+    ensures run { IsTeamRun files.old files.new team.settings.workers team.settings.turns output.old errors.old result
+        output.new errors.new }
 {
     let Team {
         blank,
         keys,
         settings,
-        files,
     } = team;
     match read_scripts(alloc, files) {
         Ok(scripts) => {
@@ -114,8 +118,8 @@ fn play<
     S: Selector + Send + Sync + Drop,
     T: PrefixTable<Cell<S>> + Drop + Send,
     L: Ledger + Send + Sync,
-    W: Write,
-    E: Write + Send,
+    W: Sink,
+    E: Sink + Send,
     R: Threads + Wait + Sync,
 >(rt: &R, alloc: Global, team: ReadyTeam, output: &mut Output<W>, errors: &mut Output<E>) -> u8
     requires name { team.blank.name ≡ L.name }
@@ -127,7 +131,8 @@ fn play<
     requires hands { team.settings.workers ≤ 64 }
     requires calm { output.old.failed ≡ false }
     requires shown { output.old.held ≡ false }
-    ensures { IsPlayed team.scripts.items output.old result output.new errors.new }
+    ensures { IsPlayed team.scripts.items team.settings.workers team.settings.turns output.old result output.new
+        errors.new }
 {
     let workers = team.settings.workers;
     let record = match recorded::<S, T, L, E, R>(rt, alloc, team, errors) {
@@ -145,7 +150,7 @@ fn recorded<
     S: Selector + Send + Sync + Drop,
     T: PrefixTable<Cell<S>> + Drop + Send,
     L: Ledger + Send + Sync,
-    E: Write + Send,
+    E: Sink + Send,
     R: Threads + Wait + Sync,
 >(rt: &R, alloc: Global, team: ReadyTeam, errors: &mut Output<E>) -> Result<Record, RunFault>
     requires name { team.blank.name ≡ L.name }
@@ -156,6 +161,8 @@ fn recorded<
     requires workers { 1 ≤ team.settings.workers }
     requires hands { team.settings.workers ≤ 64 }
     ensures calls { IfOk result (AreOfScripts 0 team.scripts.items) }
+    ensures deliveries { IfOk result (AreOfWorkers (length team.scripts.items) team.settings.workers
+        team.settings.turns) }
     ensures fault { IfErr result IsOfPlay }
 {
     let ReadyTeam {
@@ -223,7 +230,7 @@ fn at_desk<
     S: Selector + Send + Sync + Drop,
     T: PrefixTable<Cell<S>> + Drop + Send,
     L: Ledger + Send + Sync,
-    E: Write + Send,
+    E: Sink + Send,
     R: Threads + Wait + Sync,
 >(
     crew: &Crew<'_, '_, S, T, L, E, R>,
@@ -232,8 +239,8 @@ fn at_desk<
 ) -> Result<Vec<Seat<L>>, AllocError>
     requires most { vec_len scripts ≤ 64 }
     requires enough { vec_len scripts ≤ vec_len seats }
-    ensures { IfOk result (λ back. AreBack (engineers_of 1 scripts.items seats.items)
-        (drop (length scripts.items) seats.items) back.items) }
+    ensures { IfOk result (λ back. AreBack crew.now.desk.now.shards crew.now.turns
+        (engineers_of 1 scripts.items seats.items) (drop (length scripts.items) seats.items) back.items) }
 {
     let (engineers, workers) = seated(crew.alloc, scripts, seats)?;
     crew.run(engineers, workers)
@@ -260,6 +267,22 @@ fn seated<L: Ledger>(
     Ok((engineers, seats.collect(alloc)?))
 }
 
+/// Whether the notes of each seat are its calls.
+fn all_agree<S: Selector + Drop, T: PrefixTable<Cell<S>> + Drop, L: Ledger, R: Wait>(
+    rt: &R,
+    desk: &Desk<S, T, L>,
+    seats: &[Seat<L>],
+) -> bool
+    ensures { result ≡ false → HasUnlike seats.now }
+{
+    for seat in seats {
+        if desk.audit(rt, seat) == Audit::Differs {
+            return false;
+        }
+    }
+    true
+}
+
 /// The history of the desk, where the notes of each seat are its calls in it.
 fn closed<S: Selector + Drop, T: PrefixTable<Cell<S>> + Drop, L: Ledger, R: Wait>(
     rt: &R,
@@ -267,12 +290,9 @@ fn closed<S: Selector + Drop, T: PrefixTable<Cell<S>> + Drop, L: Ledger, R: Wait
     seats: Vec<Seat<L>>,
 ) -> Result<Record, RunFault>
     ensures agree { IfOk result (λ kept. AllAgree kept seats.items) }
-    ensures fault { IfErr result IsOfPlay }
+    ensures fault { IfErr result (IsOfBooks seats.items) }
 {
-    if !seats
-        .iter()
-        .all(|seat| desk.audit(rt, seat) == Audit::Agrees)
-    {
+    if !all_agree(rt, &desk, seats.as_slice()) {
         drop(desk);
         drop(seats);
         return Err(RunFault::BookDiffers);
@@ -292,7 +312,7 @@ fn closed<S: Selector + Drop, T: PrefixTable<Cell<S>> + Drop, L: Ledger, R: Wait
 }
 
 /// Writes the log of the record, and sends it on. Several workers make its text together.
-fn write_record<W: Write, R: Threads + Sync>(
+fn write_record<W: Sink, R: Threads + Sync>(
     rt: &R,
     alloc: Global,
     workers: u16,
@@ -311,7 +331,7 @@ fn write_record<W: Write, R: Threads + Sync>(
 }
 
 /// Writes the log of the history, and sends it on.
-fn write_entries<W: Write, R: Threads + Sync>(
+fn write_entries<W: Sink, R: Threads + Sync>(
     rt: &R,
     alloc: Global,
     workers: u16,

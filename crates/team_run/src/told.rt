@@ -10,9 +10,8 @@ use desk::Progress;
 use net_conf::Refusal;
 use reply_text::{Part, write_each};
 use std::alloc::{AllocError, Global};
-use std::io::Write;
 use std::sync::{Mutex, Wait};
-use watched::{Output, WriterFailed};
+use watched::{Output, Sink, WriterFailed};
 
 /// A line that made no call. Files and lines count from 1.
 #[derive(Clone, Copy, Debug, PartialEq, Eq)]
@@ -25,13 +24,13 @@ pub(crate) struct ToldLine {
 /// The lines that made no call, from all engineers, in the order in which they were told; and how far the team is, on a
 /// line of the terminal, if there is one, that is written over.
 #[derive(Drop)]
-pub(crate) struct Told<'a, E: Write> {
+pub(crate) struct Told<'a, E: Sink> {
     lines: Vec<ToldLine>,
     errors: Mutex<&'a mut Output<E>>,
     is_terminal: bool,
 }
 
-impl<'a, E: Write> Told<'a, E> {
+impl<'a, E: Sink> Told<'a, E> {
     /// Nothing is told yet.
     pub(crate) fn new(
         alloc: Global,
@@ -84,7 +83,7 @@ impl<'a, E: Write> Told<'a, E> {
 }
 
 /// Writes how far the team is over what stands on the terminal's line.
-fn write_progress<W: Write>(progress: Progress, output: &mut Output<W>) -> Result<(), WriterFailed>
+fn write_progress<W: Sink>(progress: Progress, output: &mut Output<W>) -> Result<(), WriterFailed>
     ensures { Writes output.old (progress_text progress.calls progress.waiting) result output.new }
 {
     let parts = [
@@ -98,14 +97,14 @@ fn write_progress<W: Write>(progress: Progress, output: &mut Output<W>) -> Resul
 }
 
 /// Tells of the line. A failure to do so is passed over.
-fn tell_at_once<W: Write>(told: ToldLine, errors: &mut Output<W>)
+fn tell_at_once<W: Sink>(told: ToldLine, errors: &mut Output<W>)
     ensures { IsTold errors.old (told_text told) errors.new }
 {
     let _ = write_told(told, errors);
 }
 
 /// Writes what is told of the line.
-fn write_told<W: Write>(told: ToldLine, output: &mut Output<W>) -> Result<(), WriterFailed>
+fn write_told<W: Sink>(told: ToldLine, output: &mut Output<W>) -> Result<(), WriterFailed>
     ensures { Writes output.old (told_text told) result output.new }
 {
     let parts = [

@@ -2,12 +2,17 @@
 use Rattle.std.specs.Prelude.{◌≡◌, ℕ, Bool, true, not, ◌==◌, ◌||◌, List, length, take, Option, Result, MatchResult}
 use Rattle.std.specs.Io.KnownBytes.{Appends}
 
--- the bytes that are still to come, where the reader tells them; whether a read has failed
+-- the bytes that are still to come, where the source tells them; whether a read has failed
 pub record Reading : Type 0 where
   pub remaining : Option (List ℕ)
   pub failed : Bool
 
--- the bytes that were written, where the writer tells them; whether a write has failed; whether bytes may be held back:
+-- the bytes that a sink has taken, where it tells them; whether a write has failed
+pub record Receiving : Type 0 where
+  pub written : Option (List ℕ)
+  pub failed : Bool
+
+-- the bytes that were written, where the sink tells them; whether a write has failed; whether bytes may be held back:
 -- some were written since all was last sent on
 pub record Writing : Type 0 where
   pub written : Option (List ℕ)

@@ -4,11 +4,10 @@
 ghost use Rattle.std.specs.Prelude.{◌≡◌, ℕ, ◌+◌, ◌-◌, ◌<◌, ◌≤◌, ◌==◌, List, [], ◌++◌, length, take, drop, slice_range, position, None, IfOk, OnOk, OnErr, true, false};
 ghost use Rattle.std.specs.Io.KnownBytes.{Consumes, IsAtEnd, Keeps};
 
-use crate::Input;
+use crate::{Input, Source};
 use memchr::memchr;
 use std::alloc::{AllocError, Global};
 use std::io;
-use std::io::Read;
 use std::marker::Model;
 
 /// A buffer of `N` bytes, as the bytes that it holds.
@@ -88,7 +87,7 @@ impl<const N: usize> LineBuffer<N> {
     }
 
     /// Reads more bytes behind those that it holds, among which no line feed is, and says whether there were any.
-    pub fn read_more<R: Read>(&mut self, input: &mut Input<R>) -> io::Result<bool>
+    pub fn read_more<R: Source>(&mut self, input: &mut Input<R>) -> io::Result<bool>
         requires room { length self.old < N }
         requires whole { position (λ b. b == 10) self.old ≡ None }
         ensures ok { IfOk result (λ any. (more : List ℕ) × (self.new ≡ self.old ++ more)

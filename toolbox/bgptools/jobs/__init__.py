@@ -1,7 +1,10 @@
 """Worker processes for what takes long: pictures, tables, what-ifs, and checks of the log.
 
 A server that holds a log and sockets makes one `Pool` and awaits its answers; it computes nothing itself. Workers are
-other processes (worker.py), each with its own limits, and none of them is told a name that a participant chose."""
+other processes (worker.py), each with its own limits, and none of them is told a name that a participant chose.
+
+`pool` has the queues and the workers, `executor` is what a worker does; `views`, `changes` and `checks` are the jobs.
+A new job belongs here. `session` and `web` call this."""
 from __future__ import annotations
 
 import importlib

@@ -3,13 +3,12 @@ from __future__ import annotations
 
 from typing import List
 
-from ..compare import compare
-from ..journal import content_of
-from ..language import escaped
-from ..outcome import Outcome
-from ..script import lines_of
-from ..summary import text_of
-from ..what_if import changed, parser, settled_base
+from ..change.comparison import compare
+from ..change.effect import Outcome
+from ..change.report import text_of
+from ..change.what_if import changed, parser, settled_base
+from ..program.language import escaped
+from ..program.script import content_of, lines_of
 
 # The names by which messages call the two scripts. No file has them.
 BASE, CHANGE = "network.bgp", "proposed.change"

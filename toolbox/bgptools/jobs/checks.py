@@ -6,8 +6,8 @@ import os
 import subprocess
 from typing import IO, Any, Dict
 
-from .. import where
-from ..mistakes import Mistake
+from ..program import location
+from ..program.mistakes import Mistake
 
 PIECE = 1 << 20
 
@@ -16,7 +16,7 @@ def verdict(log: int, size: int, end: bytes, beginning: Dict[str, Any]) -> bytes
     """What `bgpsim replay` says of the first bytes of a log, with this end behind them.
 
     `log` is a file descriptor, whose place in the file stays. Mistake where nothing is said, or the log is shorter."""
-    program = where.program()
+    program = location.program()
     try:
         process = subprocess.Popen([program, "replay"], stdin=subprocess.PIPE, stdout=subprocess.PIPE,
                                    stderr=subprocess.PIPE, **beginning)

@@ -8,8 +8,8 @@ import threading
 import traceback
 from typing import Any, BinaryIO, Dict, List, Optional, Tuple
 
-from ..mistakes import Mistake
-from ..program import Program
+from ..program.mistakes import Mistake
+from ..program.process import Program
 from . import confinement
 from .frames import ANSWER, END, HEAD, JOB, LAST, LINES, MISTAKE, PLACES, head_of, json_out, lines_in, read_head
 from .watch import Watch

@@ -6,7 +6,7 @@ import functools
 import math
 from typing import Awaitable, Callable, Dict, List, Optional, Sequence, Set, Tuple, TypeVar
 
-from ..mistakes import Mistake
+from ..program.mistakes import Mistake
 from .cache import Cache
 from .frames import ANSWER, END, JOB, LAST, MISTAKE, PLACES, json_out
 from .limits import Limits

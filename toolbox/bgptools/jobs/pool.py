@@ -6,8 +6,8 @@ import os
 import tempfile
 from typing import Any, Callable, List, Optional, Sequence, Tuple
 
-from .. import language
-from ..mistakes import Mistake
+from ..program import language
+from ..program.mistakes import Mistake
 from .cache import Cache
 from .lane import LongLane, ViewLane
 from .limits import Limits

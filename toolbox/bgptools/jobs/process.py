@@ -13,8 +13,8 @@ import sys
 import tempfile
 from typing import BinaryIO, Dict, List, Optional, Sequence, Tuple, cast
 
-from .. import where
-from ..mistakes import Mistake
+from ..program import location
+from ..program.mistakes import Mistake
 from . import frames
 from .frames import HEAD, LINES, PART, START, Garbage
 from .limits import Limits
@@ -38,7 +38,7 @@ def new_token() -> str:
 def environment(token: str) -> Dict[str, str]:
     """The environment of a worker."""
     kept = {name: os.environ[name] for name in KEPT if name in os.environ}
-    program = where.program()
+    program = location.program()
     kept["PROGRAM"] = os.path.abspath(program if os.sep in program else shutil.which(program) or program)
     return {**kept, TOKEN: token}
 

@@ -4,7 +4,7 @@ from __future__ import annotations
 from collections import OrderedDict
 from typing import Callable, Dict, Iterator, List, Optional
 
-from ..mistakes import Mistake
+from ..program.mistakes import Mistake
 from .limits import Limits
 from .request import Busy, Request
 

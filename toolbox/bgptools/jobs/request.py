@@ -6,7 +6,7 @@ import os
 from dataclasses import dataclass
 from typing import Any, Dict, Optional, Sequence, Tuple, Union
 
-from ..mistakes import Mistake
+from ..program.mistakes import Mistake
 
 TEACH, WORK, LOOK = 0, 1, 2
 # What a picture shows: the step, the prefix, and the way of a packet.

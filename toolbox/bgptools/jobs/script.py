@@ -4,8 +4,8 @@ from __future__ import annotations
 import asyncio
 from typing import Callable, List, Sequence, Tuple
 
-from ..language import is_silent, words_of
-from ..viewing import MAKING
+from ..picture.step_view import MAKING
+from ..program.language import is_silent, words_of
 
 # So many lines are looked at before others have their turn.
 PART = 1024

@@ -5,9 +5,9 @@ import contextlib
 import json
 from typing import Any, Dict, List
 
-from ..layout import Box
-from ..mistakes import Mistake
-from ..viewing import Viewer
+from ..picture.layout import Box
+from ..picture.step_view import Viewer
+from ..program.mistakes import Mistake
 
 
 class Views:

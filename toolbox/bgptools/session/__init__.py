@@ -1,8 +1,9 @@
-"""The server of one shared network: who is joined, what each may do, and how requests are answered.
+"""One network that several share: its run and log, who is there, what each may do, and how requests are answered.
 
-`hub` is the event loop with its turns; `member` is one person's connection, `sockets` the Unix socket of `join`.
-`requests` says what a request may be, `answering` does it, `roles` says who may ask it and how much.
-`messages` has the forms on the wire, `faults` tells what went wrong. `bgptools.web` adds the pages of `lab`.
+`shared_network` holds the run, the `log` with `ledger` and `notes`, `seats`, `workers` and `proposals`; `commands`
+and `deliveries` change it, `restore` and `recovery` bring it back. `hub` is the event loop, `member` a connection,
+`sockets` the socket of `join`, `client` its other end; `requests`, `answers` and `roles` say who may ask what, and
+`request_schema` says it as JSON Schema.
 
-The process that runs this holds the log and the sockets, and does nothing else: pictures, what-ifs and checks run in
-the processes of `bgptools.jobs`. docs/reference/security.md says what is defended, and which test attacks it."""
+Its process holds log and sockets, and computes nothing: `jobs` does. `web`, `share`, `join` and `lab` call it.
+docs/reference/security.md says what is defended, and which test attacks it."""

@@ -8,7 +8,7 @@ import time
 import traceback
 from typing import Any, Callable, Dict, Tuple
 
-from ..mistakes import Mistake
+from ..program.mistakes import Mistake
 
 # The same kind of fault is told once in so many seconds, and so many kinds are kept apart.
 QUIET_SECONDS, MOST_KINDS = 60.0, 100

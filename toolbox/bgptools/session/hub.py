@@ -13,17 +13,17 @@ import time
 from collections import Counter, deque
 from typing import Any, Awaitable, Callable, Deque, List, Optional, Set, Tuple, Union
 
-from ..happening import Event
 from ..jobs import Pool
-from ..lasting import Lost
-from ..mistakes import Mistake
-from ..record import Unkept
-from ..shared import Shared
-from .answering import Answer, Answering
+from ..program.mistakes import Mistake
+from .answers import Answer, RequestAnswers
+from .events import Event
 from .faults import Faults, described
+from .log import Unkept
 from .member import Member
 from .messages import MISSED, UNANSWERED, encoded, shown
+from .persistent_run import Lost
 from .requests import Malformed, request_in
+from .shared_network import Shared
 from .sockets import SocketMember
 
 # Requests are served for so many seconds before the loop looks for new ones.
@@ -47,7 +47,7 @@ class Hub:
         self.shared, self.faults = shared, Faults()
         self.members: List[Member] = []
         self.pool = Pool(lambda: self.shared.run.lines)
-        self.answering = Answering(shared, self.pool, self._quiet)
+        self.answering = RequestAnswers(shared, self.pool, self._quiet)
         # Others than the members who hear what happens, and what else is done about every second.
         self.hearers: List[Callable[[Event], None]] = []
         self.beaten: List[Callable[[], None]] = [self._count_here, self._drop_hidden, self.pool.pump]

@@ -4,7 +4,7 @@ from __future__ import annotations
 import json
 from typing import Any, Dict
 
-from ..mistakes import Mistake
+from ..program.mistakes import Mistake
 
 Message = Dict[str, Any]
 # A member who gets this asks for the network anew: something that happened could not be told.

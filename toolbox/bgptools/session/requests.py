@@ -6,15 +6,17 @@ from __future__ import annotations
 
 import json
 import math
+import sys
 import unicodedata
 from dataclasses import dataclass
 from typing import Any, Callable, Dict, List
 
-from ..mistakes import Mistake
-from ..proposals import LONGEST_NAME
-from ..program import LONGEST_READ
+from ..program.mistakes import Mistake
+from ..program.process import LONGEST_READ
+from .proposal import LONGEST_NAME
 
 Request = Dict[str, Any]
+Schema = Dict[str, Any]
 LONGEST, DEEPEST, LONGEST_ID, MOST_LINES = 1 << 20, 8, 64, 65536
 # So many messages are delivered by one `step`, and steps have numbers below this.
 STEPS, NUMBERS = 1000, 1 << 32
@@ -23,9 +25,11 @@ EXPECTED = 'a request is a line of JSON, as {"id": 1, "do": "who"}'
 
 @dataclass(frozen=True)
 class Field:
-    """One field of a request. `form` says what is expected, for a reader; `fits` tells whether a value is that."""
+    """One field of a request. `form` says what is expected, for a reader; `fits` tells whether a value is that. The
+    schema says the same as JSON Schema does, for programs (`request_schema`)."""
     form: str
     fits: Callable[[Any], bool]
+    schema: Schema
     is_needed: bool = True
 
 
@@ -47,14 +51,26 @@ def _is_number(value: Any, least: int, most: int) -> bool:
     return isinstance(value, int) and not isinstance(value, bool) and least <= value <= most
 
 
+def text_schema(longest: int) -> Schema:
+    """What `is_text` takes. (A half of a character is refused by its code, as a schema's own text has none.)"""
+    controls = r"[\u0000-\u001f\u007f-\u009f\u2028\u2029\ud800-\udc7f\udd00-\udfff]"
+    return {"type": "string", "maxLength": longest, "not": {"pattern": controls}}
+
+
+def _or_null(schema: Schema, needed: bool) -> Schema:
+    return schema if needed else {"anyOf": [schema, {"type": "null"}]}
+
+
 def _text(longest: int, needed: bool = True) -> Field:
     return Field("a text of at most %d characters without control characters" % longest,
-                 lambda value: is_text(value, longest) or not needed and value is None, needed)
+                 lambda value: is_text(value, longest) or not needed and value is None,
+                 _or_null(text_schema(longest), needed), needed)
 
 
 def _number(most: int, needed: bool = True) -> Field:
     form = "a whole number from 0 to %d" % most + ("" if needed else ", or null")
-    return Field(form, lambda value: _is_number(value, 0, most) or not needed and value is None, needed)
+    return Field(form, lambda value: _is_number(value, 0, most) or not needed and value is None,
+                 _or_null({"type": "integer", "minimum": 0, "maximum": most}, needed), needed)
 
 
 def _is_lines(value: Any) -> bool:
@@ -69,12 +85,18 @@ def _is_pace(value: Any) -> bool:
     return value is None or isinstance(value, (int, float)) and not isinstance(value, bool) and math.isfinite(value)
 
 
+# The numbers that are finite.
+FINITE: Schema = {"type": "number", "minimum": -sys.float_info.max, "maximum": sys.float_info.max}
 LINE = Field("one line of at most %d bytes, without control characters" % LONGEST_READ,
-             lambda value: is_text(value, LONGEST_READ))
-LINES = Field("a list of at most %d lines without control characters" % MOST_LINES, _is_lines)
-PACE = Field("a number, or null for as fast as can be", _is_pace)
-WATCHED = Field("`all`, `edits` or `off`", lambda value: value in ("all", "edits", "off"))
-WAY = Field("a list of two addresses, or null", _is_way, False)
+             lambda value: is_text(value, LONGEST_READ), text_schema(LONGEST_READ))
+LINES = Field("a list of at most %d lines without control characters" % MOST_LINES, _is_lines,
+              {"type": "array", "maxItems": MOST_LINES, "items": text_schema(LONGEST_READ)})
+PACE = Field("a number, or null for as fast as can be", _is_pace,
+             {"anyOf": [{"type": ["null", "integer"]}, FINITE]})
+WATCHED = Field("`all`, `edits` or `off`", lambda value: value in ("all", "edits", "off"),
+                {"enum": ["all", "edits", "off"]})
+WAY = Field("a list of two addresses, or null", _is_way,
+            _or_null({"type": "array", "minItems": 2, "maxItems": 2, "items": text_schema(64)}, False), False)
 NOTHING: Dict[str, Field] = {}
 PROPOSAL = {"number": _number(NUMBERS, False)}
 # The fields of each word, beside `id` and `do`.
@@ -106,7 +128,7 @@ def request_in(line: bytes) -> Request:
         raise Malformed(EXPECTED, number)
     if word not in FIELDS:
         named = word[:40] if is_text(word, LONGEST) else "?"
-        raise Malformed("there is no request `%s`: docs/SHARE.md lists them" % named, number)
+        raise Malformed("there is no request `%s`: docs/reference/share.md lists them" % named, number)
     for name, field in FIELDS[word].items():
         if not field.fits(request.get(name)) or field.is_needed and name not in request:
             raise Malformed("`%s` of the request `%s` is expected to be %s" % (name, word, field.form), number)

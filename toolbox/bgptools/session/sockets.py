@@ -8,7 +8,7 @@ import socket
 import stat
 from typing import Callable, Optional
 
-from ..mistakes import Mistake
+from ..program.mistakes import Mistake
 from .member import AHEAD, Member
 from .requests import LONGEST
 from .roles import TEACH

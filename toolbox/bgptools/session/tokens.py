@@ -10,7 +10,7 @@ import pathlib
 import tempfile
 from typing import Optional
 
-from ..journal import folder
+from .journal import folder
 
 # So many are kept, and so many characters of one are read.
 KEPT, LONGEST = 200, 64

@@ -18,10 +18,11 @@ from tornado.iostream import StreamClosedError
 from tornado.web import HTTPError, RequestHandler, stream_request_body
 
 from ..jobs import Asker, Busy
-from ..language import FORMS, number
-from ..mistakes import Mistake
-from ..record import HEADER
+from ..program.language import number
+from ..program.language_table import FORMS
+from ..program.mistakes import Mistake
 from ..session.faults import described
+from ..session.log import HEADER
 from ..session.requests import is_text
 from ..session.roles import LOOK, RANKS
 from .connections import WRITE_SECONDS, Connection, Connections
@@ -29,7 +30,7 @@ from .lab import Lab
 from .page import PageMember
 
 FILES = {"": ("lab.html", "text/html"), "lab.css": ("lab.css", "text/css"), "lab.js": ("lab.js", "text/javascript"),
-         **{name: (name, "text/javascript") for name in ("drawn.js", "moving.js", "changes.js")}}
+         **{name: (name, "text/javascript") for name in ("drawn.js", "moving.js", "changes.js", "language.js")}}
 POLICY = ("default-src 'none'; script-src 'self'; style-src 'self'; connect-src 'self'; base-uri 'none'; "
           "form-action 'none'; frame-ancestors 'none'")
 HEADERS = {"Content-Security-Policy": POLICY, "X-Content-Type-Options": "nosniff", "Referrer-Policy": "no-referrer",

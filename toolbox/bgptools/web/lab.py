@@ -5,16 +5,16 @@ import hmac
 import secrets
 from typing import Any, Callable, Dict, List, Optional
 
-from .. import provenance, where
-from ..happening import Event
-from ..lesson import Note
-from ..mistakes import Mistake
+from ..program import location, provenance
+from ..program.mistakes import Mistake
+from ..session.events import Event
 from ..session.hub import Hub
 from ..session.member import AHEAD, Member
 from ..session.messages import encoded, shown
 from ..session.requests import Request
 from ..session.roles import LOOK, QUOTAS, TEACH, WORK
-from ..shared import Shared
+from ..session.shared_network import Shared
+from .lesson import Note
 from .page import FULL, PageMember
 
 # So many steps are told in one answer.
@@ -30,7 +30,7 @@ class Lab:
         self.first, self.notes = notes[0], notes[1:]
         roles = [TEACH, WORK, LOOK] if has_looking else [TEACH, WORK]
         self.keys = {role: secrets.token_urlsafe(24) for role in roles}
-        self.program = provenance.of(where.program()).as_json()
+        self.program = provenance.of(location.program()).as_json()
         self.pages: Dict[str, PageMember] = {}
         self.shown: Dict[str, Any] = {"event": "shown", "step": None}
         hub.answering.words["show"] = self._show

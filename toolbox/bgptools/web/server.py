@@ -12,7 +12,7 @@ from tornado.httpserver import HTTPServer
 from tornado.iostream import IOStream, StreamClosedError
 from tornado.web import Application
 
-from ..mistakes import Mistake
+from ..program.mistakes import Mistake
 from ..session.faults import Faults
 from .connections import Connections
 from .handler import Handler

@@ -6,7 +6,7 @@ import pathlib
 from typing import List, Tuple
 
 from bgptools import Network
-from bgptools.from_as_rel import Marking, relations
+from bgptools.importers.relationships.caida import Marking, relations
 
 OWNER, PREFIX = 64, "203.0.113.0/24"
 

@@ -9,7 +9,7 @@ use crate::log::write_entries;
 use sim_event::Entry;
 use std::alloc::Global;
 use std::thread::{Threads, join};
-use watched::Output;
+use watched::{Output, Writer};
 
 /// The fewest calls that a thread is started for.
 const LEAST_CALLS: usize = 512;
@@ -49,7 +49,7 @@ pub(crate) fn text_by_threads<R: Threads + Sync>(
 fn text_of(alloc: Global, entries: &[Entry]) -> Option<Vec<u8>>
     ensures { IfSome result (λ text. text.items ≡ flat_map entry_text entries.now) }
 {
-    let mut output = Output::new(Vec::new(alloc));
+    let mut output = Output::new(Writer::new(Vec::new(alloc)));
     write_entries(entries, &mut output).ok()?;
-    Some(output.into_inner())
+    Some(output.into_inner().into_inner())
 }

@@ -1,6 +1,6 @@
 //! Trees that a change of the edges may move, and what they become.
 
-ghost use Rattle.std.specs.Prelude.{◌≡◌, ◌<◌, ◌++◌, List, map, IfOk};
+ghost use Rattle.std.specs.Prelude.{◌≡◌, ◌<◌, ◌≤◌, ◌++◌, List, map, IfOk};
 ghost use Rattle.std.specs.List.{AllByRecursion};
 ghost use Rattle.std.specs.List.Sorted.{IsPermutation, IsStrictlySortedBy};
 ghost use Rattle.std.specs.Map.{keys_of};
@@ -27,6 +27,9 @@ const WORTH_THREADS: usize = 700_000;
 
 /// The fewest labels that one thread makes.
 const LEAST_LABELS: usize = 25_000;
+
+/// The most pieces that trees are made in, each by a thread of its own.
+const MOST_PIECES: usize = 64;
 
 /// A tree from before a change, which may not be the one after it.
 #[derive(Drop)]
@@ -163,9 +166,14 @@ pub(crate) fn moved_members<'a>(
 }
 
 /// In how many pieces so many trees of so many nodes are made: one for each processor, and none of few labels.
-fn pieces_of<R: Threads>(rt: &R, trees: usize, nodes: usize) -> usize {
+fn pieces_of<R: Threads>(rt: &R, trees: usize, nodes: usize) -> usize
+    ensures { result ≤ 64 }
+{
     let most = trees.saturating_mul(nodes) / LEAST_LABELS;
-    current_num_threads(rt).min(most).min(trees)
+    current_num_threads(rt)
+        .min(most)
+        .min(trees)
+        .min(MOST_PIECES)
 }
 
 /// The trees after the change, in order. Many are shared among threads, in any number: the list is the same.

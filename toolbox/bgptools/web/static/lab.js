@@ -1,20 +1,14 @@
 // The page of `lab`: what it asks the server, what happens there, and what is shown of it.
 import { Proposals } from "./changes.js";
 import { Picture, blamed, commandForm, element, tables } from "./drawn.js";
+import { FORMS, ONE_END, PLACING, UNSEEN } from "./language.js";
 import * as moving from "./moving.js";
 
 const at = (name) => document.getElementById(name);
-const FORMS = { router: ["origin", "noorigin", "med", "cluster", "trace", "routes", "link", "join", "router", "virtual"],
-  peer: ["feed", "link", "join"], link: ["fail", "mend", "metric", "join"],
-  session: ["stop", "start", "client", "self", "rule", "clear", "queue", "in", "out", "deliver"] };
 const MOST = 500, KEPT = 40;
 // So often something is asked again of a server that has much to do, and after so many milliseconds.
 const TRIES = 4, RETRY = 1000;
 const LONGEST_NAME = 80;
-// These questions are about nothing that is to be seen.
-const UNSEEN = new Set(["quiet", "queue", "cost"]);
-// After these lines all that was made before may stand elsewhere.
-const PLACING = /^ *(#|(router|virtual|link|join) )/;
 // `step` is the one that is shown; nothing stands for the last one there is. `chosen` is what was clicked last, and
 // `isOwn` says that prefix and packet are a person's, not the lesson's.
 const now = { step: null, steps: [], first: {}, prefix: "", from: "", to: "", chosen: null, isOwn: false, blames: false,
@@ -30,6 +24,12 @@ const proposals = new Proposals(at("proposals"), async (what, { number, edits })
 function programOf({ version, commit, kit, digest, is_proved: isProved }) {
   const how = isProved === null ? "" : isProved ? ", proved by " + kit : ", not proved";
   return "bgpsim " + version + how + ", commit " + commit.slice(0, 12) + ", " + digest.slice(0, 31);
+}
+
+// After a comment, too, all that was made before may stand elsewhere.
+function isPlacing(line) {
+  const [word] = (line || "").trim().split(/ +/);
+  return word.startsWith("#") || PLACING.has(word);
 }
 
 // The server
@@ -94,7 +94,7 @@ const heards = {
       now.steps[each.step - 1] = { ...now.steps[each.step - 1], line: each.line, reply: each.reply };
       log((each.who || "") + ": " + each.line + (each.reply && each.reply !== "ok" ? ": " + each.reply : ""));
     }
-    if (told.changes.some((each) => PLACING.test(each.line))) pictures.clear();
+    if (told.changes.some((each) => isPlacing(each.line))) pictures.clear();
     show();
   },
   workers: (told) => { going(told); log(told.text); },
@@ -367,8 +367,7 @@ function clicked(about) {
 
 // A command that is one end's is offered for both.
 function both(spelling, about) {
-  const isOneEnds = /^(client|self|rule|clear|queue|in|out|deliver) /.test(spelling);
-  return about.length === 3 && isOneEnds ? [false, true] : [false];
+  return about.length === 3 && ONE_END.has(spelling.split(" ")[0]) ? [false, true] : [false];
 }
 
 async function settle() {

@@ -1,4 +1,4 @@
-use Rattle.std.proofs.Common.{ℕ, List, Option, sym, subst}
+use Rattle.std.proofs.Common.{ℕ, List, Option, IfOk, sym, subst}
 use Rattle.watched.specs.Streams.{Reading, Writing}
 use Rattle.command_line.specs.declared.Choice.{Choice}
 use Rattle.command_line.specs.CommandLine.{IsWithin}
@@ -8,23 +8,23 @@ use Rattle.bgpsim.proofs.running.run_choice.Goals as goal
 pub play_team-requires-clause-team : goal.play_team-requires-clause-team
 play_team-requires-clause-team g c _ _ = subst (λ (choice : Choice). IsWithin choice) c.in-ForTeam.is c.requires.within
 
-pub returns-in-Script : goal.returns-in-Script
-returns-in-Script g c =
+pub returns-in-Script-clause-run : goal.returns-in-Script-clause-run
+returns-in-Script-clause-run g c =
     let old = c.args.streams.now in
     let new = c.serve_script.new.streams in
-    subst (λ (choice : Choice). IsRunOf choice (g.R.Read.remaining c.args.reader) old.output old.errors
-    c.serve_script.result new.output new.errors) (sym c.in-Script.is) c.serve_script.ensures
+    subst (λ (choice : Choice). IfOk c.serve_script.result (λ status. IsRunOf choice old.input
+    old.output old.errors status new.input new.output new.errors)) (sym c.in-Script.is) c.serve_script.ensures.run
 
-pub returns-in-Replay : goal.returns-in-Replay
-returns-in-Replay g c =
+pub returns-in-Replay-clause-run : goal.returns-in-Replay-clause-run
+returns-in-Replay-clause-run g c =
     let old = c.args.streams.now in
     let new = c.replay_log.new.streams in
-    subst (λ (choice : Choice). IsRunOf choice (g.R.Read.remaining c.args.reader) old.output old.errors
-    c.replay_log.result new.output new.errors) (sym c.in-Replay.is) c.replay_log.ensures
+    subst (λ (choice : Choice). IfOk c.replay_log.result (λ status. IsRunOf choice old.input
+    old.output old.errors status new.input new.output new.errors)) (sym c.in-Replay.is) c.replay_log.ensures.run
 
-pub returns-in-ForTeam : goal.returns-in-ForTeam
-returns-in-ForTeam g c =
+pub returns-in-ForTeam-clause-run : goal.returns-in-ForTeam-clause-run
+returns-in-ForTeam-clause-run g c =
     let old = c.args.streams.now in
     let new = c.play_team.new.streams in
-    subst (λ (choice : Choice). IsRunOf choice (g.R.Read.remaining c.args.reader) old.output old.errors
-    c.play_team.result new.output new.errors) (sym c.in-ForTeam.is) c.play_team.ensures
+    subst (λ (choice : Choice). IfOk c.play_team.result (λ status. IsRunOf choice old.input
+    old.output old.errors status new.input new.output new.errors)) (sym c.in-ForTeam.is) c.play_team.ensures.run

@@ -1,6 +1,6 @@
 use Rattle.std.proofs.Common.{length}
 use Rattle.std.specs.List.{flat_map}
-use Rattle.watched.specs.declared.output.WriterFailed.{WriterFailed}
+use Rattle.watched.specs.declared.sink.WriterFailed.{WriterFailed}
 use Rattle.reply_text.specs.Pieces.{Continues}
 use Rattle.log_text.specs.Logs.{entry_text}
 use Rattle.log_text.proofs.in_threads.write_turns.Given as goal

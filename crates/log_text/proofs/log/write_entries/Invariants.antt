@@ -1,6 +1,6 @@
 use Rattle.std.proofs.Common.{drop, Result}
 use Rattle.std.specs.List.{flat_map}
-use Rattle.watched.specs.declared.output.WriterFailed.{WriterFailed}
+use Rattle.watched.specs.declared.sink.WriterFailed.{WriterFailed}
 use Rattle.watched.specs.Streams.{Writing, Writes}
 use Rattle.log_text.specs.Logs.{entry_text}
 use Rattle.log_text.proofs.log.write_entries.Given as goal

@@ -1,6 +1,6 @@
 use Rattle.std.proofs.Common.{drop, Result, ◌++◌}
 use Rattle.std.specs.List.{flat_map}
-use Rattle.watched.specs.declared.output.WriterFailed.{WriterFailed}
+use Rattle.watched.specs.declared.sink.WriterFailed.{WriterFailed}
 use Rattle.watched.specs.Streams.{Writing, Writes}
 use Rattle.reply_text.proofs.marked.write_each_marked.Given as goal
 

@@ -1,11 +1,9 @@
-use Rattle.std.proofs.Common.{◌≡◌, ◌+◌, ◌++◌, List, length}
-use Rattle.script_files.specs.Sources.{Source, AreRead}
+use Rattle.std.proofs.Common.{◌≡◌, drop, length, take}
+use Rattle.script_files.specs.Sources.{AreRead}
 use Rattle.script_files.proofs.files.read_scripts.Given as goal
 
--- the files so far were read
-abbrev pub invariant-loop-file : goal.invariant-loop-file
-invariant-loop-file g l =
-    (goal.iterator-loop-file g).can_next l.file-iterator ×
-    (goal.iterator-loop-file g).is_finite l.file-iterator ×
-    (length l.scripts.items + length l.file-iterator.rest.items ≡ length l.fn.files.items)
-    × ((done : List Source) × (l.fn.files.items ≡ done ++ l.file-iterator.rest.items) × AreRead done l.scripts.items)
+-- the files so far were read, and the others are as they were
+abbrev pub invariant-loop-place : goal.invariant-loop-place
+invariant-loop-place g l =
+    (length l.scripts.items ≡ l.place) × (length l.files ≡ length l.fn.files)
+    × (drop l.place l.files ≡ drop l.place l.fn.files) × AreRead (take l.place l.fn.files) l.scripts.items

@@ -1,0 +1,4 @@
+pub mod Reaching
+pub mod Counting
+mod Quiet
+mod InQueues

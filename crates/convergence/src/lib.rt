@@ -1,0 +1,18 @@
+//! Convergence: messages that wait are delivered one by one, each by a step of its own, until no message waits.
+#![tactic(auto)]
+
+mod delivery;
+mod ending;
+mod engine;
+mod fair;
+mod laws;
+mod reached;
+mod run;
+mod waiting;
+
+pub use delivery::{Delivery, Tally};
+pub use ending::{Advance, Convergence, Ending};
+pub use laws::waiting_is_taken;
+pub use reached::Reached;
+pub use run::{Run, converge};
+pub use waiting::Waiting;

@@ -1,0 +1,135 @@
+"""What a change does, as data: what `what-if` tells, for the interface for Python."""
+from __future__ import annotations
+
+from dataclasses import dataclass, field
+from typing import Dict, Iterable, List, Optional, Tuple
+
+from ..change import comparison
+from ..change.effect import Outcome
+from ..change.report import text_of
+from ..convergence.delivery import Settling
+from ..convergence.run import settled_otherwise, unsettled
+from ..network.configuration import Direction
+from ..program import replies
+from ..program.replies import Trace
+from .values import Delivery, Message, Route, delivery_of, message_of, route_of
+
+
+@dataclass(frozen=True)
+class RouteChange:
+    """A route of a router before and after: `gained`, `lost` or `moved`. `reason` says by what the old one loses now,
+    or why it is gone. Of what a virtual peer is told, the peer is the router."""
+    router: str
+    prefix: str
+    kind: str
+    before: Optional[Route]
+    after: Optional[Route]
+    reason: str
+
+
+@dataclass(frozen=True)
+class WayChange:
+    """A packet's way before and after, from a router to an address."""
+    router: str
+    address: str
+    before: Trace
+    after: Trace
+
+
+@dataclass(frozen=True)
+class Sent:
+    """What a line of the change made a router send at once."""
+    line: int
+    command: str
+    message: Message
+
+
+@dataclass(frozen=True)
+class InBetween:
+    """What a router told a peer by one line of the change, and mended by a later one: `leaked`, `told otherwise` or
+    `taken back`."""
+    kind: str
+    line: int
+    until: int
+    message: Message
+
+
+@dataclass(frozen=True)
+class Effect:
+    """What a change does. `told` is what virtual peers are told otherwise; `loops` and `black_holes` are those of
+    `forwarding` that are new ones; `asked` are the ways that were asked for. Where it does not settle,
+    `keeps_changing` has each prefix with the routers that choose anew, and the rest is how it stood when the
+    deliveries stopped. `text` is what the tool prints."""
+    is_changed: bool
+    is_settled: bool
+    routes: List[RouteChange]
+    told: List[RouteChange]
+    sessions_down: List[Direction]
+    sessions_up: List[Direction]
+    forwarding: List[WayChange]
+    loops: List[WayChange]
+    black_holes: List[WayChange]
+    asked: List[WayChange]
+    sent: List[Sent]
+    in_between: List[InBetween]
+    deliveries: List[Delivery]
+    keeps_changing: Dict[str, List[str]]
+    notes: List[str]
+    text: str = field(repr=False)
+
+    @property
+    def lost(self) -> List[RouteChange]:
+        return [each for each in self.routes if each.kind == "lost"]
+
+    @property
+    def moved(self) -> List[RouteChange]:
+        return [each for each in self.routes if each.kind == "moved"]
+
+    @property
+    def gained(self) -> List[RouteChange]:
+        return [each for each in self.routes if each.kind == "gained"]
+
+
+def effect_of(outcome: Outcome) -> Effect:
+    """The outcome of a change."""
+    found, endless = outcome.difference, outcome.unsettled
+    return Effect(
+        is_changed=outcome.is_changed, is_settled=endless is None,
+        routes=[_change(router, each) for router, changes in found.routers.items() for each in changes],
+        told=[_change(peer, each, router) for (router, peer), changes in found.told.items() for each in changes],
+        sessions_down=found.down, sessions_up=found.up, forwarding=_ways(found.ways), loops=_ways(found.loops),
+        black_holes=_ways(found.black_holes), asked=_ways(found.asked), sent=_sent(outcome),
+        in_between=[InBetween(each.kind, each.line.number, each.until.number,
+                              message_of(each.sender, each.receiver, each.message)) for each in outcome.passing],
+        deliveries=[each for done in outcome.done for each in deliveries_of(done)],
+        keeps_changing=endless.restless if endless else {}, notes=_notes(outcome), text=text_of(outcome, False))
+
+
+def _notes(outcome: Outcome) -> List[str]:
+    """What is told of the orders of deliveries: which was needed, or that none settles."""
+    names, endless = outcome.network.names, outcome.unsettled
+    told = [settled_otherwise(done, names) for done in [outcome.base] + outcome.done if done.first]
+    return told + ([unsettled(endless, names)] if endless else [])
+
+
+def deliveries_of(done: Settling) -> Tuple[Delivery, ...]:
+    """What was delivered."""
+    return tuple(delivery_of(*way, took) for way, took in zip(done.deliveries, done.taken))
+
+
+def _change(router: str, change: comparison.Change, source: str = "") -> RouteChange:
+    before, after = (_route(router, told, source) for told in (change.before, change.after))
+    return RouteChange(router, change.prefix, change.kind, before, after, change.reason)
+
+
+def _route(router: str, told: Optional[replies.Route], source: str) -> Optional[Route]:
+    return None if told is None else route_of(router, source or str(told.source), told)
+
+
+def _ways(ways: Iterable[comparison.Way]) -> List[WayChange]:
+    return [WayChange(way.router, way.address, way.before, way.after) for way in ways]
+
+
+def _sent(outcome: Outcome) -> List[Sent]:
+    return [Sent(sent.line.number, " ".join(sent.line.words), message_of(*way, message))
+            for sent in outcome.watch.sent for way, messages in sent.messages.items() for message in messages]

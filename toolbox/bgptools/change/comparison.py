@@ -1,0 +1,196 @@
+"""Two networks compared, router by router: what the program answers before a change and after it."""
+from __future__ import annotations
+
+from dataclasses import dataclass, field
+from typing import Callable, Dict, Iterable, List, Optional, Set, Tuple
+
+from ..network.answers import Answers
+from ..network.configuration import Direction, Network, Pair, pair
+from ..program import communities
+from ..program.language import by_address, by_prefix, contains, prefix, show_address, words_of
+from ..program.output import Progress
+from ..program.reasons import named
+from ..program.replies import Route, Trace, best, reasons, routes, trace
+
+# A packet, by the router that it starts at and the address that it is for.
+Packet = Tuple[str, str]
+NO_ROUTES = ["end 0"]
+
+
+@dataclass
+class Change:
+    """A route before and after; `reason` says by what the old one loses now, or why it is gone."""
+    prefix: str
+    before: Optional[Route]
+    after: Optional[Route]
+    reason: str = ""
+
+    @property
+    def kind(self) -> str:
+        return "gained" if self.before is None else "lost" if self.after is None else "moved"
+
+
+@dataclass
+class Way:
+    """A packet's way before and after."""
+    router: str
+    address: str
+    before: Trace
+    after: Trace
+
+
+@dataclass
+class Difference:
+    """What differs."""
+    routers: Dict[str, List[Change]] = field(default_factory=dict)
+    came: List[str] = field(default_factory=list)
+    down: List[Direction] = field(default_factory=list)
+    up: List[Direction] = field(default_factory=list)
+    told: Dict[Direction, List[Change]] = field(default_factory=dict)
+    ways: List[Way] = field(default_factory=list)
+    asked: List[Way] = field(default_factory=list)
+
+    @property
+    def loops(self) -> List[Way]:
+        return [way for way in self.ways if way.after.end == "loop" != way.before.end]
+
+    @property
+    def black_holes(self) -> List[Way]:
+        return [way for way in self.ways if way.after.end == "noroute" and way.before.end == "reached"]
+
+    @property
+    def is_any(self) -> bool:
+        return bool(self.routers or self.came or self.down or self.up or self.told or self.ways or any(way.before != way.after for way in self.asked))
+
+
+def compare(before: Answers, after: Answers, asked: List[Packet],
+            chosen: Optional[Callable[[Difference], List[Packet]]] = None, has_reasons: bool = True) -> Difference:
+    """What differs between two runs, and how the packets go that are asked for.
+
+    Packets are followed from all routers to an address of each prefix; or, where it is given, those of `chosen`,
+    which is told what differs so far. Why old routes lost is looked up where `has_reasons`."""
+    found = Difference(came=[r for r in after.network.routers() if r not in before.network.nodes])
+    _compare_sessions(before, after, found)
+    _compare_routes(before, after, found)
+    if has_reasons:
+        _tell_why(before, after, found)
+    _compare_told(before, after, found)
+    packets = chosen(found) if chosen else packets_of(before.network, after.network)
+    found.ways = _ways(before, after, packets, is_all=False)
+    found.asked = _ways(before, after, asked, is_all=True)
+    return found
+
+
+def _changes(old: Dict[str, Route], new: Dict[str, Route]) -> List[Change]:
+    return [Change(p, old.get(p), new.get(p)) for p in sorted({*old, *new}, key=by_prefix) if old.get(p) != new.get(p)]
+
+
+def packets_of(before: Network, after: Network) -> List[Packet]:
+    """Packets from each router that was there before to an address of each prefix."""
+    everywhere = [r for r in before.routers() if after.is_router(r)]
+    return [(r, show_address(d)) for d in probes_of(after.prefixes) for r in everywhere]
+
+
+def _tables(run: Answers) -> Dict[str, List[str]]:
+    routers = run.network.routers()
+    return dict(zip(routers, run.ask("routes " + router for router in routers)))
+
+
+def _compare_routes(before: Answers, after: Answers, found: Difference) -> None:
+    old, new = _tables(before), _tables(after)
+    for router in new:
+        if new[router] != old.get(router, NO_ROUTES):
+            found.routers[router] = _changes(*_differing(old.get(router, NO_ROUTES), new[router]))
+
+
+def _differing(old: List[str], new: List[str]) -> Tuple[Dict[str, Route], Dict[str, Route]]:
+    """The routes of two replies that are not in both."""
+    same = {*old} & {*new}
+    before, after = ([line for line in reply[:-1] if line not in same] + reply[-1:] for reply in (old, new))
+    return routes(before), routes(after)
+
+
+def _tell_why(before: Answers, after: Answers, found: Difference) -> None:
+    """By what each route that was chosen before loses now: as `why` says, or why it is not among what the router has."""
+    asked = [(router, change, change.before.source) for router, changes in found.routers.items() for change in changes
+             if change.before and change.before.source]
+    stopped = _stopped(after.lines[len(before.lines):])
+    for (router, change, source), reply in zip(asked, after.ask("why %s %s" % (router, change.prefix) for router, change, _ in asked)):
+        reason = dict(reasons(reply)).get(source)
+        shown = after.network.names.shown(source)
+        if reason == "best":
+            change.reason = "it comes from the same, with other attributes"
+        elif reason:
+            change.reason = named(reason, router in after.network.med_always)
+        elif source == "self":
+            change.reason = "it is no longer originated here"
+        elif (router, source) in found.down or (source, router) in found.down:
+            change.reason = "the session with %s is down" % shown
+        elif pair(router, source) in stopped and not after.network.is_router(source):
+            change.reason = "the session with %s was down for a while, and it was not fed again" % shown
+        else:
+            kept = _kept_back(after, source, router, change.prefix)
+            kept = ": it chose a route that carries " + kept if kept else ""
+            change.reason = "%s does not tell it any more%s" % (shown, kept)
+
+
+def _kept_back(run: Answers, router: str, peer: str, to: str) -> str:
+    """The communities by which a router does not tell a peer the route that it chose; empty where it has none."""
+    if not run.network.communities or not run.network.is_router(router):
+        return ""
+    chosen = best(run.ask(["best %s %s" % (router, to)])[0])
+    if chosen is None or chosen.source == peer:
+        return ""
+    keeping = communities.withholding(chosen.attributes.communities, run.network.is_external(router, peer))
+    return communities.told(keeping) if keeping else ""
+
+
+def _stopped(lines: List[str]) -> Set[Pair]:
+    """The ends that lines of a change parted, if only for a while."""
+    return {pair(words[1], words[2]) for words in map(words_of, lines) if words[0] in ("stop", "fail")}
+
+
+def _compare_sessions(before: Answers, after: Answers, found: Difference) -> None:
+    old, new = before.sessions_up(), after.sessions_up()
+    found.down = [way for way in new if old.get(way, False) and not new[way]]
+    found.up = [way for way in new if new[way] and not old.get(way, False)]
+
+
+def _compare_told(before: Answers, after: Answers, found: Difference) -> None:
+    """What virtual peers are told: they are the external neighbours that no router's table shows."""
+    for router, peer in ((r, v) for v in after.network.virtuals() for r in sorted(after.network.peers.get(v, ()), key=by_address)):
+        old, new = (routes(run.ask(["out %s %s" % (router, peer)])[0]) if peer in run.network.peers.get(router, ()) else {} for run in (before, after))
+        changes = _changes(old, new)
+        is_up = after.sessions_up([(router, peer)])[router, peer]
+        for change in (each for each in changes if each.after is None and is_up):
+            kept = _kept_back(after, router, peer, change.prefix)
+            shown = after.network.names.shown(router)
+            change.reason = "%s chose a route that carries %s" % (shown, kept) if kept else ""
+        if changes:
+            found.told[router, peer] = changes
+
+
+def _ways(before: Answers, after: Answers, asked: List[Packet], is_all: bool) -> List[Way]:
+    """How these packets go: all of them, or those whose way changed."""
+    progress, found = Progress(), []
+    for start in range(0, len(asked), 500):
+        part = asked[start:start + 500]
+        lines = ["trace %s %s" % each for each in part]
+        for (router, to), old, new in zip(part, before.ask(lines), after.ask(lines)):
+            if is_all or old != new:
+                found.append(Way(router, to, trace(old), trace(new)))
+        progress.tell("%d of %d packets followed .." % (start, len(asked)))
+    progress.done()
+    return found
+
+
+def probes_of(prefixes: Iterable[str]) -> List[int]:
+    """An address of each prefix that is in no longer one, where there is such an address among the first, the last and the middle one."""
+    known = sorted(prefixes, key=by_prefix)
+    found = []
+    for one in filter(None, map(prefix, known)):
+        size = 2 ** (32 - one[1])
+        inner = [other for other in map(prefix, known) if other and other != one and contains(one, other)]
+        tried = [one[0] + offset for offset in (min(1, size - 1), max(size - 2, 0), size // 2, size // 4, 3 * size // 4)]
+        found.append(next((each for each in tried if not any(contains(other, (each, 32)) for other in inner)), tried[0]))
+    return sorted(set(found))

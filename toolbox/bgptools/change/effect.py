@@ -1,0 +1,29 @@
+"""What came of a change: the difference that it makes, and the messages on the way."""
+from __future__ import annotations
+
+from typing import List, Optional
+
+from ..convergence.delivery import Settling
+from .comparison import Difference
+from .transients import Watch
+
+
+class Outcome:
+    """What was compared, with the deliveries that emptied the queues of the base, and those of the change."""
+
+    def __init__(self, difference: Difference, watch: Watch, base: Settling, done: List[Settling]) -> None:
+        self.difference, self.watch, self.base, self.done = difference, watch, base, done
+        self.network = watch.run.network
+        self.passing = watch.passing()
+
+    @property
+    def unsettled(self) -> Optional[Settling]:
+        return next((done for done in self.done if not done.is_settled), None)
+
+    @property
+    def taken(self) -> List[str]:
+        return [took for done in self.done for took in done.taken]
+
+    @property
+    def is_changed(self) -> bool:
+        return bool(self.difference.is_any or self.passing or self.unsettled)

@@ -1,0 +1,194 @@
+"""What a change does, told to a reader: a long answer begins with how much it is, and equal changes of many prefixes are told as one."""
+from __future__ import annotations
+
+import textwrap
+from typing import Dict, Hashable, Iterable, List, Tuple, TypeVar
+
+from ..convergence.run import settled_otherwise, unsettled
+from ..program import communities
+from ..program.names import Names
+from ..program.replies import route_text, trace_text
+from .comparison import Change, Difference, Way
+from .effect import Outcome
+from .transients import Sent, advice, message_text
+
+SHOWN, LONG = 12, 24
+Item = TypeVar("Item")
+
+
+def count(number: int, one: str, many: str = "") -> str:
+    """So many of something."""
+    return "%d %s" % (number, one if number == 1 else many or one + "s")
+
+
+def changes_of(difference: Difference) -> List[Change]:
+    """All routes that differ, at routers and of what external neighbours are told."""
+    lists = [*difference.routers.values(), *difference.told.values()]
+    return [change for changes in lists for change in changes]
+
+
+def is_long(difference: Difference) -> bool:
+    """Whether there is more to tell than a page holds."""
+    return len(changes_of(difference)) > LONG
+
+
+def _prefixes(changes: List[Change]) -> str:
+    return count(len({change.prefix for change in changes}), "prefix", "prefixes")
+
+
+def _kinds(changes: List[Change]) -> str:
+    told = [(kind, sum(change.kind == kind for change in changes)) for kind in ("moved", "lost", "gained")]
+    return ", ".join("%d %s" % (number, kind) for kind, number in told)
+
+
+def summary(difference: Difference) -> List[str]:
+    """How much differs."""
+    chosen = [change for changes in difference.routers.values() for change in changes]
+    told = [change for changes in difference.told.values() for change in changes]
+    lines = ["%s with other routes, to %s: %s" % (count(len(difference.routers), "router"), _prefixes(chosen), _kinds(chosen))]
+    if told:
+        lines.append("%s told otherwise, of %s" % (count(len(difference.told), "external neighbour"), _prefixes(told)))
+    if difference.down or difference.up:
+        lines.append("%s down, %d up" % (count(len(difference.down), "session"), len(difference.up)))
+    if difference.ways:
+        counts = count(len(difference.loops), "new loop"), count(len(difference.black_holes), "new black hole")
+        lines.append("%s, %s; %s another way" % (*counts, count(len(difference.ways), "packet goes", "packets go")))
+    return ["In short"] + ["  " + line for line in lines]
+
+
+# What is told as one
+
+def _listed(begin: str, items: List[str], end: str = "") -> List[str]:
+    """The first of some items in a line or more."""
+    more = " and\xa0%d\xa0more" % (len(items) - SHOWN) if len(items) > SHOWN else ""
+    indent = " " * (len(begin) - len(begin.lstrip(" ")) + 8)
+    lines = textwrap.wrap(begin + ", ".join(items[:SHOWN]) + more + end, 116, subsequent_indent=indent, break_on_hyphens=False, break_long_words=False)
+    return [line.replace("\xa0", " ") for line in lines]
+
+
+def _grouped(each: "Iterable[Tuple[Hashable, Item, str]]", is_whole: bool) -> "List[Tuple[Item, List[str]]]":
+    """Items, each with its prefix or address, that are the same but for that; each by itself where all are to be told."""
+    found: "Dict[Hashable, Tuple[Item, List[str]]]" = {}
+    for number, (same, item, name) in enumerate(each):
+        found.setdefault(number if is_whole else same, (item, []))[1].append(name)
+    return list(found.values())
+
+
+def _first(parts: List[List[str]], counts: List[int], is_all: bool, begin: str = "  and %d more") -> List[str]:
+    """The lines of all parts, or of the first ones of many, with how many there are behind these."""
+    lines = [line for part in (parts if is_all else parts[:SHOWN]) for line in part]
+    left = 0 if is_all else sum(counts[SHOWN:])
+    return lines + ([begin % left + " (--all shows them)"] if left else [])
+
+
+# Routes
+
+def _change(change: Change, prefixes: List[str], names: Names, moved: str) -> List[str]:
+    lines = _listed("  %-7s " % (moved if change.kind == "moved" else change.kind), prefixes)
+    if change.before:
+        lines.append("            was %s" % route_text(change.before, names))
+    if change.after:
+        lines.append("            now %s" % route_text(change.after, names))
+        # A virtual peer, which is told without a source, tells nothing on.
+        reach = communities.reach(change.after.attributes.communities) if change.after.source else ""
+        lines += ["                " + reach] if reach else []
+    return lines + (["            the old one: " + change.reason] if change.reason else [])
+
+
+def _changes(changes: List[Change], names: Names, is_whole: bool, moved: str = "moved") -> List[str]:
+    """Changes of one router."""
+    same = [(*(route and (route.source, route.attributes) for route in (each.before, each.after)), each.reason) for each in changes]
+    groups = _grouped(((key, each, each.prefix) for key, each in zip(same, changes)), is_whole)
+    return _first([_change(change, prefixes, names, moved) for change, prefixes in groups], [len(prefixes) for _, prefixes in groups], is_whole)
+
+
+def _routers(difference: Difference, names: Names, is_whole: bool) -> List[str]:
+    parts = [["Router " + names.shown(router) + (" (new)" if router in difference.came else "")] + _changes(changes, names, is_whole)
+             for router, changes in difference.routers.items()]
+    return _first(parts, [1] * len(parts), is_whole, "and %d more routers")
+
+
+def _told(difference: Difference, names: Names, is_whole: bool) -> List[str]:
+    parts = [["  %s to %s" % (names.shown(router), names.shown(peer))] + ["  " + line for line in _changes(changes, names, is_whole, "changed")]
+             for (router, peer), changes in difference.told.items()]
+    return (["Told to external neighbours"] if parts else []) + _first(parts, [1] * len(parts), is_whole)
+
+
+# All else
+
+def _way(way: Way, addresses: List[str], names: Names) -> List[str]:
+    lines = _listed("  %s to " % names.shown(way.router), addresses)
+    if way.before == way.after:
+        return lines + ["            as before %s" % trace_text(way.after, names)]
+    return lines + ["            was %s" % trace_text(way.before, names), "            now %s" % trace_text(way.after, names)]
+
+
+def _ways(title: str, ways: List[Way], names: Names, is_all: bool, is_whole: bool) -> List[str]:
+    same = [(way.router, trace_text(way.before, names), trace_text(way.after, names)) for way in ways]
+    groups = _grouped(((key, way, way.address) for key, way in zip(same, ways)), is_whole)
+    parts = [_way(way, addresses, names) for way, addresses in groups]
+    return ([title] if ways else []) + _first(parts, [len(addresses) for _, addresses in groups], is_all)
+
+
+def _sessions(difference: Difference, names: Names, is_whole: bool) -> List[str]:
+    lines = []
+    for title, sessions in (("Sessions that went down", difference.down), ("Sessions that came up", difference.up)):
+        parts = [["  %s and %s" % (names.shown(one), names.shown(other))] for one, other in sessions]
+        lines += ([title] if parts else []) + _first(parts, [1] * len(parts), is_whole)
+    return lines
+
+
+def _sent(sent: Sent, names: Names, is_all: bool, is_whole: bool) -> List[str]:
+    """What a line of the change sent at once."""
+    told = [(way, message_text(message).split(" ", 2)) for way, messages in sent.messages.items() for message in messages]
+    groups = _grouped((((way, words[0], " ".join(words[2:])), (way, words), words[1]) for way, words in told), is_whole)
+    parts = [_listed("            %s to %s: %s " % (*map(names.shown, way), words[0]), prefixes, "".join(" " + word for word in words[2:]))
+             for (way, words), prefixes in groups]
+    counts = [len(prefixes) for _, prefixes in groups]
+    return ["  line %d, %s" % (sent.line.number, " ".join(sent.line.words))] + _first(parts, counts, is_all, " " * 12 + "and %d more")
+
+
+def _between(outcome: Outcome, names: Names, is_all: bool, is_whole: bool) -> List[str]:
+    """What each line of the change sent at once, and what passed."""
+    lines = [line for sent in outcome.watch.sent if sent.count for line in _sent(sent, names, is_all, is_whole)]
+    lines = ["Sent at once by the lines of the change"] + lines if lines else []
+    if outcome.passing:
+        parts = [["  %s: %s to %s, from line %d until line %d: %s" % (
+            each.kind, names.shown(each.sender), names.shown(each.receiver), each.line.number, each.until.number, message_text(each.message))]
+            for each in outcome.passing]
+        lines += ["In between, for a while only"] + _first(parts, [1] * len(parts), is_all)
+        lines += ["  to avoid it: " + text for text in advice(outcome.passing, outcome.network)]
+    return lines
+
+
+def _messages(outcome: Outcome) -> str:
+    kinds = [took.split(" ")[2] for took in outcome.taken]
+    counts = count(kinds.count("update"), "update"), count(kinds.count("withdraw"), "withdrawal")
+    return "Messages until it was quiet: %d (%s, %s)" % (len(kinds), *counts)
+
+
+def _orders(outcome: Outcome, names: Names) -> List[str]:
+    """Where another order of deliveries was needed than the one that was asked for."""
+    lines = ["The base: %s." % settled_otherwise(outcome.base, names)] if outcome.base.first else []
+    return lines + ["With the change: %s." % settled_otherwise(done, names) for done in outcome.done if done.first]
+
+
+def text_of(outcome: Outcome, is_all: bool) -> str:
+    """The outcome for a reader. Where it is long, equal changes are told as one, and of much of a kind the first; not where all is asked for."""
+    difference, names = outcome.difference, outcome.network.names
+    is_whole = is_all or not is_long(difference)
+    lines = summary(difference) if is_long(difference) else []
+    lines += _routers(difference, names, is_whole) + _sessions(difference, names, is_whole) + _told(difference, names, is_whole)
+    lines += _ways("Forwarding that was asked for", difference.asked, names, True, True)
+    special = {(way.router, way.address) for way in difference.loops + difference.black_holes + difference.asked}
+    for title, ways in (("New loops", difference.loops), ("New black holes", difference.black_holes),
+                        ("Forwarding that changed", [way for way in difference.ways if (way.router, way.address) not in special])):
+        lines += _ways(title, ways, names, is_all, is_whole)
+    lines += _between(outcome, names, is_all, is_whole)
+    lines += [] if outcome.is_changed else ["Nothing changed."]
+    lines += _orders(outcome, names)
+    if outcome.unsettled:
+        lines += ["IT DOES NOT SETTLE: %s." % unsettled(outcome.unsettled, names), "What is told above is how it stood when the deliveries stopped."]
+    else:
+        lines.append(_messages(outcome))
+    return "\n".join(lines) + "\n"

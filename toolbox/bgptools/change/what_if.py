@@ -1,0 +1,62 @@
+"""A change made in a converged network."""
+from __future__ import annotations
+
+import argparse
+from typing import List, Tuple
+
+from ..convergence.delivery import Settling
+from ..convergence.orders import add_order, order_of
+from ..convergence.run import Run, unsettled
+from ..program.mistakes import Mistake
+from ..program.script import Line
+from .report import SHOWN
+from .transients import Watch
+
+
+def settled_base(lines: List[Line], chosen: argparse.Namespace) -> Tuple[Run, Settling]:
+    """The base, with all queues empty."""
+    run = Run(order_of(chosen), chosen.most, tries_others=True)
+    run.play(lines)
+    done = run.settle()
+    if not done.is_settled:
+        raise Mistake("the base does not settle: " + unsettled(done, run.network.names), chosen.base)
+    return run, done
+
+
+def changed(base: Run, lines: List[Line], chosen: argparse.Namespace) -> Tuple[Run, Watch, List[Settling]]:
+    """The same network with the change."""
+    run = Run(order_of(chosen), chosen.most, tries_others=True)
+    run.repeat(base.lines)
+    watch = Watch(run)
+    return run, watch, apply(watch, lines, chosen.each)
+
+
+def apply(watch: Watch, lines: List[Line], is_each: bool) -> List[Settling]:
+    """Makes a change in a quiet network: the deliveries that empty the queues after each of its commands, or at its end."""
+    run, done = watch.run, []
+    for line in lines:
+        run.check(line, watch.say(line))
+        if is_each and line.is_command:
+            done.append(run.settle())
+            watch.settled()
+    return done + [run.settle()]
+
+
+# The tool
+
+def parser() -> argparse.ArgumentParser:
+    """The words of the command line."""
+    made = argparse.ArgumentParser(prog="what-if", description=(
+        "What a change does: plays BASE until all queues are empty, then CHANGE, any commands, until they are empty again, and tells what "
+        "differs, router by router."),
+        epilog="Exit status: 0 nothing changed; 1 something did, or it does not settle; 2 a mistake, as a line that is refused.")
+    made.add_argument("base", metavar="BASE", help="the script of the network; it needs no deliveries")
+    made.add_argument("change", metavar="CHANGE", help="the script of the change; - is standard input")
+    made.add_argument("--trace", nargs=2, metavar=("R", "D"), action="append", default=[],
+                      help="tell how a packet goes from router R to address D, or that of a router's name; may be given again")
+    made.add_argument("--each", action="store_true", help="empty the queues after each command of CHANGE, and not only at its end")
+    made.add_argument("--all", action="store_true", help="list all: each prefix of a long answer by itself, and not only the first %d of much of a kind" % SHOWN)
+    made.add_argument("--json", action="store_true", help="tell it as JSON")
+    add_order(made)
+    made.add_argument("--most", type=int, metavar="N", help="stop after so many deliveries")
+    return made

@@ -1,0 +1,44 @@
+"""BIRD configurations as a script."""
+from __future__ import annotations
+
+import argparse
+import sys
+from typing import List, Optional
+
+from ..importers.bird.translation import BirdTranslation, configs_of, network_of
+from ..importers.common.translation import report
+from ..program import output
+from ..program.mistakes import WRONG
+
+# A filter may have so many statements one behind the other.
+DEEP = 6000
+
+
+def parser() -> argparse.ArgumentParser:
+    """The words of the command line."""
+    made = argparse.ArgumentParser(prog="from-bird", description=(
+        "Writes configurations of BIRD 2 as a script: one file a router, or a folder with a file NAME.conf or a folder "
+        "with bird.conf for each. A router is named by its router id, and a neighbor by any of its addresses is that "
+        "router; one that no file belongs to is a virtual peer, to be fed. Two interfaces of OSPF in one subnet are a "
+        "link, and so are the two ends of a session between two ASes. docs/reference/bird.md says what is taken over."),
+        epilog="What is not taken over is told on standard error, as `FILE:LINE: not taken over: ..` with what comes "
+        "of it; the last line counts those that decide no route. "
+               "Exit status: 0 nothing was left out that may decide a route; 1 the script is written, and something "
+               "was; 2 a mistake, and nothing is written.")
+    made.add_argument("paths", metavar="FILE", nargs="+", help="a router's file, or a folder of them")
+    made.add_argument("-o", dest="out", metavar="FILE", help="write to this file, and not to standard output")
+    made.add_argument("--strict", action="store_true", help="take each line that is told for a mistake")
+    return made
+
+
+def main(words: Optional[List[str]] = None) -> int:
+    """The tool."""
+    chosen = parser().parse_args(words)
+    sys.setrecursionlimit(max(DEEP, sys.getrecursionlimit()))
+    configs, told = configs_of(chosen.paths)
+    network = network_of(configs, told)
+    translation = BirdTranslation(network)
+    status = report(network, told, chosen.strict)
+    if status != WRONG:
+        output.write("".join(line + "\n" for line in translation.lines), chosen.out)
+    return status

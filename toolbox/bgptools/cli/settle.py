@@ -1,0 +1,92 @@
+"""Writes a script with the deliveries that empty all queues, after each command or at the end; or looks for stable states."""
+from __future__ import annotations
+
+import argparse
+import sys
+from typing import List, Optional
+
+from ..convergence.delivery_script import settled
+from ..convergence.orders import add_order, order_of
+from ..convergence.run import Run, unsettled
+from ..convergence.stable_states import look_for, text_of
+from ..convergence.tables_by_prefix import tables_of
+from ..program import output
+from ..program.language import ended
+from ..program.mistakes import CHANGED, Mistake
+from ..program.script import read
+
+
+def parser() -> argparse.ArgumentParser:
+    """The words of the command line."""
+    made = argparse.ArgumentParser(prog="settle", description=(
+        "Writes the script with the deliveries that empty all queues, after each command or at the end. Where they never are empty in one "
+        "order, others are tried, and it is told which settles."),
+        epilog="Exit status: 0; 1 where the network settles in no order that was tried, and then nothing is written (with --states, where "
+               "some drawn order does not settle); 2 a mistake, as a line that is refused and is not marked so. A delivery of the script "
+               "itself that finds nothing left is left out.")
+    made.add_argument("script", metavar="SCRIPT", help="the script; - is standard input")
+    made.add_argument("--at-end", action="store_true", help="deliver at the end only")
+    add_order(made)
+    made.add_argument("--states", type=int, metavar="N", help="write no script, but which stable states N drawn orders end in, and how often")
+    made.add_argument("--most", type=int, metavar="N", help=(
+        "stop after so many deliveries at one place (ten thousand and more, by the size of the network)"))
+    made.add_argument("--by-prefix", type=int, metavar="N", help=(
+        "write no script, but the chosen routes of all routers as `routes` replies them: the network is played with N of its prefixes at "
+        "a time, by several processes"))
+    made.add_argument("--jobs", type=int, metavar="N", help="so many processes of --by-prefix (as many as there are processors)")
+    made.add_argument("--json", action="store_true", help="tell what --states or --by-prefix finds as JSON")
+    made.add_argument("-o", dest="out", metavar="FILE", help="write to this file, and not to standard output")
+    return made
+
+
+def _states(chosen: argparse.Namespace) -> int:
+    """The answer to --states."""
+    if chosen.states < 1 or chosen.order not in (None, "drawn") or chosen.by_router or chosen.seed is not None:
+        raise Mistake("--states %d: a number of at least 1 is expected, and no order, since all are drawn" % chosen.states)
+    found = look_for(read(chosen.script), chosen.states, chosen.at_end, chosen.most)
+    if chosen.json:
+        from ..api import documents
+        output.write(documents.text_of(documents.stable_states(chosen.script, found)), chosen.out)
+    else:
+        output.write(text_of(found), chosen.out)
+    return CHANGED if found.endless else 0
+
+
+def _tables(chosen: argparse.Namespace) -> int:
+    """The answer to --by-prefix."""
+    if chosen.jobs is not None and chosen.jobs < 1:
+        raise Mistake("--jobs %d: a number of at least 1 is expected" % chosen.jobs)
+    tables = tables_of(read(chosen.script), chosen)
+    for text in tables.endless:
+        print("%s: %s" % (chosen.script, text), file=sys.stderr)
+    if tables.endless:
+        return CHANGED
+    if chosen.json:
+        from ..api import documents
+        output.write(documents.text_of(documents.tables(chosen.script, tables)), chosen.out)
+    else:
+        output.write_bytes(tables.content(), chosen.out)
+    return 0
+
+
+def main(words: Optional[List[str]] = None) -> int:
+    """The tool."""
+    chosen = parser().parse_args(words)
+    if chosen.by_prefix is None and chosen.jobs is not None or chosen.by_prefix is not None and chosen.states is not None:
+        raise Mistake("--jobs is for --by-prefix, and that goes not with --states")
+    if chosen.json and chosen.by_prefix is None and chosen.states is None:
+        raise Mistake("--json is for --states and --by-prefix; what is written else is a script")
+    if chosen.by_prefix is not None:
+        return _tables(chosen)
+    if chosen.states is not None:
+        return _states(chosen)
+    with Run(order_of(chosen), chosen.most, tries_others=True) as run:
+        written, endless = settled(run, read(chosen.script), chosen.at_end)
+        names = run.network.names
+    if endless:
+        print("%s: %s" % (chosen.script, unsettled(endless, names)), file=sys.stderr)
+        return CHANGED
+    if written.left_out:
+        print("%s: %d deliveries of its own found nothing left, and were left out" % (chosen.script, written.left_out), file=sys.stderr)
+    output.write_bytes("".join(map(ended, written.lines)).encode("latin-1"), chosen.out)
+    return 0

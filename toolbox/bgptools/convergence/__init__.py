@@ -1,0 +1,7 @@
+"""A run of the program with its network, and the deliveries until all queues are empty.
+
+`run` plays a script and keeps what was accepted. `delivery` empties the queues in an order of `orders`; `queues`
+knows where messages may wait. `stable_states` looks for stable states, `delivery_script` writes a script with its
+deliveries, `tables_by_prefix` plays a large network in parts, `transcript` shows replies.
+
+An order of deliveries and a search for stable states belong here. `change` and what stands above it call this."""

@@ -1,0 +1,69 @@
+"""The settled tables of a network that is played by its prefixes, some at a time, by several processes.
+
+Prefixes do not meet in the decision, and no next hop is looked up among the routes. So what each part of the network
+settles in, the whole network settles in; and where it has one stable state, that is it."""
+from __future__ import annotations
+
+import argparse
+from dataclasses import dataclass, field
+from typing import Dict, List, Tuple
+
+from ..network.prefix_parts import Parts
+from ..program.process_pool import ProcessPool, Workers, processors
+from ..program.progress import Clock
+from ..program.script import Line
+from .delivery_script import settled
+from .orders import order_of
+from .run import Run, unsettled
+
+# A router's chosen routes, as lines; and how a part does not settle, if it does not.
+Part = Tuple[Dict[str, bytes], str]
+
+
+@dataclass
+class Tables:
+    """The chosen routes of all routers, by part, and how parts do not settle."""
+    routers: List[str] = field(default_factory=list)
+    parts: List[Dict[str, bytes]] = field(default_factory=list)
+    endless: List[str] = field(default_factory=list)
+
+    def content(self) -> bytes:
+        """For each router the question for its routes, and the reply: parts are in the order of their prefixes."""
+        pieces: List[bytes] = []
+        for router in self.routers:
+            found = [part[router] for part in self.parts]
+            count = sum(piece.count(b"\n") for piece in found)
+            pieces += [b"routes %s\n" % router.encode(), *found, b"end %d\n" % count]
+        return b"".join(pieces)
+
+
+class Settles(ProcessPool[int]):
+    """Settles parts of a script, by their numbers."""
+
+    def __init__(self, parts: List[List[Line]], chosen: argparse.Namespace) -> None:
+        self.parts, self.chosen = parts, chosen
+
+    def __call__(self, task: int) -> Part:
+        with Run(order_of(self.chosen), self.chosen.most, tries_others=True) as run:
+            _, endless = settled(run, self.parts[task], self.chosen.at_end)
+            if endless:
+                return {}, unsettled(endless, run.network.names)
+            routers = run.network.routers()
+            replies = run.ask("routes " + router for router in routers)
+        return {router: "".join(line + "\n" for line in reply[:-1]).encode("latin-1")
+                for router, reply in zip(routers, replies)}, ""
+
+
+def tables_of(lines: List[Line], chosen: argparse.Namespace) -> Tables:
+    """The tables of a script that is settled with `by_prefix` of its prefixes at a time."""
+    parts = Parts(lines, [], chosen.by_prefix, has_inner_together=False).of(lines)
+    left, found = list(range(len(parts))), {}  # type: List[int], Dict[int, Part]
+    clock = Clock(len(parts), 0)
+    with Workers[int](min(chosen.jobs or processors(), len(parts)), lambda: Settles(parts, chosen)) as workers:
+        for number, part in workers.results(lambda _: left.pop(0) if left else None):
+            found[number] = part
+            clock.tell()
+    clock.end()
+    routers = list(found[0][0])
+    return Tables(routers, [found[number][0] for number in range(len(parts))], list(dict.fromkeys(
+        text for _, text in found.values() if text)))

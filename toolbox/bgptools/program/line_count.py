@@ -1,0 +1,109 @@
+"""A run of the program that counts its lines: one run reads 1,000,000, questions among them.
+
+Where they are used up, the program is started anew and given what it accepted. So questions use nothing up for good,
+and only a script that is itself too long comes to an end."""
+from __future__ import annotations
+
+import sys
+from typing import Iterable, List, Optional
+
+from .language import is_silent
+from .mistakes import Mistake
+from .process import Program, ProgramEnded
+
+MOST_LINES = 1000000
+NEAR, PART = 0.9, 4096
+
+
+def is_accepted(reply: List[str]) -> bool:
+    """Whether a line changed something."""
+    return bool(reply) and (reply[0] == "ok" or reply[0].startswith("took "))
+
+
+def check_length(count: int, file: Optional[str], advice: str = "") -> None:
+    """Refuses a script of so many lines, where one run of the program cannot read them."""
+    if count > MOST_LINES:
+        told = "a script of {:,} lines; one run of the program reads {:,}{}"
+        raise Mistake(told.format(count, MOST_LINES, advice and "; " + advice), file)
+
+
+class CountedProgram(Program):
+    """The program, with the lines that it accepted."""
+
+    def __init__(self) -> None:
+        super().__init__()
+        self.accepted: List[str] = []
+        self.count = self.count_of_all = 0
+        self.is_near = False
+
+    def say_all(self, lines: Iterable[str]) -> List[List[str]]:
+        """The reply to each line, in order."""
+        given, replies = list(lines), []  # type: List[str], List[List[str]]
+        while len(replies) < len(given):
+            part = given[len(replies):len(replies) + self._room()]
+            found = super().say_all(part)
+            self.count += len(part)
+            self.count_of_all += len(part)
+            self.accepted += [line for line, reply in zip(part, found) if is_accepted(reply)]
+            replies += found
+        return replies
+
+    def give(self, lines: List[str]) -> List[str]:
+        """Gives it the lines that another run accepted, with the comments that were kept among them: the replies to
+        those that have one."""
+        before = list(self.accepted)
+        self.is_near = self.is_near or len(before) + len(lines) >= NEAR * MOST_LINES
+        if self.count + len(lines) > MOST_LINES:
+            self._renew()
+        replies = self.pour(lines)
+        _check_again(lines, replies)
+        self.accepted = before + list(lines)
+        return replies
+
+    def pour(self, lines: Iterable[str]) -> List[str]:
+        """The reply to each line that has one, of lines that one run can read."""
+        given = list(lines)
+        self.count += len(given)
+        self.count_of_all += len(given)
+        return super().pour(given)
+
+    def keep(self, line: str) -> None:
+        """Keeps a comment with what was accepted."""
+        self.accepted.append(line)
+
+    def _room(self) -> int:
+        """How many lines may be given at once."""
+        if not self.is_near and len(self.accepted) >= NEAR * MOST_LINES:
+            self.is_near = True
+            told = "{:,} of the {:,} lines are used that one script can hold"
+            print(told.format(len(self.accepted), MOST_LINES), file=sys.stderr)
+        if self.count >= MOST_LINES:
+            self._renew()
+        return min(PART, MOST_LINES - self.count)
+
+    def _renew(self) -> None:
+        """Another process, given what was accepted."""
+        if len(self.accepted) >= MOST_LINES:
+            told = "with its deliveries the script has {:,} lines and more, and one run of the program reads no more"
+            raise ProgramEnded(told.format(MOST_LINES))
+        fresh = Program()
+        try:
+            _check_again(self.accepted, fresh.pour(self.accepted))
+        except BaseException as fault:
+            fresh.is_torn = True
+            fresh.close()
+            if isinstance(fault, Mistake):
+                raise ProgramEnded(fault.text, fault.file, fault.line) from None
+            raise
+        self.close()
+        self.process, self.given, self.told = fresh.process, fresh.given, fresh.told
+        self.count = len(self.accepted)
+        self.count_of_all += self.count
+
+
+def _check_again(lines: List[str], replies: List[str]) -> None:
+    """Ends with a mistake where a line is refused that was accepted in the same place, as want of memory may do."""
+    spoken = (line for line in lines if not is_silent(line))
+    for line, reply in zip(spoken, replies):
+        if not is_accepted([reply]):
+            raise Mistake("`%s` was accepted before, and now it is %s" % (line, reply))

@@ -1,0 +1,177 @@
+"""What tools tell as JSON: it is what docs/reference/schemas says, and what they tell as text."""
+import json
+
+import jsonschema
+
+from common import EXAMPLES, TOOLBOX, TOP, Case, tool
+
+from bgptools import Network
+from bgptools.program.language_table import REFUSALS
+
+SCHEMAS = TOP / "docs" / "reference" / "schemas"
+LESSONS = TOOLBOX / "lessons"
+DISAGREE = LESSONS / "disagree.bgp"
+
+
+def schemas():
+    """All schemas, by their names."""
+    return {path.name: json.loads(path.read_text()) for path in sorted(SCHEMAS.glob("*.json"))}
+
+
+class Json(Case):
+    @classmethod
+    def setUpClass(cls):
+        known = schemas()
+        cls.judges = {}
+        for name, schema in known.items():
+            jsonschema.Draft7Validator.check_schema(schema)
+            resolver = jsonschema.RefResolver(name, schema, store=known)
+            cls.judges[name] = jsonschema.Draft7Validator(schema, resolver=resolver)
+
+    def told(self, name, *words, given=b"", status=0):
+        """The only document that a tool tells, which its schema allows."""
+        ran = tool(name, *words, "--json", given=given, status=status)
+        found = json.loads(ran.stdout)
+        self.judges[name + ".json"].validate(found)
+        self.assertEqual((found["version"], found["tool"]), (1, name))
+        return found
+
+    def played(self, *words, given=b"", status=0):
+        """The documents of a play, a line each."""
+        ran = tool("play", "--json", *words, given=given, status=status)
+        found = [json.loads(line) for line in ran.stdout.splitlines()]
+        for each in found:
+            self.judges["play.json"].validate(each)
+        return found
+
+    def test_each_schema_is_one_of_a_tool_or_of_values(self):
+        tools = ("explain", "play", "settle", "sweep", "what-if")
+        self.assertEqual(set(self.judges), {"language.json", "request.json", "values.json"} | {name + ".json" for name in tools})
+
+    def test_a_schema_refuses_what_it_does_not_name(self):
+        found = self.told("explain", "examples/hot-potato.bgp", "5.0.0.1", "203.0.113.0/24")
+        judge = self.judges["explain.json"]
+        route = found["routes"][0]["route"]
+        for wrong in ({**found, "more": 1}, {**found, "version": 2}, {**found, "prefix": "203.0.113.0/33"},
+                      {**found, "routes": [{**found["routes"][0], "reason": "frobbed"}]},
+                      {**found, "routes": [{**found["routes"][0], "route": {**route, "next_hop": "5.0.0.256"}}]},
+                      {**found, "routes": [{**found["routes"][0], "route": {**route, "med": "0"}}]},
+                      {**found, "routes": [{**found["routes"][0], "route": {**route, "path": "7__8"}}]}):
+            self.assertFalse(judge.is_valid(wrong))
+        self.assertTrue(judge.is_valid(found))
+
+    def test_each_example_is_played_as_the_program_replies(self):
+        kinds = set()
+        for path in EXAMPLES:
+            with self.subTest(path.name):
+                found = self.played(path)
+                wanted = [line for line in path.with_suffix(".out").read_text().split("\n") if line]
+                self.assertEqual([line for each in found for line in self.lines(each["reply"])], wanted)
+                kinds |= {each["reply"]["kind"] for each in found}
+        self.assertEqual(kinds, {"done", "delivery", "routes", "choice", "reasons", "rib", "queue", "quiet", "cost",
+                                 "trace", "refusal"})
+
+    def lines(self, reply):
+        """A reply as the language has it, put together from the values alone."""
+        kind = reply["kind"]
+        if kind in ("routes", "rib", "reasons", "queue"):
+            made = {"routes": self.held, "rib": lambda each: "%s %s" % (each["prefix"], self.text(each)),
+                    "reasons": lambda each: "%s %s" % (each["source"], each["reason"]), "queue": self.message}[kind]
+            lines = list(map(made, reply[{"rib": "routes", "queue": "messages"}.get(kind, kind)]))
+            return lines + ["end %d" % len(lines)]
+        if kind == "trace":
+            hops = ["%(router)s %(prefix)s" % hop for hop in reply["trace"]["hops"]]
+            return hops + ["%(end)s %(place)s" % reply["trace"], "end %d" % (len(hops) + 1)]
+        return [{"done": lambda: "ok", "refusal": lambda: "refused %(number)d %(name)s" % reply,
+                 "quiet": lambda: "yes" if reply["quiet"] else "no",
+                 "choice": lambda: self.held(reply["route"]) if reply["route"] else "none",
+                 "cost": lambda: "%(cost)d via %(first_hop)s" % reply["cost"] if reply["cost"] else "none",
+                 "delivery": lambda: "took %(prefix)s %(kind)s" % reply["delivery"]}[kind]()]
+
+    def held(self, route):
+        return "%s from %s %s" % (route["prefix"], route["source"], self.text(route))
+
+    def message(self, each):
+        route = each["route"]
+        return "withdraw " + each["prefix"] if route is None else "update %s %s" % (each["prefix"], self.text(route))
+
+    def text(self, route):
+        listed = {key: ",".join(map(str, value)) if isinstance(value, list) else value for key, value in route.items()}
+        shown = {key: "-" if value in (None, "") else value for key, value in listed.items()}
+        text = ("path=%(path)s origin=%(origin)s next=%(next_hop)s med=%(med)s pref=%(preference)s oid=%(originator)s "
+                "clusters=%(clusters)s" % shown)
+        return text + (" comms=%(communities)s" % shown if route["communities"] else "")
+
+    def test_a_refusal_is_explained(self):
+        found = self.played("-", given=b"router 1.0.0.1 1\n# expect refused 3\nrouter 1.0.0.1 1\nfail 1.0.0.1 2.0.0.1\n"
+                                       b"# expect refused\nquiet\n", status=1)
+        self.assertEqual([(each["line"], each["reply"]["kind"], each["expected"]) for each in found],
+                         [(1, "done", True), (3, "refusal", True), (4, "refusal", False), (6, "quiet", False)])
+        reply = found[2]["reply"]
+        self.assertEqual((reply["number"], reply["name"], reply["explanation"]),
+                         (2, "no-router", "there is no router or virtual peer 2.0.0.1"))
+        self.assertEqual(reply["instead"], REFUSALS[1].instead)
+
+    def test_deliveries_after_each_command(self):
+        lines = (b"router 1.0.0.1 1\nrouter 2.0.0.1 2\nlink 1.0.0.1 2.0.0.1 1\njoin 1.0.0.1 2.0.0.1\n"
+                 b"origin 1.0.0.1 10.0.0.0/8\n")
+        found = self.played("--settle", "-", given=lines)
+        told = {"sender": "1.0.0.1", "receiver": "2.0.0.1", "kind": "update", "prefix": "10.0.0.0/8"}
+        self.assertEqual([each["convergence"]["deliveries"] for each in found], [[], [], [], [], [told]])
+        other = self.played("--settle", DISAGREE)[-1]["convergence"]
+        self.assertTrue(other["converged"] and "settles" in other["note"])
+
+    def test_explanations_are_those_of_the_interface(self):
+        with Network.load(str(TOP / "examples" / "tour.bgp")) as net:
+            for router, prefix in (("5.0.0.1", "10.6.0.0/16"), ("3.0.0.4", "30.0.0.0/8"), ("5.0.0.1", "10.99.0.0/16")):
+                found = self.told("explain", "examples/tour.bgp", router, prefix)["routes"]
+                self.assertEqual([(each["source"], each["reason"], each["verdict"], each["against"], each["cost"])
+                                  for each in found],
+                                 [(each.source, each.reason, each.verdict, each.against, each.cost)
+                                  for each in net.explain(router, prefix)])
+
+    def test_what_is_advertised_to_a_peer(self):
+        asked = ("explain", "--settle", "examples/hot-potato.bgp", "5.0.0.1", "203.0.113.0/24", "--to")
+        found = self.told(*asked, "7.0.0.1")
+        self.assertEqual((found["advertised"], found["peer"]), (None, "7.0.0.1"))
+        self.assertIn("it was learned from this peer", found["why_not"])
+        told = self.told(*asked, "5.0.0.2")
+        self.assertEqual((told["advertised"]["router"], told["advertised"]["source"], told["why_not"]),
+                         ("5.0.0.2", "5.0.0.1", []))
+
+    def test_each_change_of_the_lessons(self):
+        for lesson in sorted(LESSONS.glob("*.change")):
+            with self.subTest(lesson.name):
+                words = lesson.read_text().split("\n")[0].split(" ")[2:]
+                found = self.told("what-if", *words, status=1)
+                self.assertTrue(found["changed"])
+                kinds = {(each["kind"], each["before"] is None, each["after"] is None) for each in found["routes"]}
+                known = {("gained", True, False), ("lost", False, True), ("moved", False, False)}
+                self.assertEqual(kinds - known, set())
+
+    def test_stable_states_and_tables(self):
+        found = self.told("settle", DISAGREE, "--states", 6, "--at-end", status=1)
+        self.assertEqual(sum(len(state["seeds"]) for state in found["states"]) + len(found["not_converged"]), 6)
+        text = tool("settle", DISAGREE, "--states", 6, "--at-end").stdout
+        self.assertIn("%d stable states in 6 drawn orders" % len(found["states"]), text)
+        base = LESSONS / "three-ases.bgp"
+        routes = self.told("settle", base, "--by-prefix", 1, "--jobs", 1)["routes"]
+        lines = tool("settle", base, "--by-prefix", 1, "--jobs", 1).stdout.split("\n")
+        self.assertEqual([self.held(route) for route in routes], [line for line in lines if " from " in line])
+
+    def test_a_sweep(self):
+        found = self.told("sweep", "examples/hot-potato.bgp", "--fail-links", "--jobs", 1, status=1)
+        self.assertEqual([row["kind"] for row in found["changes"]], ["link"] * len(found["changes"]))
+        found = self.told("sweep", DISAGREE, "--orders", 6, "--jobs", 1, status=1)
+        self.assertEqual(sum(len(state["orders"]) for state in found["states"]),
+                         sum(row["converged"] for row in found["changes"]))
+
+    def test_mistakes_stand_beside_the_documents(self):
+        for name, words, told in (
+                ("settle", (DISAGREE,), "--json is for --states and --by-prefix"),
+                ("explain", (DISAGREE, "9.9.9.9", "10.0.0.0/8"), "there is no router 9.9.9.9"),
+                ("play", ("nowhere.bgp",), "nowhere.bgp"), ("what-if", (DISAGREE, "nowhere.bgp"), "nowhere.bgp"),
+                ("sweep", (DISAGREE,), "which changes?")):
+            ran = tool(name, *words, "--json", status=2)
+            self.assertEqual(ran.stdout, "")
+            self.assertIn(told, ran.stderr)

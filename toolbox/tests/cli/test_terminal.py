@@ -1,0 +1,113 @@
+"""The prompt of play as prompt_toolkit edits it, by real keys at a pseudo-terminal that can move its cursor."""
+import os
+import re
+import stat
+
+from test_play import NETWORK, AtPrompt, Typed
+
+# What the library writes when a line is about to be typed: pasted text is to be marked.
+BEGUN = "\x1b[?2004h"
+STEERS = re.compile(r"\x1b\[[0-9;?]*[A-Za-z]")
+UP, RIGHT, F1, F7, F8, F9 = b"\x1b[A", b"\x1b[C", b"\x1bOP", b"\x1b[18~", b"\x1b[19~", b"\x1b[20~"
+
+
+def seen(text):
+    """What is shown, without what steers the terminal."""
+    return STEERS.sub("", text)
+
+
+class Edited(AtPrompt):
+    def start(self, *words, **environment):
+        """A prompt at a terminal that is not dumb."""
+        typed = Typed(self.folder, *words, TERM="xterm", PROMPT_TOOLKIT_NO_CPR="1", **environment)
+        self.addCleanup(typed.close)
+        self.shown = typed.until("bgpsim>")
+        return typed
+
+    def type(self, text, typed=None):
+        """Types the text; what is shown until the next line can be typed."""
+        return seen((typed or self.typed).type(text, BEGUN))
+
+    def network(self, *more):
+        for line in NETWORK + more:
+            self.assertIn("    ok\n", self.type(line + "\n"))
+
+    def test_keys_that_edit(self):
+        self.assertIn("    yes\n", self.type(b"quiett\x7f\n"))
+        self.assertIn("    yes\n", self.type(b"iet\x01qu\n"))
+        self.assertIn("    yes\n", self.type(b"quiet nonsense\x17\x7f\n"))
+        self.assertNotIn("stopped", self.type(b"quie\x03"))
+        self.assertIn("    yes\n", self.type(b"quiet\n"))
+
+    def test_keys_that_step(self):
+        self.network()
+        self.assertIn("    deliver 1.0.0.1 2.0.0.1: took 10.0.0.0/8 update\n", self.type(F8))
+        self.assertIn("    quiet: no message waits\n", self.type(F8))
+        self.assertIn("    ok\n", self.type("noorigin 1.0.0.1 10.0.0.0/8\n"))
+        self.assertIn("    quiet after 1 delivery\n", self.type(F9))
+        self.assertIn("    undone: noorigin 1.0.0.1 10.0.0.0/8\n", self.type(F7))
+        self.assertIn("link A B M", self.type(F1))
+        self.assertIn("    yes\n", self.type(b"qui" + F8 + F7 + b"et\n"))
+
+    def test_the_command_that_was_meant(self):
+        told = "    -- there is no command `rooter`\n    -- did you mean `router`?\n"
+        self.assertIn(told, self.type("rooter 1.0.0.1 1\n"))
+        self.assertIn("    -- did you mean `settle`?\n", self.type("setle\n"))
+        self.assertNotIn("did you mean", self.type("zzzzzz\n"))
+        self.assertNotIn("did you mean", self.type("router 1.0.0.1\n"))
+
+    def test_the_history_of_an_earlier_prompt(self):
+        self.assertIn("    ok\n", self.type("router 1.0.0.1 1\n"))
+        self.assertIn("no command has", self.type(b"rout\xff\n"))
+        self.typed.end()
+        path = self.folder / "state" / "bgpsim" / "history"
+        self.assertEqual(stat.S_IMODE(path.stat().st_mode), 0o600)
+        self.assertIn("\n+router 1.0.0.1 1\n", path.read_text())
+        typed = self.start()
+        self.assertIn("    ok\n", self.type(UP + UP + b"\n", typed))
+        # Its rest is suggested, and taken.
+        typed.type("rou", "ter 1.0.0.1 1")
+        self.assertIn("    -- 1.0.0.1 is there already", self.type(RIGHT + b"\n", typed))
+
+    def test_a_history_that_is_too_long_loses_its_older_half(self):
+        self.typed.end()
+        entries = "".join("\n# 2026-01-01\n+origin 1.0.0.1 10.%d.%d.0/24\n" % (n // 250, n % 250) for n in range(30000))
+        path = self.file("state/bgpsim/history", entries)
+        typed = self.start()
+        self.assertIn("origin 1.0.0.1 10.119.249.0/24", self.type(UP + b"\n", typed))
+        self.assertLess(path.stat().st_size, 600000)
+        self.assertEqual(path.read_text().split("\n")[1], "# 2026-01-01")
+
+    def test_without_a_place_for_the_history_the_prompt_goes_on(self):
+        self.typed.end()
+        for path in sorted(self.folder.rglob("*"), reverse=True):
+            path.rmdir() if path.is_dir() else path.unlink()
+        self.file("state", "no folder")
+        typed = self.start()
+        self.assertIn("    ok\n", self.type("router 1.0.0.1 1\n", typed))
+        self.assertIn("there already", self.type(UP + b"\n", typed))
+
+    def test_pasted_lines_are_played_one_by_one(self):
+        pasted = "\x1b[200~router 1.0.0.1 1\nrouter 2.0.0.1 2\n\nlink 1.0.0.1 2.0.0.1 1\n\x1b[201~\n"
+        shown = self.type(pasted)
+        played = "".join("bgpsim> %s\n    ok\n" % line for line in NETWORK[:3])
+        self.assertIn(played, shown)
+        self.typed.end()
+
+    def test_candidates_are_shown_with_what_they_mean(self):
+        os.write(self.typed.main, b"l\t")
+        shown = seen(self.typed.until("script into"))
+        self.assertRegex(shown, r"link +a new link of cost M")
+        self.assertIn("    ok\n", self.type(b"\x7frouter 1.0.0.1 1\n"))
+
+
+class Dumb(AtPrompt):
+    """At a terminal that cannot move its cursor."""
+
+    def test_candidates_are_listed(self):
+        shown = self.typed.type("l\t")
+        self.assertIn("link  load\n", shown)
+        self.assertIn("    ok\n", self.typed.type("\x7frouter 1.0.0.1 1\n"))
+
+    def test_what_is_deleted_is_taken_away(self):
+        self.assertIn("quiett\b \b\bt", self.typed.type("quiett\x7f\n", "yes\n"))
