@@ -13,7 +13,7 @@ mod standings;
 
 pub use cell::Cell;
 pub use changes::{deliver, refresh, refresh_compared, store};
-pub(crate) use in_place::take_in;
+pub(crate) use in_place::receive_in_entry;
 pub use keeping::keep;
 pub use moves::{SiteChange, Stays};
 pub use outcome::Outcome;

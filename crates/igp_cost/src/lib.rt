@@ -1,6 +1,13 @@
-//! Interior costs: the least cost and the first hop from a router to every other, over the edges of one network.
-//! `Graph` is what callers see of both modules: `least_trees` makes a tree of a graph, `repair` one of a tree from
-//! before a change.
+//! IGP costs: the least cost and the first hop from a router to every other one, over the links that are up.
+//!
+//! For: `Graph` is what callers see. `least_trees` makes a shortest-path tree (SPT) of a graph; `repair` makes one of
+//! the tree from before a change, and a last scan shows that it is the right one (`Change` says what changed).
+//! RFC 4271, 9.1.2.1 and 9.1.2.2 e: the cost that resolves a NEXT_HOP and breaks ties. A metric is of OSPF's range
+//! (RFC 2328, A.4.2 and C.3).
+//! Differs: RFC 4271 leaves IGP routing open. Here a path stays in the AS of its first router up to its last link, so
+//! no path crosses another AS, and costs change at once, without an IGP's own messages.
+//! Called by: `net_conf`, which keeps one tree for each end of a session. Definitions: `specs/Walks.antt` (paths) and
+//! `specs/Costs.antt` (functions); `specs/Laws.antt` says that both agree.
 #![tactic(auto)]
 
 mod change;

@@ -1,8 +1,14 @@
-//! What is configured: routers, links, sessions and their settings, originated prefixes; the edits that change it; and
-//! what follows from it: interior costs, which sessions are up, and each router's site.
+//! What is configured: routers, links, sessions and their settings, policies, originated prefixes; the edits that
+//! change it; and what follows from it: IGP costs, which sessions are up, and each router's configuration (`SiteConf`).
 //!
-//! Two rooms: `tables`, the configuration itself and its edits, and `kept`, what is kept over edits beside it. `Conf`
-//! joins both.
+//! For: `Conf::edit` makes the configuration after an edit, or says the first test that refuses it (`Refusal`).
+//! `tables` holds the configuration itself; `kept` holds what is kept beside it over edits: trees of IGP costs, router
+//! configurations, the sessions that are down. `Conf` joins both.
+//! RFC 4271, 5.1.3 (NEXT_HOP), 6 and 8 (sessions that end); RFC 4456, 6 and 7 (clients, clusters).
+//! Differs: sessions come up and go down at once, by their links or IGP costs; a router has one address. The edits,
+//! their refusals and the limits are this project's choice.
+//! Called by: `cell_engine`, `sim_core` and `plain_simulator` for each step; `reflect_out` reads router configurations.
+//! Definitions: `specs/Configuration.antt`, `specs/Edits.antt`, `specs/Costs.antt`, `specs/Refusals.antt`.
 #![tactic(auto)]
 
 mod conf;

@@ -36,7 +36,7 @@ impl State {
         match event {
             Event::Edit(edit) => self.take_edit::<S, R>(rt, alloc, edit),
             Event::Feed(feed) => self.take_feed(alloc, feed),
-            Event::Deliver(from, to) => self.take_delivery::<S>(
+            Event::Deliver(from, to) => self.deliver_head::<S>(
                 alloc,
                 Direction {
                     from: *from,
@@ -82,7 +82,7 @@ impl State {
     }
 
     #[tactic(auto, unfolding(reference_machine::specs::Machine::delivery_step))]
-    fn take_delivery<S: Selector + Drop>(
+    fn deliver_head<S: Selector + Drop>(
         &mut self,
         alloc: Global,
         direction: Direction,

@@ -1,5 +1,13 @@
-//! What a router advertises to a peer of the route that it chose (RFC 4271, 9.1.3 and 9.2; RFC 4456, 6, 8 and 10;
-//! RFC 1997).
+//! What a router advertises to a peer of the route that it chose.
+//!
+//! For: `advert` gives the advertisement for one session, or none. `Adverts` gives them for one route session after
+//! session, and makes what they share once: the route to another AS, to the own AS, and reflected.
+//! RFC 4271, 5.1 (attributes), 9.1.3 and 9.2 (what is advertised); RFC 4456, 6, 8 and 10 (reflection, ORIGINATOR_ID,
+//! CLUSTER_LIST); RFC 1997 (NO_EXPORT, NO_ADVERTISE, NO_EXPORT_SUBCONFED).
+//! Differs: no route goes back to the peer that it came from; nothing is aggregated or delayed (9.2.1.1 and 9.2.2.2).
+//! An export policy judges the route as the router chose it; its settings act towards another AS alone.
+//! Called by: `cell_engine` after each decision; `reference_machine` and `plain_simulator` say by it what is sent.
+//! Definitions: `specs/Advertising.antt`, case by case; `specs/Telling.antt`, session by session.
 #![tactic(auto)]
 
 ghost use Rattle.std.specs.Prelude.{◌≡◌, ℕ, ◌∷◌, Some, IfOk, if◌then◌else◌};

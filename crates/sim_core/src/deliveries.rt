@@ -26,10 +26,10 @@ use sim_event::Reply;
 use std::alloc::{AllocError, Global};
 
 impl<S: Selector + Drop, T: PrefixTable<Cell<S>> + Drop> Sim<S, T> {
-    /// Takes the message at the head of the direction's queue: the machine's own step, without a plan. The refusal is
-    /// the machine's own, or want of memory.
+    /// Delivers the message at the head of the direction's queue: the machine's own step, without a plan. The refusal is
+    /// the machine's own, or out of memory.
     #[inline(never)]
-    pub(crate) fn take_delivery(&mut self, direction: Direction) -> Reply
+    pub(crate) fn deliver_head(&mut self, direction: Direction) -> Reply
         ensures step { IsStep (network self.old.engine) (Deliver direction.from direction.to) result
             (network self.new.engine) }
         ensures decided { Counts (network self.old.engine) (Deliver direction.from direction.to) result self.old.decided

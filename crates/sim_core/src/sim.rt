@@ -108,7 +108,7 @@ impl<S: Selector + Send + Sync + Drop, T: PrefixTable<Cell<S>> + Drop> Sim<S, T>
         match event {
             Event::Edit(_) => self.step_by_plan(rt, event),
             Event::Feed(feed) => self.take_feed(feed),
-            Event::Deliver(from, to) => self.take_delivery(Direction {
+            Event::Deliver(from, to) => self.deliver_head(Direction {
                 from: *from,
                 to: *to,
             }),

@@ -1,4 +1,4 @@
-//! Taking a message in the receiver's cell, which is changed where it stands.
+//! A message is delivered to the receiver's RIB entry, which is changed where it stands.
 
 ghost use Rattle.std.specs.Prelude.{◌≡◌, ◌≤◌, length, slice_get, true, Some, is_some, IfOk, OnOk, OnErr};
 ghost use Rattle.std.specs.Option.{option_copied};
@@ -19,7 +19,7 @@ ghost use Rattle.cell_engine.specs.Sending.{told};
 ghost use Rattle.cell_engine.specs.State.{cell_at, network};
 
 use crate::arrival::Arrival;
-use crate::route_cell::{Cell, take_in};
+use crate::route_cell::{Cell, receive_in_entry};
 use crate::router_tables::RouterTables;
 use crate::sending::push_all;
 use crate::state::State;
@@ -30,9 +30,9 @@ use route_select::Selector;
 use session_queue::{Direction, Message, Queues};
 use std::alloc::{AllocError, Global};
 
-/// Takes the message in a cell that the receiver does not have yet. What is sent is admitted, and has places. An error,
-/// which is want of memory, changes no table.
-fn take_new<S: Selector + Drop, T: PrefixTable<Cell<S>> + Drop>(
+/// Delivers the message to a RIB entry that the receiver does not have yet. What is sent has interned attributes and
+/// reserved capacity. An error, which is out of memory, changes no table.
+fn deliver_to_new_entry<S: Selector + Drop, T: PrefixTable<Cell<S>> + Drop>(
     alloc: Global,
     site: Option<&SiteConf>,
     cell: Cell<S>,
@@ -60,17 +60,17 @@ fn take_new<S: Selector + Drop, T: PrefixTable<Cell<S>> + Drop>(
 {
     let (direction, message) = (arrival.direction, arrival.message);
     let mut cell = cell;
-    let sends = take_in(alloc, site, &mut cell, queues, direction, message)?;
+    let sends = receive_in_entry(alloc, site, &mut cell, queues, direction, message)?;
     match tables.insert(alloc, direction.to, message.prefix(), cell) {
         Ok(()) => Ok(sends),
         Err(_) => Err(AllocError),
     }
 }
 
-/// Takes the message in the receiver's cell, which is lent out of its table for that, an empty one standing there
-/// meanwhile; or in an empty one, where it has none. What is sent is admitted, and has places. An error, which is want
-/// of memory, changes no table.
-fn take_lent<S: Selector + Drop, T: PrefixTable<Cell<S>> + Drop>(
+/// Delivers the message to the receiver's RIB entry, which is lent out of its table for that, an empty one standing
+/// there meanwhile; or to an empty one, where it has none. What is sent has interned attributes and reserved capacity.
+/// An error, which is out of memory, changes no table.
+fn deliver_to_entry<S: Selector + Drop, T: PrefixTable<Cell<S>> + Drop>(
     alloc: Global,
     site: Option<&SiteConf>,
     tables: &mut RouterTables<Cell<S>, T>,
@@ -102,10 +102,10 @@ fn take_lent<S: Selector + Drop, T: PrefixTable<Cell<S>> + Drop>(
         Ok(cell) => cell,
         Err(empty) => {
             let arrival = Arrival { direction, message };
-            return take_new(alloc, site, empty, tables, queues, &arrival);
+            return deliver_to_new_entry(alloc, site, empty, tables, queues, &arrival);
         }
     };
-    let sends = take_in(alloc, site, &mut cell, queues, direction, message);
+    let sends = receive_in_entry(alloc, site, &mut cell, queues, direction, message);
     match tables.replace(router, prefix, cell) {
         Ok(_) => sends,
         Err(_) => unreachable!(),
@@ -113,9 +113,9 @@ fn take_lent<S: Selector + Drop, T: PrefixTable<Cell<S>> + Drop>(
 }
 
 impl<S: Selector + Drop, T: PrefixTable<Cell<S>> + Drop> State<S, T> {
-    /// Takes the message at the head of the direction's queue: the receiver's cell is changed where it stands, and the
-    /// receiver sends what changed. This is the machine's own next state. It says whether the receiver decides: a
-    /// virtual peer does not. The network stays as it is at an error, which is want of memory.
+    /// Delivers the message at the head of the direction's queue: the receiver's RIB entry is changed where it stands,
+    /// and the receiver sends what changed. This is the machine's own next state. It says whether the receiver decides:
+    /// a virtual peer does not. The network stays as it is at an error, which is out of memory.
     pub fn deliver(&mut self, direction: Direction, message: &Message) -> Result<bool, AllocError>
         requires up { is_up self.old.conf direction.from direction.to ≡ true }
         requires head { slice_get (queue_at self.old.queues direction.from direction.to) 0 ≡ Some message.now }
@@ -130,7 +130,7 @@ impl<S: Selector + Drop, T: PrefixTable<Cell<S>> + Drop> State<S, T> {
         let _ = message.prefix().len();
         // A router that ends a session has its site kept.
         let site = self.conf.get().kept_site(direction.to);
-        let sends = take_lent(
+        let sends = deliver_to_entry(
             self.alloc,
             site,
             &mut self.tables,

@@ -150,9 +150,9 @@ fn receive(
     Ok(sends)
 }
 
-/// Takes the message into the choice, which compares as the router does, and into the routes that were received. What
-/// is sent for it is admitted, and has places. An error changes neither.
-fn take_news<S: Selector>(
+/// Receives the message, decides, and readies what is sent for it: interned attributes and reserved capacity. The
+/// choice compares as the router does. An error changes neither the choice nor the routes that were received.
+fn receive_and_decide<S: Selector>(
     alloc: Global,
     site: &SiteConf,
     chosen: &mut S,
@@ -200,10 +200,10 @@ fn take_news<S: Selector>(
     }
 }
 
-/// What a router does with a peer's message of the cell's prefix (RFC 4271, 9), in the cell where it stands: what is
-/// sent for it is admitted, and has places. An error, which is want of memory, changes nothing.
+/// What a router does with a peer's message of the entry's prefix (RFC 4271, 9), in the RIB entry where it stands: what
+/// is sent for it has interned attributes and reserved capacity. An error, which is out of memory, changes nothing.
 #[tactic(auto, unfolding(crate::specs::Cells::delivered))]
-fn deliver_in<S: Selector + Drop>(
+fn decide_in_entry<S: Selector + Drop>(
     alloc: Global,
     site: &SiteConf,
     cell: &mut Cell<S>,
@@ -227,7 +227,7 @@ fn deliver_in<S: Selector + Drop>(
     let _ = cell.received.routes();
     begin(alloc, site, &mut cell.chosen);
     let arrival = Arrival { direction, message };
-    take_news(
+    receive_and_decide(
         alloc,
         site,
         &mut cell.chosen,
@@ -237,8 +237,8 @@ fn deliver_in<S: Selector + Drop>(
     )
 }
 
-/// What a virtual peer does with a message, in the cell where it stands: it keeps what it receives, and sends nothing.
-/// An error, which is want of memory, changes nothing.
+/// What a virtual peer does with a message, in the RIB entry where it stands: it keeps what it receives, and sends
+/// nothing. An error, which is out of memory, changes nothing.
 #[tactic(auto, unfolding(crate::specs::Cells::stored))]
 fn store_in<S: Chosen>(
     alloc: Global,
@@ -255,10 +255,10 @@ fn store_in<S: Chosen>(
     Ok(Vec::new(alloc))
 }
 
-/// What the receiver does with a message in its cell, where that stands: a router decides by its site, a virtual peer,
-/// which has none, keeps what it receives. What is sent is admitted, and has places. An error, which is want of memory,
-/// changes nothing of the cell.
-pub(crate) fn take_in<S: Selector + Drop>(
+/// What the receiver does with a message in its RIB entry, where that stands: a router decides by its configuration, a
+/// virtual peer, which has none, keeps what it receives. What is sent has interned attributes and reserved capacity. An
+/// error, which is out of memory, changes nothing of the entry.
+pub(crate) fn receive_in_entry<S: Selector + Drop>(
     alloc: Global,
     site: Option<&SiteConf>,
     cell: &mut Cell<S>,
@@ -281,7 +281,7 @@ pub(crate) fn take_in<S: Selector + Drop>(
     ensures same { OnErr result (cell.new ≡ cell.old) }
 {
     match site {
-        Some(site) => deliver_in(alloc, site, cell, queues, direction, message),
+        Some(site) => decide_in_entry(alloc, site, cell, queues, direction, message),
         None => store_in(alloc, cell, direction.from, message),
     }
 }

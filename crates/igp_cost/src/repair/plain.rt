@@ -44,7 +44,7 @@ impl<'a> RootedGraph<'a> {
             (OffersNoBetter self.now.nodes.now (tree_in self.now.nodes.now self.now.source rows.now)
             (addr_at self.now.nodes.now at) (addr_at self.now.nodes.now to) metric) }
     {
-        is_not_after_plainly(rows[to].1, label, metric)
+        is_no_worse_than_extended(rows[to].1, label, metric)
     }
 
     // Whether a link offers the node at a place, whose label is this, that label or better, from a node that passes on
@@ -65,7 +65,7 @@ impl<'a> RootedGraph<'a> {
             (Offers self.now.nodes.now (tree_in self.now.nodes.now self.now.source rows.now)
             (addr_at self.now.nodes.now from) (addr_at self.now.nodes.now at) metric label) }
     {
-        is_plainly_not_after(rows[from].1, metric, label) && self.passes_on(from)
+        extended_is_no_worse(rows[from].1, metric, label) && self.passes_on(from)
     }
 
     // Whether the node at a place, whose label is this, is seen to be held over a link that leaves it.
@@ -145,7 +145,7 @@ impl<'a> RootedGraph<'a> {
 
 // Whether a label is at least as good as another one, further on by a metric.
 #[inline(always)]
-fn is_not_after_plainly(label: Label, start: Label, metric: u32) -> bool
+fn is_no_worse_than_extended(label: Label, start: Label, metric: u32) -> bool
     requires metric { IsMetric metric }
     requires limited { start.cost ≤ 268435456 }
     ensures after { OnTrue result (IsNotAfter label (record { cost = start.cost + metric; hop = start.hop })) }
@@ -156,7 +156,7 @@ fn is_not_after_plainly(label: Label, start: Label, metric: u32) -> bool
 
 // Whether a label, further on by a metric, is at least as good as another one.
 #[inline(always)]
-fn is_plainly_not_after(start: Label, metric: u32, label: Label) -> bool
+fn extended_is_no_worse(start: Label, metric: u32, label: Label) -> bool
     requires { IsMetric metric }
     ensures after { OnTrue result (IsNotAfter (record { cost = start.cost + metric; hop = start.hop }) label) }
     ensures known { OnTrue result (start.cost < 4294967295) }

@@ -31,8 +31,8 @@ site_is c k a b site same is up =
     is ∙ ap (λ x. site_kept x b) same
     ∙ kept_there c b (session_ends c b a (session_turned c a b (session_if_up c a b up)))
 
-pub take_lent-requires-clause-decided : goal.take_lent-requires-clause-decided
-take_lent-requires-clause-decided g c =
+pub deliver_to_entry-requires-clause-decided : goal.deliver_to_entry-requires-clause-decided
+deliver_to_entry-requires-clause-decided g c =
     let e : State = record {
       conf = c.self.inside.conf;
       tables = c.self.inside.tables;
@@ -46,16 +46,16 @@ take_lent-requires-clause-decided g c =
     subst (λ x. IsDecided x p (cell_at c.args.direction.to p e.tables)) (sym site)
     (cell_decided e c.self.invariant.0 c.args.direction.to p)
 
-pub take_lent-requires-clause-peers : goal.take_lent-requires-clause-peers
-take_lent-requires-clause-peers g c s is =
+pub deliver_to_entry-requires-clause-peers : goal.deliver_to_entry-requires-clause-peers
+deliver_to_entry-requires-clause-peers g c s is =
     let site = site_is c.self.inside.conf c.get.result.now c.args.direction.from c.args.direction.to
     (option_copied c.kept_site-site.result) c.get.ensures c.kept_site-site.ensures
     (ap (λ (n : State). is_up n.conf c.args.direction.from c.args.direction.to) c.self.view_is ∙ c.requires.up) in
     site_sessions_in_order c.self.inside.conf c.args.direction.to s c.facts.ensures.configured
     (site_of_router c.self.inside.conf c.args.direction.to s (sym site ∙ is))
 
-pub take_lent-requires-clause-one : goal.take_lent-requires-clause-one
-take_lent-requires-clause-one g c t =
+pub deliver_to_entry-requires-clause-one : goal.deliver_to_entry-requires-clause-one
+deliver_to_entry-requires-clause-one g c t =
     let e : State = record {
       conf = c.self.inside.conf;
       tables = c.self.inside.tables;
@@ -83,8 +83,8 @@ returns-in_err-sends-clause-same g c =
       queues = c.self.inside.queues;
     } in
     anyway c.from_residual.result (
-    ap (λ ts. network (record e { tables = ts; queues = c.take_lent.new.queues })) c.in_err-sends.ensures.same
-    ∙ network_same e c.take_lent.new.queues c.take_lent.ensures.queue
+    ap (λ ts. network (record e { tables = ts; queues = c.deliver_to_entry.new.queues })) c.in_err-sends.ensures.same
+    ∙ network_same e c.deliver_to_entry.new.queues c.deliver_to_entry.ensures.queue
     ∙ ap network c.self.view_is
     )
 
@@ -106,15 +106,15 @@ invariant_of-self-2 g c =
     let block : MakePrefix (prefix_of c.args.message.now).addr (prefix_of c.args.message.now).len =
     subst (λ (p : Prefix). MakePrefix p.addr p.len) c.prefix.ensures c.len.ensures.block in (
       sound_then e c.self.invariant.0 c.args.direction c.args.message.now (option_copied c.kept_site-site.result) site
-          c.take_lent.new.tables c.in_ok-sends.ensures.cell c.facts.ensures.configured first c.in_ok-sends.sends.items
-          c.in_ok-sends.ensures.sends c.take_lent.new.queues c.pop.new.self c.push_all.new.queues
-          c.take_lent.ensures.queue c.pop.ensures.queue c.pop.ensures.others c.push_all.ensures.queue,
+          c.deliver_to_entry.new.tables c.in_ok-sends.ensures.cell c.facts.ensures.configured first c.in_ok-sends.sends.items
+          c.in_ok-sends.ensures.sends c.deliver_to_entry.new.queues c.pop.new.self c.push_all.new.queues
+          c.deliver_to_entry.ensures.queue c.pop.ensures.queue c.pop.ensures.others c.push_all.ensures.queue,
       prefixes_then e c.self.invariant.0 c.args.direction c.args.message.now (option_copied c.kept_site-site.result)
-          site c.take_lent.new.tables c.in_ok-sends.ensures.cell block c.self.invariant.1,
+          site c.deliver_to_entry.new.tables c.in_ok-sends.ensures.cell block c.self.invariant.1,
       ups_then e c.self.invariant.0 c.args.direction c.args.message.now (option_copied c.kept_site-site.result) site
-          c.take_lent.new.tables c.in_ok-sends.ensures.cell c.facts.ensures.configured first c.in_ok-sends.sends.items
-          c.in_ok-sends.ensures.sends c.take_lent.new.queues c.pop.new.self c.push_all.new.queues
-          c.take_lent.ensures.queue c.pop.ensures.queue c.pop.ensures.others c.push_all.ensures.queue up
+          c.deliver_to_entry.new.tables c.in_ok-sends.ensures.cell c.facts.ensures.configured first c.in_ok-sends.sends.items
+          c.in_ok-sends.ensures.sends c.deliver_to_entry.new.queues c.pop.new.self c.push_all.new.queues
+          c.deliver_to_entry.ensures.queue c.pop.ensures.queue c.pop.ensures.others c.push_all.ensures.queue up
           c.self.invariant.2,
     )
 
@@ -135,9 +135,9 @@ returns-clause-next g c =
     ap (λ (n : State). is_up n.conf c.args.direction.from c.args.direction.to) c.self.view_is ∙ c.requires.up in
     let d = c.args.direction in
     next_then e c.self.invariant.0 c.args.direction c.args.message.now (option_copied c.kept_site-site.result) site
-    c.take_lent.new.tables c.in_ok-sends.ensures.cell c.facts.ensures.configured first c.in_ok-sends.sends.items
-    c.in_ok-sends.ensures.sends c.take_lent.new.queues c.pop.new.self c.push_all.new.queues
-    c.take_lent.ensures.queue c.pop.ensures.queue c.pop.ensures.others c.push_all.ensures.queue
+    c.deliver_to_entry.new.tables c.in_ok-sends.ensures.cell c.facts.ensures.configured first c.in_ok-sends.sends.items
+    c.in_ok-sends.ensures.sends c.deliver_to_entry.new.queues c.pop.new.self c.push_all.new.queues
+    c.deliver_to_entry.ensures.queue c.pop.ensures.queue c.pop.ensures.others c.push_all.ensures.queue
     (session_if_up e.conf d.from d.to up)
     ∙ (λ i. (head_step (network (c.self.view_is i)) d (messages_in (network (c.self.view_is i)).queues d)).next)
 

@@ -7,7 +7,7 @@ use Rattle.cell_engine.specs.State.{network}
 use Rattle.sim_core.specs.Counting.{Counted, Counts}
 use Rattle.sim_core.proofs.Answered.{denied_by}
 use Rattle.sim_core.proofs.Delivering.{counts, one_decided, takes, up_here, wants}
-use Rattle.sim_core.proofs.sim.Sim.take_delivery.Goals as goal
+use Rattle.sim_core.proofs.sim.Sim.deliver_head.Goals as goal
 
 pub returns-in-Err-clause-step : goal.returns-in-Err-clause-step
 returns-in-Err-clause-step g c =

@@ -3,10 +3,10 @@ use Rattle.cell_engine.specs.Cells.{stored}
 use Rattle.cell_engine.specs.Deliveries.{outcome_by}
 use Rattle.cell_engine.specs.Sending.{told}
 use Rattle.cell_engine.proofs.Seen.{when_ok}
-use Rattle.cell_engine.proofs.route_cell.in_place.take_in.Goals as goal
+use Rattle.cell_engine.proofs.route_cell.in_place.receive_in_entry.Goals as goal
 
-pub deliver_in-requires-clause-one : goal.deliver_in-requires-clause-one
-deliver_in-requires-clause-one g c t =
+pub decide_in_entry-requires-clause-one : goal.decide_in_entry-requires-clause-one
+decide_in_entry-requires-clause-one g c t =
     subst (λ o. length (told t
     (outcome_by (option_copied o) c.args.cell.now c.args.direction.from c.args.message.now).sends) ≤ 1) c.in-Some.is
     (c.requires.one t)

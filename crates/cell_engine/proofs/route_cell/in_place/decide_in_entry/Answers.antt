@@ -10,7 +10,7 @@ use Rattle.cell_engine.proofs.Effective.{compared_is, compares_at}
 use Rattle.cell_engine.proofs.InPlace.{sends_delivered}
 use Rattle.cell_engine.proofs.Seen.{when_ok}
 use Rattle.cell_engine.proofs.StandingsAfter.{compares_as}
-use Rattle.cell_engine.proofs.route_cell.in_place.deliver_in.Goals as goal
+use Rattle.cell_engine.proofs.route_cell.in_place.decide_in_entry.Goals as goal
 
 pub begin-requires : goal.begin-requires
 begin-requires g c =
@@ -20,8 +20,8 @@ begin-requires g c =
     compares_at (g.S.Chosen.standings c.cell.inside.chosen) (standings_by site p held) site.med_always
     (ap (λ h. h.standings) c.cell.view_is ∙ ap (λ h. h.standings) c.requires.decided) (compares_as site p held)
 
-pub take_news-requires-clause-stands : goal.take_news-requires-clause-stands
-take_news-requires-clause-stands g c =
+pub receive_and_decide-requires-clause-stands : goal.receive_and_decide-requires-clause-stands
+receive_and_decide-requires-clause-stands g c =
     let site = c.args.site.now in
     let p = prefix_of c.args.message.now in
     let held = c.args.cell.now.received in
@@ -31,8 +31,8 @@ take_news-requires-clause-stands g c =
     (compares_as site p held)
     ∙ sym (ap (λ (h : Cell). standings_by site p h.received) c.cell.view_is)
 
-pub take_news-requires-clause-one : goal.take_news-requires-clause-one
-take_news-requires-clause-one g c t =
+pub receive_and_decide-requires-clause-one : goal.receive_and_decide-requires-clause-one
+receive_and_decide-requires-clause-one g c t =
     let site = c.args.site.now in
     let u = c.args.direction.from in
     let m = c.args.message.now in
@@ -45,8 +45,8 @@ returns-clause-sends g c =
     let site = c.args.site.now in
     let u = c.args.direction.from in
     let m = c.args.message.now in
-    when_ok c.take_news.result _ _ (λ sends is. is ∙ ap (λ (h : Cell). sends_with site u m h.received) c.cell.view_is
-    ∙ sym (sends_delivered site c.args.cell.now u m c.requires.decided)) c.take_news.ensures.sends
+    when_ok c.receive_and_decide.result _ _ (λ sends is. is ∙ ap (λ (h : Cell). sends_with site u m h.received) c.cell.view_is
+    ∙ sym (sends_delivered site c.args.cell.now u m c.requires.decided)) c.receive_and_decide.ensures.sends
 
 both_err : {A E P Q R : Type 0} (r : Result A E) → (P → Q → R) → OnErr r P → OnErr r Q → OnErr r R
 both_err (Ok a) f p q = tt
@@ -60,7 +60,7 @@ returns-clause-same g c =
     let compares : ComparesAt site.med_always (g.S.Chosen.standings c.cell.inside.chosen) =
     compares_at (g.S.Chosen.standings c.cell.inside.chosen) (standings_by site p held) site.med_always
     (ap (λ h. h.standings) c.cell.view_is ∙ ap (λ h. h.standings) c.requires.decided) (compares_as site p held) in
-    both_err c.take_news.result (λ stood kept.
+    both_err c.receive_and_decide.result (λ stood kept.
     let stands = ap effective (stood ∙ c.begin.ensures) ∙ sym compares in
     (λ i. record { received = kept i; standings = stands i })
-    ∙ c.cell.view_is) c.take_news.ensures.stood c.take_news.ensures.kept
+    ∙ c.cell.view_is) c.receive_and_decide.ensures.stood c.receive_and_decide.ensures.kept

@@ -8,7 +8,7 @@ use Rattle.cell_engine.specs.InPlace.{forgotten, put_back}
 use Rattle.cell_engine.specs.Sending.{told}
 use Rattle.cell_engine.proofs.Seen.{when_ok}
 use Rattle.cell_engine.proofs.InPlace.{best_then, known_aside, restored, stands_then}
-use Rattle.cell_engine.proofs.route_cell.in_place.take_news.Goals as goal
+use Rattle.cell_engine.proofs.route_cell.in_place.receive_and_decide.Goals as goal
 
 pub made_ready-ready-requires : goal.made_ready-ready-requires
 made_ready-ready-requires g c =
