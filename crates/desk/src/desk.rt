@@ -21,6 +21,7 @@ use std::marker::Model;
 use std::sync::ledger::{Blank, Ledger};
 use std::sync::{Mutex, MutexGuard, Wait};
 use std::thread::Threads;
+use thiserror::Error;
 
 /// The most seats of a desk.
 pub const MAX_SEATS: u16 = 256;
@@ -28,14 +29,17 @@ pub const MAX_SEATS: u16 = 256;
 /// The most shards of a desk.
 pub const MAX_SHARDS: u64 = 64;
 
-/// Why a desk is not opened.
-#[derive(Clone, Copy, Debug, PartialEq, Eq)]
+/// Why a desk is not opened. No contract says what `Display` writes.
+#[derive(Clone, Copy, Debug, PartialEq, Eq, Error)]
 pub enum OpenFault {
     /// There are to be no seats, or more than 256.
+    #[error("a desk has 1 to {most} seats", most = MAX_SEATS)]
     Seats,
     /// There are to be no shards, or more than 64.
+    #[error("a desk has 1 to {most} shards", most = MAX_SHARDS)]
     Shards,
     /// There is no memory.
+    #[error("out of memory")]
     Memory,
 }
 

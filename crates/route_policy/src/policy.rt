@@ -26,7 +26,7 @@ const WORTH_MARKS: u64 = 16;
 
 const WORTH_RULES: usize = 8;
 
-/// Why a rule is not added.
+/// Why a rule is not added. `Display` is written by hand, since its contract says the exact text (`fault_text`).
 #[derive(Clone, Copy, Debug, PartialEq, Eq)]
 pub enum AddFault {
     /// The policy has 256 rules.

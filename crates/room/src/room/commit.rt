@@ -43,7 +43,7 @@ pub enum Newer {
     },
 }
 
-/// There was no memory. The outcome is handed back.
+/// Out of memory. The outcome is handed back, so this is no `Error`.
 #[derive(Drop)]
 pub struct CommitFault<S: Chosen> {
     pub done: Done<S>,

@@ -13,17 +13,20 @@ use route_select::Chosen;
 use sim_event::Entry;
 use std::marker::Model;
 use std::sync::ledger::Ledger;
+use thiserror::Error;
 
-/// Why a room was not closed.
-#[derive(Clone, Copy, Debug, PartialEq, Eq)]
+/// Why a room was not closed. No contract says what `Display` writes.
+#[derive(Clone, Copy, Debug, PartialEq, Eq, Error)]
 pub enum Fault {
     /// The seats' numbers are not each of the room's once.
+    #[error("the seats are not each of the room's, once")]
     MissingSeat,
     /// The notes of a seat are not its calls in the history.
+    #[error("the notes of a seat are not its calls in the history")]
     BookDiffers,
 }
 
-/// A room that was not closed, with the seats.
+/// A room that was not closed, with the seats. It hands both back, so it is no `Error` itself: `fault` is one.
 #[derive(Drop)]
 pub struct CloseFault<S: Chosen, T: PrefixTable<Cell<S>>, L: Ledger> {
     pub fault: Fault,
