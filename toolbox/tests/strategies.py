@@ -80,7 +80,7 @@ def near(draw):
 
 
 @strategies.composite
-def mistyped(draw):
+def malformed(draw):
     """A command of which a word was taken away, put in, or put in the place of another."""
     words = draw(commands()).split(" ")
     at = draw(strategies.integers(0, len(words)))

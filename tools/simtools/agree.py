@@ -1,8 +1,8 @@
 """Compares the machines with one another and with the model, on random scripts.
 
-    tools/agree [--interiors] [--scripts N] [--seed S]        N scripts (100), of the seeds from S (1) on
+    tools/agree [--igp] [--scripts N] [--seed S]        N scripts (100), of the seeds from S (1) on
 
-Each script of tools/random-scripts, or with --interiors of tools/random-interiors, is given to tools/model.py and
+Each script of tools/random-scripts, or with --igp of tools/random-igp, is given to tools/model.py and
 to machine_scripts, which has to be built, on each of its machines; what each writes and ends with has to be what
 the model does. For each script that differs, the first line that is answered otherwise is told, with both answers.
 The last line is `N scripts, M lines, K differ`; exit 1 where one differs. PROGRAM= is another program, which is
@@ -14,7 +14,7 @@ import functools
 import subprocess
 from typing import Any, List, Sequence, Tuple
 
-from . import commands, programs, random_interiors, random_scripts
+from . import commands, programs, random_igp, random_scripts
 from .programs import MODEL
 from .running import SECONDS, Ran, run, side_by_side
 
@@ -89,8 +89,8 @@ def agree(generator: Any, seeds: range) -> int:
 def main(words: Sequence[str]) -> int:
     """The command."""
     asked = commands.parser(__doc__)
-    asked.add_argument("--interiors", action="store_const", const=random_interiors, default=random_scripts)
+    asked.add_argument("--igp", action="store_const", const=random_igp, default=random_scripts)
     asked.add_argument("--scripts", type=commands.number, default=100, metavar="N")
     asked.add_argument("--seed", type=int, default=1, metavar="S")
     given = asked.parse_args(words)
-    return agree(given.interiors, range(given.seed, given.seed + given.scripts))
+    return agree(given.igp, range(given.seed, given.seed + given.scripts))

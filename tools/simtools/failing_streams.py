@@ -23,7 +23,7 @@ from typing import Dict, Iterator, List, NamedTuple, Sequence, Tuple
 
 from . import commands, logs, programs, team_logs
 from .commands import Missing
-from .hostile_scripts import by_model
+from .fuzz_scripts import by_model
 from .programs import TOP
 from .running import Ran, run, side_by_side
 

@@ -151,7 +151,7 @@ class Fuzzer:
         self.base: Dict[str, Ended] = {}
         self.known: Set[bytes] = set()
 
-    def drawn(self, seed: int) -> Case:
+    def case_of(self, seed: int) -> Case:
         """The case of a seed."""
         draw = random.Random(seed)
         importer = draw.choice([each for each, often in OFTEN.items() for _ in range(often)])
@@ -268,7 +268,7 @@ def try_cases(seeds: range) -> int:
         os.mkdir(folder)
         fuzzer = Fuzzer(folder)
         for seed in seeds:
-            case = fuzzer.drawn(seed)
+            case = fuzzer.case_of(seed)
             wrong = fuzzer.wrong(case)
             passed += not wrong
             failed += bool(wrong)

@@ -28,7 +28,7 @@ import model
 
 from . import commands, programs, random_scripts
 from .language import LONGEST_COMMAND
-from .refusing import allocations, refuser
+from .allocation_faults import allocations, injector
 from .running import Ran, run, side_by_side
 
 # The headers of the versions, in order; teams write the newest.
@@ -181,9 +181,9 @@ def agree(seeds: range) -> int:
 def refuse(log: bytes) -> int:
     """Replays the log with each allocation refused in turn."""
     program = programs.bgpsim()
-    with refuser() as refusing:
+    with injector() as inject:
         def replay(number: int) -> Ran:
-            return run([program, "replay"], log, env=refusing(number), timeout=None)
+            return run([program, "replay"], log, env=inject(number), timeout=None)
 
         ever = replay(0)
         came = collections.Counter(side_by_side(replay, range(1, allocations(ever) + 1)))

@@ -3,21 +3,21 @@ drawn. A part of the gate.
 
     tools/mutants                     tries the chosen ones and forty drawn ones
     tools/mutants --since [COMMIT]    draws those first whose functions were changed since that commit; without one
-                                      since the base that `tools/believed --since` takes
+                                      since the base that `tools/trusted-base --since` takes
     tools/mutants --list              prints both, and tries none
     tools/mutants --anew              tries also those whose verdict is kept
     tools/mutants --until FILE        waits for libraries that are not kept yet, until the file is there
     tools/mutants --table FILE        writes what the chosen ones came to, as CSV: bench/mutants.csv
 
 tools/mutants.list has, of each wrong body that a proof must refuse and of each of the program's own promises, the
-mutant that spells it. The others are drawn from all of crates/*/planted: in the order of the SHA-256 of the commit
+mutant that spells it. The others are drawn from all of crates/*/mutants: in the order of the SHA-256 of the commit
 and the path, the first of each crate, then the first of all, forty together. Without git the digest of the sources
 stands for the commit. So nobody chooses them, and each commit draws others.
 
-A mutant is tried as `tools/planted` tries it, by a check of its function alone, together with others. The libraries
+A mutant is tried as `tools/try-mutants` tries it, by a check of its function alone, together with others. The libraries
 below come from what `rt ci` kept on this machine. Where it kept too few, that is told at once, and nothing is proved.
 Verdicts are kept on this machine too, by the checksum of all that the check reads. What such a check does not settle
-is told: it takes a check of the whole crate, by `tools/planted EDIT`.
+is told: it takes a check of the whole crate, by `tools/try-mutants EDIT`.
 
 The line before the last counts, each apart: refused by a goal; by a goal, beside a proof of the function, written by
 hand, that does not fit the mutant either; at a limit of the search, which says nothing; by such a proof alone, which
@@ -36,7 +36,7 @@ import time
 from dataclasses import dataclass, field
 from typing import Collection, Dict, Iterable, Iterator, List, NamedTuple, Optional, Sequence, Set, Tuple
 
-from . import believed, build_record, commands, kept_libraries, planted
+from . import trusted_base, build_record, commands, kept_libraries, try_mutants
 from . import rattle_source as reading
 from .programs import TOP
 from .verdicts import Verdict, Verdicts, folder
@@ -47,16 +47,16 @@ DRAWN = 40
 OPEN = "open"
 # A mutant that a check of its function alone does not settle.
 UNSETTLED = "not settled"
-PASSED = (planted.BY_GOAL, planted.ELSEWHERE, planted.BESIDE)
-FAILED = (planted.PROVED, planted.BAD)
-KEPT = (*PASSED, planted.AT_LIMIT, planted.BY_PROOF)
+PASSED = (try_mutants.BY_GOAL, try_mutants.ELSEWHERE, try_mutants.BESIDE)
+FAILED = (try_mutants.PROVED, try_mutants.BAD)
+KEPT = (*PASSED, try_mutants.AT_LIMIT, try_mutants.BY_PROOF)
 # What the line before the last counts, each of which words.
 COUNTED = (
-    ("refused by a goal", (planted.BY_GOAL, planted.ELSEWHERE)),
-    ("by a goal beside a hand proof that fits no more", (planted.BESIDE,)),
-    ("at a limit, which says nothing", (planted.AT_LIMIT,)),
-    ("by a hand proof alone, which shows nothing", (planted.BY_PROOF,)))
-HEAD = ("wrong body", "crate", "mutant", "what it does", "outcome", "by", "processor seconds")
+    ("refused by a goal", (try_mutants.BY_GOAL, try_mutants.ELSEWHERE)),
+    ("by a goal beside a hand proof that fits no more", (try_mutants.BESIDE,)),
+    ("at a limit, which says nothing", (try_mutants.AT_LIMIT,)),
+    ("by a hand proof alone, which shows nothing", (try_mutants.BY_PROOF,)))
+HEAD = ("name", "crate", "mutant", "what it does", "outcome", "by", "processor seconds")
 # After so many seconds it is looked once more which libraries are kept.
 A_WHILE = 20
 
@@ -81,7 +81,7 @@ def chosen_mutants(text: str, top: pathlib.Path) -> List[Chosen]:
         if len(words) != 2 or not words[0].endswith(":") or not path.is_file() or not said.strip():
             raise commands.Missing(
                 "tools/mutants.list:%d: `%s` is not `NAME: CRATE/FOLDER/EDIT # WHAT IT DOES` of an edit below crates/: "
-                "write one, as `trace-takes-any-match: plain_simulator/planted/trace-takes-any-match # the trace ..`"
+                "write one, as `trace-takes-any-match: plain_simulator/mutants/trace-takes-any-match # the trace ..`"
                 % (number, line.strip()))
         found.append(Chosen(words[0][:-1], path, said.strip()))
     return found
@@ -92,7 +92,7 @@ def crate_of(edit: pathlib.Path) -> str:
     return edit.parent.parent.name
 
 
-def drawn(edits: Iterable[pathlib.Path], seed: str, top: pathlib.Path, most: int = DRAWN,
+def in_random_order(edits: Iterable[pathlib.Path], seed: str, top: pathlib.Path, most: int = DRAWN,
           owed: Collection[pathlib.Path] = ()) -> List[pathlib.Path]:
     """So many of the edits, one of each crate at least: those that are owed first, then by the SHA-256 of the seed and
     the path."""
@@ -110,7 +110,7 @@ def drawn(edits: Iterable[pathlib.Path], seed: str, top: pathlib.Path, most: int
 
 def git(*words: str) -> Optional[str]:
     """What git answers here; None where it answers nothing."""
-    return believed.git(TOP, *words)
+    return trusted_base.git(TOP, *words)
 
 
 def seed_of() -> str:
@@ -144,17 +144,17 @@ def owed_mutants(edits: Iterable[pathlib.Path], since: str) -> List[pathlib.Path
     """The edits of functions that were changed since the commit. Raises commands.Missing where git does not know it."""
     told = git("diff", "--name-only", since, "--", "crates")
     if told is None:
-        raise commands.Missing(believed.UNKNOWN % since)
+        raise commands.Missing(trusted_base.UNKNOWN % since)
     files = {file for file in told.splitlines() if "/src/" in file and (TOP / file).is_file()}
     changed = {file: changed_functions(file, git("show", "%s:%s" % (since, file)) or "", (TOP / file).read_text())
                for file in files}
     found = []
     for edit in edits:
         crate = edit.parent.parent
-        texts, _ = planted.texts_of(edit, crate)
+        texts, _ = try_mutants.texts_of(edit, crate)
         for path, text in texts.items():
             names = changed.get(path.relative_to(TOP).as_posix())
-            if names and names & planted.functions_at(path, path.read_text(), text):
+            if names and names & try_mutants.functions_at(path, path.read_text(), text):
                 found.append(edit)
     return found
 
@@ -173,7 +173,7 @@ class Trial:
             verdict = self.verdicts.kept(crate_of(edit), edit)
             if verdict:
                 self.found[edit] = verdict
-                planted.tell(crate_of(edit), edit.stem, "%s, as is kept" % verdict.word, None, verdict.why)
+                try_mutants.tell(crate_of(edit), edit.stem, "%s, as is kept" % verdict.word, None, verdict.why)
 
     def left(self, edits: Iterable[pathlib.Path]) -> Dict[str, List[pathlib.Path]]:
         """The edits that have no verdict yet, by their crates in the order of crates.txt."""
@@ -183,7 +183,7 @@ class Trial:
 
     def try_crate(self, crate: str, edits: List[pathlib.Path]) -> None:
         """Tries these edits of a crate, and keeps what is known of them for certain."""
-        for one in planted.tries(crate, self.below[crate], edits, unsettled, self.room):
+        for one in try_mutants.tries(crate, self.below[crate], edits, unsettled, self.room):
             self.found[one.edit] = Verdict(one.word, one.why, one.seconds)
             if one.word in KEPT:
                 self.verdicts.keep(crate, one.edit, self.found[one.edit])
@@ -209,11 +209,11 @@ class Trial:
                 time.sleep(A_WHILE)
 
 
-def unsettled(edit: pathlib.Path, copied: planted.Copied) -> planted.Outcome:
+def unsettled(edit: pathlib.Path, copied: try_mutants.Copied) -> try_mutants.Outcome:
     """What is said of an edit that a check of its function alone does not settle."""
-    _, why = planted.texts_of(edit, copied.folder)
-    said = "a check of its function alone does not settle it: tools/planted %s tries it"
-    return (planted.BAD, why) if why else (UNSETTLED, said % edit.relative_to(TOP).as_posix())
+    _, why = try_mutants.texts_of(edit, copied.folder)
+    said = "a check of its function alone does not settle it: tools/try-mutants %s tries it"
+    return (try_mutants.BAD, why) if why else (UNSETTLED, said % edit.relative_to(TOP).as_posix())
 
 
 def counted(found: Dict[pathlib.Path, Verdict], chosen: Collection[pathlib.Path],
@@ -248,23 +248,23 @@ def main(words: Sequence[str]) -> int:
     asked.add_argument("--anew", action="store_true")
     asked.add_argument("--until", type=pathlib.Path, metavar="FILE")
     asked.add_argument("--table", type=pathlib.Path, metavar="FILE")
-    asked.add_argument("--drawn", type=commands.number, default=DRAWN, metavar="N", help="draw N, and not forty")
+    asked.add_argument("--random", type=commands.number, default=DRAWN, metavar="N", help="draw N, and not forty")
     asked.add_argument("crates", nargs="*", metavar="CRATE", help="of these crates alone")
     return commands.as_part(lambda: try_all(asked.parse_args(words)))
 
 
 def try_all(given: argparse.Namespace) -> int:
     """Tries the chosen and the drawn mutants, or lists them."""
-    below, seed = planted.below(), seed_of()
-    every = sorted(edit for crate in below for edit in (TOP / "crates" / crate / "planted").glob("*.edit"))
+    below, seed = try_mutants.below(), seed_of()
+    every = sorted(edit for crate in below for edit in (TOP / "crates" / crate / "mutants").glob("*.edit"))
     listed = chosen_mutants(LIST.read_text(), TOP)
     are_open = {one.edit for one in listed if one.name == OPEN}
-    chosen = [one for one in listed if one.edit.parent.name == "planted" and one.name != OPEN]
-    since = believed.base(TOP) if given.since == "" else given.since
+    chosen = [one for one in listed if one.edit.parent.name == "mutants" and one.name != OPEN]
+    since = trusted_base.base(TOP) if given.since == "" else given.since
     owed = owed_mutants(every, since) if since else []
     edits = [one.edit for one in chosen]
     others = [edit for edit in every if edit not in edits]
-    by_lot = drawn(others, seed, TOP, given.drawn, owed) if given.drawn else []
+    by_lot = in_random_order(others, seed, TOP, given.random, owed) if given.random else []
     asked = [edit for edit in edits + by_lot if not given.crates or crate_of(edit) in given.crates]
     print("%d chosen mutants, and %d drawn of %d by %s%s" % (
         len(edits), len(by_lot), len(every), seed, ", %d of them owed since %s" % (

@@ -5,7 +5,7 @@
                                                  and `bgpsim replay` find to agree; each engineer's calls in it have to
                                                  be the commands of the file, in order; the workers' are deliveries; and
                                                  each line that spells no command has to be told, in order
-    tools/teams storm [--teams N] [--seed S]     N storms (20), of the seeds from S (1) on: one engineer gives a link
+    tools/teams stress [--teams N] [--seed S]     N stress tests (20), of the seeds from S (1) on: one engineer gives a link
                                                  200 metrics, one stops and starts a session, one adds and clears
                                                  rules, and mostly one tells routes of virtual peers, with lines
                                                  between that are refused or spell nothing, against 1, 2, 8 or 64
@@ -15,7 +15,7 @@
     tools/teams faults                           a full device, threads that cannot be started, each allocation refused
                                                  in turn, and long logs, whose text several threads make; it needs cc
 
-`agree` ends with `N teams, K differ`, and with exit 1 where one differs; `storm` and `faults`, parts of the gate, with
+`agree` ends with `N teams, K differ`, and with exit 1 where one differs; `stress` and `faults`, parts of the gate, with
 `N passed, M failed`. PROGRAM= is another program than crates/bgpsim/out/bgpsim.
 """
 from __future__ import annotations
@@ -28,9 +28,9 @@ import resource
 import tempfile
 from typing import Any, Dict, Iterator, List, Optional, Sequence, Tuple
 
-from . import commands, logs, programs, random_scripts, storms
+from . import commands, logs, programs, random_scripts, stress
 from .programs import TOP
-from .refusing import Refuser, allocations, refuser
+from .allocation_faults import Injector, allocations, injector
 from .running import Ran, side_by_side
 from .team_logs import TOLD, lines_of, team, written, wrong
 
@@ -120,17 +120,17 @@ def few_threads(files: List[str]) -> Iterator[Tried]:
     yield "threads that cannot be started, and that can", statuses(ends).keys() == {0, 5}, statuses(ends)
 
 
-def refused(files: List[str], refusing: Refuser) -> Iterator[Tried]:
+def refused(files: List[str], inject: Injector) -> Iterator[Tried]:
     """Each allocation of a small team."""
     def one(number: int) -> Ran:
-        return team(files, 2, env=refusing(number))
+        return team(files, 2, env=inject(number))
 
     ends = list(side_by_side(one, range(1, allocations(one(0)) + 1)))
     yield from (("allocation %d refused" % n, False, ran) for n, ran in enumerate(ends, 1) if not is_well(ran))
     yield "%d allocations refused in turn" % len(ends), statuses(ends).keys() == {0, 5}, statuses(ends)
 
 
-def long_logs(folder: str, refusing: Refuser) -> Iterator[Tried]:
+def long_logs(folder: str, inject: Injector) -> Iterator[Tried]:
     """Whether several threads write the log that one writes, and so where one of the last allocations is refused: those
     are for its text."""
     text = "".join("router 1.0.%d.%d %d\nquiet\n" % (n >> 8, n & 255, n + 1) for n in range(9_000))
@@ -142,7 +142,7 @@ def long_logs(folder: str, refusing: Refuser) -> Iterator[Tried]:
         yield "a long log by %d threads" % workers, ran == alone, ran.err
 
     def one(number: int) -> Ran:
-        return team(files, 4, env=refusing(number))
+        return team(files, 4, env=inject(number))
 
     last = allocations(one(0))
     ends = list(side_by_side(one, range(last - 60, last + 1)))
@@ -154,9 +154,9 @@ def faults() -> Iterator[Tried]:
     files = [str(TOP / "examples" / "team" / name) for name in ("interior.engineer", "border.engineer")]
     yield from full_device(files)
     yield from few_threads(files)
-    with refuser() as refusing, tempfile.TemporaryDirectory() as folder:
-        yield from long_logs(folder, refusing)
-        yield from refused(files, refusing)
+    with injector() as inject, tempfile.TemporaryDirectory() as folder:
+        yield from long_logs(folder, inject)
+        yield from refused(files, inject)
 
 
 def try_faults() -> int:
@@ -173,13 +173,13 @@ def try_faults() -> int:
 def main(words: Sequence[str]) -> int:
     """The command."""
     asked = commands.parser(__doc__)
-    asked.add_argument("what", choices=("agree", "faults", "storm"))
+    asked.add_argument("what", choices=("agree", "faults", "stress"))
     asked.add_argument("--scripts", type=commands.number, default=100, metavar="N")
     asked.add_argument("--teams", type=commands.number, default=20, metavar="N")
     asked.add_argument("--seed", type=int, default=1, metavar="S")
     given = asked.parse_args(words)
-    if given.what == "storm":
-        return commands.as_part(lambda: storms.storm(range(given.seed, given.seed + given.teams)))
+    if given.what == "stress":
+        return commands.as_part(lambda: stress.part(range(given.seed, given.seed + given.teams)))
     if given.what == "agree":
         return agree(range(given.seed, given.seed + given.scripts))
     return commands.as_part(try_faults)

@@ -24,7 +24,7 @@ import tempfile
 from typing import Dict, Iterator, List, NamedTuple, Sequence
 
 from . import commands
-from .believed import crates_in_order
+from .trusted_base import crates_in_order
 from .programs import TOP
 
 PAGE = TOP / "docs" / "explanation" / "engine.md"

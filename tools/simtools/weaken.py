@@ -2,7 +2,7 @@
 
     tools/weaken [--list] [--only WORD] [--table FILE] [CRATE..]        without a crate: all crates
 
-The definitions are those that `tools/believed` finds. In each of them each conjunct (`×`, `&&`), each alternative
+The definitions are those that `tools/trusted-base` finds. In each of them each conjunct (`×`, `&&`), each alternative
 (`⊎`, `||`) and each test (`if .. then .. else ..`, in whose place first one branch stands, then the other) is dropped
 in turn, on a copy. Then a few functions of the crate are checked, laws among them, whose clauses reach the definition:
 the shortest. All others are taken by what they state. Places of several definitions share a check, where functions
@@ -29,7 +29,7 @@ import tempfile
 from dataclasses import dataclass, field
 from typing import Collection, Dict, Iterator, List, NamedTuple, Optional, Sequence, Set, Tuple
 
-from . import believed, commands, kept_libraries, left_out, planted
+from . import trusted_base, commands, kept_libraries, left_out, try_mutants
 from . import rattle_source as reading
 from .programs import TOP
 
@@ -185,23 +185,23 @@ class Function(NamedTuple):
     its proof: what the clauses of all that it calls reach, the types that it names, and its proof files; and how many
     bytes it has."""
     name: str
-    cited: Set[believed.Name]
-    touched: Set[believed.Name]
+    cited: Set[trusted_base.Name]
+    touched: Set[trusted_base.Name]
     size: int
 
 
 class Reach:
     """Which functions' clauses reach a definition, crate by crate."""
 
-    def __init__(self, workspace: believed.Workspace) -> None:
+    def __init__(self, workspace: trusted_base.Workspace) -> None:
         self.workspace = workspace
-        self.from_name: Dict[believed.Name, Set[believed.Name]] = {}
+        self.from_name: Dict[trusted_base.Name, Set[trusted_base.Name]] = {}
         self.of_crate: Dict[str, List[Function]] = {}
 
-    def names_from(self, name: believed.Name) -> Set[believed.Name]:
+    def names_from(self, name: trusted_base.Name) -> Set[trusted_base.Name]:
         """What a name's definition leads to."""
         if name not in self.from_name:
-            known: Dict[believed.Name, str] = {}
+            known: Dict[trusted_base.Name, str] = {}
             try:
                 self.workspace.reached(name, "", known)
             except commands.Missing:
@@ -210,9 +210,9 @@ class Reach:
             self.from_name[name] = set(known)
         return self.from_name[name]
 
-    def named(self, text: str, imports: Dict[str, believed.Name]) -> Set[believed.Name]:
+    def named(self, text: str, imports: Dict[str, trusted_base.Name]) -> Set[trusted_base.Name]:
         """What the words of a text reach by these imports."""
-        words = set(believed.WORD.findall(text)) & set(imports)
+        words = set(trusted_base.WORD.findall(text)) & set(imports)
         return set().union(*(self.names_from(imports[word]) for word in words))
 
     def functions(self, crate: str) -> List[Function]:
@@ -221,7 +221,7 @@ class Reach:
             self.of_crate[crate] = list(Sources(self, TOP / "crates" / crate).functions())
         return self.of_crate[crate]
 
-    def crates(self, name: believed.Name, below: Dict[str, Set[str]]) -> List[str]:
+    def crates(self, name: trusted_base.Name, below: Dict[str, Set[str]]) -> List[str]:
         """The crates above that of the definition, some function of which reaches it."""
         return [crate for crate in below if name[0] in below[crate]
                 and any(name in function.cited for function in self.functions(crate))]
@@ -233,13 +233,13 @@ class Sources:
 
     def __init__(self, reach: Reach, folder: pathlib.Path) -> None:
         self.reach, self.folder = reach, folder
-        self.read = [(at, source, believed.imports_of(source.text)) for at, source in left_out.read(folder)]
-        self.clauses: Dict[str, Set[believed.Name]] = {}
-        self.types: Dict[str, Set[believed.Name]] = {}
+        self.read = [(at, source, trusted_base.imports_of(source.text)) for at, source in left_out.read(folder)]
+        self.clauses: Dict[str, Set[trusted_base.Name]] = {}
+        self.types: Dict[str, Set[trusted_base.Name]] = {}
         for _, source, imports in self.read:
             self.add(source, imports)
 
-    def add(self, source: reading.Source, imports: Dict[str, believed.Name]) -> None:
+    def add(self, source: reading.Source, imports: Dict[str, trusted_base.Name]) -> None:
         """Adds what a source has of both."""
         beside = self.reach.named(outside(source), imports)
         for name in re.findall(r"\b(?:struct|enum|trait|Model for) (\w+)", source.text):
@@ -255,7 +255,7 @@ class Sources:
             yield from (self.function(source, imports, one, body, body.place) for one, body in found
                         if body and body.place)
 
-    def function(self, source: reading.Source, imports: Dict[str, believed.Name], one: reading.Function,
+    def function(self, source: reading.Source, imports: Dict[str, trusted_base.Name], one: reading.Function,
                  body: left_out.Body, place: left_out.Place) -> Function:
         """A function with what it reaches."""
         said = said_of(source, one)
@@ -264,7 +264,7 @@ class Sources:
         proofs = self.folder.joinpath("proofs", *place.above, place.name).rglob("*.antt")
         touched = [self.clauses[call] for call in body.calls & set(self.clauses)]
         touched += [self.types[word] for word in words & set(self.types)]
-        touched += [self.reach.named(text, believed.imports_of(text)) for text in (path.read_text() for path in proofs)]
+        touched += [self.reach.named(text, trusted_base.imports_of(text)) for text in (path.read_text() for path in proofs)]
         cited = self.reach.named(said, imports)
         size = one.body.end - one.body.start if one.body else 0
         return Function(place.printed(self.folder.name), cited, cited.union(*touched), size)
@@ -288,10 +288,10 @@ class Batch:
     """Places of several definitions that are dropped at once: the definitions, and of each the functions that reach it
     and have nothing to do with the others."""
     places: List[Tuple[str, Place]] = field(default_factory=list)
-    names: List[believed.Name] = field(default_factory=list)
+    names: List[trusted_base.Name] = field(default_factory=list)
     own: List[List[Function]] = field(default_factory=list)
 
-    def with_one(self, file: str, place: Place, name: believed.Name, functions: List[Function]) -> Optional[Batch]:
+    def with_one(self, file: str, place: Place, name: trusted_base.Name, functions: List[Function]) -> Optional[Batch]:
         """The batch with one place more, if of each some function is left that tells of it alone."""
         if name in self.names or len(self.names) == PLACES_A_CHECK:
             return None
@@ -328,13 +328,13 @@ def batches(crate: str, found: List[Tuple[str, Place]], functions: List[Function
 
 def judged(told: List[str], asked: Set[str]) -> Tuple[str, str]:
     """What a check of weakened definitions says of one of them, by the functions that are asked of it."""
-    goals = [goal for goal in planted.open_goals(told) if goal[0] in asked or is_closure(goal[0], asked)]
+    goals = [goal for goal in try_mutants.open_goals(told) if goal[0] in asked or is_closure(goal[0], asked)]
     open_now = [(function, name) for function, name, is_at_limit in goals if not is_at_limit]
     if open_now:
         return BY_GOAL, "`%s` of %s" % (open_now[0][1], open_now[0][0])
     if goals:
         return AT_LIMIT, "`%s` of %s" % (goals[0][1], goals[0][0])
-    if asked <= planted.admitted(told):
+    if asked <= try_mutants.admitted(told):
         return NOTHING, "proved as before: " + " ".join(sorted(asked))
     proofs = [line for line in told if "error" in line and ".antt" in line] or told[-1:]
     return BY_PROOF, proofs[0]
@@ -346,7 +346,7 @@ def is_closure(function: str, asked: Set[str]) -> bool:
     return any(rest.startswith("::".join(name.split("::")[1:]) + "::") and name.startswith(crate) for name in asked)
 
 
-def tried(batch: Batch, copied: planted.Copied) -> List[Tuple[str, str]]:
+def tried(batch: Batch, copied: try_mutants.Copied) -> List[Tuple[str, str]]:
     """What notices each place of a batch that is dropped."""
     files = {"specs/%s.antt" % file for file, _ in batch.places}
     were = {file: (copied.folder / file).read_text() for file in files}
@@ -359,7 +359,7 @@ def tried(batch: Batch, copied: planted.Copied) -> List[Tuple[str, str]]:
     finally:
         for file, was in were.items():
             (copied.folder / file).write_text(was)
-    unread = planted.not_read(told, files) if status else None
+    unread = try_mutants.not_read(told, files) if status else None
     found = [(UNREAD, unread) if unread else judged(told, some) for some in asked]
     if len(found) == 1:
         return found
@@ -404,18 +404,18 @@ class Run:
                 self.add(crate, file, place, NOTHING, "no function of the crate reaches it", 0)
         left = [(file, place) for file, place in found if not self.is_done(crate, file, place)]
         with tempfile.TemporaryDirectory(prefix="weaken-") as own:
-            copied = planted.Copied(pathlib.Path(own) / "crates" / crate)
-            planted.copy(crate, self.below[crate], pathlib.Path(own), room)
+            copied = try_mutants.Copied(pathlib.Path(own) / "crates" / crate)
+            try_mutants.copy(crate, self.below[crate], pathlib.Path(own), room)
             copied.bodies = left_out.bodies(copied.folder)
             for batch in batches(crate, left, functions):
-                used = planted.processor_time()
+                used = try_mutants.processor_time()
                 outcomes = tried(batch, copied)
-                share = (planted.processor_time() - used) / len(outcomes)
+                share = (try_mutants.processor_time() - used) / len(outcomes)
                 for (file, place), (word, why) in zip(batch.places, outcomes):
                     self.add(crate, file, place, word, why, share)
 
 
-def places_of(crate: str, known: Collection[believed.Name]) -> Iterator[Tuple[str, Place]]:
+def places_of(crate: str, known: Collection[trusted_base.Name]) -> Iterator[Tuple[str, Place]]:
     """All that can be dropped from the definitions of a crate, each with its file."""
     for file in sorted({name[1] for name in known if name[0] == crate}):
         text = (TOP / "crates" / crate / "specs" / (file + ".antt")).read_text()
@@ -430,9 +430,9 @@ def named(crate: str, file: str, place: Place) -> str:
 
 def weaken(given: argparse.Namespace, crates: Sequence[str]) -> int:
     """Tries or lists each place of the crates' definitions. The exit status."""
-    workspace = believed.Workspace(TOP)
-    _, known = believed.parts_of(workspace)
-    run = Run(Reach(workspace), planted.below(), given.table)
+    workspace = trusted_base.Workspace(TOP)
+    _, known = trusted_base.parts_of(workspace)
+    run = Run(Reach(workspace), try_mutants.below(), given.table)
     run.read_table()
     for crate in crates:
         found = [(file, place) for file, place in places_of(crate, known)
@@ -457,7 +457,7 @@ def main(words: Sequence[str]) -> int:
     asked.add_argument("--only", default="", metavar="WORD")
     asked.add_argument("--table", type=pathlib.Path, metavar="FILE")
     asked.add_argument("crates", nargs="*", metavar="CRATE")
-    given, known = asked.parse_args(words), list(planted.below())
+    given, known = asked.parse_args(words), list(try_mutants.below())
     unknown = [crate for crate in given.crates if crate not in known]
     if unknown:
         asked.error("crates.txt has no `%s`: name crates of it" % unknown[0])

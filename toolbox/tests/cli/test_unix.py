@@ -82,26 +82,26 @@ class Streams(Case):
 
 
 class Escapes(Case):
-    HOSTILE = b"# \xc3\xa9t\xc3\xa9 \x1b]0;title\x07 \x9b2J \xff \xe2\x80\xae\rx\n\x1b[2Jquiet\tx\n"
+    MALFORMED = b"# \xc3\xa9t\xc3\xa9 \x1b]0;title\x07 \x9b2J \xff \xe2\x80\xae\rx\n\x1b[2Jquiet\tx\n"
     # The same, where its refused line is meant to be.
-    MARKED = HOSTILE.replace(b"\n", b"\n# expect refused 1\n", 1)
+    MARKED = MALFORMED.replace(b"\n", b"\n# expect refused 1\n", 1)
 
     def assert_tame(self, told):
         """Nothing in the text steers a terminal."""
         self.assertEqual([each for each in told if each != "\n" and not each.isprintable()], [])
 
     def test_play(self):
-        told = tool("play", "-", given=self.HOSTILE, status=1).stdout
+        told = tool("play", "-", given=self.MALFORMED, status=1).stdout
         self.assert_tame(told)
         self.assertIn("      # été \\x1b]0;title\\x07 \\x9b2J \\xff \\u202e\\rx\n   2  \\x1b[2Jquiet\\tx\n        refused 1 syntax\n", told)
 
     def test_refused_lines_and_mistakes(self):
         for name in ("settle", "draw"):
-            told = tool(name, "-", given=self.HOSTILE)
+            told = tool(name, "-", given=self.MALFORMED)
             self.assertIn("standard input:2: ", told.stderr)
             self.assert_tame(told.stderr)
             self.assertEqual((told.returncode, told.stdout), (2, ""))
-        self.assertEqual(tool("settle", "-", given=self.MARKED).stdout.encode("utf-8", "replace")[:10], self.HOSTILE[:10])
+        self.assertEqual(tool("settle", "-", given=self.MARKED).stdout.encode("utf-8", "replace")[:10], self.MALFORMED[:10])
         self.assert_tame(tool("play", "no\x1b[2J.bgp", status=2).stderr)
         self.assertIn("no\\x1b[2J.bgp: it cannot be read", tool("play", "no\x1b[2J.bgp", status=2).stderr)
         self.assert_tame(tool("play", "--\x1b[2J", status=2).stderr)
@@ -109,7 +109,7 @@ class Escapes(Case):
     def test_a_script_at_a_terminal(self):
         main, side = pty.openpty()
         self.addCleanup(os.close, main)
-        path = self.folder / "hostile.bgp"
+        path = self.folder / "malformed.bgp"
         path.write_bytes(self.MARKED)
         subprocess.run([sys.executable, "-B", str(TOOLBOX / "settle"), str(path)], stdout=side, stderr=subprocess.DEVNULL, timeout=100)
         os.close(side)

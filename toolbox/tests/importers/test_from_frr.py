@@ -5,7 +5,7 @@ import re
 
 from common import DATA, EXAMPLES, Case, inside, program, tool
 from frr import OUTSIDE, Told, at, border, inner, router
-from simtools import real_routers, settling_networks
+from simtools import real_routers, converging_networks
 
 SCRIPTS = [path for path in EXAMPLES if path.name != "tour.bgp"]
 
@@ -55,7 +55,7 @@ class FromFrr(Case):
         real = real_routers
         for seed in (1, 5, 6, 7):
             with self.subTest(seed=seed):
-                self.assert_way_back(real, "seed%d" % seed, settling_networks.script(seed).split("\n"))
+                self.assert_way_back(real, "seed%d" % seed, converging_networks.script(seed).split("\n"))
 
     def assert_way_back(self, real, name, lines):
         """The network that a script ends with, as FRR's configurations, read back, has the same tables."""

@@ -8,7 +8,7 @@ from bgptools.program import language
 from bgptools.program.process import Program
 from bgptools.program.replies import refusal
 from bgptools.program.script import content_of, lines_of
-from strategies import addresses, ases, commands, many, mistyped, near, numbers, paths, prefixes, printable
+from strategies import addresses, ases, commands, many, malformed, near, numbers, paths, prefixes, printable
 
 SYNTAX = 1
 # Any text of bytes, which a script may have, but the mark of a command that is refused.
@@ -51,7 +51,7 @@ class Lines(unittest.TestCase):
         cls.addClassCleanup(cls.program.close)
 
     @many
-    @given(commands() | near() | mistyped() | strategies.text(printable, max_size=30))
+    @given(commands() | near() | malformed() | strategies.text(printable, max_size=30))
     def test_a_line_is_malformed_where_the_program_says_so(self, line):
         reply = self.program.say(line)
         if language.is_silent(line):

@@ -10,7 +10,7 @@ import subprocess
 import unittest.mock
 
 from common import TOP, Case
-from simtools import believed, commands, left_out, mistyped, mutants, planted, verdicts, weaken
+from simtools import trusted_base, commands, left_out, compile_fail, mutants, try_mutants, verdicts, weaken
 
 
 def called(body):
@@ -22,24 +22,24 @@ def called(body):
 
 class Choice(Case):
     def edits(self, *names):
-        return [self.file("crates/%s/planted/%s.edit" % tuple(name.split("/")), "") for name in names]
+        return [self.file("crates/%s/mutants/%s.edit" % tuple(name.split("/")), "") for name in names]
 
     def test_forty_are_drawn_in_the_order_of_their_sums_and_one_of_each_crate(self):
         names = ["%s/e%d" % (crate, number) for crate in ("low", "mid", "top") for number in range(9)]
         edits = self.edits(*names)
 
         def sum_of(name):
-            path = "crates/%s.edit" % name.replace("/", "/planted/")
+            path = "crates/%s.edit" % name.replace("/", "/mutants/")
             return hashlib.sha256(("abc " + path).encode()).hexdigest()
 
         in_order = sorted(names, key=sum_of)
         first = [next(name for name in in_order if name.startswith(crate)) for crate in ("low", "mid", "top")]
         rest = [name for name in in_order if name not in first]
-        found = mutants.drawn(edits, "abc", self.folder, 5)
+        found = mutants.in_random_order(edits, "abc", self.folder, 5)
         self.assertEqual([self.name_of(edit) for edit in found], sorted(first, key=sum_of) + rest[:2])
-        self.assertEqual(mutants.drawn(edits[::-1], "abc", self.folder, 5), found)
-        self.assertNotEqual(mutants.drawn(edits, "abd", self.folder, 5), found)
-        self.assertEqual(len(mutants.drawn(edits, "abc", self.folder, 2)), 3)
+        self.assertEqual(mutants.in_random_order(edits[::-1], "abc", self.folder, 5), found)
+        self.assertNotEqual(mutants.in_random_order(edits, "abd", self.folder, 5), found)
+        self.assertEqual(len(mutants.in_random_order(edits, "abc", self.folder, 2)), 3)
 
     @staticmethod
     def name_of(edit):
@@ -47,15 +47,15 @@ class Choice(Case):
 
     def test_mutants_of_changed_functions_come_first(self):
         edits = self.edits(*("low/e%d" % number for number in range(20)))
-        owed = [mutants.drawn(edits, "abc", self.folder, 20)[-1]]
-        self.assertEqual(mutants.drawn(edits, "abc", self.folder, 1, owed), owed)
+        owed = [mutants.in_random_order(edits, "abc", self.folder, 20)[-1]]
+        self.assertEqual(mutants.in_random_order(edits, "abc", self.folder, 1, owed), owed)
 
     def test_the_list_names_an_edit_a_line(self):
         (edit,) = self.edits("low/late")
-        found = mutants.chosen_mutants("# none\n\nlate-is-early: low/planted/late # comes early\n", self.folder)
+        found = mutants.chosen_mutants("# none\n\nlate-is-early: low/mutants/late # comes early\n", self.folder)
         self.assertEqual(found, [("late-is-early", edit, "comes early")])
-        for line in ("late: low/planted/gone # x", "late low/planted/late # x", "late: # x",
-                     "a b: low/planted/late # x", "late: low/planted/late", "late: low/planted/late #"):
+        for line in ("late: low/mutants/gone # x", "late low/mutants/late # x", "late: # x",
+                     "a b: low/mutants/late # x", "late: low/mutants/late", "late: low/mutants/late #"):
             wanted = "mutants.list:2: .*%s.* write one" % re.escape(line)
             with self.subTest(line=line), self.assertRaisesRegex(commands.Missing, wanted):
                 mutants.chosen_mutants("# none\n%s\n" % line, self.folder)
@@ -64,12 +64,12 @@ class Choice(Case):
         """The bodies that must not compile stand beside them."""
         chosen = mutants.chosen_mutants(mutants.LIST.read_text(), TOP)
         self.assertEqual(len({one.edit for one in chosen}), len(chosen))
-        edits = [one.edit for one in chosen if one.edit.parent.name == "planted" and one.name != mutants.OPEN]
+        edits = [one.edit for one in chosen if one.edit.parent.name == "mutants" and one.name != mutants.OPEN]
         self.assertEqual(len(edits), 30)
-        self.assertEqual({one.edit.parent.name for one in chosen}, {"planted", "mistyped"})
+        self.assertEqual({one.edit.parent.name for one in chosen}, {"mutants", "compile-fail"})
         for edit in edits:
             folder = edit.parent.parent
-            applied, copied = planted.Applied(), planted.Copied(folder, left_out.bodies(folder))
+            applied, copied = try_mutants.Applied(), try_mutants.Copied(folder, left_out.bodies(folder))
             self.assertEqual((applied.add(edit, copied), bool(applied.functions[0])), (None, True), edit)
 
     def test_functions_that_differ(self):
@@ -83,22 +83,22 @@ class Choice(Case):
         """A chosen mutant passes by a goal alone; a drawn one fails where it is proved or does not apply."""
         edits = dict(zip("abcdefghij", self.edits(*("low/" + name for name in "abcdefghij"))))
         words = dict(zip("abcdefghij", (
-            planted.BY_GOAL, planted.BESIDE, planted.AT_LIMIT, planted.BY_PROOF, planted.PROVED, mutants.UNSETTLED,
-            planted.AT_LIMIT, planted.ELSEWHERE, planted.BAD, planted.PROVED)))
+            try_mutants.BY_GOAL, try_mutants.BESIDE, try_mutants.AT_LIMIT, try_mutants.BY_PROOF, try_mutants.PROVED, mutants.UNSETTLED,
+            try_mutants.AT_LIMIT, try_mutants.ELSEWHERE, try_mutants.BAD, try_mutants.PROVED)))
         found = {edits[name]: verdicts.Verdict(word, "why", 1.0) for name, word in words.items()}
         with unittest.mock.patch.object(mutants, "TOP", self.folder):
             status, told = called(lambda: mutants.counted(found, [edits["a"], edits["g"]], [edits["j"]]))
         self.assertEqual((status, told), (1, (
-            "FAILED crates/low/planted/e.edit: PROVED: why\n"
-            "FAILED crates/low/planted/g.edit: refused at a limit: why\n"
-            "FAILED crates/low/planted/i.edit: BAD: why\n"
+            "FAILED crates/low/mutants/e.edit: PROVED: why\n"
+            "FAILED crates/low/mutants/g.edit: refused at a limit: why\n"
+            "FAILED crates/low/mutants/i.edit: BAD: why\n"
             "2 refused by a goal, 1 by a goal beside a hand proof that fits no more, 2 at a limit, which says nothing, "
             "1 by a hand proof alone, which shows nothing, 4 otherwise\n3 passed, 3 failed\n")))
 
     def test_the_table_has_the_chosen_ones(self):
         first, second = self.edits("low/a", "low/b")
         chosen = [mutants.Chosen("x", first, "does x"), mutants.Chosen("y", second, "does y")]
-        rows = list(mutants.table(chosen, {first: verdicts.Verdict(planted.BY_GOAL, "`g` of f", 12.3)}))
+        rows = list(mutants.table(chosen, {first: verdicts.Verdict(try_mutants.BY_GOAL, "`g` of f", 12.3)}))
         self.assertEqual(rows, [mutants.HEAD, ("x", "low", "a", "does x", "refused by a goal", "`g` of f", "12")])
 
 
@@ -107,18 +107,18 @@ class Libraries(Case):
 
     def setUp(self):
         super().setUp()
-        self.edits = {crate: self.file("crates/%s/planted/a.edit" % crate, "") for crate in ("low", "high")}
+        self.edits = {crate: self.file("crates/%s/mutants/a.edit" % crate, "") for crate in ("low", "high")}
         self.trial = mutants.Trial({"low": set(), "high": {"low"}}, unittest.mock.Mock(), self.folder)
         self.lacking, self.seen = [], []
 
     def tried(self, until=None):
         def tries(crate, others, edits, alone, top):
             self.seen.append(crate)
-            yield planted.Tried(edits[0], planted.BY_GOAL, "why", 2.0)
+            yield try_mutants.Tried(edits[0], try_mutants.BY_GOAL, "why", 2.0)
 
         libraries = unittest.mock.Mock(take=lambda: self.lacking.pop(0))
         with unittest.mock.patch.object(mutants.kept_libraries, "repository", return_value=libraries), \
-                unittest.mock.patch.object(planted, "tries", tries), \
+                unittest.mock.patch.object(try_mutants, "tries", tries), \
                 unittest.mock.patch.object(mutants.time, "sleep", lambda _: self.seen.append("waits")):
             self.trial.try_all(list(self.edits.values()), until)
 
@@ -131,7 +131,7 @@ class Libraries(Case):
         self.lacking = [["high"]]
         self.tried()
         self.assertEqual((self.seen, self.trial.found[self.edits["high"]]),
-                         (["low", "high"], verdicts.Verdict(planted.BY_GOAL, "why", 2.0)))
+                         (["low", "high"], verdicts.Verdict(try_mutants.BY_GOAL, "why", 2.0)))
 
     def test_libraries_are_waited_for_until_a_file_is_there(self):
         self.lacking = [["low", "high"], ["low"], []]
@@ -141,7 +141,7 @@ class Libraries(Case):
         self.assertRaises(commands.Missing, self.tried, self.file("ended", ""))
 
     def test_a_verdict_that_is_kept_asks_for_no_library(self):
-        self.trial.verdicts.kept = lambda crate, edit: verdicts.Verdict(planted.AT_LIMIT, None, 3.0)
+        self.trial.verdicts.kept = lambda crate, edit: verdicts.Verdict(try_mutants.AT_LIMIT, None, 3.0)
         called(lambda: self.trial.take_kept(self.edits.values()))
         self.tried()
         self.assertEqual((self.seen, len(self.trial.found)), ([], 2))
@@ -153,7 +153,7 @@ class Verdicts(Case):
         self.file("HANDLES", "")
         source = self.file("crates/low/src/lib.rt", "fn a() {}")
         beside = self.file("crates/beside/src/lib.rt", "fn a() {}")
-        edit = self.file("crates/high/planted/a.edit", "x")
+        edit = self.file("crates/high/mutants/a.edit", "x")
         below = {"low": set(), "high": {"low"}, "beside": set()}
 
         def anew(kit="kit"):
@@ -178,13 +178,13 @@ class Verdicts(Case):
             self.assertEqual(str(verdicts.folder()), "/a/cache/bgpsim/mutants")
 
 
-class Mistyped(Case):
+class CompileFail(Case):
     def test_an_error_of_another_kind(self):
-        edit = self.file("room/mistyped/a.edit", "file: src/a.rt\nold: x\nnew: y\nsaid: [private-field] field `f`\n")
+        edit = self.file("room/compile-fail/a.edit", "file: src/a.rt\nold: x\nnew: y\nsaid: [private-field] field `f`\n")
         told = "/tmp/crates/room/src/a.rt:7:3: error[private-field]: field `f` of struct `D` is private\n"
-        self.assertEqual(mistyped.wrong(edit, told, True), [])
+        self.assertEqual(compile_fail.wrong(edit, told, True), [])
         for other in (told.replace("room", "desk"), told.replace("private-field", "unknown-field"), ""):
-            self.assertEqual(len(mistyped.wrong(edit, other, True)), 1)
+            self.assertEqual(len(compile_fail.wrong(edit, other, True)), 1)
 
 
 class Constants(Case):
@@ -192,9 +192,9 @@ class Constants(Case):
         self.file("low/src/limits.rt", "pub const MOST: usize = 9;\npub const LEAST: usize = 1;\n")
         self.file("low/src/lib.rt", "mod limits;\nfn a() -> usize { MOST + 1 }\nfn b() -> usize { LEAST }\n"
                                     "fn c() { a(); }\n")
-        edit = self.file("low/planted/a.edit", "file: src/limits.rt\nold: MOST: usize = 9\nnew: MOST: usize = 8\n")
-        applied, folder = planted.Applied(), self.folder / "low"
-        self.assertIsNone(applied.add(edit, planted.Copied(folder, left_out.bodies(folder))))
+        edit = self.file("low/mutants/a.edit", "file: src/limits.rt\nold: MOST: usize = 9\nnew: MOST: usize = 8\n")
+        applied, folder = try_mutants.Applied(), self.folder / "low"
+        self.assertIsNone(applied.add(edit, try_mutants.Copied(folder, left_out.bodies(folder))))
         self.assertEqual(applied.functions, [{"low::a"}])
 
 
@@ -266,7 +266,7 @@ other n = low n && high n
         below = self.made()
         name, far = ("low", "Good", "is_low"), ("low", "Good", "is_far")
         with unittest.mock.patch.object(weaken, "TOP", self.folder):
-            reach = weaken.Reach(believed.Workspace(self.folder))
+            reach = weaken.Reach(trusted_base.Workspace(self.folder))
             found = {one.name: (name in one.cited, name in one.touched, far in one.touched)
                      for crate in below for one in reach.functions(crate)}
             self.assertEqual((reach.crates(name, below), reach.crates(far, below)), (["high"], []))
@@ -279,12 +279,12 @@ other n = low n && high n
         text = (self.folder / "crates/low/specs/Good.antt").read_text()
         found = [("Good", place) for place in weaken.places(text, {"is_low", "is_good", "is_far"})]
         with unittest.mock.patch.object(weaken, "TOP", self.folder):
-            functions = weaken.Reach(believed.Workspace(self.folder)).functions("low")
+            functions = weaken.Reach(trusted_base.Workspace(self.folder)).functions("low")
         made = list(weaken.batches("low", found, functions))
         self.assertEqual([[name[2] for name in batch.names] for batch in made],
                          [["is_low", "is_far"], ["is_low", "is_far"], ["is_good"], ["is_good"]])
         self.assertEqual([batch.asked(at) for batch in made[:1] for at in (0, 1)], [{"low::good"}, {"low::far"}])
-        copied, seen = planted.Copied(self.folder / "crates/low"), []
+        copied, seen = try_mutants.Copied(self.folder / "crates/low"), []
 
         def check(functions):
             seen.append((functions, (self.folder / "crates/low/specs/Good.antt").read_text()))
@@ -313,30 +313,30 @@ class TrustedBase(Case):
         self.git("commit", "-q", "-m", "a")
         kept.write_text("-- is good\nuse A.{b}\nis_good n = low n\nsame n = n\n")
         gone.unlink()
-        _, told = called(lambda: believed.tell_since(self.folder, {("low", "Kept"), ("low", "New")}, "HEAD"))
+        _, told = called(lambda: trusted_base.tell_since(self.folder, {("low", "Kept"), ("low", "New")}, "HEAD"))
         self.assertEqual(told, (
             "crates/low/specs/Gone.antt: -is_gone = true\n"
             "crates/low/specs/Kept.antt: -is_good n = low n && high n\ncrates/low/specs/Kept.antt: +is_good n = low n\n"
             "3 lines of the trusted base differ from those of HEAD\n"))
         with self.assertRaisesRegex(commands.Missing, "git knows no commit `nowhere` here: write another"):
-            believed.tell_since(self.folder, set(), "nowhere")
+            trusted_base.tell_since(self.folder, set(), "nowhere")
 
     def commit(self, *more):
         self.git("commit", "-q", "--allow-empty", "-m", "a", *more)
-        return believed.git(self.folder, "rev-parse", "HEAD").strip()
+        return trusted_base.git(self.folder, "rev-parse", "HEAD").strip()
 
     def test_the_base_of_a_change(self):
         """Where the branch left origin/main; the last tag where it did not leave it; or the commit before."""
-        self.assertIsNone(believed.base(self.folder))
+        self.assertIsNone(trusted_base.base(self.folder))
         self.git("init", "-q")
         first = self.commit()
-        self.assertIsNone(believed.base(self.folder))
+        self.assertIsNone(trusted_base.base(self.folder))
         self.commit()
-        self.assertEqual(believed.base(self.folder), first)
+        self.assertEqual(trusted_base.base(self.folder), first)
         self.git("tag", "-m", "a", "v1")
         third = self.commit()
-        self.assertEqual(believed.base(self.folder), "v1")
+        self.assertEqual(trusted_base.base(self.folder), "v1")
         self.git("update-ref", "refs/remotes/origin/main", third)
-        self.assertEqual(believed.base(self.folder), "v1")
+        self.assertEqual(trusted_base.base(self.folder), "v1")
         self.commit()
-        self.assertEqual(believed.base(self.folder), third)
+        self.assertEqual(trusted_base.base(self.folder), third)

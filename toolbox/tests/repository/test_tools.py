@@ -17,9 +17,9 @@ import unittest.mock
 from common import TOP, Case
 
 import model
-from simtools import (believed, bench_tables, commands, language, left_out, loads, logs, planted, programs,
-                      random_interiors, random_scripts, real_routers, refuse_allocations, refusing,
-                       running, speaker, stream_faults, teams, wants_memory)
+from simtools import (trusted_base, bench_tables, commands, language, left_out, loads, logs, try_mutants, programs,
+                      random_igp, random_scripts, real_routers, fail_script_allocations, allocation_faults,
+                       running, speaker, stream_faults, teams, memory_refusals)
 
 NOWHERE = "/nowhere/bgpsim"
 NOT_THERE = "there is no program %s: PROGRAM= names it\n" % NOWHERE
@@ -84,8 +84,8 @@ class Commands(Case):
         self.assertEqual([pair for pair in named if not (TOP / pair[0]).exists()], [])
 
     def test_parts_of_the_gate_count_a_program_that_is_not_there_as_failed(self):
-        for call in ("run-cases cases/lines", "refuse-allocations cases/memory", "refuse-growths", "teams faults",
-                     "teams storm", "forged-logs", "hostile-scripts", "failing-streams", "small-stacks",
+        for call in ("run-cases cases/lines", "fail-script-allocations cases/memory", "fail-allocations", "teams faults",
+                     "teams stress", "fuzz-logs", "fuzz-scripts", "failing-streams", "small-stacks",
                       "fault-servers", "resources", "run-toolbox-tests"):
             with self.subTest(call=call):
                 name, *words = call.split()
@@ -95,7 +95,7 @@ class Commands(Case):
 
     def test_others_say_that_a_program_is_not_there(self):
         for call in ("tools/agree --scripts 1", "tools/logs agree --scripts 1", "tools/logs refuse",
-                     "tools/teams agree --scripts 1", "tools/refuse-allocations examples/hijack.bgp",
+                     "tools/teams agree --scripts 1", "tools/fail-script-allocations examples/hijack.bgp",
                      "tools/real-routers examples/hijack.bgp", "bench/loads table 1", "bench/edits mesh 1",
                      "bench/teams reflect 1", "tools/growth", "tools/small-stacks --least"):
             with self.subTest(call=call):
@@ -103,7 +103,7 @@ class Commands(Case):
                 self.assertEqual((ran.returncode, ran.stdout, ran.stderr), (2, "", NOT_THERE))
 
     def test_a_chosen_program_is_no_machine(self):
-        ran = command("tools/refuse-growths", "--on", "machine_scripts", PROGRAM=NOWHERE)
+        ran = command("tools/fail-allocations", "--on", "machine_scripts", PROGRAM=NOWHERE)
         self.assertEqual((ran.returncode, ran.stdout), (2, ""))
         self.assertIn("PROGRAM= is tried alone", ran.stderr)
 
@@ -118,9 +118,9 @@ class Commands(Case):
         for call, said in (("tools/loads table -1", "-1"), ("tools/loads tables 1", "invalid choice: 'tables'"),
                            ("tools/random-scripts", "SEED"), ("bench/edits calm x", "expected, and not `x`"),
                            ("bench/teams reflect", "is one of mesh, mesh-heard, policies, reflect, and its N"),
-                           ("bench/edits", "or --ratios"), ("tools/planted none", "crates.txt has no none"),
-                           ("tools/refuse-allocations gone.bgp", "there is no script gone.bgp"),
-                           ("tools/refuse-growths --on plain", "invalid choice: 'plain'")):
+                           ("bench/edits", "or --ratios"), ("tools/try-mutants none", "crates.txt has no none"),
+                           ("tools/fail-script-allocations gone.bgp", "there is no script gone.bgp"),
+                           ("tools/fail-allocations --on plain", "invalid choice: 'plain'")):
             with self.subTest(call=call):
                 ran = command(*call.split())
                 self.assertEqual((ran.returncode, ran.stdout), (2, ""))
@@ -167,15 +167,15 @@ class Cases(Case):
         self.assertEqual((ran.returncode, ran.stdout), (0, "1 passed, 0 failed\n"))
 
 
-class WantsMemory(Case):
-    """right.txt has each form that tools/wants-memory lets pass; each edit beside it makes want of memory up."""
-    DATA = TOP / "toolbox/tests/data/wants-memory"
+class MemoryRefusals(Case):
+    """right.txt has each form that tools/memory-refusals lets pass; each edit beside it makes want of memory up."""
+    DATA = TOP / "toolbox/tests/data/memory-refusals"
 
     def told(self, text, listed=None):
         """How many functions of the text make want of memory, and what is told of it, without the places."""
         self.file("crates/sample/src/right.rt", text)
         known = (self.DATA / "list.txt").read_text() if listed is None else listed
-        made, told = wants_memory.checked(self.folder, known, "list", [])
+        made, told = memory_refusals.checked(self.folder, known, "list", [])
         return made, [re.sub(r"^[\w./]+:\d+: ", "", line) for line in told]
 
     def test_each_form_that_passes_it_on(self):
@@ -186,7 +186,7 @@ class WantsMemory(Case):
         self.assertEqual(len(edits), 17)
         for edit in edits:
             with self.subTest(edit=edit.stem):
-                texts, why = planted.texts_of(edit, self.DATA)
+                texts, why = try_mutants.texts_of(edit, self.DATA)
                 self.assertIsNone(why)
                 wanted = [line[6:] for line in edit.read_text().splitlines() if line.startswith("told: ")]
                 self.assertEqual(self.told(*texts.values())[1], wanted)
@@ -250,7 +250,7 @@ class StreamFaults(Case):
         self.assertEqual(self.told(self.SOURCE, "match self", "match self"), ["Liar may not have the trait Source"])
 
 
-class Believed(Case):
+class TrustedBase(Case):
     """A workspace of two crates: `low` has three files of definitions, one of which nothing of `high` leads to."""
     PAGE = "# Map\n\n%s\n\nSo many: %s.\n\n| Files | Lines |\n|---|---|\n| `low`: `Gone` | 7 |\n\n## More\n"
     SUMS = "{} for `bgpsim script`, {} with `replay` and `team`, {} with laws and the desk"
@@ -266,8 +266,8 @@ class Believed(Case):
             "abbrev pub long : ℕ → Way\nlong n = record { length = weight n }\n"))
         self.file("crates/low/specs/Other.antt", "-- No public contract cites this file.\nother : ℕ\nother = 1\n")
         self.source("{ result ≡ long 3 }", "{ s.other ≡ 1 }")
-        self.parts = (believed.Part("", (believed.Root("high/src/*.rt", ("run",)),)),
-                      believed.Part("for more", (believed.Root("high/src/*.rt"),)), believed.Part("beside", ()))
+        self.parts = (trusted_base.Part("", (trusted_base.Root("high/src/*.rt", ("run",)),)),
+                      trusted_base.Part("for more", (trusted_base.Root("high/src/*.rt"),)), trusted_base.Part("beside", ()))
 
     def source(self, run, more):
         self.file("crates/high/src/lib.rt", (
@@ -276,11 +276,11 @@ class Believed(Case):
 
     def made(self, page, *flags):
         path = self.file("docs/explanation/trusted-base.md", page)
-        with unittest.mock.patch.multiple(believed, TOP=self.folder, PAGE=path, PARTS=self.parts):
-            return (*called(believed.main, *flags), path.read_text())
+        with unittest.mock.patch.multiple(trusted_base, TOP=self.folder, PAGE=path, PARTS=self.parts):
+            return (*called(trusted_base.main, *flags), path.read_text())
 
     def test_what_is_cited_is_followed_by_its_names(self):
-        status, told, page = self.made(self.PAGE % (believed.HEADING, self.SUMS.format(1, 2, 3)), "--write")
+        status, told, page = self.made(self.PAGE % (trusted_base.HEADING, self.SUMS.format(1, 2, 3)), "--write")
         self.assertEqual((status, told), (0, "2 passed, 0 failed\n"))
         self.assertIn("| `low`: `Costs`, `Ways` | 8 |\n\n## More", page)
         self.assertIn("So many: %s." % self.SUMS.format(8, 8, 8), page)
@@ -288,7 +288,7 @@ class Believed(Case):
         self.assertEqual(self.made(page), (0, "2 passed, 0 failed\n", page))
 
     def test_what_differs_is_told(self):
-        page = self.made(self.PAGE % (believed.HEADING, self.SUMS.format(1, 2, 3)), "--write")[2]
+        page = self.made(self.PAGE % (trusted_base.HEADING, self.SUMS.format(1, 2, 3)), "--write")[2]
         self.source("{ result ≡ long 3 }", "{ result ≡ other }")
         status, told, same = self.made(page)
         self.assertEqual((status, same), (1, page))
@@ -298,8 +298,8 @@ class Believed(Case):
             self.assertIn(line, told)
 
     def test_calls_that_are_gone(self):
-        self.parts = (believed.Part("", (believed.Root("high/src/*.rt", ("gone",)),)),)
-        status, told, _ = self.made(self.PAGE % (believed.HEADING, ""))
+        self.parts = (trusted_base.Part("", (trusted_base.Root("high/src/*.rt", ("gone",)),)),)
+        status, told, _ = self.made(self.PAGE % (trusted_base.HEADING, ""))
         self.assertEqual(status, 1)
         self.assertIn("crates/high/src/*.rt has no gone", told)
 
@@ -311,7 +311,7 @@ class RandomScripts(Case):
         self.assertEqual(sha256(ran.stdout), "dea87db406b17e535a46dc669487e70a4e164d1bb82272af0b262a6e96c4fdf1")
 
     def test_a_seed_gives_the_changes_of_an_interior_that_it_always_gave(self):
-        text = "".join(random_interiors.script(seed, 17) for seed in (3, 5))
+        text = "".join(random_igp.script(seed, 17) for seed in (3, 5))
         self.assertEqual(sha256(text), "33388e02958926dddccc916bdc9be9df189eccfb1d3bfc10bbe65a7c0bb0766c")
 
     def test_forms_of_communities(self):
@@ -428,19 +428,19 @@ class Comparing(Other):
     @unittest.skipUnless(shutil.which("cc"), "cc is not installed")
     def test_a_program_that_refuses_no_line(self):
         program = self.other("while read -r line; do echo ok; done")
-        ran = command("tools/refuse-allocations", "examples/hijack.bgp", PROGRAM=program)
+        ran = command("tools/fail-script-allocations", "examples/hijack.bgp", PROGRAM=program)
         self.assertEqual(ran.returncode, 1)
         self.assertRegex(ran.stdout, r"\Aallocation [0-9]+ refused: status [1-9]")
 
     @unittest.skipUnless(shutil.which("cc"), "cc is not installed")
     def test_a_program_whose_allocations_cannot_be_refused(self):
-        ran = command("tools/refuse-allocations", "examples/hijack.bgp", PROGRAM=self.other("exec 2>&-"))
+        ran = command("tools/fail-script-allocations", "examples/hijack.bgp", PROGRAM=self.other("exec 2>&-"))
         self.assertEqual((ran.returncode, ran.stdout), (2, ""))
-        self.assertEqual(ran.stderr, "the program tells no number of allocations: refusing.c is not loaded into it\n")
+        self.assertEqual(ran.stderr, "the program tells no number of allocations: allocation_faults.c is not loaded into it\n")
 
 
 @unittest.skipUnless(shutil.which("cc"), "cc is not installed")
-class Refusing(Case):
+class FailScriptAllocations(Case):
     """A program that allocates once, and once for each line; well, or so that it forgets after a refusal."""
     SOURCE = r"""
         #include <stdlib.h>
@@ -478,17 +478,17 @@ class Refusing(Case):
 
     def test_a_line_that_is_refused_and_done_when_asked_again(self):
         script = self.file("three.bgp", "quiet\n" * 3)
-        self.assertEqual(self.refused(True, refuse_allocations.main, script), (
+        self.assertEqual(self.refused(True, fail_script_allocations.main, script), (
             0, "4 allocations refused in turn: refused 20, and done when asked again: 3, status 5: 1\n"))
-        self.assertEqual(self.refused(True, refuse_allocations.main, script, 2, 2), (
+        self.assertEqual(self.refused(True, fail_script_allocations.main, script, 2, 2), (
             0, "1 allocations refused in turn: refused 20, and done when asked again: 1\n"))
 
     def test_a_line_that_is_not_done_when_asked_again(self):
-        status, told = self.refused(False, refuse_allocations.main, self.file("three.bgp", "quiet\n" * 3))
+        status, told = self.refused(False, fail_script_allocations.main, self.file("three.bgp", "quiet\n" * 3))
         self.assertEqual(status, 1)
         self.assertIn("allocation 2 refused: status 0, b'refused 20 memory\\nforgotten\\nforgotten\\n', b''", told)
         # of one line alone it is only seen where it is asked again
-        self.assertEqual(self.refused(False, refuse_allocations.main, self.file("one.bgp", "quiet\n")), (
+        self.assertEqual(self.refused(False, fail_script_allocations.main, self.file("one.bgp", "quiet\n")), (
             1, "allocation 2 refused: status 0, b'refused 20 memory\\n', b''\n"))
 
     def test_a_folder(self):
@@ -496,8 +496,8 @@ class Refusing(Case):
         each = ("three.bgp, well %s: 4 allocations refused in turn: "
                 "refused 20, and done when asked again: 3, status 5: 1\n")
         said = "".join(each % on for on in ("script", "plain", "sorted", "trie")) + "4 passed, 0 failed\n"
-        self.assertEqual(self.refused(True, refuse_allocations.main, self.folder / "scripts"), (0, said))
-        status, told = self.refused(False, refuse_allocations.main, self.folder / "scripts")
+        self.assertEqual(self.refused(True, fail_script_allocations.main, self.folder / "scripts"), (0, said))
+        status, told = self.refused(False, fail_script_allocations.main, self.folder / "scripts")
         self.assertEqual((status, told.split("\n")[-2]), (1, "0 passed, 4 failed"))
 
     def test_a_log(self):
@@ -508,11 +508,11 @@ class Refusing(Case):
             self.assertEqual(set(ran.stdout.rstrip("\n").split(": ", 1)[1].split(", ", 1)), said)
 
     def test_a_team(self):
-        with unittest.mock.patch.dict(os.environ, {"PROGRAM": self.program(True)}), refusing.refuser() as refuser:
-            self.assertEqual(list(teams.refused([], refuser)), [("2 allocations refused in turn", True, {5: 1, 0: 1})])
-        with unittest.mock.patch.dict(os.environ, {"PROGRAM": self.program(True)}), refusing.refuser() as refuser, \
+        with unittest.mock.patch.dict(os.environ, {"PROGRAM": self.program(True)}), allocation_faults.injector() as inject:
+            self.assertEqual(list(teams.refused([], inject)), [("2 allocations refused in turn", True, {5: 1, 0: 1})])
+        with unittest.mock.patch.dict(os.environ, {"PROGRAM": self.program(True)}), allocation_faults.injector() as inject, \
                 unittest.mock.patch.object(teams, "is_well", lambda ran: ran.status == 0):
-            self.assertEqual([tried[:2] for tried in teams.refused([], refuser)], [
+            self.assertEqual([tried[:2] for tried in teams.refused([], inject)], [
                 ("allocation 1 refused", False), ("2 allocations refused in turn", True)])
 
 
@@ -552,7 +552,7 @@ class Teams(Case):
             self.assertEqual(teams.is_well(running.Ran(out, err, status)), is_well)
 
 
-class Planted(Case):
+class TryMutants(Case):
     """A repository of one crate, and an rt that proves whatever has no `wrong` in it, and else prints what stands after
     that. It notes its words."""
     SOURCE = "fn half(n: u8) -> u8 {\n    good\n}\n\nfn whole(n: u8) -> u8 {\n    fair\n}\nconst MOST: u8 = 3;\n"
@@ -574,16 +574,16 @@ class Planted(Case):
         self.file("crates/low/src/lib.rt", self.SOURCE)
         edits = [(name, "good", "wrong " + name) for name in self.TOLD]
         for name, old, new in edits + [("h", "good", "better"), ("i", "bad", "wrong"), ("j", "= 3", "= 4; // wrong a")]:
-            self.file("crates/low/planted/%s.edit" % name, "file: src/lib.rt\nold: %s\nnew: %s\n" % (old, new))
+            self.file("crates/low/mutants/%s.edit" % name, "file: src/lib.rt\nold: %s\nnew: %s\n" % (old, new))
         for name, lines in self.TOLD.items():
             self.file("bin/" + name, "\n".join(lines) + "\nlogic=not-proved\n")
         proves = ("#!/bin/sh\necho \"$*\" >>%s/words\n"
                   "for it in $(sed -n 's/.*wrong \\(.\\).*/\\1/p' src/lib.rt); do cat %s/$it; exit 1; done\n")
         self.file("bin/rt", proves % (self.folder, self.folder / "bin")).chmod(0o755)
-        with unittest.mock.patch.object(planted, "TOP", self.folder), \
-                unittest.mock.patch.object(planted, "RT", ["rt"]), \
+        with unittest.mock.patch.object(try_mutants, "TOP", self.folder), \
+                unittest.mock.patch.object(try_mutants, "RT", ["rt"]), \
                 unittest.mock.patch.dict(os.environ, {"PATH": "%s:%s" % (self.folder / "bin", os.environ["PATH"])}):
-            status, told = called(planted.main)
+            status, told = called(try_mutants.main)
         asked = (self.folder / "words").read_text().splitlines()
         alone = "check --jobs 1 --allow-holes --only low::half"
         self.assertEqual((asked.count("check --jobs 1"), asked.count(alone), len(asked)), (5, 8, 13))
@@ -606,10 +606,10 @@ class Planted(Case):
     def test_edits_of_other_functions_share_a_check(self):
         edits = []
         for name, old, new in (("a", "good", "wrong a"), ("b", "fair", "wrong b"), ("c", "good", "better")):
-            edits.append(self.file("low/planted/%s.edit" % name, "file: src/lib.rt\nold: %s\nnew: %s\n" % (old, new)))
+            edits.append(self.file("low/mutants/%s.edit" % name, "file: src/lib.rt\nold: %s\nnew: %s\n" % (old, new)))
         self.file("low/src/lib.rt", self.SOURCE)
-        low = planted.Copied(self.folder / "low", left_out.bodies(self.folder / "low"))
-        self.assertEqual(planted.rounds_of(edits, low), [[edits[0], edits[1]], [edits[2]]])
+        low = try_mutants.Copied(self.folder / "low", left_out.bodies(self.folder / "low"))
+        self.assertEqual(try_mutants.rounds_of(edits, low), [[edits[0], edits[1]], [edits[2]]])
         other = "note: src/lib.rt:6:5: it is not proved that what the function ensures holds when it returns (`gives`)"
         by_goal = {edits[0]: ("refused by a goal", "`returns` of low::half"),
                    edits[1]: ("refused by a goal", "`gives` of low::whole")}
@@ -630,8 +630,8 @@ class Planted(Case):
                 seen.append(((folder / "src/lib.rt").read_text(), functions))
                 return 1, [*lines, "only=2 proved=0"]
 
-            with self.subTest(lines=lines), unittest.mock.patch.object(planted, "check", check):
-                self.assertEqual(planted.at_once(edits[:2], low), found)
+            with self.subTest(lines=lines), unittest.mock.patch.object(try_mutants, "check", check):
+                self.assertEqual(try_mutants.at_once(edits[:2], low), found)
             text = self.SOURCE.replace("good", "wrong a").replace("fair", "wrong b")
             self.assertEqual((seen[0], len(seen)), ((text, {"low::half", "low::whole"}), checks))
         self.assertEqual((self.folder / "low/src/lib.rt").read_text(), self.SOURCE)
@@ -654,11 +654,11 @@ class Planted(Case):
             "get_spec = ?\n"))
 
     def test_what_is_asked_for(self):
-        edit = self.file("crates/low/planted/a.edit", "")
-        with unittest.mock.patch.object(planted, "TOP", self.folder):
-            self.assertEqual(planted.asked_edits([str(edit)], ["low"]), {"low": [edit.resolve()]})
+        edit = self.file("crates/low/mutants/a.edit", "")
+        with unittest.mock.patch.object(try_mutants, "TOP", self.folder):
+            self.assertEqual(try_mutants.asked_edits([str(edit)], ["low"]), {"low": [edit.resolve()]})
             for word in ("high", str(self.folder / "gone.edit")):
-                self.assertRaises(ValueError, planted.asked_edits, [word], ["low"])
+                self.assertRaises(ValueError, try_mutants.asked_edits, [word], ["low"])
 
 
 class Bench(Other):
