@@ -4,7 +4,7 @@
 
 Each script of tools/random-scripts, or with --igp of tools/random-igp, is given to tools/model.py and
 to machine_scripts, which has to be built, on each of its machines; what each writes and ends with has to be what
-the model does. For each script that differs, the first line that is answered otherwise is told, with both answers.
+the model does. For each script that differs, it prints the first line that is answered otherwise, with both answers.
 The last line is `N scripts, M lines, K differ`; exit 1 where one differs. PROGRAM= is another program, which is
 then compared alone.
 """
@@ -45,7 +45,7 @@ def first_difference(words: Words, lines: List[bytes]) -> int:
 
 
 def answer(who: str, words: Words, lines: List[bytes], earlier: int) -> List[str]:
-    """What is told of the answer to the last line."""
+    """What is reported of the answer to the last line."""
     ran = played(words, lines)
     said = ["    %s: %s" % (who, ascii(ran.out[earlier:].decode("latin-1"))[:600])]
     if ran.status or ran.err:
@@ -54,7 +54,7 @@ def answer(who: str, words: Words, lines: List[bytes], earlier: int) -> List[str
 
 
 def account(name: str, words: Words, lines: List[bytes]) -> str:
-    """What is told of a script that differs."""
+    """What is reported of a script that differs."""
     number = first_difference(words, lines)
     earlier = len(played(MODEL, lines[:number - 1]).out)
     line = lines[number - 1].decode("latin-1").rstrip("\n")[:160]
@@ -64,7 +64,7 @@ def account(name: str, words: Words, lines: List[bytes]) -> str:
 
 
 def compare(against: List[Words], generator: Any, seed: int) -> Tuple[int, List[str]]:
-    """How many lines the seed's script has, and what is told of it."""
+    """How many lines the seed's script has, and what is reported of it."""
     lines = [line + b"\n" for line in generator.script(seed).encode("latin-1").split(b"\n")[:-1]]
     want, told = played(MODEL, lines), []
     for words in against:

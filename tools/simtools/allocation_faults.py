@@ -1,4 +1,4 @@
-"""Runs in which one allocation is refused, by allocation_faults.c; it needs cc."""
+"""Allocation failure injection: runs in which one allocation fails, by allocation_faults.c; it needs cc."""
 from __future__ import annotations
 
 import contextlib
@@ -17,7 +17,7 @@ Injector = Callable[[int], Dict[str, str]]
 
 @contextlib.contextmanager
 def injector() -> Iterator[Injector]:
-    """Makes the environment of a run in which the allocation of a number is refused; with 0 none is, and they are
+    """Makes the environment of a run in which the allocation of a number fails; with 0 none does, and they are
     counted. Missing where there is no cc."""
     with tempfile.TemporaryDirectory() as folder:
         library = os.path.join(folder, "allocation_faults.so")
@@ -29,9 +29,9 @@ def injector() -> Iterator[Injector]:
 
 
 def allocations(ran: Ran) -> int:
-    """How many allocations a run made in which number 0 was refused, that is, none. Missing where it told no number, as
+    """How many allocations a run made in which number 0 failed, that is, none. Missing where it printed no number, as
     a program that is linked statically does not."""
     told = ran.err.split()
     if not told or not told[-1].isdigit():
-        raise Missing("the program tells no number of allocations: allocation_faults.c is not loaded into it")
+        raise Missing("the program prints no number of allocations: allocation_faults.c is not loaded into it")
     return int(told[-1])

@@ -44,7 +44,7 @@ def main(words: Sequence[str]) -> int:
     asked.add_argument("matches", type=commands.number, nargs="?", default=1_000_000, metavar="MATCHES")
     given = asked.parse_args(words)
     build()
-    print("table, keys drawn: inserts a second; longest matches a second")
+    print("table, random keys: inserts a second; longest matches a second")
     for table in ("sorted", "trie"):
         filled = seconds(table, str(given.keys), "0")
         rest = seconds(table, str(given.keys), str(given.matches)) - filled

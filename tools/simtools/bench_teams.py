@@ -69,7 +69,7 @@ def policies(routes: int) -> Load:
 
 
 def mesh(routers: int, routes: int = 0) -> Load:
-    """A large interior, and a session of two of its routers."""
+    """A large IGP, and a session of two of its routers."""
     one, other = networks.router(0), networks.router(1)
     made = [*networks.mesh(routers), "join %s %s" % (one, other), *virtual_peer(one, "7.0.0.1", 7, 1)]
     feeds = ["feed 7.0.0.1 %s update %s 7 igp -" % (one, prefix(n)) for n in range(routes)]

@@ -43,7 +43,7 @@ def counted(passed: int, failed: int, skipped: int = 0) -> int:
 
 
 def as_part(body: Callable[[], int]) -> int:
-    """The exit status of a part of the gate: what it needs and is not there is told, and counts as one that failed."""
+    """The exit status of a part of the gate: what it needs and is not there is printed, and counts as failed."""
     try:
         return body()
     except Missing as missing:
@@ -52,7 +52,7 @@ def as_part(body: Callable[[], int]) -> int:
 
 
 def ended(body: Callable[[List[str]], int]) -> int:
-    """The exit status of a command: of its body, or 2 where something is missing, which is told on standard error."""
+    """The exit status of a command: of its body, or 2 where something is missing, as standard error says."""
     try:
         status = body(sys.argv[1:])
         sys.stdout.flush()

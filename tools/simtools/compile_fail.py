@@ -1,6 +1,7 @@
-"""Tries edits that must not compile: crates/CRATE/compile-fail/*.edit, each of which gives a call a value of another type.
+"""Tries edits that must not compile: crates/CRATE/compile-fail/*.edit, each of which gives a call a value of another
+type.
 
-    tools/compile-fail [CRATE..]        without a crate: all that have compile-fail/; a part of the gate
+    tools/compile-fail [CRATE..]    without a crate: all that have compile-fail/; a part of the gate
 
 An edit is a line `file: src/lib.rt` and pairs of lines `old: TEXT` and `new: TEXT`, as in mutants/, where it cannot
 stand, since it never reaches the prover; and lines `said: TEXT`, each of which the compiler has to say, at a line of
@@ -34,7 +35,7 @@ def lines_of(edit: pathlib.Path, word: str) -> List[str]:
 
 
 def wrong(edit: pathlib.Path, told: str, is_above: bool = False) -> List[str]:
-    """What the compiler should have told of an edit, and did not; with the first error that it told. Where a crate
+    """What the compiler should have said of an edit, and did not; with the first error that it said. Where a crate
     above is compiled, the crate stands before the file."""
     (file,) = lines_of(edit, "file")
     at = "%s/%s" % (edit.parent.parent.name, file) if is_above else file
@@ -72,7 +73,7 @@ def copy(room: pathlib.Path) -> None:
 
 
 def compiled(folder: pathlib.Path) -> str:
-    """What is told where the crate in the folder and its tests are compiled."""
+    """What the compiler says where the crate in the folder and its tests are compiled."""
     words = [sys.executable, "-B", str(TOP / "tools" / "build"), "--rt", "--", "try", "--test"]
     ran = subprocess.run(words, cwd=folder, stdin=subprocess.DEVNULL, stdout=subprocess.PIPE, stderr=subprocess.STDOUT)
     return ran.stdout.decode("latin-1")

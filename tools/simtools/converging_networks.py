@@ -1,4 +1,4 @@
-"""Writes a random network as a script that settles it, changes it, and settles it again, for tools/real-routers.
+"""Writes a random network as a script in which it converges, changes, and converges again, for tools/real-routers.
 
     tools/converging-networks SEED        the same seed gives the same script
 
@@ -123,8 +123,8 @@ class Script:
         if self.chance(0.15):
             path += "_{%d,%d}" % tuple(sorted(self.random.sample(range(40, 50), 2)))
         prefix, origin, med = self.some(PREFIXES), self.some(["igp", "igp", "egp", "inc"]), self.some("-0125")
-        drawn = {self.some(COMMUNITIES) for _ in range(self.some([0, 0, 1, 1, 2, 3]))}
-        comms = " comm=" + ",".join(sorted(drawn, key=int)) if drawn else ""
+        chosen = {self.some(COMMUNITIES) for _ in range(self.some([0, 0, 1, 1, 2, 3]))}
+        comms = " comm=" + ",".join(sorted(chosen, key=int)) if chosen else ""
         self.say("feed %s %s update %s %s %s %s" % (peer, router, prefix, path, origin, med) + comms)
 
     def build(self) -> None:

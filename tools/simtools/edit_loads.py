@@ -5,7 +5,7 @@ measures it.
     tools/edit-loads origins N    a router with four external sessions originates N prefixes
     tools/edit-loads heard N      the same router hears N prefixes from one of its peers
     tools/edit-loads calm N       a ring of N routers of one AS, each with a session; 100 changes of a metric that no
-                                  least walk uses
+                                  shortest path uses
     tools/edit-loads moved N      the same ring; 100 changes of a metric that moves the costs of nearly all
     tools/edit-loads rules N      a router that passes N prefixes on; 20 times a rule for what it hears, and none again
 """

@@ -1,20 +1,24 @@
-"""Refuses each growth of memory in turn, of each line of a script, of its log and of a team, and of each call of a room.
+"""Allocation failure injection: each allocation fails in turn, of each line of a script, of its log and of a team, and
+of each call of a `Room`.
 
-    tools/fail-allocations                   the worked scripts of cases/, their logs, some growths of their teams and of
-                                           edits that threads decide, and tools/calls: a part of the gate
-    tools/fail-allocations --all             all growths of these
+    tools/fail-allocations                   the worked scripts of cases/, their logs, some allocations of their teams
+                                             and of edits that threads decide, and tools/calls: a part of the gate
+    tools/fail-allocations --all             all allocations of these
     tools/fail-allocations [--all] PATH..    those of cases, or folders of them, and of lists of calls (NAME.calls)
     tools/fail-allocations --on PROGRAM ..   those on bgpsim, or on machine_scripts, alone
 
-Of each line on the program and on the three machines the first allocation is refused, then the second, until a run
-meets none. Each time the line is answered as its case wants it, or `refused 20 memory`, and so only where an
-allocation was refused; after that every question is answered as before, and the line, given again, as its case wants
-it. A line that the case wants refused otherwise stays refused so, but the feed of a route. `bgpsim replay` ends with
-`memory` or as ever, of each line of the script's log; and so does a team of one engineer and two workers, whose log
-has no call that was refused. A room (`machine_scripts room`) takes each line of a script as a call of `Room::step`, and
-those of tools/calls as calls of its others and of `Desk::open`; beside every question its history, seats, what is in
-hand, the log at its end and how many routes were decided anew are as before. It needs cc. The last line is
-`N passed, M failed`. PROGRAM= is another program than crates/bgpsim/out/bgpsim, which is then tried alone.
+Of each line, on the program and on the three machines, the first allocation fails, then the second, until a run meets
+none. The reply to the line is the one of its case, or `refused 20 memory`, and this only where an allocation failed.
+After a refusal every question has the same reply as before the line, and the line, given again, has the reply of its
+case. A line that its case refuses for another reason stays refused for that one, but for the feed of a route.
+
+`bgpsim replay` of the script's log, with a failure in each of its lines, ends with `memory` or as it does without. So
+does a team of one engineer and two workers, whose log has no call that was refused. A `Room` (`machine_scripts room`)
+takes each line of a script by `Room::step`, and those of tools/calls by its other functions and by `Desk::open`. Its
+history, its seats, the jobs that are out, its log and the count of decisions stay as they were, too.
+
+It needs cc. The last line is `N passed, M failed`. PROGRAM= is another program than crates/bgpsim/out/bgpsim, which is
+then tried alone.
 """
 from __future__ import annotations
 
@@ -45,13 +49,13 @@ DELIVERY, TOGETHER, MOST_TOGETHER = b"job\nwork\ncommit\n", b"turns\n", 4
 WITHOUT_MEMORY = (b"refused 1 ", b"none\n", b"stale: edits ", b"edits ", b"decided ")
 # Of a script of more lines only the edits among the last so many are tried, and asked what it asks itself.
 LONG, LAST = 500, 60
-# So many growths of such an edit are enough for the gate.
+# So many allocations of such an edit are enough for the gate.
 ENOUGH = 40
 # Each so many allocations of a team are enough.
 TEAMS_STEP = 7
 MOST_TOLD = 5
 MEMORY = 5 << 8
-# Which programs growths are refused on, by the names of their crates.
+# The programs in which allocations fail, by the names of their crates.
 ON_PROGRAM, ON_MACHINES = "bgpsim", "machine_scripts"
 # Of a program that ended too early.
 NO_COPY = Copy(b"", b"", 0, False, 0)
@@ -79,7 +83,7 @@ class Case(NamedTuple):
 
 
 class Asked(NamedTuple):
-    """What the command was asked for: all growths or some, on which programs."""
+    """What the command was asked for: all allocations or some, on which programs."""
     are_all: bool
     programs: Sequence[str]
 
@@ -158,7 +162,7 @@ class ScriptFaults:
             wrong.append("with nothing refused it does not answer what its case wants")
         copies = iter(ran.copies)
         found = [(line, [next(copies, NO_COPY) for _ in range(1 + len(self.once(line)))]) for line in lines]
-        wrong += ["%r is told that memory was wanted, and none was refused" % line
+        wrong += ["%r is answered `refused 20 memory`, and no allocation failed" % line
                   for line, (twice, *_) in found if WANT in twice.out]
         return [Expected(line, twice.made, self.left(line, twice.out, [copy.out for copy in once]), twice.out)
                 for line, (twice, *once) in found], wrong
@@ -176,7 +180,7 @@ class ScriptFaults:
         return sorted({*every[:part], *every[-part:], *random.Random(count).sample(every, 2 * part)})
 
     def faults(self) -> Came:
-        """What is wrong where each growth is refused in turn."""
+        """What is wrong where each allocation fails in turn."""
         expected, wrong = self.expected()
         if wrong:
             return wrong, self.counts
@@ -216,7 +220,7 @@ class RoomFaults(ScriptFaults):
         return [n * DELIVERY + first for n in range(MOST_TOGETHER if line == TOGETHER else 1)]
 
     def left(self, line: bytes, ever: bytes, once: List[bytes]) -> List[bytes]:
-        """Where calls are made together, so many of the first were, but not all; and where memory was wanted for a
+        """Where calls are made together, so many of the first were, but not all; and where memory ran out for a
         job behind the first, so few were taken, and all of these were committed."""
         if line != TOGETHER:
             return super().left(line, ever, once)
@@ -262,7 +266,7 @@ class Replay:
             b"".join(block(n, rest) for n in some) + line for line, rest, some in each))
 
     def faults(self) -> Came:
-        """What is wrong where each growth is refused in turn."""
+        """What is wrong where each allocation fails in turn."""
         counts: Counter[str] = collections.Counter()
         first = self.run([[0]] * len(self.lines))
         if first.err or any(out != self.well for out in [first.own()] + [copy.out for copy in first.copies]):
@@ -376,7 +380,8 @@ def refuse(paths: Sequence[pathlib.Path], asked: Asked) -> int:
             refusals[name.split(", ")[-1]] += sum(ended.values())
             print("".join("FAILED %s: %s\n" % (name, line) for line in wrong[:MOST_TOLD]), end="", flush=True)
     idle = [where for where, count in refusals.items() if not count]
-    print("".join("FAILED %s: no allocation was refused: %s\n" % (where, line_faults.SOURCE.name) for where in idle), end="")
+    why = "no allocation failed: %s" % line_faults.SOURCE.name
+    print("".join("FAILED %s: %s\n" % (where, why) for where in idle), end="")
     print("allocations refused: " + ", ".join("%s: %d" % one for one in sorted(counts.items())))
     return commands.counted(len(named) - failed, failed + len(idle))
 

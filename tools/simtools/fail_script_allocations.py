@@ -1,15 +1,15 @@
-"""Runs bgpsim on a script, each time with another allocation refused, and says what came of it.
+"""Allocation failure injection on one script or folder: each run of bgpsim has another allocation fail.
 
-    tools/fail-script-allocations SCRIPT [LINES [STEP]]        after ./bgpsim has built the program; it needs cc
-    tools/fail-script-allocations FOLDER                       each script of the folder, on the program and on the three
-                                                          machines
+    tools/fail-script-allocations SCRIPT [LINES [STEP]]    after ./bgpsim has built the program; it needs cc
+    tools/fail-script-allocations FOLDER                   each script of the folder, on the program and on the three
+                                                           machines
 
-With LINES only those that the last so many lines make, which is what a long script wants; with STEP each so many of
-them. PROGRAM= is another program than crates/bgpsim/out/bgpsim.
+LINES tries only the allocations that the last so many lines make, for a long script; STEP tries every so many of them.
+PROGRAM= is another program than crates/bgpsim/out/bgpsim.
 
-Each run has to end with status 5 and `memory` before it answers a line, or to answer one line `refused 20 memory`
-and every other line as if that line were not there, or to be as ever. Where a line is refused so, the run is made
-again with that line given twice: the second time it has to be answered as ever, and so has every line after it.
+A run ends with status 5 and `memory` before it answers a line. Or it answers one line `refused 20 memory`, and every
+other line as if that line were not there. Or it is the same as without a failure. Where a line is refused so, the run
+is made again with that line given twice: the second time it and every line after it have the usual replies.
 Exit 1 at the first run that does not. Of a folder the last line is `N passed, M failed`, a script on a machine
 being one.
 """
@@ -75,7 +75,7 @@ class Script:
         return self.run(again, environment).out == wanted
 
     def outcome(self, n: int) -> Optional[str]:
-        """What came of the script with its allocation n refused, if it may be so."""
+        """What came of the script where its allocation n fails, if it may be so."""
         environment = self.inject(n)
         ran = self.run(self.text, environment)
         if ran == Ran(b"", b"memory\n", 5):
@@ -89,7 +89,7 @@ class Script:
 
 
 def tried(words: Words, inject: Injector, text: bytes, last: int = 0, step: int = 1) -> bool:
-    """Whether all went well with each allocation refused in turn; it prints what came of them."""
+    """Whether all went well where each allocation fails in turn; it prints what came of them."""
     script = Script(words, inject, text, last)
     before = script.allocations(script.begin(script.first)) if last else 0
     numbers = range(before + 1, script.allocations(text) + 1, step)

@@ -1,4 +1,4 @@
-"""What a failed call means: whether the declared error of what is called is want of memory, and nothing else."""
+"""What a failed call means: whether the declared error of what is called is a memory refusal, and nothing else."""
 from __future__ import annotations
 
 import collections
@@ -7,11 +7,11 @@ from typing import Any, Dict, Iterable, List, NamedTuple, Optional, Set, Tuple
 from . import rattle_source as reading
 from .rattle_source import Function, Group, Nodes, Source, find, head, is_group, is_name, text_at
 
-# Errors of the kit that mean want of memory alone; a thread that is refused counts as that.
+# Errors of the kit that mean that memory ran out, and nothing else; a thread that is refused counts as that.
 ONLY_MEMORY = {"AllocError", "AllocFailed", "SpawnError"}
 # Calls of the kit that leave the error of what they are called on.
 SAME_ERROR = {"map", "as_ref", "as_mut", "copied", "cloned"}
-# Calls of the kit that fail for want of memory alone. Of others it is not known here.
+# Calls of the kit that fail only if memory runs out. Of others it is not known here.
 FOR_MEMORY = {"new", "with_capacity", "from_array", "from_slice", "collect", "insert", "insert_full", "push",
               "push_str", "push_back", "extend", "extend_from_slice", "append", "reserve", "reserve_exact", "spawn",
               "spawn_with"}
@@ -44,7 +44,7 @@ class Calls:
         return self.sources[function.file].crate
 
     def names_memory(self, nodes: Nodes) -> bool:
-        """Whether a pattern or a value names want of memory, in each of its alternatives."""
+        """Whether a pattern or a value names a memory refusal, in each of its alternatives."""
         parts = reading.split(nodes, "|")
         if len(parts) > 1:
             return all(map(self.names_memory, parts))
@@ -52,13 +52,13 @@ class Calls:
                    node.text in self.memory_types | self.variants for node in nodes)
 
     def means_memory(self, function: Function) -> bool:
-        """Whether the error of the function means want of memory and nothing else."""
+        """Whether the error of the function means that memory ran out, and nothing else."""
         error = reading.error_of(function.gives)
         handed = (function.file, function.name) in self.handing_back
         return error is not None and (handed or head(error) in self.memory_types)
 
     def why_not(self, nodes: Nodes, scope: Scope, place: Place) -> Optional[str]:
-        """Why a failure of the expression need not be want of memory; None where it is that alone."""
+        """Why a failure of the expression need not be a memory refusal; None where it is that alone."""
         while nodes and text_at(nodes, 0) in ("&", "*", "mut"):
             nodes = nodes[1:]
         if len(nodes) == 1 and is_group(nodes[0], "("):

@@ -1,14 +1,14 @@
-"""Streams that fail: what `bgpsim script`, `replay` and `team` tell, how they end, and what they wrote before.
+"""Streams that fail: what `bgpsim script`, `replay` and `team` print, how they end, and what they wrote before.
 
     tools/failing-streams       a part of the gate; it needs cc, for simtools/streams.c
 
 Each byte of a small script, of its log and of a team's files cannot be read, in turn; each write, and each byte of
 what is written, fails. Read a byte at a time and written so, all is as ever. A user who types a line only once the
 reply to the last one stands there is answered. Then a full device, help and version there too; a pipe that nobody
-reads; and Ctrl-C. A fault is told as docs/reference/program.md says, with status 3 or 4; what was written is the replies to the
-lines before it, whole lines where writes are whole. The script is also given to each machine, by machine_scripts, where
-that is built; with MACHINES=1 it has to be. The last line is `N passed, M failed`. PROGRAM= is another program than
-crates/bgpsim/out/bgpsim, and no machines.
+reads; and Ctrl-C. A fault is reported as docs/reference/program.md says, with status 3 or 4; what was written is the
+replies to the lines before it, whole lines where writes are whole. The script is also given to each machine, by
+machine_scripts, where that is built; with MACHINES=1 it has to be. The last line is `N passed, M failed`. PROGRAM= is
+another program than crates/bgpsim/out/bgpsim, and no machines.
 """
 from __future__ import annotations
 
@@ -40,7 +40,7 @@ Tried = Tuple[str, object]
 
 
 class Reader(NamedTuple):
-    """A program that reads a script or a log, by the name that is told of it."""
+    """A program that reads a script or a log, by the name that is printed of it."""
     name: str
     command: List[str]
     wants_script: bool = True
@@ -120,7 +120,7 @@ def well(ran: Ran, wanted: Ran) -> Tuple[Ran, bool]:
 
 
 def unreadable_files(streams: Streams, files: List[str]) -> Iterator[Tried]:
-    """Files of a team, of which a byte cannot be read: it is told before any thread starts."""
+    """Files of a team, of which a byte cannot be read: it is reported before any thread starts."""
     sizes = [len(pathlib.Path(file).read_bytes()) for file in files]
 
     def one(number: int) -> Tried:

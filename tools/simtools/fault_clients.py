@@ -325,7 +325,7 @@ class Server:
         raise Wrong("the server's loop does not come to rest")
 
     def errors(self) -> str:
-        """What was told on standard error."""
+        """What stands on standard error."""
         return pathlib.Path(self.errors_path).read_text("utf-8", "replace")
 
     def entries(self, start: int = 0) -> List[Entry]:

@@ -31,7 +31,7 @@ from .fault_words import SOCKET, WORDS, Scene, Word
 SUSTAINED, RARER = 50, 20
 NEVER = 1 << 40
 TELLING = "session/faults.py"
-# Where so many kinds of faults were told, others are counted.
+# Where so many kinds of faults were reported, others are counted.
 KINDS, FEW_KINDS = 100, 60
 
 
@@ -128,7 +128,7 @@ def untold(scene: Scene, fired: Sequence[str]) -> str:
     """What is wrong where a fault is not told on standard error."""
     told = scene.server.errors()
     place = fired[0].split(" in ")[0] if fired else ""
-    # What fails while a fault is told is not told.
+    # What fails while a fault is reported is not reported.
     if place.startswith(TELLING):
         return ""
     return "" if place in told or told.count("fault in ") >= KINDS else "it is not told on standard error"
@@ -177,7 +177,7 @@ def ended_well(scene: Scene) -> str:
 
 
 class Run:
-    """Tries requests on a server that goes on from try to try, while few kinds of faults were told; one that failed is
+    """Tries requests on a server that goes on from try to try, while few kinds of faults came up; one that failed is
     replaced."""
 
     def __init__(self) -> None:

@@ -201,7 +201,7 @@ def replied(_: Scene, answer: Fields, entries: List[Entry]) -> str:
 
 
 def delivered(_: Scene, answer: Fields, entries: List[Entry]) -> str:
-    """The deliveries that are told are those of the log."""
+    """The deliveries that are reported are those of the log."""
     told = answer["deliveries"] if "deliveries" in answer else [answer] if "line" in answer else []
     found = [(each["line"], each["reply"]) for each in told]
     return "" if found == [(each.line, each.reply) for each in entries] else "the log has other deliveries"
@@ -213,7 +213,7 @@ def has_verdict(_: Scene, answer: Fields, __: List[Entry]) -> str:
 
 
 def counts(scene: Scene, answer: Fields, _: List[Entry]) -> str:
-    """The calls that are told are those of the log."""
+    """The calls that are reported are those of the log."""
     return "" if answer["calls"] == len(scene.server.entries()) else "the log has another number of calls"
 
 

@@ -205,7 +205,7 @@ class Client(Peer):
         self.hear(line)
 
     def read(self, seconds: float = 0.0) -> bool:
-        """Hears what was told; whether there was something."""
+        """Hears what was reported; whether there was something."""
         if not self.is_open or not select.select([self.line], [], [], seconds)[0]:
             return False
         try:
@@ -261,7 +261,7 @@ class AtSocket(Client):
         self.raw(content + b"\n")
 
     def raw(self, content: bytes) -> None:
-        """Sends bytes as they are, hearing what is told meanwhile."""
+        """Sends bytes as they are, hearing what is reported meanwhile."""
         self.line.setblocking(False)
         left, last = content, time.monotonic() + PATIENCE
         while left and self.is_open:

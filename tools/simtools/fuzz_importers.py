@@ -5,8 +5,8 @@
                                                    something is opened too often, or the file ends too early
 
 An importer ends with status 0, 1 or 2, and neither with a traceback nor too late. Status 2 names the file. The program
-refuses no line of a script that an importer writes. A garbled word is told, by itself or by its file and line; or it
-changes the script; or tools/fuzz-importers.list says why it decides nothing. Anything else is a silent misreading.
+refuses no line of a script that an importer writes. A garbled word is reported, by itself or by its file and line; or
+it changes the script; or tools/fuzz-importers.list says why it decides nothing. Anything else is a silent misreading.
 
 The last line is `N passed, M failed`, a case being one; a part of the gate. PROGRAM= is another program than
 crates/bgpsim/out/bgpsim.
@@ -37,7 +37,7 @@ from .running import run
 LIST = TOP / "tools" / "fuzz-importers.list"
 # So many seconds a case has, of a processor and by the clock; and so many bytes of memory all cases.
 SECONDS, BY_THE_CLOCK, MEMORY = 10, 120, 4 << 30
-# How often each importer is drawn.
+# How often each importer is chosen.
 OFTEN = {"from-frr": 8, "from-bird": 7, "from-cbgp": 4, "from-graph": 3, "from-as-rel": 2, "from-rib": 2, "from-mrt": 2}
 # Importers that unpack what a name says is packed.
 UNPACKING = ("from-cbgp", "from-graph", "from-as-rel", "from-rib", "from-mrt")
@@ -48,7 +48,7 @@ class Late(BaseException):
 
 
 class Ended(NamedTuple):
-    """How an importer ended: its status, what it wrote, what it told, and the traceback where it has one."""
+    """How an importer ended: its status, what it wrote, what it reported, and the traceback where it has one."""
     status: int
     script: str
     told: str
@@ -225,7 +225,7 @@ class Fuzzer:
         return "nothing comes of `%s` in line %d: %s" % (change.word, change.line, change.about)
 
     def is_told(self, case: Case, before: Ended, found: Ended) -> bool:
-        """Whether a garbled word is told: by its file and line, or its file as a whole; by itself; or by what it was,
+        """Whether a garbled word is reported: by its file and line, or its whole file; by itself; or by what it was,
         which is missed now."""
         change, file = case.change, os.path.join(self.folder, case.file)
         places = ("%s:%d: " % (file, change.line), "%s: not taken over: " % file)
@@ -243,7 +243,7 @@ class Fuzzer:
 
 
 def _plain(told: str) -> List[str]:
-    """The lines that were told, without ways back in the names of files."""
+    """The lines that were reported, without ways back in the names of files."""
     return re.sub(r"/[^/\n]+/\.\.(?=/)|/\.(?=/)", "", told).split("\n")
 
 

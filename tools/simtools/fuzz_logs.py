@@ -1,10 +1,10 @@
-"""Forges logs, and compares what `bgpsim replay` finds them to be with what the model does.
+"""Fuzzing of logs: compares what `bgpsim replay` finds in malformed ones with what the test oracle does.
 
     tools/fuzz-logs [--logs N] [--seed S]    N logs (300): of each random script, of the seeds from S (1) on, the log
-                                               of version 2 and of version 1, or one under the header of the other, a
-                                               dozen times with a byte, a line or a block of lines changed, put in,
-                                               left out, swapped or moved; in half of them the number behind `end` is
-                                               made right
+                                             of version 2 and of version 1, or one under the header of the other, a
+                                             dozen times with a byte, a line or a block of lines changed, put in,
+                                             left out, swapped or moved; in half of them the number behind `end` is
+                                             made right
 
 The last line is `N passed, M failed`, a log being one; a part of the gate. PROGRAM= is another program than
 crates/bgpsim/out/bgpsim.

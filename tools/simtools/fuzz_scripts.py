@@ -1,15 +1,15 @@
-"""Scripts that nobody would write, compared with the model: what is answered, and that all later lines are.
+"""Fuzzing of scripts: compares the replies to malformed scripts with those of the test oracle, line by line.
 
     tools/fuzz-scripts [--scripts N] [--seed S]    of each of N seeds (30), from S (1) on: a random script, each of
-                                                      its commands followed by a copy that one byte is changed in, put
-                                                      into or left out of; a network that then gets a command of each
-                                                      form cut at each place; and lines of bytes and words drawn at
-                                                      random, with NULs, carriage returns and UTF-8. Then lines of
-                                                      4,096, 4,097, 65,536 and 65,537 bytes that begin or end about
-                                                      each place where a buffer may
+                                                   its commands followed by a copy that one byte is changed in, put
+                                                   into or left out of; a network that then gets a command of each
+                                                   form cut at each place; and lines of random bytes and words, with
+                                                   NULs, carriage returns and UTF-8. Then lines of 4,096, 4,097,
+                                                   65,536 and 65,537 bytes that begin or end about each place where
+                                                   a buffer may
 
-The last line is `N passed, M failed`, a script being one; a part of the gate. Of a script that differs the first line
-is told that is answered otherwise. PROGRAM= is another program than crates/bgpsim/out/bgpsim.
+The last line is `N passed, M failed`, a script being one; a part of the gate. Of a script that differs it prints
+the first line that is answered otherwise. PROGRAM= is another program than crates/bgpsim/out/bgpsim.
 """
 from __future__ import annotations
 
@@ -36,7 +36,7 @@ ODD = [b"\0", b"\r", b"\t", b"\x0b", b"\x7f", b"\x80", b"\xa0", b"\xff", b"\r\r"
 
 
 class Script(NamedTuple):
-    """A script that is compared, by the name that is told of it."""
+    """A script that is compared, by the name that is printed of it."""
     name: str
     text: bytes
 
@@ -71,7 +71,7 @@ def cut(seed: int) -> bytes:
     return "".join(line + "\n" for line in lines + pieces + ["quiet"] + lines[-40:]).encode("latin-1")
 
 
-def drawn_line(draw: random.Random) -> bytes:
+def random_line(draw: random.Random) -> bytes:
     """Bytes, or words with something between them."""
     if draw.random() < 0.4:
         return b"".join(draw.choices(draw.choice((SPARE, ODD)), k=draw.choice((0, 1, 2, 5, 20, 100, 5_000))))
@@ -80,15 +80,15 @@ def drawn_line(draw: random.Random) -> bytes:
 
 
 def bytes_at_random(seed: int) -> bytes:
-    """A random script with lines drawn at random between its own; now and then the last one has no end."""
+    """A random script with random lines between its own; now and then the last one has no end."""
     draw = random.Random(seed)
     lines = random_scripts.script(seed, 40).encode("latin-1").split(b"\n")[:-1]
-    text = b"".join(b"".join(drawn_line(draw) + b"\n" for _ in range(draw.choice((0, 1, 1, 3)))) + line + b"\n"
+    text = b"".join(b"".join(random_line(draw) + b"\n" for _ in range(draw.choice((0, 1, 1, 3)))) + line + b"\n"
                     for line in lines)
-    return text + draw.choice((b"", b"quiet", b"quiet\r", b"\r", b" ", drawn_line(draw)))
+    return text + draw.choice((b"", b"quiet", b"quiet\r", b"\r", b" ", random_line(draw)))
 
 
-KINDS: Sequence[Tuple[str, Callable[[int], bytes]]] = (("changed", changed), ("cut", cut), ("drawn", bytes_at_random))
+KINDS: Sequence[Tuple[str, Callable[[int], bytes]]] = (("changed", changed), ("cut", cut), ("random", bytes_at_random))
 
 
 # Long lines
@@ -136,7 +136,7 @@ def by_model(text: bytes) -> Ran:
 
 
 def compare(script: Script) -> Tuple[int, Optional[str]]:
-    """How many lines a script has, and what is told of it where it is answered otherwise."""
+    """How many lines a script has, and what is reported of it where it is answered otherwise."""
     words = (programs.bgpsim(), "script")
     count = script.text.count(b"\n")
     if run(words, script.text) == by_model(script.text):

@@ -25,7 +25,7 @@ READ_BY_ITSELF = ("feed",)
 
 class Place(NamedTuple):
     """What a file has of a part of the language, and what it has to have: in this order, where that counts; where it
-    may have more, only what it lacks is told."""
+    may have more, only what it lacks is reported."""
     file: str
     what: str
     has: Sequence[str]

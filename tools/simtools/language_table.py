@@ -1,4 +1,4 @@
-"""The table of the command language, language/language.toml, as values; what is wrong with it is told at once."""
+"""The table of the command language, language/language.toml, as values; what is wrong with it is reported at once."""
 from __future__ import annotations
 
 import importlib

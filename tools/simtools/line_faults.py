@@ -1,4 +1,5 @@
-"""Runs in which copies of the program try lines, each with another allocation refused, by line_faults.c; it needs cc."""
+"""Allocation failure injection by lines: copies of the program try lines, and in each another allocation fails, by
+line_faults.c; it needs cc."""
 from __future__ import annotations
 
 import contextlib
@@ -16,8 +17,8 @@ TOLD = re.compile(rb"([0-9]+) ([0-9]+) ([0-9]+) ([01]) ([0-9]+)\n")
 
 
 class Copy(NamedTuple):
-    """What a copy of the program wrote, how many allocations were made at its first line, whether one of these was
-    refused, and the status that waiting for it gave. `before` is what the program itself had written since the last
+    """What a copy of the program wrote, how many allocations were made at its first line, whether one of these
+    failed, and the status that waiting for it gave. `before` is what the program itself had written since the last
     copy."""
     before: bytes
     out: bytes
@@ -40,7 +41,7 @@ class Tried(NamedTuple):
 
 
 def block(number: int, lines: bytes) -> bytes:
-    """What has a copy try these lines, its allocation of the number refused at the first of them; with 0 none."""
+    """What has a copy try these lines; its allocation of the number fails at the first of them; with 0 none does."""
     return b"refuse %d\n%sdone\n" % (number, lines)
 
 

@@ -24,7 +24,7 @@ from .networks import prefix, virtual_peer
 
 
 class Load:
-    """A script in which so many prefixes of each kind are told, and a network for each kind."""
+    """A script in which so many prefixes of each kind are advertised, and a network for each kind."""
 
     def __init__(self, sizes: List[int]):
         self.sizes = sizes
@@ -125,7 +125,7 @@ def ring(count: int) -> Load:
     return load
 
 
-def interior(load: Load, asn: int, inside: List[str]) -> None:
+def igp(load: Load, asn: int, inside: List[str]) -> None:
     """Five routers in a ring, with two reflectors."""
     load.do(*("router %s %d" % (router, asn) for router in inside))
     load.do(*("link %s %s %d" % (inside[n], inside[(n + 1) % 5], n + 2) for n in range(5)))
@@ -151,7 +151,7 @@ def net(count: int) -> Load:
     load = Load([count // 5 + (kind < count % 5) for kind in range(5)])
     routers = [["%d.0.0.%d" % (asn, n) for n in range(1, 6)] for asn in range(1, 5)]
     for asn, inside in enumerate(routers, 1):
-        interior(load, asn, inside)
+        igp(load, asn, inside)
     borders = [(routers[a][2 + (a + b + twice) % 3], routers[b][2 + (b + twice) % 3])
                for a in range(4) for b in range(a) for twice in (0, 1)]
     for one, other in borders:

@@ -158,7 +158,7 @@ def changed(log: str, draw: random.Random) -> str:
 
 
 def compare(seed: int) -> Tuple[int, List[str]]:
-    """How many logs the seed has, and what is told of each that the program finds to be something else."""
+    """How many logs the seed has, and what is reported of each that the program finds to be something else."""
     draw = random.Random(seed)
     script, seats = random_scripts.script(seed), draw.choice((1, 3, 256))
     logs = [log_of(script, seats), under(log_of(script, seats), 1), log_of(script, seats, 1)]

@@ -19,7 +19,7 @@ class Took(NamedTuple):
 
 def took(words: Sequence[str], lines: Iterable[str] = (), **more: Any) -> Took:
     """Runs a program on these lines; more are options of subprocess.Popen. A status other than 0 ends the command, and
-    is told."""
+    is reported."""
     with tempfile.TemporaryFile() as script, tempfile.TemporaryFile() as out:
         script.write("".join(line + "\n" for line in lines).encode())
         script.seek(0)

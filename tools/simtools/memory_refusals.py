@@ -1,21 +1,22 @@
-"""Looks whether want of memory is passed on, and never made up. No contract can say that memory was really refused, so
-a body that invents a limit and tells it as want of memory is proved as well as the right one. By this it is refused.
+"""Checks that a memory refusal, as `refused 20 memory`, is passed on and never made up. No contract can say that memory
+really ran out, so a body that invents a limit and reports it as out of memory is proved as well as the right one. This
+check refuses it.
 
     tools/memory-refusals [CRATE..]      without a crate: all of them
 
-What means want of memory is `AllocError`, each variant of an enum with `Memory` in its name (`Refusal::Memory`), and
+A memory refusal is `AllocError`, each variant of an enum with `Memory` in its name (`Refusal::Memory`), and
 what tools/memory-refusals.list adds. It is made only where a call has really failed:
 
     Err(_) =>  Err(refused) =>        of a match on a call           let Ok(..) = CALL else { .. }
     if let Err(_) = CALL { .. }       if CALL.is_err() { .. }        CALL.map_err(|_| ..)
     impl From<AllocError> for ..      or where the arm's own pattern or guard names it: Err(Refusal::Memory) =>
 
-A variable that was bound to a call stands for it. The call has to be one whose declared error means want of memory and
-nothing else; of the kit's calls a few are known to be such (FOR_MEMORY in failing_calls.py). Everything else is a
-finding, FILE:LINE: what. The places that are right and have no such shape stand in tools/memory-refusals.list, with what
-they ask and the constants in that; one that is no longer so is a finding. It does not see who asks for more memory
-than he needs, nor a limit that has a refusal of its own. The last line is `N passed, M failed`: a function that makes
-want of memory passes, a finding fails.
+A variable that was bound to a call stands for it. The call has to be one whose declared error means that memory ran out
+and nothing else; of the kit's calls a few are known to be such (FOR_MEMORY in failing_calls.py). Everything else is a
+finding, FILE:LINE: what. The places that are right and have no such shape stand in tools/memory-refusals.list, with
+what they ask and the constants in that; one that is no longer so is a finding. It does not see who asks for more memory
+than he needs, nor a limit that has a refusal of its own. The last line is `N passed, M failed`: a function that makes a
+memory refusal passes, a finding fails.
 """
 from __future__ import annotations
 
@@ -35,7 +36,7 @@ PASSED_OVER = {"use", "ghost", "type"}
 
 
 class Frame(NamedTuple):
-    """What an expression stands in: an arm, a block, a closure. Told as it is written."""
+    """What an expression stands in: an arm, a block, a closure. Shown as it is written."""
     kind: str
     told: str
     pattern: Nodes
@@ -64,7 +65,7 @@ class Finding(NamedTuple):
 
 
 def is_made(calls: Calls, nodes: Nodes, at: int, source: Source) -> bool:
-    """Whether the word at this place is a value that means want of memory."""
+    """Whether the word at this place is a memory refusal."""
     word, after = text_at(nodes, at), text_at(nodes, at + 1)
     called = source.imports.get(word, [word])[-1]
     if called == "AllocError":
@@ -89,7 +90,7 @@ class Body:
         return reading.shown(self.place.source.text, nodes)
 
     def walk(self, nodes: Nodes, frames: List[Frame], scope: Scope) -> None:
-        """Each expression of a block. What follows a loop is told by it, since the loop says when it is come to."""
+        """Each expression of a block. What follows a loop is shown by it, since the loop says when it is come to."""
         at = 0
         while at < len(nodes):
             begun, at = at, self.step(nodes, at, frames, scope)
@@ -210,7 +211,7 @@ class Body:
         return at + 3
 
     def judge(self, nodes: Nodes, at: int, frames: List[Frame]) -> None:
-        """The word at this place, where it makes want of memory."""
+        """The word at this place, where it makes a memory refusal."""
         handed = self.hands_back and nodes[at].text == "Err" and text_at(nodes, at + 1) == "("
         if not handed and not is_made(self.calls, nodes, at, self.place.source):
             return
@@ -250,7 +251,7 @@ class Body:
         return self.calls.why_not(frame.asked, frame.scope, self.place)
 
     def is_compared(self, guard: Nodes) -> bool:
-        """Whether the guard asks that something is want of memory."""
+        """Whether the guard asks that something is a memory refusal."""
         words = {node.text for node in guard}
         return "==" in words and not words & {"||", "!", "!="} and self.calls.names_memory(guard)
 

@@ -1,29 +1,29 @@
-"""Tries mutants of code, which the prover has to refuse: those that tools/mutants.list chooses, and others that are
-drawn. A part of the gate.
+"""Tries mutants of code, which the prover has to refuse: those that tools/mutants.list chooses, and others in
+random order. A part of the gate.
 
-    tools/mutants                     tries the chosen ones and forty drawn ones
-    tools/mutants --since [COMMIT]    draws those first whose functions were changed since that commit; without one
+    tools/mutants                     tries the chosen ones and forty in random order
+    tools/mutants --since [COMMIT]    takes those first whose functions were changed since that commit; without one
                                       since the base that `tools/trusted-base --since` takes
     tools/mutants --list              prints both, and tries none
     tools/mutants --anew              tries also those whose verdict is kept
     tools/mutants --until FILE        waits for libraries that are not kept yet, until the file is there
     tools/mutants --table FILE        writes what the chosen ones came to, as CSV: bench/mutants.csv
 
-tools/mutants.list has, of each wrong body that a proof must refuse and of each of the program's own promises, the
-mutant that spells it. The others are drawn from all of crates/*/mutants: in the order of the SHA-256 of the commit
-and the path, the first of each crate, then the first of all, forty together. Without git the digest of the sources
-stands for the commit. So nobody chooses them, and each commit draws others.
+tools/mutants.list has the mutant of each fault that a proof must refuse, and of each of the program's own promises. The
+others are those of all crates/*/mutants in a random order, that of the SHA-256 of the commit and the path: the first of
+each crate, then the first of all, forty together. Without git the digest of the sources stands for the commit. So
+nobody chooses them, and each commit has others.
 
 A mutant is tried as `tools/try-mutants` tries it, by a check of its function alone, together with others. The libraries
-below come from what `rt ci` kept on this machine. Where it kept too few, that is told at once, and nothing is proved.
-Verdicts are kept on this machine too, by the checksum of all that the check reads. What such a check does not settle
-is told: it takes a check of the whole crate, by `tools/try-mutants EDIT`.
+below come from what `rt ci` kept on this machine. Where it kept too few, it says so at once, and proves nothing.
+Verdicts are kept on this machine too, by the checksum of all that the check reads. What such a check does not decide
+is reported: it takes a check of the whole crate, by `tools/try-mutants EDIT`.
 
 The line before the last counts, each apart: refused by a goal; by a goal, beside a proof of the function, written by
 hand, that does not fit the mutant either; at a limit of the search, which says nothing; by such a proof alone, which
-shows nothing. The very last is `N passed, M failed`. Only the first two pass. A drawn mutant that comes to something
-else neither passes nor fails, but where it is PROVED or does not apply: that fails, if tools/mutants.list does not
-name it as known to be open, with the reason. A chosen one fails where no goal refuses it.
+shows nothing. The very last is `N passed, M failed`. Only the first two pass. A mutant of the random order that comes
+to something else neither passes nor fails, but where it is PROVED or does not apply: that fails, if tools/mutants.list
+does not name it as known to be open, with the reason. A chosen one fails where no goal refuses it.
 """
 from __future__ import annotations
 
@@ -36,17 +36,17 @@ import time
 from dataclasses import dataclass, field
 from typing import Collection, Dict, Iterable, Iterator, List, NamedTuple, Optional, Sequence, Set, Tuple
 
-from . import trusted_base, build_record, commands, kept_libraries, try_mutants
+from . import build_record, commands, kept_libraries, trusted_base, try_mutants
 from . import rattle_source as reading
 from .programs import TOP
 from .verdicts import Verdict, Verdicts, folder
 
 LIST = TOP / "tools" / "mutants.list"
-DRAWN = 40
+IN_RANDOM_ORDER = 40
 # The name of a line whose edit is known to be open.
 OPEN = "open"
-# A mutant that a check of its function alone does not settle.
-UNSETTLED = "not settled"
+# A mutant that a check of its function alone does not decide.
+UNDECIDED = "not decided"
 PASSED = (try_mutants.BY_GOAL, try_mutants.ELSEWHERE, try_mutants.BESIDE)
 FAILED = (try_mutants.PROVED, try_mutants.BAD)
 KEPT = (*PASSED, try_mutants.AT_LIMIT, try_mutants.BY_PROOF)
@@ -62,7 +62,7 @@ A_WHILE = 20
 
 
 class Chosen(NamedTuple):
-    """A line of tools/mutants.list: the name of the wrong body or the promise, the edit that spells it, and what that
+    """A line of tools/mutants.list: the name of the fault or the promise, the edit that spells it, and what that
     does, or the reason why it is known to be open."""
     name: str
     edit: pathlib.Path
@@ -92,8 +92,8 @@ def crate_of(edit: pathlib.Path) -> str:
     return edit.parent.parent.name
 
 
-def in_random_order(edits: Iterable[pathlib.Path], seed: str, top: pathlib.Path, most: int = DRAWN,
-          owed: Collection[pathlib.Path] = ()) -> List[pathlib.Path]:
+def in_random_order(edits: Iterable[pathlib.Path], seed: str, top: pathlib.Path, most: int = IN_RANDOM_ORDER,
+                    owed: Collection[pathlib.Path] = ()) -> List[pathlib.Path]:
     """So many of the edits, one of each crate at least: those that are owed first, then by the SHA-256 of the seed and
     the path."""
     def order(edit: pathlib.Path) -> Tuple[bool, str]:
@@ -183,7 +183,7 @@ class Trial:
 
     def try_crate(self, crate: str, edits: List[pathlib.Path]) -> None:
         """Tries these edits of a crate, and keeps what is known of them for certain."""
-        for one in try_mutants.tries(crate, self.below[crate], edits, unsettled, self.room):
+        for one in try_mutants.tries(crate, self.below[crate], edits, undecided, self.room):
             self.found[one.edit] = Verdict(one.word, one.why, one.seconds)
             if one.word in KEPT:
                 self.verdicts.keep(crate, one.edit, self.found[one.edit])
@@ -209,11 +209,11 @@ class Trial:
                 time.sleep(A_WHILE)
 
 
-def unsettled(edit: pathlib.Path, copied: try_mutants.Copied) -> try_mutants.Outcome:
-    """What is said of an edit that a check of its function alone does not settle."""
+def undecided(edit: pathlib.Path, copied: try_mutants.Copied) -> try_mutants.Outcome:
+    """What is said of an edit that a check of its function alone does not decide."""
     _, why = try_mutants.texts_of(edit, copied.folder)
-    said = "a check of its function alone does not settle it: tools/try-mutants %s tries it"
-    return (try_mutants.BAD, why) if why else (UNSETTLED, said % edit.relative_to(TOP).as_posix())
+    said = "a check of its function alone does not decide it: tools/try-mutants %s tries it"
+    return (try_mutants.BAD, why) if why else (UNDECIDED, said % edit.relative_to(TOP).as_posix())
 
 
 def counted(found: Dict[pathlib.Path, Verdict], chosen: Collection[pathlib.Path],
@@ -248,13 +248,14 @@ def main(words: Sequence[str]) -> int:
     asked.add_argument("--anew", action="store_true")
     asked.add_argument("--until", type=pathlib.Path, metavar="FILE")
     asked.add_argument("--table", type=pathlib.Path, metavar="FILE")
-    asked.add_argument("--random", type=commands.number, default=DRAWN, metavar="N", help="draw N, and not forty")
+    asked.add_argument("--random", type=commands.number, default=IN_RANDOM_ORDER, metavar="N",
+                       help="take N in random order, and not forty")
     asked.add_argument("crates", nargs="*", metavar="CRATE", help="of these crates alone")
     return commands.as_part(lambda: try_all(asked.parse_args(words)))
 
 
 def try_all(given: argparse.Namespace) -> int:
-    """Tries the chosen and the drawn mutants, or lists them."""
+    """Tries the chosen mutants and those of the random order, or lists them."""
     below, seed = try_mutants.below(), seed_of()
     every = sorted(edit for crate in below for edit in (TOP / "crates" / crate / "mutants").glob("*.edit"))
     listed = chosen_mutants(LIST.read_text(), TOP)
@@ -264,14 +265,14 @@ def try_all(given: argparse.Namespace) -> int:
     owed = owed_mutants(every, since) if since else []
     edits = [one.edit for one in chosen]
     others = [edit for edit in every if edit not in edits]
-    by_lot = in_random_order(others, seed, TOP, given.random, owed) if given.random else []
-    asked = [edit for edit in edits + by_lot if not given.crates or crate_of(edit) in given.crates]
-    print("%d chosen mutants, and %d drawn of %d by %s%s" % (
-        len(edits), len(by_lot), len(every), seed, ", %d of them owed since %s" % (
-            len(set(owed) & set(by_lot)), since) if since else ""), flush=True)
+    at_random = in_random_order(others, seed, TOP, given.random, owed) if given.random else []
+    asked = [edit for edit in edits + at_random if not given.crates or crate_of(edit) in given.crates]
+    print("%d chosen mutants, and %d of %d in the random order of %s%s" % (
+        len(edits), len(at_random), len(every), seed, ", %d of them owed since %s" % (
+            len(set(owed) & set(at_random)), since) if since else ""), flush=True)
     if given.is_list:
         print("".join("%s: %s\n" % (one.name, one.edit.relative_to(TOP).as_posix()) for one in listed), end="")
-        print("".join("drawn: %s\n" % edit.relative_to(TOP).as_posix() for edit in by_lot), end="")
+        print("".join("random: %s\n" % edit.relative_to(TOP).as_posix() for edit in at_random), end="")
         return 0
     with tempfile.TemporaryDirectory(prefix="mutants-") as room:
         trial = Trial(below, Verdicts(TOP, build_record.kit(), below, folder()), pathlib.Path(room))

@@ -1,4 +1,4 @@
-"""Malformed input: files that are changed by a word, by lines or by bytes, each change drawn at random."""
+"""Malformed input: files that are changed by a word, by lines or by bytes, each change chosen at random."""
 from __future__ import annotations
 
 import gzip
@@ -144,7 +144,7 @@ def mixed(draw: random.Random, content: bytes) -> Change:
     return Change(content)
 
 
-# How often each is drawn, beside a garbled word.
+# How often each is chosen, beside a garbled word.
 KINDS: Dict[str, Tuple[int, Callable[[random.Random, bytes], Change]]] = {
     "lines": (5, some_lines), "bytes": (4, some_bytes), "cut": (1, cut), "deep": (1, deep), "long": (1, long),
     "mixed": (3, mixed)}

@@ -1,11 +1,11 @@
-"""Writes a random script of changes of the interior: a network of several ASes with sessions, policies that set MED
-and add communities, and routes, some of them fed with MEDs, then links that fail, are mended, get another metric or
-come anew, and routers that compare MED otherwise, with questions for costs and choices after each.
+"""Writes a random script of changes of the IGP: a network of several ASes with sessions, policies that set MED and add
+communities, and routes, some of them fed with MEDs, then links that fail, are mended, get another metric or are added,
+and routers that compare MED otherwise, with questions for costs and choices after each.
 
     tools/random-igp SEED [CHANGES]        the same seed and number of changes (100) give the same script
 
-Metrics are few and small, so that walks tie; trees are cut off and come back. tools/agree --igp compares the
-machines on many.
+Metrics are few and small, so that shortest paths tie; parts of the network are cut off and come back. tools/agree --igp
+compares the machines on many.
 """
 from __future__ import annotations
 
@@ -20,7 +20,7 @@ from .networks import virtual_peer
 # What policies of external sessions add: a community that means nothing by itself more often than one that keeps a
 # route from being advertised.
 ADDED = ("5", "7", "4294967295") * 3 + WELL_KNOWN
-# Virtual peers, by their ASes; their links never fail, since what they told would be gone.
+# Virtual peers, by their ASes; their links never fail, since what they advertised would be gone.
 PEERS = {"11.0.0.1": 11, "11.0.0.2": 11, "12.0.0.1": 12, "12.0.0.2": 12}
 
 
@@ -130,16 +130,16 @@ class Network:
 
 def script(seed: int, changes: int = 100) -> str:
     """The script of a seed: a network, and so many changes."""
-    interior = Network(seed)
-    interior.build()
+    network = Network(seed)
+    network.build()
     for n in range(changes):
-        interior.change()
-        interior.ask()
+        network.change()
+        network.ask()
         if n % 10 == 9:
-            interior.deliver(1)
-    for router in interior.routers:
-        interior.lines += ["routes %s" % router] + ["cost %s %s" % (router, other) for other in interior.routers]
-    return "".join(line + "\n" for line in interior.lines)
+            network.deliver(1)
+    for router in network.routers:
+        network.lines += ["routes %s" % router] + ["cost %s %s" % (router, other) for other in network.routers]
+    return "".join(line + "\n" for line in network.lines)
 
 
 def main(words: Sequence[str]) -> int:

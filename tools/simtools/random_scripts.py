@@ -26,7 +26,7 @@ WORDS = ["router", "link", "join", "rule", "feed", "deliver", "quiet", "on", "in
          "-", "0", "7", "4294967296", "1.0.0.1", "1.0.0.256", "10.0.0.1/8", "10.0.0.0/33", "{3,2}", "prepend=17",
          "igp", "#", "x", "comm", "comm=", "comm=5", "comm=6,5", "add=", "add=5", "add=4294967296", "med", "as",
          "always"]
-# Communities that mean nothing by themselves; the first few are drawn often, and so met again by rules.
+# Communities that mean nothing by themselves; the first few are chosen often, and so met again by rules.
 COMMUNITIES = ["1", "2", "3", "65001", "4259840100", "0", "4294967040", "4294967044", "4294967295"]
 One = TypeVar("One")
 Ends = Tuple[str, ...]
@@ -125,8 +125,8 @@ class Script:
         """The last word of a feed, where it has one; now and then one that spells nothing, or many numbers."""
         if self.chance(0.4):
             return ""
-        drawn = {self.community() for _ in range(self.random.choice([1, 1, 1, 2, 2, 3, 5]))}
-        numbers = sorted(drawn, key=int)
+        chosen = {self.community() for _ in range(self.random.choice([1, 1, 1, 2, 2, 3, 5]))}
+        numbers = sorted(chosen, key=int)
         if self.chance(0.06):
             many = [str(n) for n in range(MOST_COMMUNITIES + self.random.randint(-1, 2))]
             numbers = self.some([numbers[::-1], numbers + numbers[-1:], many, many, [], ["4294967296"], ["07"]])
@@ -300,7 +300,7 @@ class Script:
 
     def tie(self, prefix: str, feeding: List[Ends]) -> None:
         """Some of these peers tell routes to the prefix that MED alone parts, as a rule may set it; the others take
-        theirs back. All that they told is delivered."""
+        theirs back. All that they advertised is delivered."""
         telling = max(self.random.randint(0, len(feeding)) for _ in range(2))
         for number, ways in enumerate(self.random.sample(feeding, len(feeding))):
             if self.chance(0.8):

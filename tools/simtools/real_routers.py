@@ -5,7 +5,7 @@
 It needs the proved program (./bgpsim --prove); PROGRAM= is another one.
 The script is played, then everything is delivered, and the
 program is asked for each router's `routes`, and `why` for each prefix. The network as it is then is built of
-network namespaces: a router is FRR's zebra and bgpd, a link a pair of devices, interior costs are the metrics of
+network namespaces: a router is FRR's zebra and bgpd, a link a pair of devices, IGP costs are the metrics of
 kernel routes, and tools/speaker stands for each virtual peer. Once its tables stay as they are, each chosen route
 is compared with all its attributes, and so is from whom each router has a route that it may choose.
 
@@ -207,7 +207,7 @@ def build_space(a: int) -> None:
 
 
 def build_routes(net: Net, r: int, hops: Dict[Tuple[int, int], str]) -> None:
-    """The routes of the kernel: of a router by the interior costs, of a peer to what is linked to it."""
+    """The routes of the kernel: of a router by the IGP costs, of a peer to what is linked to it."""
     ways = {there: (1, there) for here, there in hops if here == r} if net.nodes[r][1] else net.costs(r)
     for x, (cost, hop) in sorted((x, way) for x, way in ways.items() if x != r):
         run("ip -n %s route add %s/32 via %s metric %d src %s" % (space(r), show(x), hops[r, hop], cost, show(r)))
@@ -236,7 +236,7 @@ def build(net: Net) -> None:
 
 
 def fed(net: Net, v: int, r: int) -> List[Dict[str, Any]]:
-    """What a virtual peer has told a router, as tools/speaker takes it."""
+    """What a virtual peer has advertised to a router, as tools/speaker takes it."""
     return [dict(prefix=model.show_prefix(p), path=a["path"], origin=a["origin"], med=a["med"], comms=a["comms"])
             for (to, p, u), a in sorted(net.received.items()) if (to, u) == (r, v)]
 

@@ -47,7 +47,7 @@ def fan_out() -> Lines:
 
 
 def crowd() -> Lines:
-    """Four prefixes that each of 100 peers tells, the later ones better and worse in turn; then all are withdrawn."""
+    """Four prefixes that each of 100 peers advertises, better and worse ones in turn; then all are withdrawn."""
     lines = ["router %s 9" % HUB]
     for number in range(100):
         lines += virtual_peer(HUB, peer(number), 1_000 + number, 1)

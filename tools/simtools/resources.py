@@ -152,7 +152,7 @@ def record(names: Sequence[str], path: pathlib.Path, jobs: int) -> int:
 
 
 def faults_of(name: str, taken: Union[Figures, str], recorded: Mapping[str, Figures]) -> Iterable[str]:
-    """What is wrong with what a script takes; what is better is told here."""
+    """What is wrong with what a script takes; what is better is reported here."""
     if isinstance(taken, str):
         return [taken]
     if name not in recorded:

@@ -6,7 +6,7 @@ A case is some files of one name. cases/README.md says which there are, and how 
 script` is also run on each machine, by machine_scripts, where that is built, and each run counts; with MACHINES=1
 it has to be built. Of docs/reference/language.md, each line that begins with > and the line of reply under it have to stand
 among the commands and replies of examples/tour.
-What differs is told for each run that fails. The last line is `N passed, M failed`; exit 1 where one failed.
+It prints what differs for each run that fails. The last line is `N passed, M failed`; exit 1 where one failed.
 PROGRAM= is another program, which is then run alone.
 """
 from __future__ import annotations

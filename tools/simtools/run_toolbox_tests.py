@@ -3,7 +3,7 @@
     tools/run-toolbox-tests                 all tests, as many side by side as there are processors
     tools/run-toolbox-tests WORD..          the tests whose name has one of the words
     tools/run-toolbox-tests --file NAME     those of a file (toolbox/tests/*/test_NAME.py)
-    tools/run-toolbox-tests --long ..       these with fifty times as many generated examples, drawn anew each time
+    tools/run-toolbox-tests --long ..       these with fifty times as many generated examples, other ones each time
     tools/run-toolbox-tests .. -- OPTION..  options of pytest: --durations=40, -x
 
 The tests run under .venv/bin/python, if tools/setup has made it. A test that lacks something (dot, chromium, a Python

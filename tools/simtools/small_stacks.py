@@ -4,9 +4,9 @@
                                        do all that they do with more: long lines, long logs, edits that threads decide,
                                        64 workers. And with less and less memory for all a team of 64 workers is as ever
                                        or ends with `memory` and status 5
-    tools/small-stacks --least         tells the least stack, in KB, in which each of the first runs
+    tools/small-stacks --least         prints the least stack, in KB, in which each of the first runs
 
-What ends otherwise, as by a fault of memory, is told. The last line is `N passed, M failed`. PROGRAM= is another
+It prints what ends otherwise, as by a fault of memory. The last line is `N passed, M failed`. PROGRAM= is another
 program than crates/bgpsim/out/bgpsim.
 """
 from __future__ import annotations

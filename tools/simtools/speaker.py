@@ -74,7 +74,7 @@ def messages(sock: socket.socket) -> Iterator[int]:
 
 
 def speak(sock: socket.socket, me: str, asn: int, routes: List[Route]) -> None:
-    """A session until its end: the routes are told at the first KEEPALIVE, and each one is answered."""
+    """A session until its end: the routes are advertised at the first KEEPALIVE, and each one is answered."""
     sock.sendall(opening(me, asn))
     told = False
     for kind in messages(sock):

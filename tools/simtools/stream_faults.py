@@ -1,4 +1,4 @@
-"""Looks whether a stream's failure is one that std's call answered. What a stream did is known to contracts by the traits
+"""Checks that a stream's failure is one that std's call answered. What a stream did is known to contracts by the traits
 `Source` and `Sink` of `watched` alone, and all code above them is proved from these: it cannot make a failure up. What
 their one implementation says, of std's readers and writers, no contract can say: std's calls may always fail.
 
@@ -6,7 +6,7 @@ their one implementation says, of std's readers and writers, no contract can say
 
 So this reads the sources. Only the types of IMPLEMENTATIONS have these traits. Each of their calls makes the one call
 of std's that it is named after, with what it was given, and notes and answers a failure where that did, word for word
-as BODIES has it. And `failed` is written nowhere else in their files. What differs is told, FILE:LINE: what. The last
+as BODIES has it. And `failed` is written nowhere else in their files. It prints what differs, FILE:LINE: what. The last
 line is `N passed, M failed`: a call that is so passes.
 """
 from __future__ import annotations

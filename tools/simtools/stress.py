@@ -1,4 +1,4 @@
-"""StressTest: engineers who change one network at once, against few workers or many."""
+"""Stress tests: engineers who change one network at once, against few workers or many."""
 from __future__ import annotations
 
 import random
@@ -7,12 +7,12 @@ from typing import Iterator, List, NamedTuple, Optional
 
 import model
 
-from . import commands, logs, programs, converging_networks, team_logs
+from . import commands, converging_networks, logs, programs, team_logs
 from .running import run, side_by_side
 
 WORKERS = (1, 2, 8, 64)
 METRICS, STOPS, RULES, FEEDS = 200, 25, 25, 25
-# Each worker's turns are a part of so many, at least some hundreds: not every network settles.
+# Each worker's turns are a part of so many, at least some hundreds: not every network converges.
 TURNS, FEWEST = 6_000, 300
 # Lines that spell no command.
 MISTAKES = ("router", "routes 1.0.0.300", "quiet now", "\tquiet", "metric 1.0.0.1 2.0.0.1 0", "link", "deliver 1.0.0.1",
@@ -61,7 +61,7 @@ def rules(made: converging_networks.Script) -> Iterator[str]:
 
 
 def feeds(made: converging_networks.Script) -> Iterator[str]:
-    """Virtual peers tell routes, and take some back."""
+    """Virtual peers advertise routes, and withdraw some."""
     for _ in range(FEEDS):
         peer, router, asn = made.some(made.peers)
         kept = len(made.lines)
@@ -71,9 +71,9 @@ def feeds(made: converging_networks.Script) -> Iterator[str]:
 
 
 def test_of(seed: int) -> StressTest:
-    """The stress test of a seed. Each engineer calls all that makes the network first, so that what follows finds it; of the
-    first of them it is made, and the others are refused where it stands already. Then comes an engineer's own work,
-    with lines between that are refused or spell nothing."""
+    """The stress test of a seed. Each engineer calls all that makes the network first, so that what follows finds it;
+    the first of these calls make it, and the others are refused where it stands already. Then comes an engineer's own
+    work, with lines between that are refused or spell nothing."""
     made = converging_networks.Script(seed)
     made.prefers = False
     made.build()

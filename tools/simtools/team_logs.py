@@ -23,7 +23,7 @@ class Spelled(NamedTuple):
 
 
 class Told(NamedTuple):
-    """What a team told: by files, the lines that spell no command and those that memory was wanted for; and the first
+    """What a team reported: by files, the lines that spell no command and those that memory ran out for; and the first
     that says something else, if one does."""
     mistakes: Numbers
     wants: Numbers
@@ -86,7 +86,7 @@ def told_by(lines: List[str]) -> Told:
 
 
 def wrong_calls(texts: List[str], log: str, told: Told) -> Optional[str]:
-    """What is wrong with the calls of the engineers, and with what they were told, if anything is."""
+    """What is wrong with the calls of the engineers, and with what they were answered, if anything is."""
     calls = calls_by_seat(log)
     for number, text in enumerate(texts):
         found, wants = spelled(text), told.wants[number + 1]
@@ -106,7 +106,7 @@ def strange_seats(log: str, engineers: int, workers: int) -> List[int]:
 
 def wrong(texts: List[str], workers: int, ran: Ran, may_want: bool = False,
           reading: Optional[logs.Reading] = None) -> Optional[str]:
-    """What is wrong with the team's log and with what it told, if anything is; where memory may have been wanted for
+    """What is wrong with the team's log and with what it reported, if anything is; where memory may have run out for
     some lines, these are no calls. `reading` reads the log, where it is given."""
     log = ran.out.decode("latin-1")
     if ran.status != 0:
@@ -120,7 +120,7 @@ def wrong(texts: List[str], workers: int, ran: Ran, may_want: bool = False,
     if told.other is not None:
         return "it told %r" % told.other
     if told.wants and not may_want:
-        return "it told that memory was wanted, for lines %s" % dict(told.wants)
+        return "it reported out of memory, for lines %s" % dict(told.wants)
     strange = strange_seats(log, len(texts), workers)
     return wrong_calls(texts, log, told) or (
         "seats %s made other calls than deliveries" % strange if strange else None)

@@ -1,22 +1,23 @@
-"""Teams: compares the logs of `bgpsim team` with a second machine, and tries what a case cannot show.
+"""Teams: compares the logs of `bgpsim team` with the test oracle, and tries what a case cannot show.
 
     tools/teams agree [--scripts N] [--seed S]   N random scripts (100), of the seeds from S (1) on, each dealt out to
                                                  some engineers, with some workers: the log has to be one that the model
                                                  and `bgpsim replay` find to agree; each engineer's calls in it have to
                                                  be the commands of the file, in order; the workers' are deliveries; and
-                                                 each line that spells no command has to be told, in order
-    tools/teams stress [--teams N] [--seed S]     N stress tests (20), of the seeds from S (1) on: one engineer gives a link
-                                                 200 metrics, one stops and starts a session, one adds and clears
-                                                 rules, and mostly one tells routes of virtual peers, with lines
+                                                 each line that spells no command has to be reported,
+                                                 in order
+    tools/teams stress [--teams N] [--seed S]    N stress tests (20), of the seeds from S (1) on: one engineer gives a
+                                                 link 200 metrics, one stops and starts a session, one adds and clears
+                                                 rules, and mostly one feeds routes of virtual peers, with lines
                                                  between that are refused or spell nothing, against 1, 2, 8 or 64
                                                  workers. Beside what `agree` asks, no message is left where workers
                                                  had turns for it, and the calls of the log, given to `bgpsim script`,
                                                  come to the model's end
-    tools/teams faults                           a full device, threads that cannot be started, each allocation refused
+    tools/teams faults                           a full device, threads that cannot be started, each allocation failing
                                                  in turn, and long logs, whose text several threads make; it needs cc
 
-`agree` ends with `N teams, K differ`, and with exit 1 where one differs; `stress` and `faults`, parts of the gate, with
-`N passed, M failed`. PROGRAM= is another program than crates/bgpsim/out/bgpsim.
+`agree` ends with `N teams, K differ`, and with exit 1 where one differs; `stress` and `faults`, parts of the gate, end
+with `N passed, M failed`. PROGRAM= is another program than crates/bgpsim/out/bgpsim.
 """
 from __future__ import annotations
 
@@ -38,11 +39,11 @@ MISTAKES = ("", "# nothing", "router", "routes 1.0.0.300", "quiet now", "  quiet
             "feed 7.0.0.1 9.0.0.1 update 10.0.0.0/8 7 igp - comm=6,5")
 # A user of whom no other process is.
 NOBODY = 61_234
-# What was tried, whether it went well, and what is told where it did not.
+# What was tried, whether it went well, and what is reported where it did not.
 Tried = Tuple[str, bool, Any]
 
 
-# Teams that are drawn
+# Random teams
 
 def dealt(script: str, engineers: int, draw: random.Random) -> List[str]:
     """The lines of the script, dealt out to so many engineers, some at a time; now and then one that spells nothing."""
@@ -81,7 +82,7 @@ def agree(seeds: range) -> int:
 
 def is_well(ran: Ran) -> bool:
     """Whether a team that wanted memory ended as it may: with the log of what was done, or with `memory`. Lines that
-    made no call are told."""
+    made no call are reported."""
     told = [line for line in lines_of(ran.err) if not TOLD.fullmatch(line)]
     if ran.status == 5:
         return ran.out == b"" and told == ["memory"]

@@ -1,18 +1,19 @@
-"""The files of definitions that one has to believe, from what the public contracts cite.
+"""The trusted base: the files of definitions that the public contracts cite, by themselves or by others.
 
-    tools/trusted-base             compares the table and the sums of docs/explanation/trusted-base.md; exit 1 if they differ
+    tools/trusted-base             compares the table and the sums of docs/explanation/trusted-base.md; exit 1 if they
+                                   differ
     tools/trusted-base --write     writes both there
-    tools/trusted-base --why       tells of each name by what it is reached
+    tools/trusted-base --why       prints of each name by what it is reached
     tools/trusted-base --since [COMMIT]
-                               prints each line of these files that was changed since the commit or tag, so that a
-                               weaker statement is seen; without one, since where this branch left origin/main, or
-                               since the last tag where it has not left it, or else since the commit before
+                                   prints each line of these files that was changed since the commit or tag, so that a
+                                   weaker statement is seen; without one, since where this branch left origin/main, or
+                                   since the last tag where it has not left it, or else since the commit before
 
-It begins with the words in the clauses of public calls (PARTS in simtools/trusted_base.py says of which, and in which rows
-of the table what they reach stands), finds each by its `ghost use` line, reads its definition in specs/, and goes on
-with the words of that, name by name. A file is listed where one of its definitions is reached, and counted whole: its
-lines without imports, comments and empty lines. One that says in its first line that no public contract cites it is
-told. What the kit defines is not followed, nor are the types and contracts of src/, which definitions name as
+It begins with the words in the clauses of public calls (PARTS in simtools/trusted_base.py says of which, and in which
+rows of the table what they reach stands), finds each by its `ghost use` line, reads its definition in specs/, and goes
+on with the words of that, name by name. A file is listed where one of its definitions is reached, and counted whole:
+its lines without imports, comments and empty lines. It reports one that says in its first line that no public contract
+cites it. What the kit defines is not followed, nor are the types and contracts of src/, which definitions name as
 `declared` and `contracts`. The last line is `N passed, M failed`, one for each row and one for the sums.
 """
 from __future__ import annotations

@@ -8,8 +8,8 @@ An EDIT is such a file. It is a line `file: src/lib.rt` and pairs of lines
 what earlier checks kept in out/, so the files here stay as they are; N copies are tried side by side, as many as there
 are processors where nothing is said. Edits of functions that do not call one another are tried in one check, up to 40
 at once. It checks those functions alone, and takes all others by what they state, without their proofs: a contract is
-all that others see of a function, so none hides or helps another. What such a check does not settle, and what stands in
-no function, is tried alone, by a check of the whole crate, which is proved as it is before. Of each edit it tells how
+all that others see of a function, so none hides or helps another. What such a check does not decide, and what stands in
+no function, is tried alone, by a check of the whole crate, which is proved as it is before. Of each edit it prints how
 it was refused:
 
     by a goal             a goal of the function that the edit stands in has no proof; it is named
@@ -52,7 +52,7 @@ BUILD = pathlib.Path(__file__).resolve().parent.parent / "build"
 RT: Sequence[str] = (sys.executable, "-B", str(BUILD), "--rt", "kept", "--")
 # Where checks keep their work, in a crate's folder.
 KEPT = "out/incremental"
-# What is told of a text that cannot be read; an edit that only makes a statement false reads well.
+# What is reported of a text that cannot be read; an edit that only makes a statement false reads well.
 UNREAD = re.compile(r"is not in scope|has no field|is no name|operand is missing|expected the end|cannot continue")
 # How an edit is refused.
 BY_GOAL, BESIDE, ELSEWHERE = "refused by a goal", "refused by a goal, beside a proof file", "refused elsewhere"
@@ -307,7 +307,7 @@ class Copied:
         return check(self.folder, functions)
 
     def is_proved(self) -> bool:
-        """Whether the crate as it is is proved, which is told once."""
+        """Whether the crate as it is is proved, which is reported once."""
         if self.proved is None:
             start = time.monotonic()
             status, told = self.check(())
@@ -396,7 +396,7 @@ def rounds_of(edits: List[pathlib.Path], copied: Copied) -> List[List[pathlib.Pa
 
 
 def at_once(edits: List[pathlib.Path], copied: Copied) -> Dict[pathlib.Path, Outcome]:
-    """What a check with these edits of functions settles of each. Where one cannot be read, each is tried in a check
+    """What a check with these edits of functions decides of each. Where one cannot be read, each is tried in a check
     of its own."""
     applied = Applied()
     for edit in edits:
@@ -422,7 +422,7 @@ class Tried(NamedTuple):
 def tries(crate: str, others: Set[str], edits: List[pathlib.Path],
           alone: Callable[[pathlib.Path, Copied], Outcome] = attempt,
           top: Optional[pathlib.Path] = None) -> Iterator[Tried]:
-    """Each of these edits of the crate with what it came to. What a check of its function does not settle is tried by
+    """Each of these edits of the crate with what it came to. What a check of its function does not decide is tried by
     `alone`. The crates below are taken as they stand at the top."""
     with tempfile.TemporaryDirectory(prefix="try-mutants-") as room:
         copied = Copied(pathlib.Path(room) / "crates" / crate)

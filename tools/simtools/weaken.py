@@ -1,17 +1,17 @@
-"""Weakens the definitions of the trusted base, one place at a time, and tells what notices. By hand, for hours.
+"""Weakens the definitions of the trusted base, one place at a time, and prints what notices. By hand, for hours.
 
     tools/weaken [--list] [--only WORD] [--table FILE] [CRATE..]        without a crate: all crates
 
 The definitions are those that `tools/trusted-base` finds. In each of them each conjunct (`×`, `&&`), each alternative
 (`⊎`, `||`) and each test (`if .. then .. else ..`, in whose place first one branch stands, then the other) is dropped
 in turn, on a copy. Then a few functions of the crate are checked, laws among them, whose clauses reach the definition:
-the shortest. All others are taken by what they state. Places of several definitions share a check, where functions
-tell of each that have nothing to do with the others. Something should notice:
+the shortest. All others are taken by what they state. Places of several definitions share a check, where the
+functions of each have nothing to do with the others. Something should notice:
 
     by a goal        a goal of a function has no proof any more; it is named
     at a limit       the search gave up at each such goal, which says nothing
     BY A PROOF FILE  only a proof or a lemma that was written by hand does not fit, which says nothing
-    NOTHING          these functions are proved as before, or there are none; the crates above are told that have such
+    NOTHING          these functions are proved as before, or there are none; the crates above are named that have such
                      functions: one of them, a mutant or a case has to notice
     unread           the text without that place is none
 
@@ -29,7 +29,7 @@ import tempfile
 from dataclasses import dataclass, field
 from typing import Collection, Dict, Iterator, List, NamedTuple, Optional, Sequence, Set, Tuple
 
-from . import trusted_base, commands, kept_libraries, left_out, try_mutants
+from . import commands, kept_libraries, left_out, trusted_base, try_mutants
 from . import rattle_source as reading
 from .programs import TOP
 
@@ -264,7 +264,8 @@ class Sources:
         proofs = self.folder.joinpath("proofs", *place.above, place.name).rglob("*.antt")
         touched = [self.clauses[call] for call in body.calls & set(self.clauses)]
         touched += [self.types[word] for word in words & set(self.types)]
-        touched += [self.reach.named(text, trusted_base.imports_of(text)) for text in (path.read_text() for path in proofs)]
+        texts = [path.read_text() for path in proofs]
+        touched += [self.reach.named(text, trusted_base.imports_of(text)) for text in texts]
         cited = self.reach.named(said, imports)
         size = one.body.end - one.body.start if one.body else 0
         return Function(place.printed(self.folder.name), cited, cited.union(*touched), size)

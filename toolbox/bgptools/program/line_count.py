@@ -102,7 +102,7 @@ class CountedProgram(Program):
 
 
 def _check_again(lines: List[str], replies: List[str]) -> None:
-    """Ends with a mistake where a line is refused that was accepted in the same place, as want of memory may do."""
+    """Ends with a mistake where a line is refused that was accepted in the same place, as it may be out of memory."""
     spoken = (line for line in lines if not is_silent(line))
     for line, reply in zip(spoken, replies):
         if not is_accepted([reply]):

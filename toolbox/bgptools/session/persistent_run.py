@@ -218,7 +218,7 @@ def _end(program: CountedProgram) -> None:
 def described(error: BaseException) -> str:
     """An error in few words: what it says, and its kind where it is no Mistake."""
     told = ""
-    # What an error says is made by it, and may want memory again.
+    # What an error says is made by it, and may run out of memory again.
     with contextlib.suppress(Exception):
         told = str(error)
     if isinstance(error, Mistake):

@@ -5,7 +5,7 @@ import re
 
 from common import DATA, EXAMPLES, Case, inside, program, tool
 from frr import OUTSIDE, Told, at, border, inner, router
-from simtools import real_routers, converging_networks
+from simtools import converging_networks, real_routers
 
 SCRIPTS = [path for path in EXAMPLES if path.name != "tour.bgp"]
 

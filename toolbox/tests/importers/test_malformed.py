@@ -1,4 +1,4 @@
-"""The importers on malformed and hostile input: each mistake has status 2, its file and its line, and no input takes
+"""The importers on malformed input: each mistake has status 2, its file and its line, and no input takes
 memory or time without a bound. And tools/fuzz-importers, which looks for more of that."""
 import bz2
 import gzip

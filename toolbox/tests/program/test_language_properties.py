@@ -8,7 +8,7 @@ from bgptools.program import language
 from bgptools.program.process import Program
 from bgptools.program.replies import refusal
 from bgptools.program.script import content_of, lines_of
-from strategies import addresses, ases, commands, many, malformed, near, numbers, paths, prefixes, printable
+from strategies import addresses, ases, commands, malformed, many, near, numbers, paths, prefixes, printable
 
 SYNTAX = 1
 # Any text of bytes, which a script may have, but the mark of a command that is refused.

@@ -1,4 +1,5 @@
-"""The tools of hostile use: what each says of a program that forgets, loses, crashes or answers otherwise."""
+"""Fault injection, stress tests and fuzzing: what each tool says of a program that forgets, loses, crashes or answers
+otherwise."""
 import os
 import random
 import re
@@ -10,8 +11,8 @@ import unittest.mock
 from common import TOP, Case
 
 import model
-from simtools import (failing_streams, fuzz_logs, growth, line_faults, fuzz_scripts, logs, compile_fail, try_mutants, programs,
-                      fail_allocations, run_cases, small_stacks, stress, team_logs)
+from simtools import (compile_fail, fail_allocations, failing_streams, fuzz_logs, fuzz_scripts, growth, line_faults,
+                      logs, programs, run_cases, small_stacks, stress, team_logs, try_mutants)
 from simtools.running import Ran
 from test_tools import called, command
 
@@ -72,10 +73,10 @@ class FailAllocations(Case):
     def test_a_refusal_that_is_passed_over(self):
         self.assertIn("allocation 2 of b'a\\n' refused: status 0, b'ok\\nyes\\n", self.faults(b"a\n", IGNORES=1)[0][1])
 
-    def test_want_of_memory_where_none_was_refused(self):
+    def test_a_memory_refusal_where_no_allocation_failed(self):
         told, _ = self.faults(b"a\n", b"quiet\n", INVENTS=1)
         self.assertEqual(told[0], "with nothing refused it does not answer what its case wants")
-        self.assertIn("b'quiet\\n' is told that memory was wanted, and none was refused", told)
+        self.assertIn("b'quiet\\n' is answered `refused 20 memory`, and no allocation failed", told)
 
     def test_a_crash(self):
         told, _ = self.faults(b"a\n", b"b\n", b"c\n", CRASHES=1)
@@ -222,7 +223,7 @@ class FuzzScripts(Case):
         changed = {fuzz_scripts.with_a_byte_changed(draw, line) for _ in range(300)}
         self.assertTrue({len(one) - len(line) for one in changed} >= {-1, 0, 1})
         self.assertIn(b"\ndeliv\ndelive\ndeliver\ndeliver \n", kinds["cut"](1))
-        self.assertIn(b"\0", kinds["drawn"](1))
+        self.assertIn(b"\0", kinds["random"](1))
         # each line is answered, but comments and blank lines
         self.assertGreater(fuzz_scripts.by_model(kinds["cut"](1)).out.count(b"refused 1 syntax"), 500)
 
@@ -345,7 +346,8 @@ class Hooks(Case):
         """)
         subprocess.run(["cc", "-o", program, str(source)], check=True)
         with line_faults.library() as library:
-            ran = line_faults.tried(library, (program,), b"a\n" + line_faults.block(0, b"b\nc\n") + line_faults.block(1, b"d\n") + b"e\n")
+            blocks = line_faults.block(0, b"b\nc\n") + line_faults.block(1, b"d\n")
+            ran = line_faults.tried(library, (program,), b"a\n" + blocks + b"e\n")
         self.assertEqual([(copy.before, copy.out, copy.is_refused) for copy in ran.copies],
                          [(b"1 a\n", b"2 b\n3 c\n", False), (b"", b"2 d\n", False)])
         self.assertEqual((ran.rest, ran.status, ran.err, ran.own()), (b"2 e\n", 0, b"", b"1 a\n2 e\n"))

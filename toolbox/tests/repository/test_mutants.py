@@ -10,7 +10,7 @@ import subprocess
 import unittest.mock
 
 from common import TOP, Case
-from simtools import trusted_base, commands, left_out, compile_fail, mutants, try_mutants, verdicts, weaken
+from simtools import commands, compile_fail, left_out, mutants, trusted_base, try_mutants, verdicts, weaken
 
 
 def called(body):
@@ -24,7 +24,7 @@ class Choice(Case):
     def edits(self, *names):
         return [self.file("crates/%s/mutants/%s.edit" % tuple(name.split("/")), "") for name in names]
 
-    def test_forty_are_drawn_in_the_order_of_their_sums_and_one_of_each_crate(self):
+    def test_forty_are_taken_in_the_order_of_their_sums_and_one_of_each_crate(self):
         names = ["%s/e%d" % (crate, number) for crate in ("low", "mid", "top") for number in range(9)]
         edits = self.edits(*names)
 
@@ -80,11 +80,11 @@ class Choice(Case):
         self.assertEqual(mutants.changed_functions("a.rt", "", old), {"a", "b", "c"})
 
     def test_what_passes_and_what_fails(self):
-        """A chosen mutant passes by a goal alone; a drawn one fails where it is proved or does not apply."""
+        """A chosen mutant passes by a goal alone; another one fails where it is proved or does not apply."""
         edits = dict(zip("abcdefghij", self.edits(*("low/" + name for name in "abcdefghij"))))
         words = dict(zip("abcdefghij", (
-            try_mutants.BY_GOAL, try_mutants.BESIDE, try_mutants.AT_LIMIT, try_mutants.BY_PROOF, try_mutants.PROVED, mutants.UNSETTLED,
-            try_mutants.AT_LIMIT, try_mutants.ELSEWHERE, try_mutants.BAD, try_mutants.PROVED)))
+            try_mutants.BY_GOAL, try_mutants.BESIDE, try_mutants.AT_LIMIT, try_mutants.BY_PROOF, try_mutants.PROVED,
+            mutants.UNDECIDED, try_mutants.AT_LIMIT, try_mutants.ELSEWHERE, try_mutants.BAD, try_mutants.PROVED)))
         found = {edits[name]: verdicts.Verdict(word, "why", 1.0) for name, word in words.items()}
         with unittest.mock.patch.object(mutants, "TOP", self.folder):
             status, told = called(lambda: mutants.counted(found, [edits["a"], edits["g"]], [edits["j"]]))
@@ -180,7 +180,8 @@ class Verdicts(Case):
 
 class CompileFail(Case):
     def test_an_error_of_another_kind(self):
-        edit = self.file("room/compile-fail/a.edit", "file: src/a.rt\nold: x\nnew: y\nsaid: [private-field] field `f`\n")
+        text = "file: src/a.rt\nold: x\nnew: y\nsaid: [private-field] field `f`\n"
+        edit = self.file("room/compile-fail/a.edit", text)
         told = "/tmp/crates/room/src/a.rt:7:3: error[private-field]: field `f` of struct `D` is private\n"
         self.assertEqual(compile_fail.wrong(edit, told, True), [])
         for other in (told.replace("room", "desk"), told.replace("private-field", "unknown-field"), ""):

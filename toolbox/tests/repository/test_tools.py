@@ -17,9 +17,9 @@ import unittest.mock
 from common import TOP, Case
 
 import model
-from simtools import (trusted_base, bench_tables, commands, language, left_out, loads, logs, try_mutants, programs,
-                      random_igp, random_scripts, real_routers, fail_script_allocations, allocation_faults,
-                       running, speaker, stream_faults, teams, memory_refusals)
+from simtools import (allocation_faults, bench_tables, commands, fail_script_allocations, language, left_out, loads,
+                      logs, memory_refusals, programs, random_igp, random_scripts, real_routers, running, speaker,
+                      stream_faults, teams, trusted_base, try_mutants)
 
 NOWHERE = "/nowhere/bgpsim"
 NOT_THERE = "there is no program %s: PROGRAM= names it\n" % NOWHERE
@@ -84,8 +84,8 @@ class Commands(Case):
         self.assertEqual([pair for pair in named if not (TOP / pair[0]).exists()], [])
 
     def test_parts_of_the_gate_count_a_program_that_is_not_there_as_failed(self):
-        for call in ("run-cases cases/lines", "fail-script-allocations cases/memory", "fail-allocations", "teams faults",
-                     "teams stress", "fuzz-logs", "fuzz-scripts", "failing-streams", "small-stacks",
+        for call in ("run-cases cases/lines", "fail-script-allocations cases/memory", "fail-allocations",
+                     "teams faults", "teams stress", "fuzz-logs", "fuzz-scripts", "failing-streams", "small-stacks",
                       "fault-servers", "resources", "run-toolbox-tests"):
             with self.subTest(call=call):
                 name, *words = call.split()
@@ -168,11 +168,11 @@ class Cases(Case):
 
 
 class MemoryRefusals(Case):
-    """right.txt has each form that tools/memory-refusals lets pass; each edit beside it makes want of memory up."""
+    """right.txt has each form that tools/memory-refusals lets pass; each edit beside it makes a memory refusal up."""
     DATA = TOP / "toolbox/tests/data/memory-refusals"
 
     def told(self, text, listed=None):
-        """How many functions of the text make want of memory, and what is told of it, without the places."""
+        """How many functions of the text make memory refusals, and what is printed of it, without the places."""
         self.file("crates/sample/src/right.rt", text)
         known = (self.DATA / "list.txt").read_text() if listed is None else listed
         made, told = memory_refusals.checked(self.folder, known, "list", [])
@@ -181,7 +181,7 @@ class MemoryRefusals(Case):
     def test_each_form_that_passes_it_on(self):
         self.assertEqual(self.told((self.DATA / "right.txt").read_text()), (16, []))
 
-    def test_each_wrong_body_is_seen(self):
+    def test_each_mutant_is_seen(self):
         edits = sorted(self.DATA.glob("*.edit"))
         self.assertEqual(len(edits), 17)
         for edit in edits:
@@ -229,7 +229,7 @@ class StreamFaults(Case):
         self.assertEqual(self.told(self.SOURCE, "match self", "match self"), [])
         self.assertEqual(stream_faults.checked(TOP), (len(stream_faults.BODIES), []))
 
-    def test_each_wrong_body_is_seen(self):
+    def test_each_mutant_is_seen(self):
         for file, old, new, call in (
                 (self.SOURCE, "self.reader.read(buffer)", "self.reader.read(&mut buffer[..1])", "Reader::read"),
                 (self.SOURCE, "match self", "if buffer.len() == 3 { self.failed = true; } match self", "Reader::read"),
@@ -267,7 +267,8 @@ class TrustedBase(Case):
         self.file("crates/low/specs/Other.antt", "-- No public contract cites this file.\nother : ℕ\nother = 1\n")
         self.source("{ result ≡ long 3 }", "{ s.other ≡ 1 }")
         self.parts = (trusted_base.Part("", (trusted_base.Root("high/src/*.rt", ("run",)),)),
-                      trusted_base.Part("for more", (trusted_base.Root("high/src/*.rt"),)), trusted_base.Part("beside", ()))
+                      trusted_base.Part("for more", (trusted_base.Root("high/src/*.rt"),)),
+                      trusted_base.Part("beside", ()))
 
     def source(self, run, more):
         self.file("crates/high/src/lib.rt", (
@@ -436,7 +437,8 @@ class Comparing(Other):
     def test_a_program_whose_allocations_cannot_be_refused(self):
         ran = command("tools/fail-script-allocations", "examples/hijack.bgp", PROGRAM=self.other("exec 2>&-"))
         self.assertEqual((ran.returncode, ran.stdout), (2, ""))
-        self.assertEqual(ran.stderr, "the program tells no number of allocations: allocation_faults.c is not loaded into it\n")
+        self.assertEqual(ran.stderr, "the program prints no number of allocations: "
+                                     "allocation_faults.c is not loaded into it\n")
 
 
 @unittest.skipUnless(shutil.which("cc"), "cc is not installed")
@@ -508,12 +510,12 @@ class FailScriptAllocations(Case):
             self.assertEqual(set(ran.stdout.rstrip("\n").split(": ", 1)[1].split(", ", 1)), said)
 
     def test_a_team(self):
-        with unittest.mock.patch.dict(os.environ, {"PROGRAM": self.program(True)}), allocation_faults.injector() as inject:
+        with unittest.mock.patch.dict(os.environ, {"PROGRAM": self.program(True)}), \
+                allocation_faults.injector() as inject:
             self.assertEqual(list(teams.refused([], inject)), [("2 allocations refused in turn", True, {5: 1, 0: 1})])
-        with unittest.mock.patch.dict(os.environ, {"PROGRAM": self.program(True)}), allocation_faults.injector() as inject, \
-                unittest.mock.patch.object(teams, "is_well", lambda ran: ran.status == 0):
-            self.assertEqual([tried[:2] for tried in teams.refused([], inject)], [
-                ("allocation 1 refused", False), ("2 allocations refused in turn", True)])
+            with unittest.mock.patch.object(teams, "is_well", lambda ran: ran.status == 0):
+                self.assertEqual([tried[:2] for tried in teams.refused([], inject)], [
+                    ("allocation 1 refused", False), ("2 allocations refused in turn", True)])
 
 
 class Teams(Case):
@@ -544,7 +546,7 @@ class Teams(Case):
             self.assertEqual(found, said)
         self.assertEqual(teams.wrong([self.SCRIPT], 1, running.Ran(b"", b"memory\n", 5)), "status 5: memory\n")
 
-    def test_a_team_that_wants_memory(self):
+    def test_a_team_out_of_memory(self):
         log = logs.log_of(self.SCRIPT).encode()
         told = b"file 1 line 2: refused 20 memory\n"
         for out, err, status, is_well in ((b"", b"memory\n", 5, True), (log, b"memory\n", 5, False),
@@ -707,6 +709,6 @@ class Bench(Other):
             with self.assertRaisesRegex(commands.Missing, "rt run in crates/table_bench ended with status 3"):
                 called(bench_tables.main)
         self.assertEqual(status, 0)
-        self.assertRegex(told, (r"\Atable, keys drawn: inserts a second; longest matches a second\n"
+        self.assertRegex(told, (r"\Atable, random keys: inserts a second; longest matches a second\n"
                                 r"sorted, 5: [^;]+; [^;]+\ntrie, 5: [^;]+; [^;]+\n\Z"))
         self.assertEqual([bench_tables.a_second(10, used) for used in (0.5, 0)], ["20", "too fast to tell"])
