@@ -1,12 +1,13 @@
 """The pages for users: each example is run and replies as is shown, and each option and word of the tools is there."""
 import doctest
-import functools
 import os
 import re
 import shutil
 import subprocess
 import tempfile
+import textwrap
 import unittest
+import unittest.mock
 
 from bgptools.cli.tools import TOOLS, parser_of
 from bgptools.program import location
@@ -102,40 +103,38 @@ def first_cells(text):
     return [row.replace(r"\|", "/") for row in re.findall(r"(?m)^\| ((?:[^|\n]|\\\|)*) \|", text)]
 
 
-def options_of(text):
-    """The options that the first cells of the tables of options name."""
-    tables = re.findall(r"(?m)^\| Option \|.*\n(?:\|.*\n)+", text)
-    return {each for table in tables for cell in first_cells(table) for each in re.findall(r"`(--?[\w-]+)", cell)}
+# Options that all tools have. The page names them once.
+OF_ALL = ("-h", "--version")
+MADE = "<!-- options of %s: UPDATE=1 tools/run-toolbox-tests --file documents -->\n```text\n%s```\n"
 
 
-@functools.lru_cache(maxsize=None)
 def helped(name):
-    """The options that `--help` of a tool tells."""
-    return frozenset(re.findall(r"(?m)^  (?:-\w, )?(--?[\w-]+)", parser_of(name, name).format_help()))
+    """What `--help` of a tool tells of its options and exit statuses, in lines of at most 100 columns."""
+    parser = parser_of(name, name)
+    with unittest.mock.patch.dict(os.environ, COLUMNS="1000", NO_COLOR="1"):
+        text = parser.format_help()
+    told = []
+    for title, flags, words in re.findall(r"(?m)^(?:(\w.*):|  (-.*?)(?:  +|\n +)(\S.*))$", text):
+        if title and title not in ("positional arguments", "options", "optional arguments"):
+            told.append("\n%s:\n" % title)
+        if flags and not flags.startswith(OF_ALL):
+            lines = textwrap.wrap(words, 76, break_on_hyphens=False)
+            lines = ["%-22s %s" % (flags, lines[0]), *lines[1:]] if len(flags) < 23 else [flags, *lines]
+            told += [lines[0] + "\n", *(" " * 23 + line + "\n" for line in lines[1:])]
+    return "".join([*told, "\n", textwrap.fill(parser.epilog, 100, break_on_hyphens=False), "\n"]).lstrip("\n")
 
 
 class Options(Case):
-    """docs/reference/tools.md has a section for each tool."""
+    """docs/reference/tools.md has a section for each tool, with its options."""
 
-    def shared(self, name):
-        """The options of several tools that the tool has, by the table of these."""
-        rows = re.findall(r"(?m)^\| (.*?) \| .* \| (.*?) \|$", sections("tools.md")["Options of several tools"])
-        return {option for first, of in rows for option in re.findall(r"`(--?[\w-]+)", first)
-                if of == "all" or "`%s`" % name in of}
-
-    def test_each_option_of_a_tool_is_there_and_no_other(self):
+    def test_the_options_of_each_tool_are_those_of_its_help(self):
+        page = REFERENCE / "tools.md"
         for name in TOOLS:
             with self.subTest(tool=name):
-                own = options_of(sections("tools.md")[name])
-                self.assertEqual(own & self.shared(name), set())
-                self.assertEqual(own | self.shared(name), set(helped(name)))
-
-    def test_each_tool_of_the_table_has_that_option(self):
-        rows = re.findall(r"(?m)^\| (.*?) \| .* \| (.*?) \|$", sections("tools.md")["Options of several tools"])
-        for first, of in rows:
-            for name in re.findall(r"`([\w-]+)`", of):
-                self.assertIn(name, TOOLS)
-                self.assertLessEqual(set(re.findall(r"`(--?[\w-]+)", first)), set(helped(name)) | {"--version"}, name)
+                self.assertIn("<!-- options of %s: " % name, sections("tools.md")[name])
+        text = re.sub(r"(?ms)^<!-- options of ([\w-]+): .*?^```text\n.*?^```\n",
+                      lambda found: MADE % (found[1], helped(found[1])), page.read_text())
+        self.assert_as_file(text, page)
 
     def test_the_options_of_the_program(self):
         text = (REFERENCE / "program.md").read_text()
