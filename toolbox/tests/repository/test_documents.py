@@ -5,11 +5,9 @@ import re
 import shutil
 import subprocess
 import tempfile
-import textwrap
 import unittest
-import unittest.mock
 
-from bgptools.cli.tools import TOOLS, parser_of
+from bgptools.cli.tools import TOOLS
 from bgptools.program import location
 from common import TOP, Case
 from pages import KINDS, PAGES, REFERENCE, blocks, examples, pattern
@@ -103,39 +101,7 @@ def first_cells(text):
     return [row.replace(r"\|", "/") for row in re.findall(r"(?m)^\| ((?:[^|\n]|\\\|)*) \|", text)]
 
 
-# Options that all tools have. The page names them once.
-OF_ALL = ("-h", "--version")
-MADE = "<!-- options of %s: UPDATE=1 tools/run-toolbox-tests --file documents -->\n```text\n%s```\n"
-
-
-def helped(name):
-    """What `--help` of a tool tells of its options and exit statuses, in lines of at most 100 columns."""
-    parser = parser_of(name, name)
-    with unittest.mock.patch.dict(os.environ, COLUMNS="1000", NO_COLOR="1"):
-        text = parser.format_help()
-    told = []
-    for title, flags, words in re.findall(r"(?m)^(?:(\w.*):|  (-.*?)(?:  +|\n +)(\S.*))$", text):
-        if title and title not in ("positional arguments", "options", "optional arguments"):
-            told.append("\n%s:\n" % title)
-        if flags and not flags.startswith(OF_ALL):
-            lines = textwrap.wrap(words, 76, break_on_hyphens=False)
-            lines = ["%-22s %s" % (flags, lines[0]), *lines[1:]] if len(flags) < 23 else [flags, *lines]
-            told += [lines[0] + "\n", *(" " * 23 + line + "\n" for line in lines[1:])]
-    return "".join([*told, "\n", textwrap.fill(parser.epilog, 100, break_on_hyphens=False), "\n"]).lstrip("\n")
-
-
 class Options(Case):
-    """docs/reference/tools.md has a section for each tool, with its options."""
-
-    def test_the_options_of_each_tool_are_those_of_its_help(self):
-        page = REFERENCE / "tools.md"
-        for name in TOOLS:
-            with self.subTest(tool=name):
-                self.assertIn("<!-- options of %s: " % name, sections("tools.md")[name])
-        text = re.sub(r"(?ms)^<!-- options of ([\w-]+): .*?^```text\n.*?^```\n",
-                      lambda found: MADE % (found[1], helped(found[1])), page.read_text())
-        self.assert_as_file(text, page)
-
     def test_the_options_of_the_program(self):
         text = (REFERENCE / "program.md").read_text()
         for words in (["script"], ["team"], ["replay"], []):
