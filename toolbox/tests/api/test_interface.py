@@ -579,4 +579,4 @@ class Package(Base):
         text = (TOP / "docs" / "reference" / "python.md").read_text()
         for name, _ in inspect.getmembers(Network, lambda each: inspect.isroutine(each) or isinstance(each, property)):
             if not name.startswith("_"):
-                self.assertRegex(text, r"`(net\.|Network\.)?%s\b" % name)
+                self.assertRegex(text, r"(?m)(^|`net\.|^Network\.)%s\b" % name)
