@@ -22,6 +22,9 @@ TOOLBOX = TOP / "toolbox"
 DATA = TOOLBOX / "tests" / "data"
 EXAMPLES = sorted((TOP / "examples").rglob("*.bgp"))
 NOBODY = 65534
+# So many seconds a test waits for something that has to come. Nothing takes nearly as long, also on a slow machine that
+# has much else to do: where this is over, it does not come. Who writes a test may want to hear of that sooner.
+PATIENCE = float(os.environ.get("PATIENCE") or 600)
 SCRIPTS = EXAMPLES + sorted((TOP / "cases").rglob("*.bgp"))
 # for simtools, which the commands of tools/ are made of
 sys.path.append(str(TOP / "tools"))
