@@ -9,7 +9,7 @@ import unittest.mock
 
 from bgptools.cli import libraries
 from bgptools.program.mistakes import Mistake
-from common import TOOLBOX, TOP, Case, alone
+from common import PATIENCE, TOOLBOX, TOP, Case, alone
 
 NEEDS = """
 import sys
@@ -166,7 +166,7 @@ class Library(Case):
         main, side = pty.openpty()
         self.addCleanup(os.close, main)
         subprocess.run([sys.executable, "-S", "-B", str(launcher), *words], stdin=side, stdout=side, stderr=side,
-                       env={"TERM": "dumb"}, timeout=100)
+                       env={"TERM": "dumb"}, timeout=PATIENCE)
         os.close(side)
         return os.read(main, 4096).decode().replace("\r", "")
 

@@ -15,7 +15,7 @@ from bgptools.picture.observation import Known, View, look
 from bgptools.picture.steps import Steps as Played
 from bgptools.program.replies import refusal
 from bgptools.program.script import read
-from common import EXAMPLES, SCRIPTS, TOOLBOX, Case, inside, marked, tool
+from common import EXAMPLES, PATIENCE, SCRIPTS, TOOLBOX, Case, inside, marked, tool
 
 DOT = shutil.which("neato")
 RING = TOOLBOX / "lessons" / "drained-link.bgp"
@@ -85,7 +85,7 @@ class Drawn(Case):
                 self.assertTrue(told.stdout.startswith("graph network {\n") and told.stdout.endswith("\n}\n"))
                 dots.append(told.stdout)
         if DOT:
-            ran = subprocess.run(["dot", "-Tsvg"], input="".join(dots).encode(), capture_output=True, timeout=200)
+            ran = subprocess.run(["dot", "-Tsvg"], input="".join(dots).encode(), capture_output=True, timeout=PATIENCE)
             self.assertEqual((ran.returncode, ran.stderr), (0, b""))
             self.assertEqual(ran.stdout.count(b"<svg"), len(dots))
 

@@ -13,7 +13,7 @@ import pytest
 
 from bgptools.program import location
 from bgptools.sweep.cluster import DEBIAN, HOW, PACKAGE
-from common import TOP, TOOLBOX, Case, inside, tool
+from common import PATIENCE, TOOLBOX, TOP, Case, inside, tool
 from relations import relations
 
 HAS_DASK = os.access(DEBIAN, os.X_OK) and subprocess.run(
@@ -21,7 +21,7 @@ HAS_DASK = os.access(DEBIAN, os.X_OK) and subprocess.run(
 PLAIN = {"PATH": "/usr/bin:/bin", "HOME": "/nonexistent", "DASK_DISTRIBUTED__WORKER__DAEMON": "False"}
 
 
-def until(found, seconds=100):
+def until(found, seconds=PATIENCE):
     """What is found, as soon as there is something."""
     end = time.monotonic() + seconds
     while time.monotonic() < end:
@@ -68,7 +68,7 @@ class Cluster(Case):
             until(lambda: results.exists() and results.read_bytes().count(b"\n") > 5 or ran.poll() is not None)
             workers[0].send_signal(signal.SIGKILL)
             came = results.read_bytes().count(b"\n")
-            told, faults = ran.communicate(timeout=200)
+            told, faults = ran.communicate(timeout=PATIENCE)
         self.assertEqual((told.decode(), ran.returncode, faults), (one.stdout, one.returncode, b""))
         lines = results.read_bytes().splitlines()
         self.assertLess(came, len(lines), "the worker died too late")
