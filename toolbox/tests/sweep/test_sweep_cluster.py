@@ -27,7 +27,7 @@ def until(found, seconds=PATIENCE):
     while time.monotonic() < end:
         if found():
             return found()
-        time.sleep(0.1)
+        time.sleep(0.01)
     raise AssertionError("nothing came in %d seconds" % seconds)
 
 
@@ -65,7 +65,8 @@ class Cluster(Case):
                    "--program", pathlib.Path(location.program()).resolve(), "--results", results]
         pipes = {"stdout": subprocess.PIPE, "stderr": subprocess.PIPE}
         with subprocess.Popen(list(map(str, command)), cwd=str(TOP), **pipes) as ran:
-            until(lambda: results.exists() and results.read_bytes().count(b"\n") > 5 or ran.poll() is not None)
+            # (at once behind the first ones, since the others follow soon)
+            until(lambda: results.exists() and results.read_bytes().count(b"\n") > 1 or ran.poll() is not None)
             workers[0].send_signal(signal.SIGKILL)
             came = results.read_bytes().count(b"\n")
             told, faults = ran.communicate(timeout=PATIENCE)
