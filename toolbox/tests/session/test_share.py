@@ -572,7 +572,7 @@ class AtTerminal(AtSocket):
             ben.call("mend 1.0.0.1 3.0.0.1")
         os.write(anna.main, b"wait quiet\n")
         anna.until("wait quiet")
-        time.sleep(0.3)
+        time.sleep(2)
         self.assertIn("-- stopped", anna.type(b"\x03", "anna> "))
         self.assertIn("    1 via 2.0.0.1\n", anna.type("cost 1.0.0.1 2.0.0.1\n", "anna> "))
 
