@@ -309,7 +309,8 @@ class Watch:
         self.began = time.monotonic()
 
     def _kept_waiting(self):
-        return {number: kept_waiting(number) for number in (os.getpid(), self.server.process.pid, *self.server.children())}
+        numbers = (os.getpid(), self.server.process.pid, *self.server.children())
+        return {number: kept_waiting(number) for number in numbers}
 
     def seconds(self):
         passed = time.monotonic() - self.began

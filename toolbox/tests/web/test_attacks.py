@@ -15,8 +15,8 @@ import time
 import unittest
 
 from attack_values import ODD_IDS, ODD_NOTES, WORDS, WORKER_ENVIRONMENT, prefixes
-from attackers import (SOON, TWO, Attack, Until, Watch, answers, asked, entries, more_files, one_status, readable, soon,
-                       statuses)
+from attackers import (SOON, TWO, Attack, Until, Watch, answers, asked, entries, more_files, one_status, readable,
+                       soon, statuses)
 from bgptools.cli.share import parser
 from bgptools.program.mistakes import Mistake
 from bgptools.session.lifecycle import opened
