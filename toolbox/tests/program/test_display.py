@@ -135,6 +135,12 @@ class Colours(Case):
         self.assertEqual([each for each in told if each != "\n" and not each.isprintable()], [])
         self.assertIn("      # été \\x1b]0;title\\x07 \\x9b2J \\xff \\u202e\\rx\n   2  \\x1b[2Jquiet\\tx\n", told)
 
+    def test_the_name_of_a_file_steers_no_terminal(self):
+        path = self.file("a\x1b[2Jb.bgp", (TOP / DRAINED).read_text())
+        told = shown(("sweep", path, "--fail-links", "--jobs", "1"))
+        self.assertIn("/a\\x1b[2Jb.bgp: 1 single point of failure", told)
+        self.assertNotIn("\x1b[2J", told)
+
 
 class Tables(Case):
     """Why the table of a sweep is laid out without the library."""
