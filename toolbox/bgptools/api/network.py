@@ -38,6 +38,7 @@ from ..program.script import Line, lines_of, read
 from . import copies, values
 from .commands import Address, Commands, Prefix
 from .effect import Effect, deliveries_of, effect_of
+from .tables import Table
 from .values import Explanation, Link, Node, Route, Session, Settled
 
 Lines = Union[str, Iterable[str]]
@@ -160,27 +161,28 @@ class Network(Commands):
 
     # What is configured
 
-    def nodes(self) -> List[Node]:
+    def nodes(self) -> Table[Node]:
         """The routers and virtual peers, in order of address."""
         known = self.run.network
-        return [Node(where, known.nodes[where].asn, known.nodes[where].is_virtual, known.names.of.get(where))
-                for where in sorted(known.nodes, key=by_address)]
+        return Table((Node(where, known.nodes[where].asn, known.nodes[where].is_virtual, known.names.of.get(where))
+                      for where in sorted(known.nodes, key=by_address)), Node)
 
-    def links(self) -> List[Link]:
+    def links(self) -> Table[Link]:
         """The links, in order of their addresses."""
         known = self.run.network.links
         found = sorted(map(ends, known), key=lambda both: list(map(by_address, both)))
-        return [Link(one, other, known[pair(one, other)].metric, known[pair(one, other)].is_up) for one, other in found]
+        return Table((Link(one, other, known[pair(one, other)].metric, known[pair(one, other)].is_up)
+                      for one, other in found), Link)
 
-    def sessions(self) -> List[Session]:
+    def sessions(self) -> Table[Session]:
         """The sessions, in order of their addresses."""
         known = self.run.network
-        return [Session(one, other, known.is_external(one, other), known.enabled[pair(one, other)], is_up)
-                for (one, other), is_up in self.run.sessions_up().items()]
+        return Table((Session(one, other, known.is_external(one, other), known.enabled[pair(one, other)], is_up)
+                      for (one, other), is_up in self.run.sessions_up().items()), Session)
 
     # What more it is asked
 
-    def table(self, prefix: Optional[Prefix] = None) -> List[Route]:
+    def table(self, prefix: Optional[Prefix] = None) -> Table[Route]:
         """The chosen routes of all routers, in order of router and prefix; or those to one prefix."""
         wanted = _text(prefix)
         if wanted is not None and language.prefix(wanted) is None:
@@ -188,16 +190,16 @@ class Network(Commands):
         routers = self.run.network.routers()
         found = zip(routers, self.run.ask("routes " + router for router in routers))
         routes = [route for router, reply in found for route in values.routes_of(router, reply)]
-        return [route for route in routes if wanted in (None, route.prefix)]
+        return Table((route for route in routes if wanted in (None, route.prefix)), Route)
 
-    def explain(self, router: Address, prefix: Prefix) -> List[Explanation]:
+    def explain(self, router: Address, prefix: Prefix) -> Table[Explanation]:
         """All routes of the router to the prefix, with the route and value by which each lost, as the tool tells it.
 
         The network is played once more beside this one; for `why` it is not."""
         where, to, network = self._at(router), str(prefix), self.run.network
         self.why(where, prefix)
         found = explain(self.run, where, to)
-        return [values.explanation_of(where, to, each, found, network) for each in found]
+        return Table((values.explanation_of(where, to, each, found, network) for each in found), Explanation)
 
     def picture(self, kind: str = "svg", prefix: Optional[Prefix] = None, trace: Optional[Way] = None, *,
                 sessions: bool = True, only: Optional[Iterable[int]] = None, of: Optional[Address] = None,
@@ -214,6 +216,16 @@ class Network(Commands):
         view = choice.view(self.run.network)
         scene = scene_of(self.run, view, view.way, {}, Known())
         return dot_of(scene) if kind == "dot" else Drawing([scene]).svg(scene)
+
+    def _repr_svg_(self) -> Optional[str]:
+        """The picture for a notebook, which shows the text of `repr` if there is none: without Graphviz, and of a network
+        that was closed or that is empty."""
+        if self._run is None or not self._run.network.nodes:
+            return None
+        try:
+            return self.picture()
+        except Mistake:
+            return None
 
     # Deliveries and changes
 
