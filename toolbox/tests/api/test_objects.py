@@ -1,14 +1,22 @@
 """The objects of the interface as Python handles objects: pickled, copied, and given where others are expected."""
 import concurrent.futures
 import copy
+import importlib
+import inspect
 import ipaddress
 import multiprocessing
 import pickle
+import pkgutil
 from ipaddress import IPv4Address, IPv4Network, IPv6Address
 
+import bgptools
 from bgptools import Mistake, Network, Refusal, Unsettled
+from bgptools.convergence.delivery import Settling
+from bgptools.convergence.orders import named
 from bgptools.program.process import ProgramEnded
+from bgptools.program.streams import Unwritable
 from bgptools.session.log import Unkept
+from bgptools.session.recovery import Recovered
 from bgptools.session.requests import Malformed
 from common import TOOLBOX, Case
 
@@ -60,7 +68,44 @@ def fault_of(call, given):
     raise AssertionError("%s raised nothing" % call.__name__)
 
 
+# What an exception is made of, by the names of the parameters.
+GIVEN = {"text": "a text", "file": "a file", "line": 7, "number": 5, "status": 404, "command": "fail 1.0.0.1 2.0.0.1",
+         "reply": "refused 2 no-router", "explanation": "there is no router", "error": OSError(5, "a text"),
+         "done": Settling(named("fair", None), [("1.0.0.1", "2.0.0.1")], ["took 10.0.0.0/8 update"], False,
+                          {"10.0.0.0/8": ["1.0.0.1"]}, 8),
+         "found": Recovered(3, 5, 1, 2, [])}
+
+
+def exceptions():
+    """All exceptions of the package, by the modules that they stand in."""
+    for found in pkgutil.walk_packages(bgptools.__path__, "bgptools."):
+        if found.name != "bgptools.__main__":
+            module = importlib.import_module(found.name)
+            yield from (each for _, each in inspect.getmembers(module, inspect.isclass)
+                        if issubclass(each, BaseException) and each.__module__ == found.name)
+
+
+def made_of(kind):
+    """An exception of this kind: with each parameter that it has, or with a text."""
+    if kind.__init__ in (Exception.__init__, BaseException.__init__):
+        return kind("a text")
+    return kind(**{name: GIVEN[name] for name in inspect.signature(kind).parameters})
+
+
 class Faults(Case):
+    def test_each_exception_of_the_package_is_pickled_and_copied(self):
+        kinds = list(exceptions())
+        self.assertLessEqual({Mistake, Refusal, Unsettled, ProgramEnded, Malformed, Unkept, Unwritable}, set(kinds))
+        public = [getattr(bgptools, name) for name in bgptools.__all__ if inspect.isclass(getattr(bgptools, name))]
+        self.assertEqual({kind for kind in public if issubclass(kind, BaseException)}, {Mistake, Refusal, Unsettled})
+        for kind in kinds:
+            with self.subTest(kind=kind):
+                fault = made_of(kind)
+                for found in (pickle.loads(pickle.dumps(fault)), copy.copy(fault), copy.deepcopy(fault)):
+                    self.assertEqual((type(found), str(found), list(map(repr, found.args))),
+                                     (kind, str(fault), list(map(repr, fault.args))))
+                    self.assertEqual(repr(sorted(vars(found).items())), repr(sorted(vars(fault).items())))
+
     def assert_alike(self, found, wanted):
         self.assertEqual((type(found), str(found), found.args), (type(wanted), str(wanted), wanted.args))
         self.assertEqual(vars(found), vars(wanted))
