@@ -191,15 +191,18 @@ class Commands(HeldRun):
 
 def _word(word: AnyWord) -> str:
     """A word of a command. Mistake for what is not one. A number may be any whole one, as those of a data frame."""
-    if isinstance(word, (str, IPv4Address, IPv4Network)):
-        text = str(word)
-    elif hasattr(word, "__index__") and not isinstance(word, bool):
-        text = str(operator.index(word))
-    else:
-        text = ""
+    text = str(word) if isinstance(word, (str, IPv4Address, IPv4Network)) else _number(word)
     if not text or set(text) & set(" \n"):
         raise Mistake("one word of a command is expected, and not %r" % (word,))
     return text
+
+
+def _number(word: SupportsIndex) -> str:
+    """A whole number as a word; empty for what is none."""
+    try:
+        return "" if isinstance(word, bool) else str(operator.index(word))
+    except TypeError:
+        return ""
 
 
 def _switch(on: Union[bool, str]) -> str:
@@ -208,4 +211,6 @@ def _switch(on: Union[bool, str]) -> str:
 
 def _path(path: Path) -> str:
     """A path as the language has it."""
-    return str(path) if isinstance(path, (str, int)) else ",".join(map(str, path)) or "-"
+    if isinstance(path, str) or not isinstance(path, Iterable):
+        return str(path)
+    return ",".join(map(str, path)) or "-"

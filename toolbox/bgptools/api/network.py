@@ -211,7 +211,7 @@ class Network(Commands):
         if kind not in ("svg", "dot"):
             raise Mistake("a picture is `svg` or `dot`, and not %r" % kind)
         ases = None if only is None else ",".join(map(str, only))
-        way = None if trace is None else [str(trace[0]), str(trace[1])]
+        way = None if trace is None else list(map(str, _way(trace)))
         choice = Choice(_text(prefix), way, sessions, ases, _text(of), hops, whole)
         view = choice.view(self.run.network)
         scene = scene_of(self.run, view, view.way, {}, Known())
@@ -263,7 +263,7 @@ class Network(Commands):
         They are tried on a copy, which is settled in an order by the words of `settle`, or in another where it does
         not; with `each` after each line. Where this network is not quiet, another copy is settled first, and is what
         they change. `trace` are packets that are followed, from a router to an address."""
-        asked = [(self._at(router), self._at(to)) for router, to in trace]
+        asked = [(self._at(router), self._at(to)) for router, to in map(_way, trace)]
         for router, to in asked:
             self.trace(router, to)
         changes = [self._named(line) for line in _script(lines)]
@@ -301,18 +301,32 @@ def _order(name: Optional[str], seed: Optional[int]) -> Order:
     """The order of a name, or the drawn one of a seed."""
     if name not in (None, *NAMES):
         raise Mistake("an order is %s, and not %r" % (" or ".join(NAMES), name))
-    if seed is not None and number(str(seed)) is None:
+    drawn = None if seed is None else number(str(seed))
+    if seed is not None and drawn is None:
         raise Mistake("a seed is a number of 0 to 4294967295, and not %r" % (seed,))
     if seed is not None and name not in (None, "drawn"):
         raise Mistake("one order is expected, and not drawn and %s: a seed is for the drawn one" % name)
-    return named(name or ("fair" if seed is None else "drawn"), seed)
+    return named(name or ("fair" if seed is None else "drawn"), drawn)
 
 
 def _text(given: Union[Address, Prefix, None]) -> Optional[str]:
     return None if given is None else str(given)
 
 
+def _way(given: Way) -> Way:
+    """A router, and an address. Mistake for what is no such pair."""
+    if isinstance(given, (tuple, list)) and len(given) == 2:
+        return given[0], given[1]
+    raise Mistake("a packet goes from a router to an address, as `(\"1.0.0.1\", \"198.51.100.1\")`, and not %r" % (given,))
+
+
 def _script(lines: Lines) -> List[Line]:
     """Lines of Python as those of a script, which has the bytes of UTF-8. Those of an open file have their ends."""
-    text = lines if isinstance(lines, str) else "\n".join(line[:-1] if line[-1:] == "\n" else line for line in lines)
-    return lines_of(text.encode("utf-8"), GIVEN)
+    if isinstance(lines, str):
+        return lines_of(lines.encode("utf-8"), GIVEN)
+    is_listed = isinstance(lines, Iterable) and not isinstance(lines, (bytes, bytearray))
+    listed: List[Any] = list(lines) if is_listed else [lines]
+    for line in listed:
+        if not isinstance(line, str):
+            raise Mistake("a text is expected, or its lines, each a text, and not %r" % (line,))
+    return lines_of("\n".join(line[:-1] if line[-1:] == "\n" else line for line in listed).encode("utf-8"), GIVEN)
