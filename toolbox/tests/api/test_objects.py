@@ -227,7 +227,7 @@ class Given(Case):
                 self.assertRaisesRegex(Mistake, told, net.picture, "dot", trace=given)
             self.assertEqual(len(net.what_if([], trace=[["2.0.0.1", "10.0.0.1"]]).asked), 1)
 
-    @unittest.skipUnless(importlib.util.find_spec("numpy"), "numpy is not installed: apt-get install python3-numpy")
+    @unittest.skipUnless(importlib.util.find_spec("pandas"), "pandas is not installed: apt-get install python3-pandas")
     def test_numbers_and_lists_of_numpy(self):
         import numpy
         of = numpy.int64
