@@ -36,9 +36,14 @@ class Library(NamedTuple):
 
 LIBRARIES: Mapping[str, Library] = {
     "tornado": Library((6, 1), "python3-tornado"),
-    "prompt_toolkit": Library((3, 0, 28), "python3-prompt-toolkit")}
+    "prompt_toolkit": Library((3, 0, 28), "python3-prompt-toolkit"),
+    "rich": Library((12,), "python3-rich"),
+    "pandas": Library((1, 3), "python3-pandas")}
 # The extras of pyproject.toml, as `bgptools[lab]`, and the libraries of each.
-EXTRAS: Mapping[str, Tuple[str, ...]] = {"lab": ("tornado",), "prompt": ("prompt_toolkit",)}
+EXTRAS: Mapping[str, Tuple[str, ...]] = {
+    "lab": ("tornado",), "prompt": ("prompt_toolkit",), "display": ("rich",), "tables": ("pandas",)}
+# No tool needs these: without them a tool writes plain text, and the interface for Python has all but data frames.
+OPTIONAL = ("rich", "pandas")
 # What each tool needs.
 TOOLS: Mapping[str, Tuple[str, ...]] = {"lab": ("tornado",), "play": ("prompt_toolkit",), "join": ("prompt_toolkit",)}
 # Tools that need it for a prompt alone: to read and to print they need Python alone.

@@ -150,8 +150,10 @@ class Library(Case):
         # (no tool needs what the tests need)
         self.assertIn("pytest", found.pop("tests"))
         self.assertEqual(found, wanted)
-        for table in (libraries.EXTRAS, libraries.TOOLS):
-            self.assertEqual({name for names in table.values() for name in names}, set(libraries.LIBRARIES))
+        for table, more in ((libraries.EXTRAS, ()), (libraries.TOOLS, libraries.OPTIONAL)):
+            found = [name for names in table.values() for name in names]
+            self.assertEqual(set(found) | set(more), set(libraries.LIBRARIES))
+            self.assertEqual(set(found) & set(more), set())
 
     def test_setup_and_the_package_have_each_library(self):
         setup, control = (TOP / "tools/setup").read_text(), (TOP / "debian/control").read_text()

@@ -161,7 +161,8 @@ class Typed:
         termios.tcsetattr(side, termios.TCSANOW, modes)
         self.process = subprocess.Popen(
             [sys.executable, "-B", str(TOOLBOX / tool), *words], stdin=side, stdout=side, stderr=side, cwd=str(folder), start_new_session=True,
-            env={**os.environ, "TERM": "dumb", "XDG_STATE_HOME": str(folder / "state"), **environment},
+            env={**os.environ, "TERM": "dumb", "XDG_STATE_HOME": str(folder / "state"),
+                 "INPUTRC": os.devnull, **environment},
             preexec_fn=lambda: fcntl.ioctl(0, termios.TIOCSCTTY, 0))
         os.close(side)
         self.shown = ""
