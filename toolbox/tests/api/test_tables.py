@@ -24,7 +24,7 @@ TOUR = TOP / "examples" / "tour.bgp"
 DRAINED = TOOLBOX / "lessons" / "drained-link.bgp"
 SCHEMAS = TOP / "docs" / "reference" / "schemas"
 # The names of routers, in a script's bytes, as somebody would spell them who knows that a page shows them.
-HOSTILE = ("<script>alert(1)</script>", "\"><img/src=x/onerror=alert(1)>", "&lt;b&gt;'")
+MARKUP = ("<script>alert(1)</script>", "\"><img/src=x/onerror=alert(1)>", "&lt;b&gt;'")
 ROWS = (Delivery, Explanation, InBetween, Link, Message, Node, Reason, Route, RouteChange, Sent, Session, WayChange)
 
 
@@ -208,11 +208,11 @@ class Frames(Case):
 class Pages(Case):
     """What a notebook shows."""
 
-    def hostile(self):
+    def marked(self):
         """A network whose names would do something on a page that does not escape them."""
         net = Network.load(DRAINED)
         self.addCleanup(net.close)
-        for node, name in zip(net.nodes(), HOSTILE):
+        for node, name in zip(net.nodes(), MARKUP):
             net.name(node.address, name)
         net.settle()
         return net
@@ -229,17 +229,17 @@ class Pages(Case):
         self.assertTrue(page.endswith("<p>and 7 more</p>"))
 
     def test_names_are_escaped(self):
-        net = self.hostile()
+        net = self.marked()
         effect = net.what_if(["fail 5.0.0.3 7.0.0.1"])
-        for page in (net.nodes()._repr_html_(), effect._repr_html_(), Settled(HOSTILE[0], (), HOSTILE[1])._repr_html_(),
-                     Table([Delivery(*HOSTILE, HOSTILE[0])])._repr_html_()):
+        for page in (net.nodes()._repr_html_(), effect._repr_html_(), Settled(MARKUP[0], (), MARKUP[1])._repr_html_(),
+                     Table([Delivery(*MARKUP, MARKUP[0])])._repr_html_()):
             read = Tags(page)
             self.assertEqual({tag for tag, _ in read.tags} - {"table", "thead", "tbody", "tr", "th", "td", "p", "h4"}, set())
             self.assertEqual([attrs for _, attrs in read.tags if attrs], [])
-            self.assertTrue(any(name in text for text in read.texts for name in HOSTILE), page)
+            self.assertTrue(any(name in text for text in read.texts for name in MARKUP), page)
 
     def test_an_effect_has_a_table_for_what_differs(self):
-        net = self.hostile()
+        net = self.marked()
         page = net.what_if(["fail 5.0.0.3 7.0.0.1"])._repr_html_()
         self.assertEqual(page.split("<h4>")[0], "")
         self.assertEqual([part.partition("</h4>")[0] for part in page.split("<h4>")[1:]],
@@ -248,15 +248,15 @@ class Pages(Case):
         self.assertEqual(net.what_if([])._repr_html_(), "<p>Nothing changed.</p>")
 
     def test_a_picture_of_a_network(self):
-        net = self.hostile()
+        net = self.marked()
         found = xml.etree.ElementTree.fromstring(net._repr_svg_())
         self.assertEqual(net._repr_svg_(), net.picture())
         kinds = {element.tag.rpartition("}")[2] for element in found.iter()}
         self.assertEqual(kinds & {"script", "img", "b", "foreignObject"}, set())
-        self.assertIn(HOSTILE[0], "".join(found.itertext()))
+        self.assertIn(MARKUP[0], "".join(found.itertext()))
 
     def test_no_picture_where_there_is_none(self):
-        net = self.hostile()
+        net = self.marked()
         with mock.patch.dict("os.environ", PATH=str(self.folder)):
             self.assertIsNone(net._repr_svg_())
         with Network() as empty:

@@ -16,7 +16,6 @@ import rich.console
 import rich.table
 
 from common import TOOLBOX, TOP, Case, tool
-from test_unix import Escapes
 
 # What sets colours, and nothing else that begins with an escape.
 COLOURS = re.compile(r"\x1b\[[0-9;]*m")
@@ -28,6 +27,8 @@ CALLS = (
     ("what-if", "examples/lessons/valley-free.bgp", "toolbox/lessons/valley.change"),
     ("settle", "--states", "6", "--at-end", "toolbox/lessons/disagree.bgp"),
     ("sweep", DRAINED, "--fail-links", "--jobs", "1"), ("sweep", "toolbox/lessons/disagree.bgp", "--orders", "6"))
+# Lines that would steer a terminal, and bytes that are no text.
+STEERING = b"# \xc3\xa9t\xc3\xa9 \x1b]0;title\x07 \x9b2J \xff \xe2\x80\xae\rx\n\x1b[2Jquiet\tx\n"
 DOCUMENTS = tuple((*call, "--json") for call in CALLS if call[0] != "play")
 # Tells three tasks of four done, a second each, the first of which was done earlier.
 WORK = """
@@ -129,8 +130,8 @@ class Colours(Case):
         self.assertIn("\n\x1b[1mSingle points of failure\x1b[0m\n", shown(CALLS[7]))
 
     def test_text_of_a_file_steers_no_terminal(self):
-        path = self.folder / "hostile.bgp"
-        path.write_bytes(Escapes.HOSTILE)
+        path = self.folder / "a.bgp"
+        path.write_bytes(STEERING)
         told = COLOURS.sub("", shown(("play", path)))
         self.assertEqual([each for each in told if each != "\n" and not each.isprintable()], [])
         self.assertIn("      # été \\x1b]0;title\\x07 \\x9b2J \\xff \\u202e\\rx\n   2  \\x1b[2Jquiet\\tx\n", told)
