@@ -13,30 +13,40 @@ from ..program.mistakes import Mistake
 # A place by its distances to the right and down, in points.
 Place = Tuple[float, float]
 POINTS = 72
-# Where neato begins that has no place yet, and how long it goes on: so the same graph has the same places.
-STEADY = {"start": "1", "epsilon": "0.001"}
+# Where neato begins: at a first guess of its own, or where all but those begin that have a place, by a fixed seed. So the
+# same graph has the same places. And how little the places may still be made better where it ends.
+FIRST, AGAIN, ENOUGH = "self", "1", "0.001"
 
 
 def placed(names: List[str], lengths: Mapping[Tuple[str, str], float],
            before: Optional[Mapping[str, Place]] = None) -> Dict[str, Place]:
     """The place of each name. Each two are about as far apart as the way between them is long.
 
-    `lengths` has the length of each pair, in points. Names that had a place before begin there. Raises Mistake if a
+    `lengths` has the length of each pair, in points. Names that had a place before stay near it. Raises Mistake if a
     library is missing, or Graphviz."""
     libraries.need("pictures")
     import networkx
     if not names:
         return {}
+    known = {name: place for name, place in (before or {}).items() if name in names}
     numbers = {name: number for number, name in enumerate(names)}
-    graph = networkx.Graph(graph=STEADY, node={"shape": "point", "width": "0.01"})
+    graph = networkx.Graph(graph={"start": AGAIN if known else FIRST, "epsilon": ENOUGH},
+                           node={"shape": "point", "width": "0.01"})
     for name, number in numbers.items():
-        at = (before or {}).get(name)
-        graph.add_node(number, **({"pos": "%.3f,%.3f" % (at[0], -at[1])} if at else {}))
+        graph.add_node(number, **({"pos": "%.3f,%.3f" % (known[name][0], -known[name][1])} if name in known else {}))
     graph.add_edges_from((numbers[one], numbers[other], {"len": "%.3f" % (length / POINTS)})
                          for (one, other), length in lengths.items())
     with _told():
-        found = networkx.nx_agraph.pygraphviz_layout(graph, prog="neato")
-    return {name: (found[number][0], -found[number][1]) for name, number in numbers.items()}
+        found = networkx.nx_agraph.pygraphviz_layout(graph, prog="neato", args="-s%d" % POINTS)
+    return _moved_to(known, {name: (found[number][0], -found[number][1]) for name, number in numbers.items()})
+
+
+def _moved_to(known: Mapping[str, Place], places: Dict[str, Place]) -> Dict[str, Place]:
+    """Places moved as a whole, so that those that are known have the same middle as before."""
+    count = max(len(known), 1)
+    right = sum(x - places[name][0] for name, (x, _) in known.items()) / count
+    down = sum(y - places[name][1] for name, (_, y) in known.items()) / count
+    return {name: (x + right, y + down) for name, (x, y) in places.items()}
 
 
 def parts(names: List[str], pairs: List[Tuple[str, str]]) -> List[List[str]]:
