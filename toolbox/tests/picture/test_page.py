@@ -4,7 +4,7 @@ import tempfile
 import unittest
 
 from browser import CHROMIUM, Browser
-from common import Case, tool
+from common import Case, needs_pictures, tool
 
 SCRIPT = """# step Two routers
 router 1.0.0.1 1
