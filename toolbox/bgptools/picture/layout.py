@@ -188,11 +188,13 @@ def _lengths(sizes: Dict[str, Tuple[float, float]], pairs: Dict[Tuple[str, str],
 
 
 def _turned(places: Dict[str, Place]) -> Dict[str, Place]:
-    """The places turned so that the picture is broad."""
+    """The places turned so that the picture is broad, and the first one stands left of the middle."""
     count = max(len(places), 1)
     middle = (sum(x for x, _ in places.values()) / count, sum(y for _, y in places.values()) / count)
     away = {a: (x - middle[0], y - middle[1]) for a, (x, y) in places.items()}
     difference = sum(x * x - y * y for x, y in away.values())
     angle = -math.atan2(2 * sum(x * y for x, y in away.values()), difference) / 2
     cos, sin = math.cos(angle), math.sin(angle)
+    if away and next(x * cos - y * sin for x, y in away.values()) > 0:
+        cos, sin = -cos, -sin
     return {a: (x * cos - y * sin, x * sin + y * cos) for a, (x, y) in away.items()}

@@ -10,6 +10,8 @@ from hypothesis import given, strategies
 from bgptools.picture import graphviz
 from bgptools.picture.dot import dot_of
 from bgptools.picture.graphviz import placed
+from bgptools.picture.incremental_layout import IncrementalLayout
+from bgptools.picture.layout import Box, arranged, surrounding
 from bgptools.picture.scene import LINK, Scene, Spot, Wire
 from bgptools.program.mistakes import Mistake
 from common import NO_PICTURES, Case, needs_pictures
@@ -84,3 +86,57 @@ class Dot(Case):
         self.assertEqual((edge, edge.attr["label"], edge.attr["style"] or ""),
                          (("1.0.0.1", "2.0.0.1"), " %d " % metric, "" if is_up else "dashed"))
         self.assertEqual(sorted(group.name for group in read.subgraphs()), ["cluster_as1", "cluster_as2"])
+
+
+def two_ases(more=()):
+    """Two ASes of three routers in a chain each, a link between them, and more routers of the first AS, each with whom
+    it is linked to."""
+    groups = {1: ["a1", "a2", "a3", *(name for name, _ in more)], 2: ["b1", "b2", "b3"]}
+    links = [("a1", "a2"), ("a2", "a3"), ("b1", "b2"), ("b2", "b3"), ("a1", "b1"), *more]
+    return Scene([], groups, {a: Spot(a) for inside in groups.values() for a in inside},
+                 [Wire(one, other, True, LINK) for one, other in links])
+
+
+SIZE = (90.0, 50.0)
+
+
+@needs_pictures
+class Otherwise(Case):
+    """What Graphviz does otherwise, so that `layout` and `incremental_layout` keep ASes apart."""
+
+    def test_neato_knows_no_ases(self):
+        """In a ring that goes from one AS to the other and back, the box of each lies over that of the other."""
+        names = ["a1", "b1", "a2", "b2", "a3", "b3"]
+        ring = list(zip(names, names[1:] + names[:1]))
+        scene = Scene([], {1: names[::2], 2: names[1::2]}, {a: Spot(a) for a in names},
+                      [Wire(one, other, True, LINK) for one, other in ring])
+        places = placed(names, apart(ring, 300.0))
+        bare = [surrounding([Box(*places[a], *SIZE) for a in inside]) for inside in scene.groups.values()]
+        self.assertTrue(bare[0].meets(bare[1]))
+        one, other = arranged(scene, dict.fromkeys(names, SIZE), 1.5).groups.values()
+        self.assertFalse(one.meets(other))
+
+    def test_fdp_moves_routers_that_are_pinned(self):
+        """fdp keeps ASes apart. But where a router comes, the ASes move about one another; here all stay."""
+        before = self.by_fdp(two_ases(), {})
+        after = self.by_fdp(two_ases([("x", "a2")]), before)
+        moved = {a: (after[a][0] - before[a][0], after[a][1] - before[a][1]) for a in before}
+        self.assertGreater(math.dist(moved["a1"], moved["b1"]), 20)
+        layout, found = IncrementalLayout(200.0, 1.5), []
+        for scene in (two_ases(), two_ases([("x", "a2")])):
+            spots = layout.layout(scene, dict.fromkeys(scene.spots, SIZE)).spots
+            found.append({a: (spots[a].x, spots[a].y) for a in before})
+        self.assertEqual(*found)
+
+    @staticmethod
+    def by_fdp(scene, pinned):
+        """The places of routers by fdp, those that are pinned at these."""
+        graph = pygraphviz.AGraph(overlap="vpsc", start="1", sep="+17")
+        for a in scene.spots:
+            pin = {"pos": "%f,%f!" % pinned[a]} if a in pinned else {}
+            graph.add_node(a, shape="box", fixedsize="true", width=SIZE[0] / 72, height=SIZE[1] / 72, **pin)
+        graph.add_edges_from((wire.one, wire.other) for wire in scene.wires)
+        for asn, inside in scene.groups.items():
+            graph.add_subgraph(inside, name="cluster_%d" % asn)
+        graph.layout("fdp", args="-s72")
+        return {a: tuple(map(float, graph.get_node(a).attr["pos"].rstrip("!").split(","))) for a in scene.spots}
