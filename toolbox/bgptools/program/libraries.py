@@ -27,12 +27,13 @@ LIBRARIES: Mapping[str, Library] = {
     "networkx": Library((2, 4), "python3-networkx"),
     "pygraphviz": Library((1, 7), "python3-pygraphviz"),
     "distributed": Library((2022, 1), "python3-distributed"),
-    "pandas": Library((1, 3), "python3-pandas")}
+    "pandas": Library((1, 3), "python3-pandas"),
+    "rich": Library((12,), "python3-rich")}
 PICTURES = ("networkx", "pygraphviz")
 # The extras of pyproject.toml, as `bgptools[lab]`, and the libraries of each. (`lab` shows pictures.)
 EXTRAS: Mapping[str, Tuple[str, ...]] = {
     "lab": ("tornado", *PICTURES), "prompt": ("prompt_toolkit",), "pictures": PICTURES, "cluster": ("distributed",),
-    "tables": ("pandas",)}
+    "tables": ("pandas",), "display": ("rich",)}
 
 
 def need(extra: str) -> None:

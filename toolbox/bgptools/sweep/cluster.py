@@ -24,7 +24,7 @@ from .player import Job, Player, settled_job
 
 PACKAGE = "distributed"
 # So long a scheduler is waited for, in seconds.
-PATIENCE = 10
+PATIENCE = 30
 # What a worker must have alike, in the order of `version_of`.
 COMPARED = ("Python", "bgptools", "the program", "the program's sources")
 # What a worker keeps, by its threads: which part of which sweep, and what plays it.

@@ -11,7 +11,7 @@ import unittest.mock
 from bgptools.cli import interpreter
 from bgptools.program import libraries
 from bgptools.program.mistakes import Mistake
-from common import DATA, TOOLBOX, TOP, Case, alone, tool
+from common import DATA, PATIENCE, TOOLBOX, TOP, Case, alone, tool
 
 NEEDS = """
 import sys
@@ -215,7 +215,7 @@ class Library(Case):
         main, side = pty.openpty()
         self.addCleanup(os.close, main)
         subprocess.run([sys.executable, "-S", "-B", str(launcher), *words], stdin=side, stdout=side, stderr=side,
-                       env={"TERM": "dumb"}, timeout=100)
+                       env={"TERM": "dumb"}, timeout=PATIENCE)
         os.close(side)
         return os.read(main, 4096).decode().replace("\r", "")
 

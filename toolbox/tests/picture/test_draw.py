@@ -15,7 +15,7 @@ from bgptools.picture.observation import Known, View, look
 from bgptools.picture.steps import Steps as Played
 from bgptools.program.replies import refusal
 from bgptools.program.script import read
-from common import EXAMPLES, SCRIPTS, TOOLBOX, Case, inside, marked, needs_pictures, tool
+from common import EXAMPLES, PATIENCE, SCRIPTS, TOOLBOX, Case, inside, marked, needs_pictures, tool
 
 RING = TOOLBOX / "lessons" / "drained-link.bgp"
 SPOT = re.compile(r'<g><title>([^<]*)</title><rect x="([-0-9.]+)" y="([-0-9.]+)" width="([0-9.]+)" height="([0-9.]+)"'
@@ -83,7 +83,7 @@ class Drawn(Case):
                 self.assertTrue(told.stdout.startswith("graph network {\n") and told.stdout.endswith("\n}\n"))
                 dots.append(told.stdout)
         if shutil.which("dot"):
-            ran = subprocess.run(["dot", "-Tsvg"], input="".join(dots).encode(), capture_output=True, timeout=200)
+            ran = subprocess.run(["dot", "-Tsvg"], input="".join(dots).encode(), capture_output=True, timeout=PATIENCE)
             self.assertEqual((ran.returncode, ran.stderr), (0, b""))
             self.assertEqual(ran.stdout.count(b"<svg"), len(dots))
 

@@ -9,7 +9,7 @@ import unittest
 
 from bgptools.cli.tools import TOOLS
 from bgptools.program import location
-from common import TOP, Case
+from common import PATIENCE, TOP, Case
 from pages import KINDS, PAGES, REFERENCE, blocks, examples, pattern
 from simtools import language
 
@@ -27,7 +27,7 @@ class Examples(Case):
         surroundings = {**os.environ, "PROGRAM": location.program(), "HOME": folder, "XDG_STATE_HOME": folder,
                         "COLUMNS": "80", "PYTHONDONTWRITEBYTECODE": "1"}
         return subprocess.run(["bash", "-c", "set -o pipefail; " + command], cwd=folder, env=surroundings,
-                              stdin=subprocess.DEVNULL, stdout=subprocess.PIPE, stderr=subprocess.STDOUT, timeout=300)
+                              stdin=subprocess.DEVNULL, stdout=subprocess.PIPE, stderr=subprocess.STDOUT, timeout=PATIENCE)
 
     def test_each_command_replies_as_is_shown(self):
         """Exit status 1 says that a tool found something; 2 and more are mistakes."""
@@ -105,7 +105,7 @@ class Options(Case):
     def test_the_options_of_the_program(self):
         text = (REFERENCE / "program.md").read_text()
         for words in (["script"], ["team"], ["replay"], []):
-            told = subprocess.run([location.program(), *words, "--help"], capture_output=True, timeout=100).stdout
+            told = subprocess.run([location.program(), *words, "--help"], capture_output=True, timeout=PATIENCE).stdout
             for option in re.findall(r"(?m)^ +(?:-\w, )?(--[\w-]+)", told.decode()):
                 self.assertIn(option, text)
         launcher = (TOP / "bgpsim").read_text()
@@ -147,7 +147,7 @@ class Lessons(Case):
     def test_the_picture_is_what_draw_makes(self):
         page = (TOP / "docs" / "howto" / "draw-pictures.md").read_text()
         command = re.search(r"(?ms)^\$ (toolbox/draw [^$]*) -o ring.svg$", page).group(1)
-        dot = subprocess.run(["bash", "-c", command], capture_output=True, cwd=str(TOP), timeout=100).stdout.decode()
+        dot = subprocess.run(["bash", "-c", command], capture_output=True, cwd=str(TOP), timeout=PATIENCE).stdout.decode()
         picture = (TOP / "docs" / "toolbox.svg").read_text()
         found = re.findall(r'"([0-9.]+)" \[label', dot)
         self.assertGreater(len(found), 4)

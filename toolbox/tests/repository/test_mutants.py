@@ -340,6 +340,14 @@ other n = low n && high n
             "low::a": (False, False, False), "low::far": (False, False, True), "low::good": (True, True, False),
             "low::both": (False, True, True), "high::b": (True, True, False), "high::c": (False, False, False)})
 
+    def test_functions_that_hand_nothing_on_are_asked_first(self):
+        """One that calls another whose clauses reach the definition may be proved whatever the definition says."""
+        name = ("low", "Good", "is_good")
+        some = [weaken.Function(one, {name}, handed_on, {name}, size) for one, handed_on, size in (
+            ("low::hands_on", {name}, 1), ("low::long", set(), 9), ("low::short", set(), 2))]
+        with unittest.mock.patch.object(weaken, "FUNCTIONS_A_PLACE", 2):
+            self.assertEqual(weaken.Batch([], [name], [some]).asked(0), {"low::short", "low::long"})
+
     def test_places_share_a_check_where_functions_tell_them_apart(self):
         self.made()
         text = (self.folder / "crates/low/specs/Good.antt").read_text()

@@ -16,7 +16,7 @@ import unittest
 from bgptools import __version__
 from bgptools.cli.tools import TOOLS
 from bgptools.program import location
-from common import TOOLBOX, TOP, Case, alone, files_of
+from common import PATIENCE, TOOLBOX, TOP, Case, alone, files_of
 from pages import PAGES as DOCUMENTS_OF_USERS, blocks, examples, pattern
 from simtools import site
 from web_pages import dead, pages
@@ -113,7 +113,7 @@ class Package(Case):
         cls.record = recorded(cls.program, False)
         cls.told, cls.path = packed(TOP, out, PATH=os.environ["PATH"], PROGRAM=cls.program)
         assert cls.path, cls.told
-        subprocess.run(["dpkg-deb", "-x", str(cls.path), str(cls.root)], check=True, timeout=100)
+        subprocess.run(["dpkg-deb", "-x", str(cls.path), str(cls.root)], check=True, timeout=PATIENCE)
         listed = alone(["dpkg-deb", "-c", cls.path], out, PATH=os.environ["PATH"], TZ="UTC").stdout.decode()
         cls.entries = [line.split(None, 5) for line in listed.splitlines()]
 

@@ -14,7 +14,7 @@ import pytest
 from bgptools.cli.interpreter import SYSTEMS
 from bgptools.program import location
 from bgptools.sweep.cluster import PACKAGE
-from common import TOP, TOOLBOX, Case, inside, tool
+from common import PATIENCE, TOOLBOX, TOP, Case, inside, tool
 from relations import relations
 
 HAS_DASK = os.access(SYSTEMS, os.X_OK) and subprocess.run(
@@ -23,13 +23,13 @@ NO_DASK = "Dask is not installed: apt-get install python3-distributed"
 PLAIN = {"PATH": "/usr/bin:/bin", "HOME": "/nonexistent", "DASK_DISTRIBUTED__WORKER__DAEMON": "False"}
 
 
-def until(found, seconds=100):
+def until(found, seconds=PATIENCE):
     """What is found, as soon as there is something."""
     end = time.monotonic() + seconds
     while time.monotonic() < end:
         if found():
             return found()
-        time.sleep(0.1)
+        time.sleep(0.01)
     raise AssertionError("nothing came in %d seconds" % seconds)
 
 
@@ -67,10 +67,11 @@ class Cluster(Case):
                    "--program", pathlib.Path(location.program()).resolve(), "--results", results]
         pipes = {"stdout": subprocess.PIPE, "stderr": subprocess.PIPE}
         with subprocess.Popen(list(map(str, command)), cwd=str(TOP), **pipes) as ran:
-            until(lambda: results.exists() and results.read_bytes().count(b"\n") > 5 or ran.poll() is not None)
+            # (at once behind the first ones, since the others follow soon)
+            until(lambda: results.exists() and results.read_bytes().count(b"\n") > 1 or ran.poll() is not None)
             workers[0].send_signal(signal.SIGKILL)
             came = results.read_bytes().count(b"\n")
-            told, faults = ran.communicate(timeout=200)
+            told, faults = ran.communicate(timeout=PATIENCE)
         self.assertEqual((told.decode(), ran.returncode, faults), (one.stdout, one.returncode, b""))
         lines = results.read_bytes().splitlines()
         self.assertLess(came, len(lines), "the worker died too late")

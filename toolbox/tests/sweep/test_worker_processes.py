@@ -17,7 +17,7 @@ from bgptools.program.process_pool import ProcessPool, Workers
 from bgptools.sweep.effect_counts import Figures
 from bgptools.sweep.local_pool import Plan
 from bgptools.sweep.player import Player
-from common import TOOLBOX, Case, inside
+from common import PATIENCE, TOOLBOX, Case, inside
 
 MANY = TOOLBOX / "lessons" / "many-prefixes.bgp"
 # A tool with two busy workers, of a pool here or of Python's. It tells the numbers of their processes.
@@ -49,7 +49,7 @@ time.sleep(1000)
 
 def ends(number):
     """Whether a process that is told to end has ended, or ends soon."""
-    end = time.monotonic() + 20
+    end = time.monotonic() + PATIENCE
     while time.monotonic() < end:
         try:
             if pathlib.Path("/proc/%d/stat" % number).read_text().rpartition(")")[2].split()[0] == "Z":
