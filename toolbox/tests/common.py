@@ -5,12 +5,13 @@ import importlib
 import io
 import os
 import pathlib
+import shutil
 import subprocess
 import sys
 import tempfile
 import unittest
 
-from bgptools.program import location
+from bgptools.program import libraries, location
 from bgptools.program.language import ended
 from bgptools.program.mistakes import Mistake
 from bgptools.program.process import Program
@@ -23,6 +24,10 @@ DATA = TOOLBOX / "tests" / "data"
 EXAMPLES = sorted((TOP / "examples").rglob("*.bgp"))
 NOBODY = 65534
 SCRIPTS = EXAMPLES + sorted((TOP / "cases").rglob("*.bgp"))
+# Why no picture is placed here, and the mark of tests that want one.
+NO_PICTURES = "neato, networkx or pygraphviz is not installed (tools/setup)"
+HAS_PICTURES = bool(shutil.which("neato")) and not any(map(libraries.fault, libraries.EXTRAS["pictures"]))
+needs_pictures = unittest.skipUnless(HAS_PICTURES, NO_PICTURES)
 # for simtools, which the commands of tools/ are made of
 sys.path.append(str(TOP / "tools"))
 

@@ -204,7 +204,7 @@ class Network(Commands):
     def picture(self, kind: str = "svg", prefix: Optional[Prefix] = None, trace: Optional[Way] = None, *,
                 sessions: bool = True, only: Optional[Iterable[int]] = None, of: Optional[Address] = None,
                 hops: int = 1, whole: bool = False) -> str:
-        """What the tool `draw` draws, as the text of an `svg`, for which Graphviz is needed, or as `dot`.
+        """What the tool `draw` draws, as the text of an `svg` (with the extra `pictures`), or as `dot`.
 
         `prefix` shows who has which route to it, `trace` the way of a packet, from a router to an address; `only` these
         ASes, `of` what is within so many hops of a router, and `whole` each router also of a large network."""

@@ -5,7 +5,7 @@ import argparse
 import sys
 from typing import Callable, Dict, List, Optional
 
-from ..program import display, location, output, provenance
+from ..program import display, libraries, location, output, provenance
 from ..program.mistakes import CHANGED, WRONG, Mistake
 from ..program.process_pool import processors
 from ..sweep import cluster, families, table as sweep_table
@@ -111,9 +111,8 @@ def main(words: Optional[List[str]] = None) -> int:
     """The tool."""
     chosen = parser().parse_args(words)
     _check(chosen)
-    other = chosen.scheduler and cluster.interpreter()
-    if other:
-        cluster.go_on_with(other, sys.argv[1:] if words is None else words)
+    if chosen.scheduler:
+        libraries.need("cluster")
     asked = sweep_of(chosen)
     if not asked.trials:
         raise Mistake("the network has nothing of what is to be changed", chosen.base)

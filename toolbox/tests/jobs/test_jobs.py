@@ -458,9 +458,12 @@ class Misbehaving(Pooled):
         pages = sum(int(pathlib.Path("/proc/%d/statm" % each).read_text().split()[1])
                     for each in [number, *children(number)])
         pool = self.pool(ring(3), memory=pages * resource.getpagesize() * 3 // 2)
+        step = json.loads(await pool.picture(WORKER, 3, None, None))["step"]
+        self.assertEqual((step, pool.work.worker, pool.work.workers), (3, None, set()))
+        # The next one is told where all stands, and is smaller, since it loads no library for that.
         steps = [json.loads(each)["step"] for each in await asyncio.gather(
             *(pool.picture(Asker("p%d" % step, 1), step, None, None) for step in range(4)))]
-        self.assertEqual((steps, pool.work.worker, pool.work.workers), ([0, 1, 2, 3], None, set()))
+        self.assertEqual(steps, [0, 1, 2, 3])
 
 
 class Turns(Pooled):

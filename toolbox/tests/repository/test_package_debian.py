@@ -132,9 +132,10 @@ class Package(Case):
         self.assertEqual(self.path.name, "bgpsim_%(Version)s_%(Architecture)s.deb" % fields)
         self.assertEqual((fields["Package"], fields["Section"]), ("bgpsim", "net"))
         depends = fields["Depends"].split(", ")
-        for wanted in ("python3 (>= 3.8)", "python3-prompt-toolkit (>= 3.0.28)", "python3-tornado (>= 6.1)"):
+        for wanted in ("python3 (>= 3.8)", "python3-prompt-toolkit (>= 3.0.28)", "python3-tornado (>= 6.1)",
+                       "python3-networkx (>= 2.4)", "python3-pygraphviz (>= 1.7)"):
             self.assertIn(wanted, depends)
-        self.assertEqual(fields["Recommends"], "graphviz")
+        self.assertIn("python3-distributed (>= 2022.1)", fields["Suggests"].split(", "))
         if (self.root / PROGRAM).read_bytes().startswith(b"\x7fELF"):
             self.assertRegex(fields["Depends"], r"\blibc6 \(>= 2\.\d+\)")
 

@@ -2,7 +2,6 @@
 import contextlib
 import http.client
 import json
-import math
 import os
 import re
 import signal
@@ -13,7 +12,6 @@ import unittest
 
 import pytest
 
-from bgptools.picture.distance_layout import placed
 from bgptools.program import provenance
 from bgptools.program.script import lines_of
 from bgptools.web.lesson import notes_of
@@ -346,21 +344,6 @@ class Served(AtServer):
         after = _places(self.lab.value("picture"))
         self.assertEqual(sorted(after), ["1.0.0.1", "2.0.0.1", "2.0.0.2"])
         self.assertEqual(_places(self.lab.value("picture?step=6")), {a: after[a] for a in before})
-
-
-class Placing(unittest.TestCase):
-    def test_a_square_is_a_square(self):
-        """In a ring of four a neighbour is nearer than who is across; the same ring has the same places."""
-        ring = [("a", "b"), ("b", "c"), ("c", "d"), ("d", "a")]
-        places = placed(list("abcd"), ring, 100.0)
-        self.assertEqual(places, placed(list("abcd"), ring, 100.0))
-        sides = [math.dist(places[one], places[other]) for one, other in ring]
-        across = [math.dist(places["a"], places["c"]), math.dist(places["b"], places["d"])]
-        self.assertLess(max(sides) - min(sides), 5)
-        self.assertAlmostEqual(across[0] / sides[0], math.sqrt(2), 1)
-        self.assertEqual(placed(["a"], [], 100.0), placed(["a"], [], 100.0, {}))
-        grown = placed(list("abcde"), ring + [("a", "e")], 100.0, places)
-        self.assertLess(max(math.dist(places[one], grown[one]) for one in "abcd"), 60)
 
 
 def _places(picture):
