@@ -534,7 +534,7 @@ class AtTerminal(AtSocket):
 
     def test_what_others_do_stands_above_the_line_that_is_edited(self):
         self.start(THREE)
-        ben, surroundings = self.join("ben"), {"TERM": "xterm", "PROMPT_TOOLKIT_NO_CPR": "1"}
+        ben, surroundings = self.join("ben"), {"TERM": "xterm", "PROMPT_TOOLKIT_NO_CPR": "1", "NO_COLOR": "1"}
         anna = Typed(self.folder, str(self.path), "--as", "anna", tool="join", **surroundings)
         self.addCleanup(anna.close)
         anna.until("anna>")

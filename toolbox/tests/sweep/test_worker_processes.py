@@ -47,9 +47,9 @@ time.sleep(1000)
 """
 
 
-def ends(number):
-    """Whether a process that is told to end has ended, or ends soon."""
-    end = time.monotonic() + PATIENCE
+def ends(number, seconds=PATIENCE):
+    """Whether a process that is told to end has ended, or ends within so many seconds."""
+    end = time.monotonic() + seconds
     while time.monotonic() < end:
         try:
             if pathlib.Path("/proc/%d/stat" % number).read_text().rpartition(")")[2].split()[0] == "Z":
@@ -133,8 +133,8 @@ class Processes(Case):
         with self.assertRaisesRegex(Mistake, "^a file:3: it is wrong$"):
             self.results(do, range(3))
 
-    def ended_with_the_tool(self, whose):
-        """Whether the two workers of a tool that was killed end."""
+    def ended_with_the_tool(self, whose, seconds):
+        """Whether the two workers of a tool that was killed end within so many seconds."""
         folder = self.folder / whose
         folder.mkdir()
         with subprocess.Popen([sys.executable, "-B", "-c", TOOL, whose, str(folder)], stdout=subprocess.PIPE,
@@ -142,15 +142,15 @@ class Processes(Case):
             self.assertEqual(ran.stdout.readline(), b"ready\n")
             ran.kill()
         workers = [int(path.name) for path in folder.iterdir()]
-        found = [ends(number) for number in workers]
+        found = [ends(number, seconds) for number in workers]
         for number in workers if not all(found) else ():
             os.kill(number, signal.SIGKILL)
         self.assertEqual(len(workers), 2)
         return all(found)
 
     def test_workers_end_with_a_tool_that_is_killed_and_those_of_concurrent_futures_do_not(self):
-        self.assertTrue(self.ended_with_the_tool("ours"))
-        self.assertFalse(self.ended_with_the_tool("python's"))
+        self.assertTrue(self.ended_with_the_tool("ours", PATIENCE))
+        self.assertFalse(self.ended_with_the_tool("python's", 1))
 
     def test_concurrent_futures_says_not_of_which_task_a_process_died(self):
         context = multiprocessing.get_context("fork")
