@@ -1,7 +1,7 @@
 //! Where messages wait in the engine.
 
-ghost use Rattle.cell_engine.specs.State.{network};
 ghost use Rattle.std.specs.Prelude.{◌≡◌};
+ghost use Rattle.cell_engine.specs.State.{network};
 ghost use Rattle.convergence.specs.Waiting.{on_way, queued_of, IsNextWaiting};
 
 use crate::waiting::{Queued, Waiting};
@@ -34,11 +34,13 @@ fn queued_in<S: Chosen, T: PrefixTable<Cell<S>>>(
 {
     state.facts();
     let queues = state.queues();
-    let head = queues.head(from, to)?;
-    Some(Queued {
-        count: queues.len(from, to) as u64,
-        prefix: head.prefix(),
-    })
+    match queues.head(from, to) {
+        None => None,
+        Some(head) => Some(Queued {
+            count: queues.len(from, to) as u64,
+            prefix: head.prefix(),
+        }),
+    }
 }
 
 /// The sessions of the router.

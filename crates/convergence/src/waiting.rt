@@ -15,6 +15,7 @@ pub struct Queued {
 
 /// A machine that tells where messages wait.
 pub trait Waiting: Machine {
+    ghost use Rattle.std.specs.Prelude.{◌≡◌};
     ghost use Rattle.convergence.specs.Waiting.{on_way, queued_of, IsNextWaiting};
 
     /// The next direction in which a message waits, by sender, then by receiver: the first of all, or the first past

@@ -1,5 +1,5 @@
 use Rattle.convergence.proofs.Reaching.{reached_step}
-use Rattle.convergence.proofs.reached.Reached.step.Goals as goal
+use Rattle.convergence.proofs.reached.Reached.take.Goals as goal
 
 pub invariant_of-self : goal.invariant_of-self
 invariant_of-self g c =
