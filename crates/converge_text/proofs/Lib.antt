@@ -1,2 +1,3 @@
 mod Tokens
 mod RequestLemmas
+mod Echoing

@@ -22,10 +22,13 @@ use Rattle.converge_text.specs.Requests.{Asks, most_of}
 
 -- DELIVERIES
 
--- a delivery as a command, with its reply
-unfoldable pub delivery_text : Delivery → List ℕ
-delivery_text d = codes "deliver " ++ addr_text d.from ++ codes " " ++ addr_text d.to ++ line_end
-    ++ reply_text (reply_of d)
+-- a delivery as a command
+unfoldable pub command_line : Delivery → List ℕ
+command_line d = codes "deliver " ++ addr_text d.from ++ codes " " ++ addr_text d.to ++ line_end
+
+-- the same, with its reply
+abbrev pub delivery_text : Delivery → List ℕ
+delivery_text d = command_line d ++ reply_text (reply_of d)
 
 -- all of them, if they are to be written
 abbrev pub echoed : Bool → List Delivery → List ℕ

@@ -6,7 +6,7 @@ ghost use Rattle.converge_text.specs.Answers.{AreDelivered};
 ghost use Rattle.converge_text.specs.Requests.{most_of};
 
 use crate::request::Converge;
-use crate::writing::{write_delivery, write_ending};
+use crate::writing::{write_echo, write_ending};
 use convergence::{Advance, Order, Reached, Run, Waiting};
 use std::thread::Threads;
 use watched::{Output, Sink, WriterFailed};
@@ -32,9 +32,7 @@ pub(crate) fn deliver_all<M: Waiting, W: Sink>(
     'deliveries: loop {
         match run.advance(rt, machine) {
             Advance::Took(delivery) => {
-                if asked.echo {
-                    written = write_delivery(written, &delivery, output);
-                }
+                written = write_echo(written, asked.echo, &delivery, output);
             }
             Advance::Ended(ending) => return write_ending(written, ending, run.tally(), output),
         }

@@ -1,10 +1,10 @@
 //! Answers that are written piece by piece. Where the writer has failed, the rest is not written, and the work goes on.
 
-ghost use Rattle.std.specs.Prelude.{ℕ, List, ◌++◌};
+ghost use Rattle.std.specs.Prelude.{ℕ, List, [], ◌∷◌, ◌++◌};
 ghost use Rattle.std.specs.List.{flat_map};
 ghost use Rattle.watched.specs.Streams.{Writes, Writing};
 ghost use Rattle.reply_text.specs.Parts.{part_text};
-ghost use Rattle.converge_text.specs.Answers.{counts_text, delivery_text, ending_text};
+ghost use Rattle.converge_text.specs.Answers.{command_line, counts_text, delivery_text, echoed, ending_text};
 
 use convergence::{Delivery, Ending, Tally};
 use net_conf::Refusal;
@@ -27,24 +27,40 @@ pub(crate) fn write_more<W: Sink>(
     }
 }
 
-/// Writes a delivery as a command with its reply.
-pub(crate) fn write_delivery<W: Sink>(
+/// Writes a delivery as a command with its reply, if it is to be written, and unless the writer has failed.
+pub(crate) fn write_echo<W: Sink>(
     written: Result<(), WriterFailed>,
+    echo: bool,
     delivery: &Delivery,
     output: &mut Output<W>,
 ) -> Result<(), WriterFailed>
     ensures { (old : Writing) (text : List ℕ) → Writes old text written output.old →
-        Writes old (text ++ delivery_text delivery.now) result output.new }
+        Writes old (text ++ echoed echo (delivery.now ∷ [])) result output.new }
 {
+    if !echo {
+        return written;
+    }
     match written {
-        Ok(()) => write_taken(delivery, output),
+        Ok(()) => write_delivery(delivery, output),
         Err(failed) => Err(failed),
     }
 }
 
 /// Writes a delivery as a command with its reply.
-fn write_taken<W: Sink>(delivery: &Delivery, output: &mut Output<W>) -> Result<(), WriterFailed>
+fn write_delivery<W: Sink>(
+    delivery: &Delivery,
+    output: &mut Output<W>,
+) -> Result<(), WriterFailed>
     ensures { Writes output.old (delivery_text delivery.now) result output.new }
+{
+    write_command(delivery, output)?;
+    write_reply(&Reply::Took(delivery.prefix, delivery.kind), output)
+}
+
+/// Writes a delivery as a command.
+#[tactic(auto, unfolding(crate::specs::Answers::command_line))]
+fn write_command<W: Sink>(delivery: &Delivery, output: &mut Output<W>) -> Result<(), WriterFailed>
+    ensures { Writes output.old (command_line delivery.now) result output.new }
 {
     let parts = [
         Part::Bytes(b"deliver "),
@@ -53,8 +69,7 @@ fn write_taken<W: Sink>(delivery: &Delivery, output: &mut Output<W>) -> Result<(
         Part::Addr(delivery.to),
         Part::Bytes(b"\n"),
     ];
-    write_each(&parts, output)?;
-    write_reply(&Reply::Took(delivery.prefix, delivery.kind), output)
+    write_each(&parts, output)
 }
 
 /// Writes how the deliveries ended.
@@ -89,6 +104,7 @@ fn write_ended<W: Sink>(
 }
 
 /// Writes the words, and how many messages were delivered.
+#[tactic(auto, unfolding(crate::specs::Answers::counts_text))]
 fn write_counts<W: Sink>(
     words: &[u8],
     tally: Tally,
@@ -103,7 +119,8 @@ fn write_counts<W: Sink>(
         Part::Number(tally.updates),
         Part::Bytes(b" updates, "),
         Part::Number(tally.withdrawals),
-        Part::Bytes(b" withdrawals)\n"),
+        Part::Bytes(b" withdrawals)"),
+        Part::Bytes(b"\n"),
     ];
     write_each(&parts, output)
 }
