@@ -1,5 +1,5 @@
 -- What a line is answered where messages may be delivered until none waits (own).
-use Rattle.std.specs.Prelude.{◌≡◌, ◌⊎◌, ℕ, ◌+◌, ◌≤◌, Bool, true, false, List, [], ◌∷◌, ◌++◌, codes, length, Option, Some, None, IfSome}
+use Rattle.std.specs.Prelude.{◌≡◌, ◌⊎◌, ℕ, ◌+◌, ◌≤◌, Bool, true, false, List, [], ◌∷◌, ◌++◌, codes, length, min, Option, Some, None, IfSome}
 use Rattle.std.specs.Fmt.{decimal}
 use Rattle.std.specs.List.{flat_map}
 use Rattle.net_prefix.specs.declared.addr.Addr.{Addr}
@@ -58,26 +58,30 @@ pub record AreDelivered (s : Network) (n : ℕ) (echo : Bool) (text : List ℕ) 
 -- WHERE MESSAGES WAIT
 
 -- the direction, how many messages wait in it, and the prefix of the first
-unfoldable pub queued_text : Addr × Addr → Queued → List ℕ
-queued_text d queued = addr_text d.0 ++ codes " " ++ addr_text d.1 ++ codes " " ++ decimal queued.count
+unfoldable pub queued_text : Addr → Addr → Queued → List ℕ
+queued_text from to queued = addr_text from ++ codes " " ++ addr_text to ++ codes " " ++ decimal queued.count
     ++ codes " " ++ prefix_text queued.prefix ++ line_end
 
-abbrev pub maybe_queued_text : Addr × Addr → Option Queued → List ℕ
-maybe_queued_text d None = []
-maybe_queued_text d (Some queued) = queued_text d queued
+abbrev pub maybe_queued_text : Addr → Addr → Option Queued → List ℕ
+maybe_queued_text from to None = []
+maybe_queued_text from to (Some queued) = queued_text from to queued
 
 abbrev pub waiting_line : Network → Addr × Addr → List ℕ
-waiting_line s d = maybe_queued_text d (queued_of (on_way s d.0 d.1))
+waiting_line s d = maybe_queued_text d.0 d.1 (queued_of (on_way s d.0 d.1))
 
 -- these are all directions past the start in which a message waits, by sender, then by receiver
 abbrev pub AreWaiting : Network → Option (Addr × Addr) → List (Addr × Addr) → Type 0
 AreWaiting s start [] = IsNextWaiting s start None
 AreWaiting s start (d ∷ ds) = IsNextWaiting s start (Some d) × AreWaiting s (Some d) ds
 
+-- how many there are, as a number of 64 bits
+abbrev pub count_of : List (Addr × Addr) → ℕ
+count_of ds = min (length ds) 18446744073709551615
+
 -- they are listed, and counted
 abbrev pub AreListed : Network → List ℕ → Type 0
 AreListed s text = (ds : List (Addr × Addr)) × AreWaiting s None ds
-    × (text ≡ flat_map (waiting_line s) ds ++ end_line (length ds))
+    × (text ≡ flat_map (waiting_line s) ds ++ end_line (count_of ds))
 
 -- LINES
 

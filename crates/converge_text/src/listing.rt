@@ -4,9 +4,8 @@ ghost use Rattle.std.specs.Prelude.{ℕ, List};
 ghost use Rattle.watched.specs.Streams.{Writes};
 ghost use Rattle.converge_text.specs.Answers.{AreListed};
 
-use crate::writing::write_more;
+use crate::writing::{write_count, write_queued};
 use convergence::{Reached, Waiting};
-use reply_text::Part;
 use watched::{Output, Sink, WriterFailed};
 
 /// Writes each direction in which a message waits, with how many do and the prefix of the first; and how many
@@ -24,24 +23,9 @@ pub(crate) fn write_waiting<M: Waiting, W: Sink>(
         let Some(queued) = machine.queued(from, to) else {
             unreachable!()
         };
-        let parts = [
-            Part::Addr(from),
-            Part::Bytes(b" "),
-            Part::Addr(to),
-            Part::Bytes(b" "),
-            Part::Number(queued.count),
-            Part::Bytes(b" "),
-            Part::Prefix(queued.prefix),
-            Part::Bytes(b"\n"),
-        ];
-        written = write_more(written, &parts, output);
-        count += 1;
+        written = write_queued(written, from, to, queued, output);
+        count = count.saturating_add(1);
         past = Some((from, to));
     }
-    let parts = [
-        Part::Bytes(b"end "),
-        Part::Number(count),
-        Part::Bytes(b"\n"),
-    ];
-    write_more(written, &parts, output)
+    write_count(written, count, output)
 }

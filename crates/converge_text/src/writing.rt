@@ -1,31 +1,16 @@
 //! Answers that are written piece by piece. Where the writer has failed, the rest is not written, and the work goes on.
 
 ghost use Rattle.std.specs.Prelude.{ℕ, List, [], ◌∷◌, ◌++◌};
-ghost use Rattle.std.specs.List.{flat_map};
 ghost use Rattle.watched.specs.Streams.{Writes, Writing};
-ghost use Rattle.reply_text.specs.Parts.{part_text};
-ghost use Rattle.converge_text.specs.Answers.{command_line, counts_text, delivery_text, echoed, ending_text};
+ghost use Rattle.reply_text.specs.Replies.{end_line};
+ghost use Rattle.converge_text.specs.Answers.{command_line, counts_text, delivery_text, echoed, ending_text, queued_text};
 
-use convergence::{Delivery, Ending, Tally};
+use convergence::{Delivery, Ending, Queued, Tally};
 use net_conf::Refusal;
+use net_prefix::Addr;
 use reply_text::{Part, write_each, write_refusal, write_reply};
 use sim_event::Reply;
 use watched::{Output, Sink, WriterFailed};
-
-/// Writes the parts behind what was written, unless the writer has failed.
-pub(crate) fn write_more<W: Sink>(
-    written: Result<(), WriterFailed>,
-    parts: &[Part<'_>],
-    output: &mut Output<W>,
-) -> Result<(), WriterFailed>
-    ensures { (old : Writing) (text : List ℕ) → Writes old text written output.old →
-        Writes old (text ++ flat_map part_text parts.now) result output.new }
-{
-    match written {
-        Ok(()) => write_each(parts, output),
-        Err(failed) => Err(failed),
-    }
-}
 
 /// Writes a delivery as a command with its reply, if it is to be written, and unless the writer has failed.
 pub(crate) fn write_echo<W: Sink>(
@@ -120,6 +105,73 @@ fn write_counts<W: Sink>(
         Part::Bytes(b" updates, "),
         Part::Number(tally.withdrawals),
         Part::Bytes(b" withdrawals)"),
+        Part::Bytes(b"\n"),
+    ];
+    write_each(&parts, output)
+}
+
+/// Writes what waits in a direction.
+pub(crate) fn write_queued<W: Sink>(
+    written: Result<(), WriterFailed>,
+    from: Addr,
+    to: Addr,
+    queued: Queued,
+    output: &mut Output<W>,
+) -> Result<(), WriterFailed>
+    ensures { (old : Writing) (text : List ℕ) → Writes old text written output.old →
+        Writes old (text ++ queued_text from to queued) result output.new }
+{
+    match written {
+        Ok(()) => write_queued_line(from, to, queued, output),
+        Err(failed) => Err(failed),
+    }
+}
+
+/// Writes what waits in a direction.
+#[tactic(auto, unfolding(crate::specs::Answers::queued_text))]
+fn write_queued_line<W: Sink>(
+    from: Addr,
+    to: Addr,
+    queued: Queued,
+    output: &mut Output<W>,
+) -> Result<(), WriterFailed>
+    ensures { Writes output.old (queued_text from to queued) result output.new }
+{
+    let parts = [
+        Part::Addr(from),
+        Part::Bytes(b" "),
+        Part::Addr(to),
+        Part::Bytes(b" "),
+        Part::Number(queued.count),
+        Part::Bytes(b" "),
+        Part::Prefix(queued.prefix),
+        Part::Bytes(b"\n"),
+    ];
+    write_each(&parts, output)
+}
+
+/// Writes how many lines there were.
+pub(crate) fn write_count<W: Sink>(
+    written: Result<(), WriterFailed>,
+    count: u64,
+    output: &mut Output<W>,
+) -> Result<(), WriterFailed>
+    ensures { (old : Writing) (text : List ℕ) → Writes old text written output.old →
+        Writes old (text ++ end_line count) result output.new }
+{
+    match written {
+        Ok(()) => write_end(count, output),
+        Err(failed) => Err(failed),
+    }
+}
+
+/// Writes how many lines there were.
+fn write_end<W: Sink>(count: u64, output: &mut Output<W>) -> Result<(), WriterFailed>
+    ensures { Writes output.old (end_line count) result output.new }
+{
+    let parts = [
+        Part::Bytes(b"end "),
+        Part::Number(count),
         Part::Bytes(b"\n"),
     ];
     write_each(&parts, output)
