@@ -12,4 +12,5 @@ mod writing;
 
 pub use answer::ConvergeLines;
 pub use converge_run::run_converge;
+pub use convergence::Reached;
 pub use request::{Converge, Request};

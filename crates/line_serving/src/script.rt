@@ -8,10 +8,9 @@ ghost use Rattle.line_serving.specs.Progress.{Advances, Finishes, Ends, IsAdvanc
 ghost use Rattle.line_serving.specs.Serving.{is_write_fault, is_read_fault};
 ghost use Rattle.line_serving.specs.declared.line.Next.TheVariants.{Line, Part};
 
-use crate::ServeFault;
-use crate::Language;
 use crate::line::{MOST_BYTES, Next, next_line, without_carriage_return};
 use crate::typist::{CAPACITY, Typist};
+use crate::{Language, ServeFault};
 use std::alloc::Global;
 use std::thread::Threads;
 use watched::{LineBuffer, Output, Sink};

@@ -3,9 +3,9 @@
 ghost use Rattle.std.specs.Prelude.{◌≡◌, false, [], IfSome};
 ghost use Rattle.line_serving.specs.Serving.{IsServing, is_write_fault, is_read_fault};
 
-use crate::{Language, ServeFault};
 use crate::script::{Script, advance};
 use crate::typist::{CAPACITY, Typist};
+use crate::{Language, ServeFault};
 use std::alloc::Global;
 use std::thread::Threads;
 use watched::{LineBuffer, Output, Sink};

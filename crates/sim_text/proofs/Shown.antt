@@ -1,9 +1,9 @@
 -- Where lines are answered by a machine, they are answered in what is seen of it.
-use Rattle.std.proofs.Common.{◌≡◌, ℕ, List, [], ◌∷◌, Option, Some, None, IfSome, Result, Ok, Err, ap, subst}
+use Rattle.std.proofs.Common.{ℕ, List, [], ◌∷◌, Option, Some, None, IfSome, Result, Ok, Err, ap}
 use Rattle.watched.specs.Streams.{Reading, Writing}
 use Rattle.line_serving.specs.declared.fault.ServeFault.{ServeFault}
 use Rattle.line_serving.specs.declared.fault.ServeFault.TheVariants.{Read, Write}
-use Rattle.line_serving.specs.Serving.{Answers, AreAnswers, Served, IsWriteFault, IsServing}
+use Rattle.line_serving.specs.Serving.{Answers, AreAnswers, IsServing}
 use Rattle.sim_text.specs.ScriptRun.{IsRunOf}
 
 module _ {S T : Type 0} (f : S → T) (answers : Answers T) where
