@@ -100,7 +100,8 @@ pub converge_is_taken : (name : List ℕ) → takes commands (name ∷ codes "co
 unfolding clap_on_literals
 converge_is_taken name = refl
 
-pub converge_is_met : (name : List ℕ) → subcommand_of commands (name ∷ codes "converge" ∷ []) ≡ Some (codes "converge", [])
+pub converge_is_met : (name : List ℕ) →
+    subcommand_of commands (name ∷ codes "converge" ∷ []) ≡ Some (codes "converge", [])
 unfolding clap_on_literals
 converge_is_met name = refl
 

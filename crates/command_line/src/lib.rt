@@ -36,14 +36,16 @@ pub struct Team<'a> {
 }
 
 /// Reads the words, the program's name first. Help and the version come as an error too, as `clap` has them.
-/// Where there is memory, `script` alone, `converge` alone and `replay` alone are choices, and whatever `clap` finds a fault in is none.
+/// Where there is memory, `script` alone, `converge` alone and `replay` alone are choices, and whatever `clap` finds a
+/// fault in is none.
 /// A team comes with its files in their order, and with numbers within their ranges.
 pub fn choose<'a>(alloc: Global, words: &'a [String]) -> Result<Choice<'a>, Error>
     ensures faults { FailsBy (fault_of commands (map string_bytes words.now)) result }
     ensures choice { IfOk result (Chooses (map string_bytes words.now)) }
     ensures ranges { IfOk result IsWithin }
     ensures script { (name : List ℕ) → map string_bytes words.now ≡ name ∷ codes "script" ∷ [] → IsTaken Script result }
-    ensures converge { (name : List ℕ) → map string_bytes words.now ≡ name ∷ codes "converge" ∷ [] → IsTaken Converge result }
+    ensures converge { (name : List ℕ) → map string_bytes words.now ≡ name ∷ codes "converge" ∷ [] →
+        IsTaken Converge result }
     ensures replay { (name : List ℕ) → map string_bytes words.now ≡ name ∷ codes "replay" ∷ [] → IsTaken Replay result }
 {
     let command: Command<'a> = program(alloc)?;

@@ -1,5 +1,5 @@
 -- Directions that are listed one by one.
-use Rattle.std.proofs.Common.{◌≡◌, ℕ, ◌+◌, ◌<◌, ◌≤◌, min, true, false, not, Bool, List, [], ◌∷◌, ◌++◌, length, Option, Some, None, Result, Ok, refl, sym, ap, ◌∙◌, subst, arith, append-nil, append_assoc}
+use Rattle.std.proofs.Common.{◌≡◌, ℕ, ◌+◌, min, true, not, List, [], ◌∷◌, ◌++◌, Option, Some, None, Result, Ok, refl, sym, ap, ◌∙◌, subst, arith, append-nil, append_assoc}
 use Rattle.std.specs.List.{flat_map}
 use Rattle.std.proofs.lemmas.Bool.{true≢false}
 use Rattle.std.proofs.lemmas.List.{length_push}
@@ -12,8 +12,8 @@ use Rattle.reference_machine.specs.Network.{Network}
 use Rattle.reference_machine.specs.Reports.{is_empty}
 use Rattle.reply_text.specs.Replies.{end_line}
 use Rattle.convergence.specs.declared.waiting.Queued.{Queued}
-use Rattle.convergence.specs.Waiting.{on_way, queued_of, waits, IsNextWaiting}
-use Rattle.converge_text.specs.Answers.{count_of, maybe_queued_text, queued_text, waiting_line, AreListed, AreWaiting}
+use Rattle.convergence.specs.Waiting.{on_way, queued_of, IsNextWaiting}
+use Rattle.converge_text.specs.Answers.{maybe_queued_text, queued_text, waiting_line, AreListed, AreWaiting}
 use Rattle.converge_text.specs.Listings.{AreListedTo}
 
 abbrev Written : Type 0

@@ -1,6 +1,5 @@
 -- Answers that are written piece by piece.
 use Rattle.std.proofs.Common.{◌≡◌, ℕ, ◌<◌, Bool, true, false, List, [], ◌∷◌, ◌++◌, length, Result, Ok, Err, refl, sym, ap, ◌∙◌, subst, arith, append-nil, append_assoc}
-use Rattle.std.specs.List.{flat_map}
 use Rattle.watched.specs.Streams.{Writing, Writes}
 use Rattle.watched.specs.Writing.{writes_then, writes_stop, writes_none}
 use Rattle.watched.specs.declared.sink.WriterFailed.{WriterFailed}

@@ -1,5 +1,5 @@
 -- Words that are no others.
-use Rattle.std.proofs.Common.{◌≡◌, ℕ, ◌<◌, ◌≤◌, ◌^◌, Bool, true, false, List, [], ◌∷◌, ◌++◌, length, get_or, codes, Option, Some, None, All, ap, sym, subst, arith}
+use Rattle.std.proofs.Common.{◌≡◌, ℕ, ◌<◌, Bool, true, false, List, [], ◌∷◌, ◌++◌, length, codes, Option, Some, None, All, ap, sym, subst, arith}
 use Rattle.std.specs.Fmt.{decimal}
 use Rattle.decimal.specs.Digits.{IsDigit, decimal_digits}
 use Rattle.convergence.specs.declared.order.Order.{Order}

@@ -1,5 +1,5 @@
 -- What a line is answered where messages may be delivered until none waits (own).
-use Rattle.std.specs.Prelude.{◌≡◌, ◌⊎◌, ℕ, ◌+◌, ◌≤◌, Bool, true, false, List, [], ◌∷◌, ◌++◌, codes, length, min, Option, Some, None, IfSome}
+use Rattle.std.specs.Prelude.{◌≡◌, ◌⊎◌, ℕ, ◌≤◌, Bool, true, false, List, [], ◌∷◌, ◌++◌, codes, length, min, Option, Some, None}
 use Rattle.std.specs.Fmt.{decimal}
 use Rattle.std.specs.List.{flat_map}
 use Rattle.net_prefix.specs.declared.addr.Addr.{Addr}
@@ -45,8 +45,8 @@ ending_text Converged t = counts_text (codes "converged after ") t
 ending_text Limit t = counts_text (codes "not converged after ") t
 ending_text OutOfMemory t = refusal_text Memory
 
--- messages that wait were delivered one after another, n at most, each in a step of the machine's own: until none waits,
--- or n were made, or there was no memory for the next, and all made before stands
+-- messages that wait were delivered one after another, n at most, each in a step of the machine's own: until none
+-- waits, or n were made, or there was no memory for the next, and all made before stands
 pub record AreDelivered (s : Network) (n : ℕ) (echo : Bool) (text : List ℕ) (s' : Network) : Type 0 where
   pub deliveries : List Delivery
   pub ending : Ending

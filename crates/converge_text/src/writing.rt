@@ -32,10 +32,7 @@ pub(crate) fn write_echo<W: Sink>(
 }
 
 /// Writes a delivery as a command with its reply.
-fn write_delivery<W: Sink>(
-    delivery: &Delivery,
-    output: &mut Output<W>,
-) -> Result<(), WriterFailed>
+fn write_delivery<W: Sink>(delivery: &Delivery, output: &mut Output<W>) -> Result<(), WriterFailed>
     ensures { Writes output.old (delivery_text delivery.now) result output.new }
 {
     write_command(delivery, output)?;

@@ -1,7 +1,6 @@
 -- Where messages wait.
 use Rattle.std.specs.Prelude.{◌≡◌, Bool, true, false, not, List, [], ◌∷◌, length, Option, Some, None, IfSome, IfNone, unwrap_or}
 use Rattle.net_prefix.specs.declared.addr.Addr.{Addr}
-use Rattle.session_queue.specs.declared.direction.Direction.{Direction}
 use Rattle.session_queue.specs.declared.message.Message.{Message}
 use Rattle.session_queue.specs.Telling.{prefix_of}
 use Rattle.session_queue.specs.Waiting.{IsBefore, IsPast}

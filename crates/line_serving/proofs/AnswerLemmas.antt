@@ -46,7 +46,8 @@ kept_known (Some ys) (Some zs) xs e k = ap Some k ∙ e
 module _ {S : Type 0} (answers : Answers S) where
   -- one more line
   pub are_answers_push : (s mid s' : S) (done : List (List ℕ)) (line text answer : List ℕ) →
-      AreAnswers answers s done text mid → answers mid line answer s' → AreAnswers answers s (done ++ line ∷ []) (text ++ answer) s'
+      AreAnswers answers s done text mid → answers mid line answer s' →
+      AreAnswers answers s (done ++ line ∷ []) (text ++ answer) s'
   are_answers_push s mid s' [] line text answer all one =
       let P : S → Type 0 = λ t. answers t line answer s' in
       (s', answer, [], subst P all.1 one, (refl, refl), ap (λ t. t ++ answer) all.0 ∙ sym (append-nil answer))
@@ -61,7 +62,8 @@ module _ {S : Type 0} (answers : Answers S) where
 
   -- the last line apart
   pub are_answers_pop : (s s' : S) (done : List (List ℕ)) (line text : List ℕ) →
-      AreAnswers answers s (done ++ line ∷ []) text s' → (mid : S) × (front answer : List ℕ) × AreAnswers answers s done front mid
+      AreAnswers answers s (done ++ line ∷ []) text s' → (mid : S) × (front answer : List ℕ)
+      × AreAnswers answers s done front mid
       × answers mid line answer s' × (text ≡ front ++ answer)
   are_answers_pop s s' [] line text all =
       let P : S → Type 0 = λ t. answers s line all.1 t in
@@ -147,7 +149,8 @@ module _ {S : Type 0} (answers : Answers S) where
   served bytes left k s o s' o' so =
       let P : List (List ℕ) → Type 0 = λ ls. AreAnswers answers s ls so.text s' in
       let Q : List (List ℕ) → Type 0 = λ ls. AreFit ls in
-      let first : so.done ≡ take k (lines bytes) = sym (ap (take k) so.parts ∙ take_at so.done (lines left) k so.count) in
+      let first : so.done ≡ take k (lines bytes) = sym (ap (take k) so.parts ∙ take_at so.done (lines left) k
+      so.count) in
       let few : length so.done ≤ most_lines = omega (arith, so.count, so.few) in
       (so.text, subst Q first (few, so.short), subst P first so.said, so.written)
 
@@ -160,7 +163,8 @@ module _ {S : Type 0} (answers : Answers S) where
   -- reading failed, after some bytes with no line feed
   pub end_failed : (bytes pending rest : List ℕ) (k : ℕ) (s : S) (o : Writing) (s' : S)
       (o' : Writing) (i' : Reading)
-      → Whole pending → i'.failed ≡ true → i'.remaining ≡ Some rest → Reached answers bytes (pending ++ rest) k s o s' o' →
+      → Whole pending → i'.failed ≡ true → i'.remaining ≡ Some rest →
+      Reached answers bytes (pending ++ rest) k s o s' o' →
       IsServing answers bytes s o (Err (Read (k + 1))) s' o' i'
   end_failed bytes pending rest k s o s' o' i' whole failed left re = (
     k,
@@ -179,7 +183,8 @@ module _ {S : Type 0} (answers : Answers S) where
   -- the next line, and how many there are
   next_at : (bytes left : List ℕ) (k : ℕ) (s : S) (o : Writing) (s' : S) (o' : Writing) (line : List ℕ)
       (more : List (List ℕ))
-      → lines left ≡ line ∷ more → SoFar answers bytes left k s o s' o' → (k < length (lines bytes)) × (line_at bytes k ≡ line)
+      → lines left ≡ line ∷ more → SoFar answers bytes left k s o s' o' → (k < length (lines bytes))
+      × (line_at bytes k ≡ line)
   next_at bytes left k s o s' o' line more begins so =
       let parts : lines bytes ≡ so.done ++ (line ∷ more) = so.parts ∙ ap (λ t. so.done ++ t) begins in
       let len : length (lines bytes) ≡ length so.done + length (line ∷ more) = ap length parts
@@ -279,7 +284,8 @@ module _ {S : Type 0} (answers : Answers S) where
   -- the next line cannot be answered
   pub end_unfit : (bytes pending rest : List ℕ) (k : ℕ) (s : S) (o : Writing) (s' : S)
       (o' : Writing) (i' : Reading)
-      → IsUnfit pending k → SoFar answers bytes (pending ++ rest) k s o s' o' → IsServing answers bytes s o (Err (Read (k + 1))) s' o' i'
+      → IsUnfit pending k → SoFar answers bytes (pending ++ rest) k s o s' o' →
+      IsServing answers bytes s o (Err (Read (k + 1))) s' o' i'
   end_unfit bytes pending rest k s o s' o' i' unfit so =
       let found = unfit rest in
       ⊎_elim
@@ -289,13 +295,15 @@ module _ {S : Type 0} (answers : Answers S) where
 
   pub unsent_after : (bytes left : List ℕ) (k : ℕ) (s : S) (o : Writing) (s' : S) (om o' : Writing)
       (fault : ServeFault) (i' : Reading)
-      → Keeps om.written o'.written → (fault ≡ Write k) × (0 < k) × (o'.failed ≡ true) → SoFar answers bytes left k s o s' om →
+      → Keeps om.written o'.written → (fault ≡ Write k) × (0 < k)
+      × (o'.failed ≡ true) → SoFar answers bytes left k s o s' om →
       IsServing answers bytes s o (Err fault) s' o' i'
   unsent_after bytes left k s o s' om o' fault i' kept h so =
       let P : ServeFault → Type 0 = λ f. IsServing answers bytes s o (Err f) s' o' i' in
       subst P (sym h.0) (end_unsent bytes left k s o s' om o' i' h.1 kept h.2 so)
 
   pub ends_unsent : (left : List ℕ) (k : ℕ) (s' : S) (om o' : Writing) (fault : ServeFault) (i' : Reading)
-      → Keeps om.written o'.written → (fault ≡ Write k) × (0 < k) × (o'.failed ≡ true) → Ends answers left k s' om fault s' o' i'
+      → Keeps om.written o'.written → (fault ≡ Write k) × (0 < k)
+      × (o'.failed ≡ true) → Ends answers left k s' om fault s' o' i'
   ends_unsent left k s' om o' fault i' kept h = λ bytes s0 o0 re.
       unsent_after bytes left k s0 o0 s' om o' fault i' kept h re.so_far

@@ -8,7 +8,8 @@ use Rattle.watched.specs.Limits.{most_bytes, most_lines}
 use Rattle.line_serving.specs.Serving.{Answers, AreAnswers, IsServing, line_feeds}
 
 -- the first k lines of the bytes were answered, and these bytes are left
-pub record SoFar {S : Type 0} (answers : Answers S) (bytes left : List ℕ) (k : ℕ) (s : S) (o : Writing) (s' : S) (o' : Writing) : Type 0 where
+pub record SoFar {S : Type 0} (answers : Answers S) (bytes left : List ℕ) (k : ℕ) (s : S) (o : Writing) (s' : S)
+    (o' : Writing) : Type 0 where
   pub done : List (List ℕ)
   pub text : List ℕ
   pub parts : lines bytes ≡ done ++ lines left
@@ -28,17 +29,20 @@ pub record Reached {S : Type 0} (answers : Answers S) (bytes left : List ℕ) (k
 
 -- whatever was served before: where it had come to the first place, it comes to the second
 abbrev pub Advances : {S : Type 0} → Answers S → List ℕ → ℕ → S → Writing → List ℕ → ℕ → S → Writing → Type 0
-Advances answers left k s o left' k' s' o' = (bytes : List ℕ) (s0 : _) (o0 : Writing) → Reached answers bytes left k s0 o0 s o →
+Advances answers left k s o left' k' s' o' = (bytes : List ℕ) (s0 : _) (o0 : Writing) →
+    Reached answers bytes left k s0 o0 s o →
     Reached answers bytes left' k' s0 o0 s' o'
 
 -- whatever was served before: where it had come to the place, all lines are answered, so many
 abbrev pub Finishes : {S : Type 0} → Answers S → List ℕ → ℕ → S → Writing → ℕ → S → Writing → Type 0
-Finishes answers left k s o k' s' o' = (bytes : List ℕ) (s0 : _) (o0 : Writing) → Reached answers bytes left k s0 o0 s o →
+Finishes answers left k s o k' s' o' = (bytes : List ℕ) (s0 : _) (o0 : Writing) →
+    Reached answers bytes left k s0 o0 s o →
     SoFar answers bytes [] k' s0 o0 s' o'
 
 -- whatever was served before: where it had come to this place, it ends with the fault
 abbrev pub Ends : {S : Type 0} → Answers S → List ℕ → ℕ → S → Writing → ServeFault → S → Writing → Reading → Type 0
-Ends answers left k s o fault s' o' i' = (bytes : List ℕ) (s0 : _) (o0 : Writing) → Reached answers bytes left k s0 o0 s o →
+Ends answers left k s o fault s' o' i' = (bytes : List ℕ) (s0 : _) (o0 : Writing) →
+    Reached answers bytes left k s0 o0 s o →
     IsServing answers bytes s0 o0 (Err fault) s' o' i'
 
 -- at most how many more lines may be answered and reads made, as a number that falls

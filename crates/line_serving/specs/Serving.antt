@@ -22,7 +22,8 @@ line_at bytes k = slice_index_or (lines bytes) k []
 
 -- the first k lines are within the limits, they were answered, and their answers were written in full
 abbrev pub Served : {S : Type 0} → Answers S → List ℕ → ℕ → S → Writing → S → Writing → Type 0
-Served answers bytes k s o s' o' = (text : List ℕ) × AreFit (take k (lines bytes)) × AreAnswers answers s (take k (lines bytes)) text s'
+Served answers bytes k s o s' o' = (text : List ℕ) × AreFit (take k (lines bytes))
+    × AreAnswers answers s (take k (lines bytes)) text s'
     × Appends o.written o'.written text
 
 -- how many lines were read whole, of these bytes
@@ -41,7 +42,8 @@ IsReadFault bytes k i' =
 -- the first k lines were answered in full; the next one is within the limits, its event was taken too, and a front of
 -- its answer was written
 abbrev pub IsWriteFault : {S : Type 0} → Answers S → List ℕ → ℕ → S → Writing → S → Writing → Type 0
-IsWriteFault answers bytes k s o s' o' = (k < length (lines bytes)) × (k < most_lines) × (length (line_at bytes k) ≤ most_bytes)
+IsWriteFault answers bytes k s o s' o' = (k < length (lines bytes)) × (k < most_lines)
+    × (length (line_at bytes k) ≤ most_bytes)
     × (o'.failed ≡ true)
     × (mid : _) × (text : List ℕ) × (answer : List ℕ) × (n : ℕ)
     × AreFit (take k (lines bytes)) × AreAnswers answers s (take k (lines bytes)) text mid
@@ -61,8 +63,11 @@ is_read_fault (Err (Read line)) = true
 is_read_fault (Err (Write line)) = false
 
 -- serving the bytes: all lines were answered, or a fault came at the line that it names, counted from 1
-abbrev pub IsServing : {S : Type 0} → Answers S → List ℕ → S → Writing → Result ℕ ServeFault → S → Writing → Reading → Type 0
-IsServing answers bytes s o (Ok n) s' o' i' = (n ≡ length (lines bytes)) × (i'.remaining ≡ Some []) × Served answers bytes n s o s' o'
+abbrev pub IsServing : {S : Type 0} → Answers S → List ℕ → S → Writing → Result ℕ ServeFault → S → Writing →
+    Reading → Type 0
+IsServing answers bytes s o (Ok n) s' o' i' = (n ≡ length (lines bytes)) × (i'.remaining ≡ Some [])
+    × Served answers bytes n s o s' o'
 IsServing answers bytes s o (Err (Read line)) s' o' i' = (k : ℕ) × (line ≡ k + 1) × IsReadFault bytes k i'
     × Served answers bytes k s o s' o'
-IsServing answers bytes s o (Err (Write line)) s' o' i' = (k : ℕ) × (line ≡ k + 1) × IsWriteFault answers bytes k s o s' o'
+IsServing answers bytes s o (Err (Write line)) s' o' i' = (k : ℕ) × (line ≡ k + 1)
+    × IsWriteFault answers bytes k s o s' o'

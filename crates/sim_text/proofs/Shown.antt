@@ -16,7 +16,8 @@ module _ {S T : Type 0} (f : S → T) (answers : Answers T) where
   are_shown s (l ∷ ls) text s' all =
       (f all.0, all.1, all.2, all.3, are_shown all.0 ls all.2 s' all.4, all.5)
 
-  serving_shown : (bytes : List ℕ) (s : S) (o : Writing) (r : Result ℕ ServeFault) (s' : S) (o' : Writing) (i' : Reading)
+  serving_shown : (bytes : List ℕ) (s : S) (o : Writing) (r : Result ℕ ServeFault) (s' : S) (o' : Writing)
+      (i' : Reading)
       → IsServing shown bytes s o r s' o' i' → IsServing answers bytes (f s) o r (f s') o' i'
   serving_shown bytes s o (Ok n) s' o' i' h =
       (h.0, h.1, (h.2.0, h.2.1, are_shown s _ h.2.0 s' h.2.2, h.2.3))

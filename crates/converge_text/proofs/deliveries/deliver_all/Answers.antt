@@ -3,7 +3,7 @@ use Rattle.watched.specs.declared.sink.WriterFailed.{WriterFailed}
 use Rattle.convergence.specs.declared.delivery.Tally.{Tally}
 use Rattle.converge_text.specs.Requests.{most_of}
 use Rattle.converge_text.specs.Echoes.{AreEchoed}
-use Rattle.converge_text.proofs.Echoing.{nothing_echoed, one_echoed, all_delivered}
+use Rattle.converge_text.proofs.Echoing.{nothing_echoed, one_echoed}
 use Rattle.converge_text.proofs.deliveries.deliver_all.Goals as goal
 
 pub deliveries-init : goal.deliveries-init

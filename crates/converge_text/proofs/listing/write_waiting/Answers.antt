@@ -1,4 +1,4 @@
-use Rattle.std.proofs.Common.{◌≡◌, ℕ, ◌+◌, ◌-◌, ◌<◌, min, Option, Some, None, sym, subst, ◌∙◌, arith, rules}
+use Rattle.std.proofs.Common.{◌≡◌, ◌+◌, ◌-◌, ◌<◌, min, Option, Some, sym, subst, ◌∙◌, arith, rules}
 use Rattle.net_prefix.specs.declared.addr.Addr.{Addr}
 use Rattle.convergence.specs.Waiting.{IsNextWaiting}
 use Rattle.converge_text.specs.Listings.{place}

@@ -1,5 +1,4 @@
-use Rattle.std.proofs.Common.{◌≡◌, ◌++◌, ℕ, Bool, Option, Some, None, ap, sym, ◌∙◌}
-use Rattle.command_text.specs.Lines.{tokens}
+use Rattle.std.proofs.Common.{◌++◌, Some}
 use Rattle.converge_text.specs.Requests.{echo_words, most_words}
 use Rattle.converge_text.proofs.RequestLemmas.{echo_begins_no_number, same_echo, rest_begins_no_order}
 use Rattle.converge_text.proofs.request.read_converge.Goals as goal

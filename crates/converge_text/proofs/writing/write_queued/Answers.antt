@@ -4,7 +4,8 @@ use Rattle.converge_text.proofs.writing.write_queued.Goals as goal
 
 pub returns-in-Ok : goal.returns-in-Ok
 returns-in-Ok g c = λ old text h.
-    written_more old c.args.output.now c.write_queued_line.new.output text (queued_text c.args.from c.args.to c.args.queued)
+    written_more old c.args.output.now c.write_queued_line.new.output text (queued_text c.args.from c.args.to
+    c.args.queued)
     c.args.written c.write_queued_line.result _ c.in-Ok.is h c.write_queued_line.ensures
 
 pub returns-in-Err : goal.returns-in-Err

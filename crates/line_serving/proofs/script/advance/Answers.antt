@@ -16,7 +16,8 @@ returns-in_err-flush-in-Unfit-clause-advance g c = λ rest known.
 
 pub returns-in_ok-flush-in-Unfit-clause-advance : goal.returns-in_ok-flush-in-Unfit-clause-advance
 returns-in_ok-flush-in-Unfit-clause-advance g c = λ rest known bytes s0 o0 so.
-    end_unfit g.L.Language.answers bytes c.args.script.now.pending rest c.args.script.now.answered s0 o0 _ c.flush.new.output
+    end_unfit g.L.Language.answers bytes c.args.script.now.pending rest c.args.script.now.answered s0 o0 _
+    c.flush.new.output
     (g.I.Typist.reading c.args.input.now) c.in-Unfit.ensures
     (so_far_kept g.L.Language.answers bytes _ c.args.script.now.answered s0 o0 _ c.args.output.now c.flush.new.output
     c.flush.ensures.kept so.so_far)

@@ -32,11 +32,14 @@ returns-clause-ok g c = λ rest bytes s0 o0 so.
     let k = c.args.script.now.answered in
     let mid = c.args.machine.now in
     let after = c.answer.new.machine in
-    let P : List ℕ → Type 0 = λ b. Reached g.L.Language.answers bytes (b ++ rest) (k + 1) s0 o0 after c.answer.new.output in
+    let P : List ℕ → Type 0 = λ b. Reached g.L.Language.answers bytes (b ++ rest) (k + 1) s0 o0 after
+    c.answer.new.output in
     subst P (sym c.skip.ensures)
-    (reached_more g.L.Language.answers bytes pending rest c.args.end k s0 o0 mid c.args.output.now after c.answer.new.output
+    (reached_more g.L.Language.answers bytes pending rest c.args.end k s0 o0 mid c.args.output.now after
+    c.answer.new.output
     c.requires.next.0 so
-    (so_far_more g.L.Language.answers bytes (pending ++ rest) (back ++ rest) line said.0 k s0 o0 mid c.args.output.now after
+    (so_far_more g.L.Language.answers bytes (pending ++ rest) (back ++ rest) line said.0 k s0 o0 mid
+    c.args.output.now after
     c.answer.new.output
     (lines_first pending rest c.args.end c.requires.next.0 ∙ ap (λ l. l ∷ lines (back ++ rest)) (sym same))
     c.requires.next.2 short said.1 said.2.0 so.so_far))

@@ -21,7 +21,8 @@ returns-in-Err-clause-err g c = λ i bytes s0 o0 so.
     let len = ap length c.as_slice-line.ensures in
     let none = eqb-false (length line) 0 (sym c.is_empty.ensures ∙ c.if-is_empty.false) in
     let said = c.in-Err.ensures in
-    end_unwritten g.L.Language.answers bytes pending c.args.script.now.answered s0 o0 _ c.args.output.now _ c.answer.new.output i line
+    end_unwritten g.L.Language.answers bytes pending c.args.script.now.answered s0 o0 _ c.args.output.now _
+    c.answer.new.output i line
     [] said.0 said.2.0.0
     (lines_whole pending (no_cut pending c.requires.next.0) (omega arith)
     ∙ ap (λ l. l ∷ []) (sym c.as_slice-line.ensures)) (c.requires.next.2 (omega arith))

@@ -17,14 +17,16 @@ returns-clause-err g c =
     Ends g.L.Language.answers script.pending script.answered c.args.machine.now c.args.output.now fault
     c.answer_last.new.machine c.flush.new.output i in
     IfErr-weaker c.flush.result P Q
-    (λ fault unsent i bytes s0 o0 re. unsent_after g.L.Language.answers bytes [] answered s0 o0 _ c.answer_last.new.output c.flush.new.output
+    (λ fault unsent i bytes s0 o0 re. unsent_after g.L.Language.answers bytes [] answered s0 o0 _
+    c.answer_last.new.output c.flush.new.output
     fault i c.flush.ensures.kept unsent
     (c.in_ok-answer_last.ensures.ok bytes s0 o0 re))
     c.flush.ensures.err
 
 pub returns-clause-ok : goal.returns-clause-ok
 returns-clause-ok g c = on_ok_weaker c.flush.result
-    (λ _ bytes s0 o0 re. so_far_kept g.L.Language.answers bytes [] c.answer_last.new.script.answered s0 o0 _ c.answer_last.new.output
+    (λ _ bytes s0 o0 re. so_far_kept g.L.Language.answers bytes [] c.answer_last.new.script.answered s0 o0 _
+    c.answer_last.new.output
     c.flush.new.output c.flush.ensures.kept
     (c.in_ok-answer_last.ensures.ok bytes s0 o0 re))
     c.flush.ensures.sent

@@ -13,7 +13,8 @@ pub returns-in-Err-clause-advance : goal.returns-in-Err-clause-advance
 returns-in-Err-clause-advance g c = λ rest known bytes s0 o0 re.
     let pending = c.args.script.now.pending in
     let k = c.args.script.now.answered in
-    end_failed g.L.Language.answers bytes pending rest k s0 o0 _ c.flush.new.output (g.I.Typist.reading c.read_more.new.self)
+    end_failed g.L.Language.answers bytes pending rest k s0 o0 _ c.flush.new.output (g.I.Typist.reading
+    c.read_more.new.self)
     (no_cut pending c.requires.next.0) c.in-Err.ensures.err
     (kept_known (g.I.Typist.reading c.args.input.now).remaining (g.I.Typist.reading c.read_more.new.self).remaining rest
     known c.in-Err.ensures.left)

@@ -25,5 +25,6 @@ returns-clause-served g c =
     let now = c.lines.invariant.known bytes known in
     let last = c.in_ok-advance.ensures.advance now.0 now.1 in
     let done = last.3 c.if-branch.false in
-    end_served g.L.Language.answers bytes script.answered s c.args.output.now _ c.advance.new.output (g.I.Typist.reading c.advance.new.input)
+    end_served g.L.Language.answers bytes script.answered s c.args.output.now _ c.advance.new.output
+    (g.I.Typist.reading c.advance.new.input)
     (last.1 ∙ ap Some done.0) (done.1 bytes s c.args.output.now now.2))
