@@ -1,5 +1,4 @@
-use Rattle.std.proofs.Common.{ℕ, List, Option, IfOk, sym, subst}
-use Rattle.watched.specs.Streams.{Reading, Writing}
+use Rattle.std.proofs.Common.{IfOk, sym, subst}
 use Rattle.command_line.specs.declared.Choice.{Choice}
 use Rattle.command_line.specs.CommandLine.{IsWithin}
 use Rattle.bgpsim.specs.Running.{IsRunOf}
