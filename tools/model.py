@@ -578,11 +578,80 @@ def answer(net, line):
         return ["refused %d %s" % (r.number, NAMES[r.number])]
 
 
+# The lines that `bgpsim converge` reads beside commands
+
+def waiting(net):
+    """The directions in which a message waits, by sender, then by receiver."""
+    return sorted(d for d, messages in net.queues.items() if messages)
+
+
+def next_waiting(net, past):
+    """The next of them behind one of them, and the first of all behind the last."""
+    directions = waiting(net)
+    return next((d for d in directions if past is None or d > past), directions[0] if directions else None)
+
+
+def in_rounds(net):
+    past = next_waiting(net, None)
+    while past is not None:
+        yield past
+        past = next_waiting(net, past)
+
+
+def by_router(net):
+    begun = next_waiting(net, None)
+    while begun is not None:
+        while net.queues[begun]:
+            yield begun
+        for sender in [] if net.nodes[begun[1]][1] else net.peers(begun[1]):
+            while net.queues.get((sender, begun[1])):
+                yield sender, begun[1]
+        begun = next_waiting(net, begun)
+
+
+ORDERS = {"fair": in_rounds, "router": by_router}
+
+
+def converge(net, words):
+    order, most, echo = in_rounds, 1000000, False
+    if words and words[0] in ORDERS:
+        order, words = ORDERS[words[0]], words[1:]
+    if words and words[0] != "echo":
+        most, words = number(words[0]), words[1:]
+    if words == ["echo"]:
+        echo, words = True, []
+    if words:
+        raise Bad
+    lines, kinds = [], []
+    for a, b in order(net):
+        if len(kinds) == most:
+            break
+        line = "deliver %s %s" % (show(a), show(b))
+        reply, = answer(net, line)
+        kinds.append(reply.split(" ")[2])
+        lines += [line, reply] if echo else []
+    counts = len(kinds), kinds.count("update"), kinds.count("withdraw")
+    return lines + [("not " if waiting(net) else "") + "converged after %d (%d updates, %d withdrawals)" % counts]
+
+
+def answer_converge(net, line):
+    words = [w for w in line.split(" ") if w]
+    try:
+        if len(line) <= 4096 and words[:1] == ["converge"]:
+            return converge(net, words[1:])
+        if len(line) <= 4096 and words == ["waiting"]:
+            return counted(["%s %s %d %s" % (show(a), show(b), len(net.queues[a, b]), show_prefix(net.queues[a, b][0][0]))
+                            for a, b in waiting(net)])
+    except Bad:
+        return ["refused 1 syntax"]
+    return answer(net, line)
+
+
 class ReadFault(Exception):
     pass
 
 
-def play(text):
+def play(text, answered=answer):
     """The lines of the replies to a script, one after the other; ReadFault with the number of a line that is too long, or one too many."""
     net = Net()
     # A carriage return belongs to the end of a line only before a line feed, which the last line lacks.
@@ -591,12 +660,12 @@ def play(text):
     for number, line in enumerate(lines, 1):
         if len(line) > 65536 or number > 1000000:
             raise ReadFault(number)
-        yield from answer(net, line)
+        yield from answered(net, line)
 
 
 def main():
     try:
-        for reply in play(sys.stdin.buffer.read()):
+        for reply in play(sys.stdin.buffer.read(), answer_converge if sys.argv[1:] == ["converge"] else answer):
             print(reply)
     except ReadFault as fault:
         print("read fault at line %d" % fault.args[0], file=sys.stderr)

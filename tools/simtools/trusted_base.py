@@ -57,6 +57,8 @@ PARTS = (
     Part("", (Root("bgpsim/src/main.rt", ("without_memory",)), Root("bgpsim/src/running.rt", ("show", "serve_script")),
               Root("command_line/src/lib.rt", ("choose",)), Root("sim_text/src/script_run.rt", ("run_script",)),
               Root("reference_machine/src/machine.rt", ("step",)))),
+    Part("`converge`", (Root("bgpsim/src/running.rt", ("serve_converge",)),
+                        Root("converge_text/src/converge_run.rt", ("run_converge",)))),
     Part("`replay`", (Root("bgpsim/src/running.rt", ("replay_log",)),
                       Root("log_replay/src/replay_run.rt", ("run_replay",)))),
     Part("`team`", (Root("bgpsim/src/running.rt", ("*",)), Root("team_run/src/team.rt", ("run_team",)))),

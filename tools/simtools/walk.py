@@ -30,7 +30,7 @@ from .running import PATIENCE
 
 PAGE = TOP / "docs" / "explanation" / "engine.md"
 QUICK = TOP / "crates/bgpsim/out/unproved/bgpsim"
-LINE = "sim_text::answer::answer_line"
+LINE = "sim_text::answer::CommandsLanguage::answer"
 DEPTH = 5
 # A router of AS 9 with three neighbours; the last delivery changes its best route, and it sends three messages.
 DELIVER = """router 9.0.0.1 9

@@ -1,15 +1,17 @@
 -- Where messages wait in the engine, they wait in its network.
-use Rattle.std.proofs.Common.{◌≡◌, ℕ, ◌<◌, Bool, true, false, not, List, [], ◌∷◌, length, Option, Some, None, IfSome, IfNone, unwrap_or, if◌then◌else◌, refl, sym, ap, ◌∙◌, subst, arith}
+use Rattle.std.proofs.Common.{◌≡◌, ◌<◌, Bool, true, false, not, List, [], ◌∷◌, length, Option, Some, None, IfSome, IfNone, slice_get, unwrap_or, if◌then◌else◌, refl, sym, ap, ◌∙◌, subst, arith}
 use Rattle.std.proofs.lemmas.Option.{IfSome_then}
 use Rattle.net_prefix.specs.declared.addr.Addr.{Addr}
 use Rattle.session_queue.specs.declared.message.Message.{Message}
+use Rattle.session_queue.specs.Telling.{prefix_of}
 use Rattle.session_queue.specs.Waiting.{queue_at, IsPast, SkipsNone}
 use Rattle.net_conf.specs.Configuration.{has_session}
 use Rattle.reference_machine.specs.Reports.{is_empty, is_quiet}
 use Rattle.cell_engine.specs.State.{State, IsConsistent, network}
 use Rattle.cell_engine.proofs.Queues.{messages_of_network}
 use Rattle.cell_engine.proofs.Reports.{quiet_by_queues}
-use Rattle.convergence.specs.Waiting.{on_way, waits, PassesNone, IsNextWaiting}
+use Rattle.convergence.specs.declared.waiting.Queued.{Queued}
+use Rattle.convergence.specs.Waiting.{on_way, queued_of, waits, PassesNone, IsNextWaiting}
 
 none_there : (there : Bool) (ms : List Message) → (there ≡ false → ms ≡ []) →
     unwrap_or (if there then Some ms else None) [] ≡ ms
@@ -20,8 +22,20 @@ some_there : (ms : List Message) → 0 < length ms → not (is_empty ms) ≡ tru
 some_there [] h = absurd (omega arith)
 some_there (m ∷ ms) h = refl
 
+-- what waits, by the head
+pub queued_none : (ms : List Message) → slice_get ms 0 ≡ None → queued_of ms ≡ None
+queued_none [] is = refl
+queued_none (m ∷ ms) is = absurd (cc)
+
+pub queued_some : (ms : List Message) (m : Message) (queued : Queued) → slice_get ms 0 ≡ Some m →
+    queued ≡ record { count = length ms; prefix = prefix_of m } → queued_of ms ≡ Some queued
+queued_some [] m queued is same = absurd (cc)
+queued_some (x ∷ ms) m queued is same =
+    let first : x ≡ m = cc in
+    ap (λ (y : Message). Some (record { count = length (x ∷ ms); prefix = prefix_of y })) first ∙ ap Some (sym same)
+
 module _ (e : State) (sound : IsConsistent e) where
-  same_messages : (f t : Addr) → on_way (network e) f t ≡ queue_at e.queues f t
+  pub same_messages : (f t : Addr) → on_way (network e) f t ≡ queue_at e.queues f t
   same_messages f t = ap (λ o. unwrap_or o []) (messages_of_network e sound (record { from = f; to = t }))
       ∙ none_there (has_session e.conf f t) (queue_at e.queues f t) (sound.silent f t)
 

@@ -21,7 +21,7 @@ use Rattle.reference_machine.specs.Machine.{nothing, unless_refused, head_step, 
 use Rattle.session_law.proofs.Configs.{session_either, session_if_up}
 use Rattle.session_law.proofs.Told.{IsTidy, IsTold, told_nothing}
 use Rattle.session_law.proofs.Runs.{told_step}
-use Rattle.convergence.specs.Waiting.{on_way, waits, IsReached, WaitingLaw}
+use Rattle.convergence.specs.Waiting.{waits, IsReached, WaitingLaw}
 
 -- RUNS
 

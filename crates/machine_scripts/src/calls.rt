@@ -4,8 +4,8 @@ ghost use Rattle.std.specs.Prelude.{◌<◌, length, IfOk, IfSome};
 ghost use Rattle.desk.specs.Desks.{IsDeskLedger};
 
 use crate::hands::Hands;
+use line_serving::CAPACITY;
 use reply_text::RunFault;
-use sim_text::CAPACITY;
 use std::alloc::Global;
 use std::sync::ledger::{Blank, Ledger};
 use std::thread::Threads;

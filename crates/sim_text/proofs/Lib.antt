@@ -1,4 +1,2 @@
-mod AnswerLemmas
-mod LineLemmas
-mod ReadLemmas
 mod ReadingLemmas
+mod Shown

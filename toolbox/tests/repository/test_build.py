@@ -194,7 +194,7 @@ class Layers(Case):
         status, told = self.layers(lists, page)
         self.assertEqual(status, 1)
         self.assertIn("17 crates, 131071 ways down their lists\n", told)
-        self.assertIn("at most 40000 ways", told)
+        self.assertIn("at most 45000 ways", told)
 
     def test_a_crate_that_no_file_names(self):
         self.crate("low", "")

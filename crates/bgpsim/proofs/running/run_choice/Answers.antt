@@ -1,5 +1,4 @@
-use Rattle.std.proofs.Common.{ℕ, List, Option, IfOk, sym, subst}
-use Rattle.watched.specs.Streams.{Reading, Writing}
+use Rattle.std.proofs.Common.{IfOk, sym, subst}
 use Rattle.command_line.specs.declared.Choice.{Choice}
 use Rattle.command_line.specs.CommandLine.{IsWithin}
 use Rattle.bgpsim.specs.Running.{IsRunOf}
@@ -14,6 +13,13 @@ returns-in-Script-clause-run g c =
     let new = c.serve_script.new.streams in
     subst (λ (choice : Choice). IfOk c.serve_script.result (λ status. IsRunOf choice old.input
     old.output old.errors status new.input new.output new.errors)) (sym c.in-Script.is) c.serve_script.ensures.run
+
+pub returns-in-Converge-clause-run : goal.returns-in-Converge-clause-run
+returns-in-Converge-clause-run g c =
+    let old = c.args.streams.now in
+    let new = c.serve_converge.new.streams in
+    subst (λ (choice : Choice). IfOk c.serve_converge.result (λ status. IsRunOf choice old.input
+    old.output old.errors status new.input new.output new.errors)) (sym c.in-Converge.is) c.serve_converge.ensures.run
 
 pub returns-in-Replay-clause-run : goal.returns-in-Replay-clause-run
 returns-in-Replay-clause-run g c =

@@ -1,4 +1,4 @@
-use Rattle.std.proofs.Common.{◌≡◌, ℕ, ◌-◌}
+use Rattle.std.proofs.Common.{◌≡◌, ◌-◌}
 use Rattle.convergence.specs.Deliveries.{AreDelivered}
 use Rattle.convergence.proofs.run.converge.Given as goal
 

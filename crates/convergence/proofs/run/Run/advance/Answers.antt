@@ -1,4 +1,4 @@
-use Rattle.std.proofs.Common.{◌≡◌, refl, arith}
+use Rattle.std.proofs.Common.{refl, arith}
 use Rattle.convergence.proofs.Quiet.{not_quiet}
 use Rattle.convergence.proofs.run.Run.advance.Goals as goal
 
@@ -6,7 +6,13 @@ pub returns-then-self-clause-advance : goal.returns-then-self-clause-advance
 returns-then-self-clause-advance g c = (
   refl,
   refl,
-  (not_quiet c.args.machine.now c.in-Some.from c.in-Some.to c.in-Some.ensures.waits, omega (arith, c.args.self.now.few)),
+  (
+    not_quiet c.args.machine.now c.in-Some.from c.in-Some.to c.in-Some.ensures.waits,
+    omega (
+      arith,
+      c.args.self.now.few,
+    ),
+  ),
 )
 
 pub returns-in-Err-clause-advance : goal.returns-in-Err-clause-advance

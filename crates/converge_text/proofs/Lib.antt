@@ -1,0 +1,5 @@
+mod Tokens
+mod RequestLemmas
+mod Echoing
+mod Directions
+mod Places
