@@ -1,12 +1,14 @@
 -- Where messages wait.
-use Rattle.std.specs.Prelude.{◌≡◌, Bool, true, false, not, List, [], Option, Some, None, IfSome, IfNone, unwrap_or}
+use Rattle.std.specs.Prelude.{◌≡◌, Bool, true, false, not, List, [], ◌∷◌, length, Option, Some, None, IfSome, IfNone, unwrap_or}
 use Rattle.net_prefix.specs.declared.addr.Addr.{Addr}
 use Rattle.session_queue.specs.declared.direction.Direction.{Direction}
 use Rattle.session_queue.specs.declared.message.Message.{Message}
+use Rattle.session_queue.specs.Telling.{prefix_of}
 use Rattle.session_queue.specs.Waiting.{IsBefore, IsPast}
 use Rattle.sim_event.specs.declared.event.Event.{Event}
 use Rattle.sim_event.specs.declared.event.Event.TheVariants.{Deliver}
 use Rattle.sim_event.specs.declared.reply.Reply.{Reply}
+use Rattle.convergence.specs.declared.waiting.Queued.{Queued}
 use Rattle.reference_machine.specs.Network.{Network, messages_in}
 use Rattle.reference_machine.specs.Reports.{is_empty, is_quiet}
 use Rattle.reference_machine.specs.Machine.{nothing, step, is_refusal, IsRun}
@@ -18,6 +20,11 @@ on_way s from to = unwrap_or (messages_in s.queues (record { from = from; to = t
 -- a message waits for its delivery from one to the other
 abbrev pub waits : Network → Addr → Addr → Bool
 waits s from to = not (is_empty (on_way s from to))
+
+-- what waits: how many messages, and the prefix of the head; nothing where none does
+abbrev pub queued_of : List Message → Option Queued
+queued_of [] = None
+queued_of (m ∷ ms) = Some (record { count = length (m ∷ ms); prefix = prefix_of m })
 
 -- no message waits in a direction past the start and before the one that was found; where none was found, in none past
 -- the start

@@ -1,10 +1,12 @@
 //! Where messages wait in the engine.
 
 ghost use Rattle.cell_engine.specs.State.{network};
-ghost use Rattle.convergence.specs.Waiting.{IsNextWaiting};
+ghost use Rattle.std.specs.Prelude.{◌≡◌};
+ghost use Rattle.convergence.specs.Waiting.{on_way, queued_of, IsNextWaiting};
 
-use crate::waiting::Waiting;
+use crate::waiting::{Queued, Waiting};
 use cell_engine::{Cell, State};
+use net_conf::SiteSession;
 use net_prefix::Addr;
 use prefix_table::{PrefixTable, SortedTable, TrieTable};
 use route_select::{Chosen, FilterCell, GroupCell};
@@ -22,14 +24,58 @@ fn next_in<S: Chosen, T: PrefixTable<Cell<S>>>(
     state.queues().next_full(past)
 }
 
+/// What waits in the direction.
+fn queued_in<S: Chosen, T: PrefixTable<Cell<S>>>(
+    state: &State<S, T>,
+    from: Addr,
+    to: Addr,
+) -> Option<Queued>
+    ensures { result ≡ queued_of (on_way (network state.now) from to) }
+{
+    state.facts();
+    let queues = state.queues();
+    let head = queues.head(from, to)?;
+    Some(Queued {
+        count: queues.len(from, to) as u64,
+        prefix: head.prefix(),
+    })
+}
+
+/// The sessions of the router.
+fn sessions_in<S: Chosen, T: PrefixTable<Cell<S>>>(
+    state: &State<S, T>,
+    router: Addr,
+) -> &[SiteSession] {
+    match state.conf().kept_site(router) {
+        Some(site) => site.sessions.as_slice(),
+        None => &[],
+    }
+}
+
 impl Waiting for Sim<GroupCell, TrieTable<Cell<GroupCell>>> {
     fn next_waiting(&self, past: Option<(Addr, Addr)>) -> Option<(Addr, Addr)> {
         next_in(self.state(), past)
+    }
+
+    fn queued(&self, from: Addr, to: Addr) -> Option<Queued> {
+        queued_in(self.state(), from, to)
+    }
+
+    fn sessions(&self, router: Addr) -> &[SiteSession] {
+        sessions_in(self.state(), router)
     }
 }
 
 impl Waiting for Sim<FilterCell, SortedTable<Cell<FilterCell>>> {
     fn next_waiting(&self, past: Option<(Addr, Addr)>) -> Option<(Addr, Addr)> {
         next_in(self.state(), past)
+    }
+
+    fn queued(&self, from: Addr, to: Addr) -> Option<Queued> {
+        queued_in(self.state(), from, to)
+    }
+
+    fn sessions(&self, router: Addr) -> &[SiteSession] {
+        sessions_in(self.state(), router)
     }
 }

@@ -27,11 +27,22 @@ impl Fair {
         ensures waits { IfSome result (λ found. waits machine.now found.0 found.1 ≡ true) }
         ensures quiet { IfNone result (is_quiet machine.now ≡ true) }
     {
-        let next = match machine.next_waiting(self.past) {
-            Some(found) => Some(found),
-            None => machine.next_waiting(None),
-        };
-        self.past = next;
-        next
+        self.past = next_in_rounds(machine, self.past);
+        self.past
+    }
+}
+
+/// The next direction in which a message waits, past the one that is given, by sender, then by receiver; from the first
+/// on where that was the last.
+pub(crate) fn next_in_rounds<M: Waiting>(
+    machine: &Reached<M>,
+    past: Option<(Addr, Addr)>,
+) -> Option<(Addr, Addr)>
+    ensures waits { IfSome result (λ found. waits machine.now found.0 found.1 ≡ true) }
+    ensures quiet { IfNone result (is_quiet machine.now ≡ true) }
+{
+    match machine.next_waiting(past) {
+        Some(found) => Some(found),
+        None => machine.next_waiting(None),
     }
 }

@@ -1,11 +1,13 @@
 //! Convergence: messages that wait are delivered one by one, each by a step of its own, until no message waits.
 #![tactic(auto)]
 
+mod by_router;
 mod delivery;
 mod ending;
 mod engine;
 mod fair;
 mod laws;
+mod order;
 mod reached;
 mod run;
 mod waiting;
@@ -13,6 +15,7 @@ mod waiting;
 pub use delivery::{Delivery, Tally};
 pub use ending::{Advance, Convergence, Ending};
 pub use laws::waiting_is_taken;
+pub use order::Order;
 pub use reached::Reached;
 pub use run::{Run, converge};
-pub use waiting::Waiting;
+pub use waiting::{Queued, Waiting};

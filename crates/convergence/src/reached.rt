@@ -2,11 +2,12 @@
 
 ghost use Rattle.std.specs.Prelude.{◌≡◌, ◌∷◌, [], true, IfOk, OnErr};
 ghost use Rattle.reference_machine.specs.Machine.{nothing, IsStep};
-ghost use Rattle.convergence.specs.Waiting.{waits, IsNextWaiting, IsReached};
+ghost use Rattle.convergence.specs.Waiting.{on_way, queued_of, waits, IsNextWaiting, IsReached};
 ghost use Rattle.convergence.specs.Deliveries.{AreTaken};
 
 use crate::delivery::Delivery;
-use crate::waiting::Waiting;
+use crate::waiting::{Queued, Waiting};
+use net_conf::SiteSession;
 use net_prefix::Addr;
 use reference_machine::Machine;
 use sim_event::{Event, Reply};
@@ -48,10 +49,18 @@ impl<M: Machine> Reached<M> {
     }
 
     /// Takes an event, as the machine does.
-    pub fn step<R: Threads + Sync>(&mut self, rt: &R, event: &Event) -> Reply
+    fn take<R: Threads + Sync>(&mut self, rt: &R, event: &Event) -> Reply
         ensures { IsStep self.old event.now result self.new }
     {
         self.machine.step(rt, event)
+    }
+}
+
+impl<M: Machine> Machine for Reached<M> {
+    ghost network = { λ r. r };
+
+    fn step<R: Threads + Sync>(&mut self, rt: &R, event: &Event) -> Reply {
+        self.take(rt, event)
     }
 }
 
@@ -62,6 +71,18 @@ impl<M: Waiting> Reached<M> {
         ensures { IsNextWaiting self.now past result }
     {
         self.machine.next_waiting(past)
+    }
+
+    /// What waits in the direction.
+    pub fn queued(&self, from: Addr, to: Addr) -> Option<Queued>
+        ensures { result ≡ queued_of (on_way self.now from to) }
+    {
+        self.machine.queued(from, to)
+    }
+
+    /// The sessions of a router, by peer.
+    pub(crate) fn sessions(&self, router: Addr) -> &[SiteSession] {
+        self.machine.sessions(router)
     }
 
     /// Delivers the message that waits first in the direction, by a step of its own. The error is that there is no
@@ -79,7 +100,7 @@ impl<M: Waiting> Reached<M> {
         ensures same { OnErr result (self.new ≡ self.old) }
     {
         self.facts();
-        match self.step(rt, &Event::Deliver(from, to)) {
+        match self.take(rt, &Event::Deliver(from, to)) {
             Reply::Took(prefix, kind) => Ok(Delivery {
                 from,
                 to,

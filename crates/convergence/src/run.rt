@@ -5,7 +5,7 @@ ghost use Rattle.convergence.specs.Deliveries.{no_delivery, IsAdvance, IsConverg
 
 use crate::delivery::Tally;
 use crate::ending::{Advance, Convergence, Ending};
-use crate::fair::Fair;
+use crate::order::{Order, Turns};
 use crate::reached::Reached;
 use crate::waiting::Waiting;
 use std::thread::Threads;
@@ -13,7 +13,7 @@ use std::thread::Threads;
 /// Deliveries one after another, so many at most.
 #[derive(Drop)]
 pub struct Run {
-    order: Fair,
+    turns: Turns,
     most: u64,
     tally: Tally,
     ghost sound: { tally.updates + tally.withdrawals ≡ tally.made },
@@ -22,12 +22,12 @@ pub struct Run {
 
 impl Run {
     /// Nothing is delivered yet.
-    pub fn new(most: u64) -> Self
+    pub fn new(order: Order, most: u64) -> Self
         ensures most { result.most ≡ most }
         ensures tally { result.tally ≡ no_delivery }
     {
         Run {
-            order: Fair::new(),
+            turns: Turns::new(order),
             most,
             tally: Tally::EMPTY,
         }
@@ -49,7 +49,7 @@ impl Run {
         ensures most { self.new.most ≡ self.old.most }
         ensures advance { IsAdvance machine.old self.old.most self.old.tally result self.new.tally machine.new }
     {
-        let Some((from, to)) = self.order.next(machine) else {
+        let Some((from, to)) = self.turns.next(machine) else {
             return Advance::Ended(Ending::Converged);
         };
         if self.tally.made >= self.most {
@@ -69,11 +69,12 @@ impl Run {
 pub fn converge<M: Waiting>(
     rt: &(impl Threads + Sync),
     machine: &mut Reached<M>,
+    order: Order,
     most: u64,
 ) -> Convergence
     ensures { IsConvergence machine.old most result.tally result.ending machine.new }
 {
-    let mut run = Run::new(most);
+    let mut run = Run::new(order, most);
     'deliveries: loop {
         match run.advance(rt, machine) {
             Advance::Took(_) => {}

@@ -5,7 +5,7 @@ ghost use Rattle.desk.specs.Desks.{IsDeskLedger};
 
 use crate::hands::Hands;
 use reply_text::RunFault;
-use sim_text::CAPACITY;
+use line_serving::CAPACITY;
 use std::alloc::Global;
 use std::sync::ledger::{Blank, Ledger};
 use std::thread::Threads;

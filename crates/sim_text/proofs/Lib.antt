@@ -1,4 +1,1 @@
-mod AnswerLemmas
-mod LineLemmas
-mod ReadLemmas
 mod ReadingLemmas

@@ -1,8 +1,5 @@
 -- What it means to serve a script (own): each line is answered in turn.
-use Rattle.std.specs.Prelude.{◌≡◌, ℕ, ◌+◌, ◌<◌, ◌≤◌, ◌==◌, Bool, true, false, ◌⊎◌, List, [], ◌∷◌, ◌++◌, length, take, filter, slice_index_or, Some, Result, Ok, Err}
-use Rattle.std.specs.Str.Lines.{lines}
-use Rattle.std.specs.Io.KnownBytes.{Appends}
-use Rattle.watched.specs.Limits.{most_bytes, most_lines, AreFit}
+use Rattle.std.specs.Prelude.{◌≡◌, ℕ, true, ◌⊎◌, List, [], Result}
 use Rattle.watched.specs.Streams.{Reading, Writing}
 use Rattle.net_conf.specs.declared.refusal.Refusal.TheVariants.{Syntax, Memory}
 use Rattle.sim_event.specs.declared.event.Event.{Event}
@@ -11,8 +8,8 @@ use Rattle.reference_machine.specs.Network.{Network}
 use Rattle.reference_machine.specs.Machine.{IsStep}
 use Rattle.command_text.specs.Lines.{IsSilent, IsFault, Means, feeds_route}
 use Rattle.reply_text.specs.Replies.{reply_text, refusal_text}
-use Rattle.sim_text.specs.declared.fault.ServeFault.{ServeFault}
-use Rattle.sim_text.specs.declared.fault.ServeFault.TheVariants.{Read, Write}
+use Rattle.line_serving.specs.declared.fault.ServeFault.{ServeFault}
+use Rattle.line_serving.specs.Serving.{IsServing as IsServingBy}
 
 -- what a line is answered, and the state after it: nothing for a blank line or a comment; a refusal of syntax for a
 -- line that spells no event; the machine's reply to the event that the line means; or, where memory was wanted for the
@@ -24,58 +21,6 @@ IsAnswer s line text s' =
     ⊎ (((event : Event) × (reply : Reply) × Means line event × IsStep s event reply s' × (text ≡ reply_text reply))
     ⊎ ((event : Event) × Means line event × (feeds_route event ≡ true) × (text ≡ refusal_text Memory) × (s' ≡ s))))
 
--- the lines were answered one after another
-abbrev pub AreAnswers : Network → List (List ℕ) → List ℕ → Network → Type 0
-AreAnswers s [] text s' = (text ≡ []) × (s' ≡ s)
-AreAnswers s (line ∷ more) text s' = (mid : Network) × (first : List ℕ) × (rest : List ℕ) × IsAnswer s line first mid
-    × AreAnswers mid more rest s' × (text ≡ first ++ rest)
-
-abbrev pub line_at : List ℕ → ℕ → List ℕ
-line_at bytes k = slice_index_or (lines bytes) k []
-
--- the first k lines are within the limits, they were answered, and their answers were written in full
-abbrev pub Served : List ℕ → ℕ → Network → Writing → Network → Writing → Type 0
-Served bytes k s o s' o' = (text : List ℕ) × AreFit (take k (lines bytes)) × AreAnswers s (take k (lines bytes)) text s'
-    × Appends o.written o'.written text
-
--- how many lines were read whole, of these bytes
-abbrev pub line_feeds : List ℕ → ℕ
-line_feeds bytes = length (filter (λ b. b == 10) bytes)
-
--- why reading ends in a fault after k lines: the reader failed, and what it had given by then has k whole lines; the
--- next line is too long; or there are too many lines
-abbrev pub IsReadFault : List ℕ → ℕ → Reading → Type 0
-IsReadFault bytes k i' =
-    ((i'.failed ≡ true) × (given : List ℕ) × (left : List ℕ) × (i'.remaining ≡ Some left) × (bytes ≡ given ++ left)
-    × (k ≡ line_feeds given))
-    ⊎ (((k < length (lines bytes)) × (most_bytes < length (line_at bytes k)))
-    ⊎ ((k ≡ most_lines) × (most_lines < length (lines bytes))))
-
--- the first k lines were answered in full; the next one is within the limits, its event was taken too, and a front of
--- its answer was written
-abbrev pub IsWriteFault : List ℕ → ℕ → Network → Writing → Network → Writing → Type 0
-IsWriteFault bytes k s o s' o' = (k < length (lines bytes)) × (k < most_lines) × (length (line_at bytes k) ≤ most_bytes)
-    × (o'.failed ≡ true)
-    × (mid : Network) × (text : List ℕ) × (answer : List ℕ) × (n : ℕ)
-    × AreFit (take k (lines bytes)) × AreAnswers s (take k (lines bytes)) text mid
-    × IsAnswer mid (line_at bytes k) answer s'
-    × (n ≤ length answer) × Appends o.written o'.written (text ++ take n answer)
-
--- the writer failed
-abbrev pub is_write_fault : {A : Type 0} → Result A ServeFault → Bool
-is_write_fault (Ok done) = false
-is_write_fault (Err (Read line)) = false
-is_write_fault (Err (Write line)) = true
-
--- reading ended early
-abbrev pub is_read_fault : {A : Type 0} → Result A ServeFault → Bool
-is_read_fault (Ok done) = false
-is_read_fault (Err (Read line)) = true
-is_read_fault (Err (Write line)) = false
-
--- serving the bytes: all lines were answered, or a fault came at the line that it names, counted from 1
+-- serving the bytes: all lines were answered so, or a fault came at the line that it names, counted from 1
 abbrev pub IsServing : List ℕ → Network → Writing → Result ℕ ServeFault → Network → Writing → Reading → Type 0
-IsServing bytes s o (Ok n) s' o' i' = (n ≡ length (lines bytes)) × (i'.remaining ≡ Some []) × Served bytes n s o s' o'
-IsServing bytes s o (Err (Read line)) s' o' i' = (k : ℕ) × (line ≡ k + 1) × IsReadFault bytes k i'
-    × Served bytes k s o s' o'
-IsServing bytes s o (Err (Write line)) s' o' i' = (k : ℕ) × (line ≡ k + 1) × IsWriteFault bytes k s o s' o'
+IsServing bytes s o result s' o' i' = IsServingBy IsAnswer bytes s o result s' o' i'

@@ -1,4 +1,4 @@
-//! The answer to a line.
+//! The language of commands: the answer to a line.
 
 ghost use Rattle.std.specs.Prelude.{ℕ, List};
 ghost use Rattle.watched.specs.Streams.{Writes};
@@ -6,6 +6,7 @@ ghost use Rattle.sim_text.specs.Answering.{IsAnswerTo};
 ghost use Rattle.sim_text.specs.Serving.{IsAnswer};
 
 use command_text::read_line;
+use line_serving::Language;
 use net_conf::Refusal;
 use reference_machine::Machine;
 use reply_text::{write_refusal, write_reply};
@@ -14,8 +15,29 @@ use std::alloc::Global;
 use std::thread::Threads;
 use watched::{Output, Sink, WriterFailed};
 
+/// The language of commands.
+pub struct Commands;
+
+impl<M: Machine> Language<M> for Commands {
+    ghost use Rattle.sim_text.specs.Serving.{IsAnswer};
+
+    ghost network = { M.network };
+
+    ghost answers = { IsAnswer };
+
+    fn answer<W: Sink, R: Threads + Sync>(
+        rt: &R,
+        alloc: Global,
+        line: &[u8],
+        output: &mut Output<W>,
+        machine: &mut M,
+    ) -> Result<(), WriterFailed> {
+        answer_line(rt, alloc, line, output, machine)
+    }
+}
+
 /// Takes a line and writes its answer. Where the writer fails, the line's event was taken all the same.
-pub(crate) fn answer_line<W: Sink, M: Machine>(
+pub fn answer_line<W: Sink, M: Machine>(
     rt: &(impl Threads + Sync),
     alloc: Global,
     line: &[u8],

@@ -1,11 +1,11 @@
 //! Serving a script.
 
 ghost use Rattle.std.specs.Prelude.{◌≡◌, false, [], IfSome};
-ghost use Rattle.sim_text.specs.Serving.{IsServing, is_write_fault, is_read_fault};
+ghost use Rattle.line_serving.specs.Serving.{is_write_fault, is_read_fault};
+ghost use Rattle.sim_text.specs.Serving.{IsServing};
 
-use crate::ServeFault;
-use crate::script::{Script, advance};
-use crate::typist::{CAPACITY, Typist};
+use crate::answer::Commands;
+use line_serving::{CAPACITY, ServeFault, Typist, serve_lines};
 use reference_machine::Machine;
 use std::alloc::Global;
 use std::thread::Threads;
@@ -17,8 +17,8 @@ use watched::{LineBuffer, Output, Sink};
 /// and a script at most 1,000,000 lines. All that was written is sent on before more is read, for which `Typist`
 /// asks, and at the end: then nothing is held back, unless the writer failed. Takes no memory beside that of the events
 /// and the machine.
-pub fn serve<I: Typist<W>, W: Sink, M: Machine>(
-    rt: &(impl Threads + Sync),
+pub fn serve<I: Typist<W>, W: Sink, M: Machine, R: Threads + Sync>(
+    rt: &R,
     alloc: Global,
     buffer: LineBuffer<CAPACITY>,
     input: &mut I,
@@ -36,7 +36,5 @@ pub fn serve<I: Typist<W>, W: Sink, M: Machine>(
         IsServing bytes (M.network machine.old) output.old result
         (M.network machine.new) output.new (I.reading input.new)) }
 {
-    let mut script = Script::new(buffer);
-    'lines: while advance(rt, alloc, &mut script, input, output, machine)? {}
-    Ok(script.answered)
+    serve_lines::<Commands, M, I, W, R>(rt, alloc, buffer, input, output, machine)
 }

@@ -2,7 +2,7 @@
 
 ghost use Rattle.std.specs.Prelude.{◌≡◌};
 ghost use Rattle.std.specs.Str.Lines.{strip_carriage_return};
-ghost use Rattle.sim_text.specs.Next.{IsNext};
+ghost use Rattle.line_serving.specs.Next.{IsNext};
 
 use crate::typist::CAPACITY;
 use watched::LineBuffer;

@@ -3,16 +3,15 @@
 ghost use Rattle.std.specs.Prelude.{◌≡◌, ℕ, ◌+◌, ◌<◌, ◌≤◌, true, false, List, [], ◌++◌, IfOk, IfErr, OnOk, OnErr, Some};
 ghost use Rattle.std.specs.Io.KnownBytes.{Keeps};
 ghost use Rattle.watched.specs.Streams.{Reading};
-ghost use Rattle.sim_text.specs.Next.{IsNext};
-ghost use Rattle.sim_text.specs.Progress.{Advances, Finishes, Ends, IsAdvance, work_left, is_end};
-ghost use Rattle.sim_text.specs.Serving.{is_write_fault, is_read_fault};
-ghost use Rattle.sim_text.specs.declared.line.Next.TheVariants.{Line, Part};
+ghost use Rattle.line_serving.specs.Next.{IsNext};
+ghost use Rattle.line_serving.specs.Progress.{Advances, Finishes, Ends, IsAdvance, work_left, is_end};
+ghost use Rattle.line_serving.specs.Serving.{is_write_fault, is_read_fault};
+ghost use Rattle.line_serving.specs.declared.line.Next.TheVariants.{Line, Part};
 
 use crate::ServeFault;
-use crate::answer::answer_line;
+use crate::Language;
 use crate::line::{MOST_BYTES, Next, next_line, without_carriage_return};
 use crate::typist::{CAPACITY, Typist};
-use reference_machine::Machine;
 use std::alloc::Global;
 use std::thread::Threads;
 use watched::{LineBuffer, Output, Sink};
@@ -58,8 +57,8 @@ fn flush<W: Sink>(answered: u64, output: &mut Output<W>) -> Result<(), ServeFaul
 
 /// Answers the line that ends in the buffer. What follows it is not known yet, so all is said for every rest of the
 /// input.
-fn answer_first<W: Sink, M: Machine>(
-    rt: &(impl Threads + Sync),
+fn answer_first<L: Language<M>, M, W: Sink, R: Threads + Sync>(
+    rt: &R,
     alloc: Global,
     script: &mut Script,
     end: usize,
@@ -71,16 +70,16 @@ fn answer_first<W: Sink, M: Machine>(
     ensures writer { output.new.failed ≡ is_write_fault result }
     ensures unwritten { OnErr result (output.new.failed ≡ true) }
     ensures ok { OnOk result ((rest : List ℕ) →
-        Advances (script.old.pending ++ rest) script.old.answered (M.network machine.old) output.old
-        (script.new.pending ++ rest) script.new.answered (M.network machine.new) output.new) }
+        Advances L.answers (script.old.pending ++ rest) script.old.answered machine.old output.old
+        (script.new.pending ++ rest) script.new.answered machine.new output.new) }
     ensures count { OnOk result (script.new.answered ≡ script.old.answered + 1) }
     ensures err { IfErr result (λ fault. (rest : List ℕ) (i : Reading) →
-        Ends (script.old.pending ++ rest) script.old.answered (M.network machine.old) output.old fault
-        (M.network machine.new) output.new i) }
+        Ends L.answers (script.old.pending ++ rest) script.old.answered machine.old output.old fault
+        machine.new output.new i) }
 {
     let next = script.answered + 1;
     let line = without_carriage_return(&script.pending.as_slice()[..end]);
-    match answer_line(rt, alloc, line, output, machine) {
+    match L::answer(rt, alloc, line, output, machine) {
         Ok(()) => {}
         Err(_) => return Err(ServeFault::Write { line: next }),
     }
@@ -91,8 +90,8 @@ fn answer_first<W: Sink, M: Machine>(
 
 /// Answers a last line with no line feed, if there is one: at the end of the input, where nothing follows, and its
 /// length is still to be tested. So it is no call of `answer_first`.
-fn answer_last<W: Sink, M: Machine>(
-    rt: &(impl Threads + Sync),
+fn answer_last<L: Language<M>, M, W: Sink, R: Threads + Sync>(
+    rt: &R,
     alloc: Global,
     script: &mut Script,
     output: &mut Output<W>,
@@ -102,13 +101,13 @@ fn answer_last<W: Sink, M: Machine>(
     requires writes { output.old.failed ≡ false }
     requires shown { output.old.held ≡ false }
     ensures writer { output.new.failed ≡ is_write_fault result }
-    ensures ok { OnOk result (Finishes script.old.pending script.old.answered (M.network machine.old) output.old
-        script.new.answered (M.network machine.new) output.new) }
+    ensures ok { OnOk result (Finishes L.answers script.old.pending script.old.answered machine.old output.old
+        script.new.answered machine.new output.new) }
     ensures some { OnOk result (output.new.held ≡ true → 0 < script.new.answered) }
     ensures early { OnErr result (output.new.failed ≡ false → output.new.held ≡ false) }
     ensures err { IfErr result (λ fault. (i : Reading) →
-        Ends script.old.pending script.old.answered (M.network machine.old) output.old fault
-        (M.network machine.new) output.new i) }
+        Ends L.answers script.old.pending script.old.answered machine.old output.old fault
+        machine.new output.new i) }
 {
     let line = script.pending.as_slice();
     if line.is_empty() {
@@ -119,7 +118,7 @@ fn answer_last<W: Sink, M: Machine>(
     if length > MOST_BYTES {
         return Err(ServeFault::Read { line: next });
     }
-    match answer_line(rt, alloc, line, output, machine) {
+    match L::answer(rt, alloc, line, output, machine) {
         Ok(()) => {}
         Err(_) => return Err(ServeFault::Write { line: next }),
     }
@@ -129,8 +128,8 @@ fn answer_last<W: Sink, M: Machine>(
 }
 
 /// Answers what is left at the end, and sends on all that was written.
-fn finish<W: Sink, M: Machine>(
-    rt: &(impl Threads + Sync),
+fn finish<L: Language<M>, M, W: Sink, R: Threads + Sync>(
+    rt: &R,
     alloc: Global,
     script: &mut Script,
     output: &mut Output<W>,
@@ -140,20 +139,20 @@ fn finish<W: Sink, M: Machine>(
     requires writes { output.old.failed ≡ false }
     requires shown { output.old.held ≡ false }
     ensures writer { output.new.failed ≡ is_write_fault result }
-    ensures ok { OnOk result (Finishes script.old.pending script.old.answered (M.network machine.old) output.old
-        script.new.answered (M.network machine.new) output.new) }
+    ensures ok { OnOk result (Finishes L.answers script.old.pending script.old.answered machine.old output.old
+        script.new.answered machine.new output.new) }
     ensures sent { output.new.failed ≡ false → output.new.held ≡ false }
     ensures err { IfErr result (λ fault. (i : Reading) →
-        Ends script.old.pending script.old.answered (M.network machine.old) output.old fault
-        (M.network machine.new) output.new i) }
+        Ends L.answers script.old.pending script.old.answered machine.old output.old fault
+        machine.new output.new i) }
 {
-    answer_last(rt, alloc, script, output, machine)?;
+    answer_last::<L, M, W, R>(rt, alloc, script, output, machine)?;
     flush(script.answered, output)
 }
 
 /// Reads more, once all that was written is sent on. False at the end, where the last line has been answered too.
-fn read_on<I: Typist<W>, W: Sink, M: Machine>(
-    rt: &(impl Threads + Sync),
+fn read_on<L: Language<M>, M, I: Typist<W>, W: Sink, R: Threads + Sync>(
+    rt: &R,
     alloc: Global,
     script: &mut Script,
     input: &mut I,
@@ -167,8 +166,8 @@ fn read_on<I: Typist<W>, W: Sink, M: Machine>(
     ensures writer { output.new.failed ≡ is_write_fault result }
     ensures sent { output.new.failed ≡ false → output.new.held ≡ false }
     ensures advance { (rest : List ℕ) → (I.reading input.old).remaining ≡ Some rest →
-        IsAdvance (script.old.pending ++ rest) script.old.answered (M.network machine.old) output.old result
-        script.new.pending script.new.answered (M.network machine.new) output.new (I.reading input.new) }
+        IsAdvance L.answers (script.old.pending ++ rest) script.old.answered machine.old output.old result
+        script.new.pending script.new.answered machine.new output.new (I.reading input.new) }
     ensures smaller { IfOk result (λ more. more ≡ true →
         work_left script.new.pending script.new.answered < work_left script.old.pending script.old.answered) }
 {
@@ -180,14 +179,14 @@ fn read_on<I: Typist<W>, W: Sink, M: Machine>(
         Err(_) => return Err(ServeFault::Read { line: next }),
     };
     if !more {
-        finish(rt, alloc, script, output, machine)?;
+        finish::<L, M, W, R>(rt, alloc, script, output, machine)?;
     }
     Ok(more)
 }
 
 /// Answers a line that was read, or reads more. False at the end.
-pub(crate) fn advance<I: Typist<W>, W: Sink, M: Machine>(
-    rt: &(impl Threads + Sync),
+pub(crate) fn advance<L: Language<M>, M, I: Typist<W>, W: Sink, R: Threads + Sync>(
+    rt: &R,
     alloc: Global,
     script: &mut Script,
     input: &mut I,
@@ -201,17 +200,17 @@ pub(crate) fn advance<I: Typist<W>, W: Sink, M: Machine>(
     ensures some { IfOk result (λ more. more ≡ true → output.new.held ≡ true → 0 < script.new.answered) }
     ensures sent { is_end result ≡ true → output.new.failed ≡ false → output.new.held ≡ false }
     ensures advance { (rest : List ℕ) → (I.reading input.old).remaining ≡ Some rest →
-        IsAdvance (script.old.pending ++ rest) script.old.answered (M.network machine.old) output.old result
-        script.new.pending script.new.answered (M.network machine.new) output.new (I.reading input.new) }
+        IsAdvance L.answers (script.old.pending ++ rest) script.old.answered machine.old output.old result
+        script.new.pending script.new.answered machine.new output.new (I.reading input.new) }
     ensures smaller { IfOk result (λ more. more ≡ true →
         work_left script.new.pending script.new.answered < work_left script.old.pending script.old.answered) }
 {
     match next_line(&script.pending, script.answered) {
         Next::Line(end) => {
-            answer_first(rt, alloc, script, end, output, machine)?;
+            answer_first::<L, M, W, R>(rt, alloc, script, end, output, machine)?;
             Ok(true)
         }
-        Next::Part => read_on(rt, alloc, script, input, output, machine),
+        Next::Part => read_on::<L, M, I, W, R>(rt, alloc, script, input, output, machine),
         Next::Unfit => {
             flush(script.answered, output)?;
             let next = script.answered + 1;

@@ -3,7 +3,7 @@ use Rattle.std.proofs.Common.{◌≡◌, ℕ, ◌+◌, cond, eqb, false, List, [
 use Rattle.std.specs.Str.Lines.{lines, strip_carriage_return}
 use Rattle.watched.specs.LineFeeds.{is_line_feed, Whole, cut_at}
 use Rattle.watched.proofs.Lines.{lines_cut}
-use Rattle.sim_text.specs.Serving.{line_feeds}
+use Rattle.line_serving.specs.Serving.{line_feeds}
 use Rattle.std.proofs.lemmas.List.{length-append}
 use Rattle.std.proofs.lemmas.List.Elements.{All-tail, filter-append}
 

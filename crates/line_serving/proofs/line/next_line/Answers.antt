@@ -5,8 +5,8 @@ use Rattle.std.proofs.lemmas.List.{length-append}
 use Rattle.watched.specs.Limits.{most_bytes}
 use Rattle.watched.specs.LineFeeds.{no_cut}
 use Rattle.watched.proofs.Lines.{lines_begin, lines_long}
-use Rattle.sim_text.proofs.LineLemmas.{lines_first}
-use Rattle.sim_text.proofs.line.next_line.Goals as goal
+use Rattle.line_serving.proofs.LineLemmas.{lines_first}
+use Rattle.line_serving.proofs.line.next_line.Goals as goal
 
 pub returns-then-not-is_empty : goal.returns-then-not-is_empty
 returns-then-not-is_empty c = λ rest.

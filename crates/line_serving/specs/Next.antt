@@ -2,8 +2,8 @@
 use Rattle.std.specs.Prelude.{◌≡◌, ℕ, ◌<◌, ◌≤◌, ◌==◌, ◌⊎◌, List, ◌∷◌, ◌++◌, length, take, position, Some, None}
 use Rattle.std.specs.Str.Lines.{lines, strip_carriage_return}
 use Rattle.watched.specs.Limits.{most_bytes, most_lines}
-use Rattle.sim_text.specs.declared.line.Next.{Next}
-use Rattle.sim_text.specs.declared.line.Next.TheVariants.{Line, Part, Unfit}
+use Rattle.line_serving.specs.declared.line.Next.{Next}
+use Rattle.line_serving.specs.declared.line.Next.TheVariants.{Line, Part, Unfit}
 
 -- whatever follows: after k lines, what the bytes begin is one line too many, or a line that is too long
 abbrev pub IsUnfit : List ℕ → ℕ → Type 0

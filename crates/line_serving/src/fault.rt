@@ -4,7 +4,7 @@ use thiserror::Error;
 
 /// Why serving ended before the end of the script. Lines count from 1.
 ///
-/// No contract says what `Display` writes. Where the text must be exact, `run_script` makes a `RunFault` of the fault,
+/// No contract says what `Display` writes. Where the text must be exact, `run_lines` makes a `RunFault` of the fault,
 /// and `end_by` of `reply_text` writes the text that `fault_text` defines.
 #[derive(Clone, Copy, Debug, PartialEq, Eq, Error)]
 pub enum ServeFault {

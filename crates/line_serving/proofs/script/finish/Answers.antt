@@ -1,11 +1,11 @@
 use Rattle.std.proofs.Common.{◌≡◌, ◌<◌, true, []}
 use Rattle.std.proofs.lemmas.Result.{IfErr-weaker, on_ok_weaker}
 use Rattle.watched.specs.Streams.{Reading}
-use Rattle.sim_text.specs.declared.fault.ServeFault.{ServeFault}
-use Rattle.sim_text.specs.declared.fault.ServeFault.TheVariants.{Write}
-use Rattle.sim_text.specs.Progress.{Ends}
-use Rattle.sim_text.proofs.AnswerLemmas.{so_far_kept, unsent_after}
-use Rattle.sim_text.proofs.script.finish.Goals as goal
+use Rattle.line_serving.specs.declared.fault.ServeFault.{ServeFault}
+use Rattle.line_serving.specs.declared.fault.ServeFault.TheVariants.{Write}
+use Rattle.line_serving.specs.Progress.{Ends}
+use Rattle.line_serving.proofs.AnswerLemmas.{so_far_kept, unsent_after}
+use Rattle.line_serving.proofs.script.finish.Goals as goal
 
 pub returns-clause-err : goal.returns-clause-err
 returns-clause-err g c =
@@ -14,17 +14,17 @@ returns-clause-err g c =
     let P : ServeFault → Type 0 = λ fault. (fault ≡ Write answered) × (0 < answered)
     × (c.flush.new.output.failed ≡ true) in
     let Q : ServeFault → Type 0 = λ fault. (i : Reading) →
-    Ends script.pending script.answered (g.M.Machine.network c.args.machine.now) c.args.output.now fault
-    (g.M.Machine.network c.answer_last.new.machine) c.flush.new.output i in
+    Ends g.L.Language.answers script.pending script.answered c.args.machine.now c.args.output.now fault
+    c.answer_last.new.machine c.flush.new.output i in
     IfErr-weaker c.flush.result P Q
-    (λ fault unsent i bytes s0 o0 re. unsent_after bytes [] answered s0 o0 _ c.answer_last.new.output c.flush.new.output
+    (λ fault unsent i bytes s0 o0 re. unsent_after g.L.Language.answers bytes [] answered s0 o0 _ c.answer_last.new.output c.flush.new.output
     fault i c.flush.ensures.kept unsent
     (c.in_ok-answer_last.ensures.ok bytes s0 o0 re))
     c.flush.ensures.err
 
 pub returns-clause-ok : goal.returns-clause-ok
 returns-clause-ok g c = on_ok_weaker c.flush.result
-    (λ _ bytes s0 o0 re. so_far_kept bytes [] c.answer_last.new.script.answered s0 o0 _ c.answer_last.new.output
+    (λ _ bytes s0 o0 re. so_far_kept g.L.Language.answers bytes [] c.answer_last.new.script.answered s0 o0 _ c.answer_last.new.output
     c.flush.new.output c.flush.ensures.kept
     (c.in_ok-answer_last.ensures.ok bytes s0 o0 re))
     c.flush.ensures.sent

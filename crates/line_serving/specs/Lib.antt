@@ -1,0 +1,3 @@
+pub mod Serving
+pub mod Progress
+pub mod Next
