@@ -11,12 +11,13 @@ use Rattle.reply_text.specs.declared.ending.RunFault.{RunFault}
 use Rattle.reply_text.specs.declared.ending.RunFault.TheVariants.{NoMemory, Unwritten}
 use Rattle.reply_text.specs.Ending.{success, mistaken, fault_status, fault_text, IsTold}
 use Rattle.sim_text.specs.ScriptRun.{IsScriptRun}
+use Rattle.converge_text.specs.ConvergeRun.{IsConvergeRun}
 use Rattle.log_replay.specs.ReplayRun.{IsReplayRun}
 use Rattle.script_files.specs.Sources.{FileBook}
 use Rattle.team_run.specs.TeamRun.{IsTeamRun}
 use Rattle.command_line.specs.CommandLine.{commands, Chooses}
 use Rattle.command_line.specs.declared.Choice.{Choice}
-use Rattle.command_line.specs.declared.Choice.TheVariants.{Script, Replay, ForTeam}
+use Rattle.command_line.specs.declared.Choice.TheVariants.{Script, Converge, Replay, ForTeam}
 
 -- ---- where nothing is asked for that is run
 
@@ -56,6 +57,11 @@ abbrev pub IsServed : Reading → Writing → Writing → ℕ → Reading → Wr
 IsServed i o errors status i' o' errors' = IsSentOn o' × (end : Network)
     × IsScriptRun i.remaining o errors status end i' o' errors'
 
+-- the same of a script in which messages may be delivered until none waits
+abbrev pub IsServedByConverge : Reading → Writing → Writing → ℕ → Reading → Writing → Writing → Type 0
+IsServedByConverge i o errors status i' o' errors' = IsSentOn o' × (end : Network)
+    × IsConvergeRun i.remaining o errors status end i' o' errors'
+
 -- a log was replayed; what it was found to be was sent on
 abbrev pub IsReplayed : Reading → Writing → Writing → ℕ → Reading → Writing → Writing → Type 0
 IsReplayed i o errors status i' o' errors' = IsSentOn o' × IsReplayRun i.remaining o errors status i' o' errors'
@@ -77,6 +83,7 @@ pub record IsTeamPlayed (names : List Text) (workers turns : ℕ) (i : Reading) 
 -- what was asked for was run
 abbrev pub IsRunOf : Choice → Reading → Writing → Writing → ℕ → Reading → Writing → Writing → Type 0
 IsRunOf Script i o errors status i' o' errors' = IsServed i o errors status i' o' errors'
+IsRunOf Converge i o errors status i' o' errors' = IsServedByConverge i o errors status i' o' errors'
 IsRunOf Replay i o errors status i' o' errors' = IsReplayed i o errors status i' o' errors'
 IsRunOf (ForTeam team) i o errors status i' o' errors' =
     IsTeamPlayed (map (λ file. file.now) team.files.items) team.workers team.turns i o errors status i' o' errors'

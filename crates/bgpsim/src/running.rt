@@ -5,12 +5,14 @@ ghost use Rattle.std.specs.Process.{exit_status};
 ghost use Rattle.clap.specs.Words.{fault_of, kind_of, HasKind};
 ghost use Rattle.reply_text.specs.Ending.{IsTold};
 ghost use Rattle.command_line.specs.CommandLine.{commands, IsTeamWithin, IsWithin};
-ghost use Rattle.bgpsim.specs.Running.{shown_status, shown_text, AreNamed, IsPrinted, IsProgramRun, IsReplayed, IsRunOf, IsServed, IsShown, IsTeamPlayed};
+ghost use Rattle.bgpsim.specs.Running.{shown_status, shown_text, AreNamed, IsPrinted, IsProgramRun, IsReplayed, IsRunOf, IsServed, IsServedByConverge, IsShown, IsTeamPlayed};
 
 use cell_engine::Cell;
 use clap::Error;
 use clap::error::ErrorKind;
 use command_line::{Choice, Team, choose};
+use converge_text::run_converge;
+use convergence::Reached;
 use log_replay::run_replay;
 use prefix_table::{SortedTable, TrieTable};
 use reply_text::{MISTAKEN, RunFault, SUCCESS, end_by};
@@ -127,6 +129,7 @@ fn run_choice<
 {
     match choice {
         Choice::Script => serve_script(rt, streams),
+        Choice::Converge => serve_converge(rt, streams),
         Choice::Replay => replay_log(rt, streams),
         Choice::ForTeam(team) => {
             play_team::<Brand, _, _, _, _>(rt, Blank::new(256), team, streams)
@@ -153,6 +156,38 @@ fn serve_script<R: Source, W: Sink, E: Sink>(
     let buffer = LineBuffer::new(alloc)?;
     let mut machine: Engine = Sim::new(alloc, drawn_keys(rt));
     let status = run_script(
+        rt,
+        alloc,
+        buffer,
+        &mut machine,
+        &mut streams.input,
+        &mut streams.output,
+        &mut streams.errors,
+    );
+    std::mem::forget(machine);
+    Ok(status)
+}
+
+/// Serves the script that is read, in which messages may be delivered until none waits. Out of memory comes before
+/// anything is read.
+fn serve_converge<R: Source, W: Sink, E: Sink>(
+    rt: &(impl AllocGlobal + RandomSource + Threads + Sync),
+    streams: &mut Streams<R, W, E>,
+) -> Result<u8, AllocError>
+    requires fresh { streams.old.input.failed ≡ false }
+    requires calm { streams.old.output.failed ≡ false }
+    requires shown { streams.old.output.held ≡ false }
+    ensures run { IfOk result (λ status. IsServedByConverge streams.old.input streams.old.output streams.old.errors
+        status streams.new.input streams.new.output streams.new.errors) }
+    ensures unread { OnErr result (streams.new.input ≡ streams.old.input) }
+    ensures unwritten { OnErr result (streams.new.output ≡ streams.old.output) }
+    ensures untold { OnErr result (streams.new.errors ≡ streams.old.errors) }
+{
+    let alloc = rt.alloc();
+    let buffer = LineBuffer::new(alloc)?;
+    let engine: Engine = Sim::new(alloc, drawn_keys(rt));
+    let mut machine = Reached::new(engine);
+    let status = run_converge(
         rt,
         alloc,
         buffer,

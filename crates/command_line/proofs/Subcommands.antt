@@ -9,7 +9,7 @@ use Rattle.clap.specs.Simple.{argument_words, entered, names_of, rows_at}
 use Rattle.clap.specs.Faults.{check_fault, entered_fault, level_fault}
 use Rattle.command_line.specs.CommandLine.{commands, IsChoice, IsMet}
 use Rattle.command_line.specs.declared.Choice.{Choice}
-use Rattle.command_line.specs.declared.Choice.TheVariants.{Script, Replay, ForTeam}
+use Rattle.command_line.specs.declared.Choice.TheVariants.{Script, Converge, Replay, ForTeam}
 use Rattle.clap.specs.declared.parser.matches.ArgMatches.{ArgMatches}
 use Rattle.clap.proofs.OnLiterals.{clap_on_literals}
 use Rattle.command_line.proofs.Walks.{IsNoHelp, no_help_met, some_fault, is_word, level_free}
@@ -20,29 +20,32 @@ has_one true rows e = refl
 has_one false rows e = absurd (some_fault _ _ e)
 
 -- the first subcommand that answers, where it is known which do
-abbrev first : Bool → Bool → Bool → Bool → Option Shape
-first a b c d =
+abbrev first : Bool → Bool → Bool → Bool → Bool → Option Shape
+first a b c d e =
     let subs = (built commands).subs in
-    cond a (slice_get subs 0) (cond b (slice_get subs 1) (cond c (slice_get subs 2) (cond d (slice_get subs 3) None)))
+    cond a (slice_get subs 0) (cond b (slice_get subs 1) (cond c (slice_get subs 2) (cond d (slice_get subs 3)
+    (cond e (slice_get subs 4) None))))
 
 entered_one : (stop : Option (Text × List Text)) → IsNoHelp stop → is_some (entered (built commands) stop) ≡ true →
     entered_fault (built commands) stop ≡ []
     → IsSomeAnd (entered (built commands) stop) IsMet
 entered_one None other e free = absurd (true≢false (sym e))
 entered_one (Some p) other e free =
-    go (answers_to p.0 (codes "script", [])) (answers_to p.0 (codes "replay", [])) (answers_to p.0 (codes "team", []))
+    go (answers_to p.0 (codes "script", [])) (answers_to p.0 (codes "converge", []))
+    (answers_to p.0 (codes "replay", [])) (answers_to p.0 (codes "team", []))
     (answers_to p.0 (codes "help", [])) refl e free
   where
-    go : (a b c d : Bool) → d ≡ answers_to p.0 (codes "help", []) →
-        is_some (option_map (λ s. rows_at s p.1) (first a b c d)) ≡ true
-        → option_map_or (λ s. level_fault s [] nothing_held p.1 false []) (first a b c d) [] ≡ []
-        → IsSomeAnd (option_map (λ s. rows_at s p.1) (first a b c d)) IsMet
-    go true b c d is e free = inl refl
-    go false true c d is e free = inr (inl refl)
-    go false false true d is e free = inr (inr (refl, has_team p.1 free))
-    go false false false true is e free =
+    go : (a b c d h : Bool) → h ≡ answers_to p.0 (codes "help", []) →
+        is_some (option_map (λ s. rows_at s p.1) (first a b c d h)) ≡ true
+        → option_map_or (λ s. level_fault s [] nothing_held p.1 false []) (first a b c d h) [] ≡ []
+        → IsSomeAnd (option_map (λ s. rows_at s p.1) (first a b c d h)) IsMet
+    go true b c d h is e free = inl refl
+    go false true c d h is e free = inr (inl refl)
+    go false false true d h is e free = inr (inr (inl refl))
+    go false false false true h is e free = inr (inr (inr (refl, has_team p.1 free)))
+    go false false false false true is e free =
         absurd (true≢false (ap (λ t. bytes_eq t (codes "help")) (sym (is_word (codes "help") p.0 (sym is))) ∙ other))
-    go false false false false is e free = absurd (true≢false (sym e))
+    go false false false false false is e free = absurd (true≢false (sym e))
 
 pub names_one : (words : List Text) → fault_of commands words ≡ [] → IsSomeAnd (subcommand_of commands words) IsMet
 names_one words e =
@@ -68,12 +71,20 @@ module _ (a : App) (is : a ≡ commands) (words : List Text) (m : ArgMatches) (h
 -- a choice by its name
 pub is_script : (choice : Choice) (rows : List Row) → IsChoice choice (codes "script", rows) → choice ≡ Script
 is_script Script rows e = refl
+is_script Converge rows e = absurd (true≢false (ap (λ t. bytes_eq t (codes "converge")) (sym e)))
 is_script Replay rows e = absurd (true≢false (ap (λ t. bytes_eq t (codes "replay")) (sym e)))
 is_script (ForTeam team) rows e = absurd (true≢false (ap (λ t. bytes_eq t (codes "team")) (sym e.0)))
+
+pub is_converge : (choice : Choice) (rows : List Row) → IsChoice choice (codes "converge", rows) → choice ≡ Converge
+is_converge Converge rows e = refl
+is_converge Script rows e = absurd (true≢false (ap (λ t. bytes_eq t (codes "script")) (sym e)))
+is_converge Replay rows e = absurd (true≢false (ap (λ t. bytes_eq t (codes "replay")) (sym e)))
+is_converge (ForTeam team) rows e = absurd (true≢false (ap (λ t. bytes_eq t (codes "team")) (sym e.0)))
 
 pub is_replay : (choice : Choice) (rows : List Row) → IsChoice choice (codes "replay", rows) → choice ≡ Replay
 is_replay Replay rows e = refl
 is_replay Script rows e = absurd (true≢false (ap (λ t. bytes_eq t (codes "script")) (sym e)))
+is_replay Converge rows e = absurd (true≢false (ap (λ t. bytes_eq t (codes "converge")) (sym e)))
 is_replay (ForTeam team) rows e = absurd (true≢false (ap (λ t. bytes_eq t (codes "team")) (sym e.0)))
 
 -- whatever the program is called, a subcommand's name alone is taken, and names it
@@ -84,6 +95,14 @@ script_is_taken name = refl
 pub script_is_met : (name : List ℕ) → subcommand_of commands (name ∷ codes "script" ∷ []) ≡ Some (codes "script", [])
 unfolding clap_on_literals
 script_is_met name = refl
+
+pub converge_is_taken : (name : List ℕ) → takes commands (name ∷ codes "converge" ∷ []) ≡ true
+unfolding clap_on_literals
+converge_is_taken name = refl
+
+pub converge_is_met : (name : List ℕ) → subcommand_of commands (name ∷ codes "converge" ∷ []) ≡ Some (codes "converge", [])
+unfolding clap_on_literals
+converge_is_met name = refl
 
 pub replay_is_taken : (name : List ℕ) → takes commands (name ∷ codes "replay" ∷ []) ≡ true
 unfolding clap_on_literals

@@ -6,7 +6,7 @@ use Rattle.clap.specs.declared.builder.value_parser.ValueParser.TheVariants.{Uns
 use Rattle.clap.specs.declared.error.Error.{Error}
 use Rattle.clap.specs.declared.error.kind.ErrorKind.TheVariants.{OutOfMemory}
 use Rattle.command_line.specs.declared.Choice.{Choice}
-use Rattle.command_line.specs.declared.Choice.TheVariants.{ForTeam, Replay, Script}
+use Rattle.command_line.specs.declared.Choice.TheVariants.{Converge, ForTeam, Replay, Script}
 use Rattle.command_line.specs.declared.Team.{Team}
 
 -- ---- what may be said
@@ -46,11 +46,13 @@ bgpsim = record (new_app (codes "bgpsim")) {
   top = record (new_app (codes "bgpsim")).top { has_version = true; subcommand_required = true };
 }
 
--- the same, with its subcommands; `script` and `replay` take no arguments
+-- the same, with its subcommands; `script`, `converge` and `replay` take no arguments
 abbrev pub commands : App
 commands =
     with_subcommand
-    (with_subcommand (with_subcommand bgpsim (new_app (codes "script")).top) (new_app (codes "replay")).top)
+    (with_subcommand
+    (with_subcommand (with_subcommand bgpsim (new_app (codes "script")).top) (new_app (codes "converge")).top)
+    (new_app (codes "replay")).top)
     team_app.top
 
 -- ---- what is asked for
@@ -68,6 +70,7 @@ pub record IsTeam (team : Team) (rows : List Row) : Type 0 where
 -- the subcommand of a choice, and the rows of its arguments
 abbrev pub IsChoice : Choice → Text × List Row → Type 0
 IsChoice Script met = met.0 ≡ codes "script"
+IsChoice Converge met = met.0 ≡ codes "converge"
 IsChoice Replay met = met.0 ≡ codes "replay"
 IsChoice (ForTeam team) met = (met.0 ≡ codes "team") × IsTeam team met.1
 
@@ -108,4 +111,5 @@ pub record HasTeam (rows : List Row) : Type 0 where
 
 -- a subcommand, and the rows of its arguments
 abbrev pub IsMet : Text × List Row → Type 0
-IsMet met = (met.0 ≡ codes "script") ⊎ ((met.0 ≡ codes "replay") ⊎ ((met.0 ≡ codes "team") × HasTeam met.1))
+IsMet met = (met.0 ≡ codes "script") ⊎ ((met.0 ≡ codes "converge") ⊎ ((met.0 ≡ codes "replay")
+    ⊎ ((met.0 ≡ codes "team") × HasTeam met.1)))

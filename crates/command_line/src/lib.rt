@@ -6,7 +6,7 @@ ghost use Rattle.clap.specs.Words.{FailsBy, all_of, app_of, fault_of, found_of, 
 ghost use Rattle.clap.specs.declared.builder.command.Command.TheViews.{out-Command};
 ghost use Rattle.command_line.specs.CommandLine.{commands, files_rule, number_of, team_app, turns_rule, workers_rule, Chooses, HasTeam, IsChoice, IsMet, IsNumber, IsTaken, IsTeam, IsTeamWithin, IsWithin};
 ghost use Rattle.command_line.specs.declared.Choice.{Choice};
-ghost use Rattle.command_line.specs.declared.Choice.TheVariants.{Script, Replay};
+ghost use Rattle.command_line.specs.declared.Choice.TheVariants.{Script, Converge, Replay};
 
 use clap::{Arg, ArgMatches, Command, Error, value_parser};
 use std::alloc::{AllocError, Global};
@@ -16,6 +16,8 @@ use std::alloc::{AllocError, Global};
 pub enum Choice<'a> {
     /// Serve a script.
     Script,
+    /// Serve a script that may deliver until no message waits.
+    Converge,
     /// Replay a log.
     Replay,
     /// Run a script for each engineer, with workers beside them.
@@ -34,13 +36,14 @@ pub struct Team<'a> {
 }
 
 /// Reads the words, the program's name first. Help and the version come as an error too, as `clap` has them.
-/// Where there is memory, `script` alone and `replay` alone are choices, and whatever `clap` finds a fault in is none.
+/// Where there is memory, `script` alone, `converge` alone and `replay` alone are choices, and whatever `clap` finds a fault in is none.
 /// A team comes with its files in their order, and with numbers within their ranges.
 pub fn choose<'a>(alloc: Global, words: &'a [String]) -> Result<Choice<'a>, Error>
     ensures faults { FailsBy (fault_of commands (map string_bytes words.now)) result }
     ensures choice { IfOk result (Chooses (map string_bytes words.now)) }
     ensures ranges { IfOk result IsWithin }
     ensures script { (name : List ℕ) → map string_bytes words.now ≡ name ∷ codes "script" ∷ [] → IsTaken Script result }
+    ensures converge { (name : List ℕ) → map string_bytes words.now ≡ name ∷ codes "converge" ∷ [] → IsTaken Converge result }
     ensures replay { (name : List ℕ) → map string_bytes words.now ≡ name ∷ codes "replay" ∷ [] → IsTaken Replay result }
 {
     let command: Command<'a> = program(alloc)?;
@@ -59,6 +62,7 @@ fn chosen<'a>(alloc: Global, matches: &ArgMatches<'a>) -> Result<Choice<'a>, All
     match matches.subcommand() {
         Some(("team", team)) => Ok(Choice::ForTeam(asked_team(alloc, team)?)),
         Some(("replay", _)) => Ok(Choice::Replay),
+        Some(("converge", _)) => Ok(Choice::Converge),
         _ => Ok(Choice::Script),
     }
 }
@@ -99,6 +103,9 @@ fn program<'a>(alloc: Global) -> Result<Command<'a>, AllocError>
     let script = Command::new(alloc, "script").about(
         "Reads commands from standard input and answers each on standard output",
     );
+    let converge = Command::new(alloc, "converge").about(
+        "Reads commands as script does, and lines that deliver messages until none waits",
+    );
     let replay = Command::new(alloc, "replay").about(
         "Reads a log from standard input, runs its commands anew and checks each reply",
     );
@@ -108,6 +115,7 @@ fn program<'a>(alloc: Global) -> Result<Command<'a>, AllocError>
         .about("An interactive simulator of BGP-4 networks")
         .subcommand_required(true)
         .subcommand(script)?
+        .subcommand(converge)?
         .subcommand(replay)?
         .subcommand(team)
 }

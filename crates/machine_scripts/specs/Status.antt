@@ -3,7 +3,7 @@ use Rattle.std.specs.Prelude.{◌≡◌, ◌⊎◌, ℕ, Result}
 use Rattle.std.specs.Process.{exit_status}
 use Rattle.std.specs.declared.process.ExitCode.{ExitCode}
 use Rattle.line_serving.specs.declared.fault.ServeFault.{ServeFault}
-use Rattle.line_serving.specs.ScriptRun.{status_of}
+use Rattle.sim_text.specs.ScriptRun.{status_of}
 use Rattle.reply_text.specs.Ending.{no_memory}
 
 -- how a program ends that is asked to serve

@@ -1,1 +1,2 @@
 mod ReadingLemmas
+mod Shown

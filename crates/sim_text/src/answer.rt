@@ -21,9 +21,7 @@ pub struct Commands;
 impl<M: Machine> Language<M> for Commands {
     ghost use Rattle.sim_text.specs.Serving.{IsAnswer};
 
-    ghost network = { M.network };
-
-    ghost answers = { IsAnswer };
+    ghost answers = { λ old line text new. IsAnswer (M.network old) line text (M.network new) };
 
     fn answer<W: Sink, R: Threads + Sync>(
         rt: &R,

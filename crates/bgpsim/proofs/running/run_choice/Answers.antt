@@ -15,6 +15,13 @@ returns-in-Script-clause-run g c =
     subst (λ (choice : Choice). IfOk c.serve_script.result (λ status. IsRunOf choice old.input
     old.output old.errors status new.input new.output new.errors)) (sym c.in-Script.is) c.serve_script.ensures.run
 
+pub returns-in-Converge-clause-run : goal.returns-in-Converge-clause-run
+returns-in-Converge-clause-run g c =
+    let old = c.args.streams.now in
+    let new = c.serve_converge.new.streams in
+    subst (λ (choice : Choice). IfOk c.serve_converge.result (λ status. IsRunOf choice old.input
+    old.output old.errors status new.input new.output new.errors)) (sym c.in-Converge.is) c.serve_converge.ensures.run
+
 pub returns-in-Replay-clause-run : goal.returns-in-Replay-clause-run
 returns-in-Replay-clause-run g c =
     let old = c.args.streams.now in

@@ -1,21 +1,18 @@
-//! A script on one stream, its replies on a second, and what is told of a fault on a third.
+//! Lines on one stream, their answers on a second, and what is told of a fault on a third, whatever their language is.
 
 ghost use Rattle.std.specs.Prelude.{◌≡◌, false, []};
-ghost use Rattle.reference_machine.specs.Machine.{nothing};
 ghost use Rattle.reply_text.specs.Ending.{IsTold};
-ghost use Rattle.line_serving.specs.ScriptRun.{run_fault, status_of, told, IsScriptRun};
+ghost use Rattle.sim_text.specs.ScriptRun.{run_fault, status_of, told, IsRunOf};
 
-use crate::serving::serve_lines;
-use crate::typist::CAPACITY;
-use crate::{Language, ServeFault};
+use line_serving::{CAPACITY, Language, ServeFault, serve_lines};
 use reply_text::{RunFault, SUCCESS, end_by};
 use std::alloc::Global;
 use std::thread::Threads;
 use watched::{Input, LineBuffer, Output, Sink, Source};
 
-/// Serves the script on the reader, read into the buffer, to the writer, by a machine that begins with the empty
-/// network. Tells a fault on the third stream, whose own failure is passed over. Nothing is held back at the end, on a
-/// stream that did not fail. The exit status: 0 done, 3 read fault, 4 write fault.
+/// Serves the lines on the reader, read into the buffer, to the writer, by the machine. Tells a fault on the third
+/// stream, whose own failure is passed over. Nothing is held back at the end, on a stream that did not fail. The exit
+/// status: 0 done, 3 read fault, 4 write fault.
 pub fn run_lines<L: Language<M>, M, I: Source, W: Sink, E: Sink, R: Threads + Sync>(
     rt: &R,
     alloc: Global,
@@ -29,11 +26,10 @@ pub fn run_lines<L: Language<M>, M, I: Source, W: Sink, E: Sink, R: Threads + Sy
     requires calm_input { input.old.failed ≡ false }
     requires calm_output { output.old.failed ≡ false }
     requires shown { output.old.held ≡ false }
-    requires empty { L.network machine.old ≡ nothing }
     ensures sent { output.new.failed ≡ false → output.new.held ≡ false }
     ensures told_sent { errors.old.held ≡ false → errors.new.failed ≡ false → errors.new.held ≡ false }
-    ensures run { IsScriptRun L.answers input.old.remaining output.old errors.old result
-        (L.network machine.new) input.new output.new errors.new }
+    ensures run { IsRunOf L.answers machine.old input.old.remaining output.old errors.old result
+        machine.new input.new output.new errors.new }
 {
     let served = serve_lines::<L, M, Input<I>, W, R>(rt, alloc, buffer, input, output, machine);
     end(&served, errors)
