@@ -5,7 +5,7 @@ ghost use Rattle.reference_machine.specs.Machine.{nothing};
 ghost use Rattle.sim_text.specs.ScriptRun.{IsScriptRun};
 
 use crate::answer::Commands;
-use crate::run_lines::run_lines;
+use crate::lines_run::run_lines;
 use line_serving::CAPACITY;
 use reference_machine::Machine;
 use std::alloc::Global;
