@@ -188,7 +188,7 @@ def text_of(outcome: Outcome, is_all: bool) -> str:
     lines += [] if outcome.is_changed else ["Nothing changed."]
     lines += _orders(outcome, names)
     if outcome.unsettled:
-        lines += ["IT DOES NOT SETTLE: %s." % unsettled(outcome.unsettled, names), "What is told above is how it stood when the deliveries stopped."]
+        lines += ["IT DOES NOT SETTLE: %s." % unsettled(outcome.unsettled, names, is_all), "What is told above is how it stood when the deliveries stopped."]
     else:
         lines.append(_messages(outcome))
     return "\n".join(lines) + "\n"

@@ -30,6 +30,7 @@ def parser() -> argparse.ArgumentParser:
     made.add_argument("--states", type=int, metavar="N", help="write no script, but which stable states N drawn orders end in, and how often")
     made.add_argument("--most", type=int, metavar="N", help=(
         "stop after so many deliveries at one place (ten thousand and more, by the size of the network)"))
+    made.add_argument("--all", action="store_true", help="tell all that keep changing where the network does not settle, and not only the first ones")
     made.add_argument("--by-prefix", type=int, metavar="N", help=(
         "write no script, but the chosen routes of all routers as `routes` replies them: the network is played with N of its prefixes at "
         "a time, by several processes"))
@@ -84,7 +85,7 @@ def main(words: Optional[List[str]] = None) -> int:
         written, endless = settled(run, read(chosen.script), chosen.at_end)
         names = run.network.names
     if endless:
-        print("%s: %s" % (chosen.script, unsettled(endless, names)), file=sys.stderr)
+        print("%s: %s" % (chosen.script, unsettled(endless, names, chosen.all)), file=sys.stderr)
         return CHANGED
     if written.left_out:
         print("%s: %d deliveries of its own found nothing left, and were left out" % (chosen.script, written.left_out), file=sys.stderr)

@@ -1,23 +1,21 @@
 """Deliveries until all queues are empty, in one order or another."""
 from __future__ import annotations
 
-import hashlib
 from collections import Counter
 from dataclasses import dataclass, field
-from typing import Callable, Dict, List, Optional, Tuple
+from typing import Dict, List, Optional
 
 from ..network.configuration import Direction, Network
-from ..program.language import NUMBERS, by_address, by_prefix
+from ..program.language import NUMBERS
 from ..program.line_count import CountedProgram
 from ..program.mistakes import Mistake
 from ..program.output import Progress
 from ..program.replies import refusal
 from .orders import Order, in_order
 from .queues import ANY, Cell, Queues
+from .recurrence import examine
 
 MEMORY = NUMBERS["memory"]
-# After so many deliveries a router may have chosen another route for a prefix, or surely did.
-Moved = Tuple[int, Cell, bool]
 
 
 @dataclass
@@ -37,27 +35,6 @@ class Settling:
     states: int = 0
 
 
-class Cycle:
-    """Finds that a network is as it was before. Rounds are compared, and where one comes back the whole state is, twice."""
-
-    def __init__(self, look: Callable[[], str]) -> None:
-        self.look = look
-        self.round: List[Tuple[Direction, str]] = []
-        self.age, self.power = 0, 1
-        self.seen: "Tuple[str, int]" = ("", 0)
-
-    def period(self, took: List[Tuple[Direction, str]], count: int, can_look: bool) -> int:
-        """How many deliveries brought the same state back, after so many and this round; 0 where that is not seen."""
-        self.age += 1
-        if took == self.round and can_look:
-            now, before = (self.look(), count), self.seen
-            self.seen, self.age = now, 0
-            return count - before[1] if now[0] == before[0] else 0
-        if self.age >= self.power:
-            self.round, self.age, self.power, self.seen = took, 0, self.power * 2, ("", 0)
-        return 0
-
-
 class Settler:
     """Delivers what waits in a program's network."""
 
@@ -66,7 +43,6 @@ class Settler:
         self.waiting = Queues(network)
         self.progress = Progress()
         self.is_unsure = False
-        self.looked = 0
 
     @property
     def suspects(self) -> List[Direction]:
@@ -84,26 +60,39 @@ class Settler:
         return 10000 + 20 * len(self.network.directions()) * len(self.network.prefixes)
 
     def settle(self) -> Settling:
-        """Delivers until all queues are empty, or it is seen that they never will be, or until the limit."""
+        """Delivers until no message waits, or until the limit. Where that is reached, it is examined why."""
         done, limit, self.progress = Settling(self.order), self.limit(), Progress()
         self.order.begin()
-        changed: List[Moved] = []
-        cycle = Cycle(self._look)
-        while self.is_waiting():
-            room = limit - len(done.deliveries)
-            before = len(done.deliveries)
-            if room > 0:
-                self._round(room, done, changed)
-                took = list(zip(done.deliveries[before:], done.taken[before:]))
-                can_look = self.order.is_fixed and self.looked <= 1000 + 2 * len(done.deliveries)
-                done.period = cycle.period(took, len(done.deliveries), can_look) if took else 0
-            if room <= 0 or done.period:
-                done.is_settled = False
-                done.restless = _restless(changed, done)
-                break
+        while self.order.draws() and len(done.deliveries) < limit and self.is_waiting():
+            self._round(limit - len(done.deliveries), done)
             self.progress.tell("%d deliveries .." % len(done.deliveries))
+        if self.waiting.most or self.is_unsure:
+            self._converge(limit - len(done.deliveries), done)
         self.progress.done()
         return done
+
+    def _converge(self, room: int, done: Settling) -> None:
+        """Has the program deliver, at most so many messages."""
+        before = len(done.deliveries)
+        found = self.program.converge(self.order.name, room,
+                                      lambda count: self.progress.tell("%d deliveries .." % (before + count)))
+        if not found.is_converged and not found.is_refused:
+            done.is_settled = False
+            why = examine(self.program, self.network, found.commands, found.replies)
+            done.period, done.restless = why.period, why.restless
+            del found.commands[why.count:], found.replies[why.count:]
+        ways = {command: _way(command) for command in set(found.commands)}
+        done.deliveries += [ways[command] for command in found.commands]
+        done.taken += found.replies
+        if not found.is_converged:
+            self.waiting.forget_all()
+            self.is_unsure = True
+        else:
+            cells = {(ways[command][1], reply) for command, reply in zip(found.commands, found.replies)}
+            self.waiting.converged((router, reply.split(" ")[1]) for router, reply in cells)
+            self.is_unsure = False
+        if found.is_refused:
+            raise Mistake("converge: %s: memory was refused after %d deliveries" % (found.ending, len(done.deliveries)))
 
     def is_waiting(self) -> bool:
         """Whether a message waits anywhere. The program is asked where many may, and at the end."""
@@ -119,7 +108,7 @@ class Settler:
             self.waiting.forget_all()
         return self.is_unsure
 
-    def _round(self, room: int, done: Settling, changed: List[Moved]) -> None:
+    def _round(self, room: int, done: Settling) -> None:
         """One message of each queue that is chosen, and what waits after it."""
         tried = self.order.choose(self.waiting.most)[:room]
         cells: "Counter[Cell]" = Counter()
@@ -134,38 +123,18 @@ class Settler:
             self.waiting.took(way)
             cells[way[1], reply[0].split(" ")[1]] += 1
         self.is_unsure = self.is_unsure or bool(cells)
-        changed += [(len(done.deliveries), cell, is_sure) for cell, is_sure in self.moved(cells)]
+        self.learn(cells)
 
-    def moved(self, cells: "Counter[Cell]") -> List[Tuple[Cell, bool]]:
-        """The routers and prefixes among these, which took so many messages, at which another route may have been chosen. Only a router that
-        may send is asked."""
+    def learn(self, cells: "Counter[Cell]") -> None:
+        """Asks routers that took so many messages about prefixes what they chose. Only a router that may send is asked."""
         asked = [cell for cell in cells if self.waiting.matters(cell)]
         for cell in cells.keys() - asked:
             self.waiting.unsure(cell, cells[cell])
-        replies = self.program.say_all("best %s %s" % cell for cell in asked)
-        before = [self.waiting.known(cell) for cell in asked]
-        return [(cell, cells[cell] == 1 or old not in (None, reply[0])) for cell, old, reply in zip(asked, before, replies)
-                if self.waiting.learn(cell, cells[cell], reply[0])]
-
-    def _look(self) -> str:
-        """All that decides what comes next, as a digest: what was received, what waits and what is tried; nothing is configured in between."""
-        ways = [way for one, other in self.network.sessions() for way in ((one, other), (other, one))]
-        questions = ["queue %s %s" % way for way in ways] + ["in %s %s" % (b, a) for a, b in ways if self.network.is_router(b)]
-        self.looked += len(questions)
-        replies = self.program.say_all(questions)
-        tried = "%s %s" % (self.order.at, [(way, self.waiting.most[way]) for way in self.suspects])
-        return hashlib.sha256("\n".join([tried] + [line for reply in replies for line in reply]).encode("latin-1")).hexdigest()
+        for cell, reply in zip(asked, self.program.say_all("best %s %s" % cell for cell in asked)):
+            self.waiting.learn(cell, cells[cell], reply[0])
 
 
-def _restless(changed: List[Moved], done: Settling) -> Dict[str, List[str]]:
-    """Prefixes and routers that chose anew since the same state, or twice or more in the second half of the deliveries.
-
-    What a router chose and left again in one round is not seen; so one that may have done that counts where it sent something."""
-    count = len(done.deliveries)
-    since, least = (count - done.period, 1) if done.period else (count // 2, 2)
-    sent = {(way[0], took.split(" ")[1]) for way, took in zip(done.deliveries[since:], done.taken[since:])}
-    late = Counter(cell for at, cell, is_sure in changed if at > since and (is_sure or cell in sent))
-    found: Dict[str, List[str]] = {}
-    for router, prefix in sorted((cell for cell in late if late[cell] >= least), key=lambda cell: (by_prefix(cell[1]), by_address(cell[0]))):
-        found.setdefault(prefix, []).append(router)
-    return found
+def _way(command: str) -> Direction:
+    """The direction of a `deliver`."""
+    _, one, other = command.split(" ")
+    return one, other

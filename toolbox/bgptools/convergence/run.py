@@ -17,6 +17,8 @@ from .delivery import Settler, Settling
 from .orders import Drawn, Order, RouterByRouter
 
 DRAWN = 8
+# So many prefixes, and so many routers of each, are told of those that keep changing.
+PREFIXES, ROUTERS = 8, 10
 
 
 class Run(Answers):
@@ -167,9 +169,31 @@ def _how(done: Settling, names: Names) -> str:
     """How one order does not settle."""
     told = ["%s the same state comes back every %d deliveries" % (done.order.words, done.period) if done.period
             else "%s it is not quiet after %d deliveries" % (done.order.words, len(done.deliveries))]
-    told += ["%s keeps changing at %s" % (prefix, ", ".join(map(names.shown, routers)))
-             for prefix, routers in done.restless.items()]
+    if _is_long(done):
+        told.append("%d prefixes keep changing" % len(done.restless))
+    else:
+        told += ["%s keeps changing at %s" % (prefix, ", ".join(map(names.shown, routers)))
+                 for prefix, routers in done.restless.items()]
     return "; ".join(told)
+
+
+def _is_long(done: Settling) -> bool:
+    """Whether who keeps changing takes more than one line."""
+    return sum(map(len, done.restless.values())) > ROUTERS
+
+
+def _changing(done: Settling, names: Names, is_whole: bool) -> str:
+    """Who keeps changing, by prefix, where that takes more than one line: all, or the first ones."""
+    if not _is_long(done):
+        return ""
+    lines = []
+    for prefix, routers in list(done.restless.items())[:None if is_whole else PREFIXES]:
+        shown = ", ".join(map(names.shown, routers if is_whole else routers[:ROUTERS]))
+        more = 0 if is_whole else len(routers) - ROUTERS
+        lines.append("%s keeps changing at %s%s" % (prefix, shown, " and %d more" % more if more > 0 else ""))
+    left = len(done.restless) - len(lines)
+    lines += ["and %d prefixes more, which `settle --all` tells" % left] if left else []
+    return "".join("\n  " + line for line in lines)
 
 
 def _tried(others: List[Settling]) -> str:
@@ -179,24 +203,28 @@ def _tried(others: List[Settling]) -> str:
     return ", ".join(fixed + (["%d drawn" % drawn] if drawn else []))
 
 
-def unsettled(done: Settling, names: Optional[Names] = None) -> str:
-    """What is told where deliveries do not end."""
-    told = _how(done, names or Names())
+def unsettled(done: Settling, names: Optional[Names] = None, is_whole: bool = False) -> str:
+    """What is told where deliveries do not end: all, or in at most ten lines."""
+    known = names or Names()
+    told = _how(done, known)
     if done.others:
         told += "; of %d other orders (%s) none settles" % (len(done.others), _tried(done.others))
-    return told if done.period or done.restless else told + ": --most N allows more"
+    if not done.period and not done.restless:
+        told += ": --most N allows more"
+    return told + _changing(done, known, is_whole)
 
 
-def settled_otherwise(done: Settling, names: Optional[Names] = None) -> str:
+def settled_otherwise(done: Settling, names: Optional[Names] = None, is_whole: bool = False) -> str:
     """What is told where another order settled than the first; nothing where the first one did."""
     if done.first is None:
         return ""
-    told = _how(done.first, names or Names()) + "; it settles " + done.order.words
+    known = names or Names()
+    told = _how(done.first, known) + "; it settles " + done.order.words
     quiet = [each for each in done.others if each.is_settled]
     if len(done.others) > 1 or done.states > 1:
         told += "; of %d other orders (%s) %d settle, in %d stable state%s" % (
             len(done.others), _tried(done.others), len(quiet), done.states, "" if done.states == 1 else "s")
-    return told
+    return told + _changing(done.first, known, is_whole)
 
 
 def told_of(done: Settling, names: Optional[Names] = None) -> str:

@@ -47,7 +47,7 @@ class Settles(ProcessPool[int]):
         with Run(order_of(self.chosen), self.chosen.most, tries_others=True) as run:
             _, endless = settled(run, self.parts[task], self.chosen.at_end)
             if endless:
-                return {}, unsettled(endless, run.network.names)
+                return {}, unsettled(endless, run.network.names, self.chosen.all)
             routers = run.network.routers()
             replies = run.ask("routes " + router for router in routers)
         return {router: "".join(line + "\n" for line in reply[:-1]).encode("latin-1")

@@ -165,4 +165,4 @@ class Deliveries:
         settler = self.program.settler
         settler.is_unsure = settler.is_unsure or bool(cells)
         with contextlib.suppress(Lost), self.program.renewing():
-            settler.moved(cells)
+            settler.learn(cells)
