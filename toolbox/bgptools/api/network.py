@@ -233,8 +233,8 @@ class Network(Commands):
         ...     print(fault.period, fault.keeps_changing)
         8 {'203.0.113.0/24': ['1.0.0.1', '2.0.0.1']}
         >>> before = net.at(begin)
-        >>> before.settle("router").order
-        'router by router'
+        >>> before.settle(seed=3).order
+        'in the drawn order 3'
         >>> net.close(), before.close()
         (None, None)
         """

@@ -62,14 +62,26 @@ class Settler:
     def settle(self) -> Settling:
         """Delivers until no message waits, or until the limit. Where that is reached, it is examined why."""
         done, limit, self.progress = Settling(self.order), self.limit(), Progress()
-        self.order.begin()
-        while self.order.draws() and len(done.deliveries) < limit and self.is_waiting():
-            self._round(limit - len(done.deliveries), done)
-            self.progress.tell("%d deliveries .." % len(done.deliveries))
         if self.waiting.most or self.is_unsure:
+            self._draw(limit, done)
             self._converge(limit - len(done.deliveries), done)
         self.progress.done()
         return done
+
+    def _draw(self, limit: int, done: Settling) -> None:
+        """Delivers in the rounds for which lots are drawn, if the order has such."""
+        self.order.begin()
+        while self.order.draws() and len(done.deliveries) < limit:
+            ways = self.program.waiting()
+            if not ways:
+                return
+            tried = self.order.choose(ways)[:limit - len(done.deliveries)]
+            for way, reply in zip(tried, self.program.say_all("deliver %s %s" % way for way in tried)):
+                if refusal(reply):
+                    raise Mistake("deliver %s %s: %s: memory was refused" % (way + (reply[0],)))
+                done.deliveries.append(way)
+                done.taken.append(reply[0])
+            self.progress.tell("%d deliveries .." % len(done.deliveries))
 
     def _converge(self, room: int, done: Settling) -> None:
         """Has the program deliver, at most so many messages."""
@@ -84,13 +96,12 @@ class Settler:
         ways = {command: _way(command) for command in set(found.commands)}
         done.deliveries += [ways[command] for command in found.commands]
         done.taken += found.replies
-        if not found.is_converged:
-            self.waiting.forget_all()
-            self.is_unsure = True
-        else:
-            cells = {(ways[command][1], reply) for command, reply in zip(found.commands, found.replies)}
+        if found.is_converged:
+            cells = {(way[1], reply) for way, reply in zip(done.deliveries, done.taken)}
             self.waiting.converged((router, reply.split(" ")[1]) for router, reply in cells)
-            self.is_unsure = False
+        else:
+            self.waiting.forget_all()
+        self.is_unsure = not found.is_converged
         if found.is_refused:
             raise Mistake("converge: %s: memory was refused after %d deliveries" % (found.ending, len(done.deliveries)))
 
@@ -107,23 +118,6 @@ class Settler:
         elif not most:
             self.waiting.forget_all()
         return self.is_unsure
-
-    def _round(self, room: int, done: Settling) -> None:
-        """One message of each queue that is chosen, and what waits after it."""
-        tried = self.order.choose(self.waiting.most)[:room]
-        cells: "Counter[Cell]" = Counter()
-        for way, reply in zip(tried, self.program.say_all("deliver %s %s" % way for way in tried)):
-            if refusal(reply) == MEMORY:
-                raise Mistake("deliver %s %s: %s: memory was refused" % (way + (reply[0],)))
-            if refusal(reply):
-                self.waiting.emptied(way)
-                continue
-            done.deliveries.append(way)
-            done.taken.append(reply[0])
-            self.waiting.took(way)
-            cells[way[1], reply[0].split(" ")[1]] += 1
-        self.is_unsure = self.is_unsure or bool(cells)
-        self.learn(cells)
 
     def learn(self, cells: "Counter[Cell]") -> None:
         """Asks routers that took so many messages about prefixes what they chose. Only a router that may send is asked."""

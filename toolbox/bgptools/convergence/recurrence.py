@@ -99,7 +99,7 @@ class Replay:
     def state(self, receiving: Set[str]) -> str:
         """What these deliveries' directions received, and what waits, as a digest."""
         ways = [command.split(" ")[1:] for command in sorted(receiving)]
-        waiting = [line.split(" ")[:2] for line in self.program.say("waiting")[:-1]]
+        waiting = self.program.waiting()
         questions = ["in %s %s" % (b, a) for a, b in ways if self.network.is_router(b)]
         replies = self.program.say_all(questions + ["queue %s %s" % (a, b) for a, b in waiting])
         lines = [" ".join(way) for way in waiting] + [line for reply in replies for line in reply]

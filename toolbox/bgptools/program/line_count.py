@@ -50,12 +50,18 @@ class CountedProgram(Program):
             replies += found
         return replies
 
+    def request(self, line: str) -> List[str]:
+        """The lines of the reply to a request of tools."""
+        self._room()
+        self.count += 1
+        self.count_of_all += 1
+        return super().request(line)
+
     def converge(self, order: str, most: int, told: Callable[[int], None] = lambda count: None) -> Echo:
         """Delivers in an order of the program's until no message waits, or at most so many. Where that is not the end
         of it, nothing is delivered: the program is started anew. Raises ProgramEnded where one script cannot hold
         the deliveries."""
-        if self.count >= MOST_LINES:
-            self._renew()
+        self._room()
         room = MOST_LINES - len(self.accepted)
         found = super().converge(order, min(most, room), told)
         self.count += 1

@@ -6,7 +6,7 @@ import os
 import signal
 import subprocess
 import threading
-from typing import Any, Callable, Dict, Iterable, List
+from typing import Any, Callable, Dict, Iterable, List, Tuple
 
 from . import location
 from .echo import DELIVERED, Echo
@@ -18,6 +18,8 @@ LONGEST_READ = 65536
 AT_ONCE = 8192
 # So much of a long reply is read at once, and its last line is no longer than this.
 PIECE, LAST_LINE = 1 << 20, 256
+# The first words of what tools ask for, and scripts do not: it is no command.
+REQUESTS = ("converge", "waiting")
 # So many seconds a program that answers nothing more has to end.
 PATIENCE = 10
 
@@ -65,7 +67,7 @@ class Program:
         replies: List[List[str]] = []
         part: List[str] = []
         size = 0
-        for line in map(one_line, list(lines)):
+        for line in map(_command, list(lines)):
             if part and size + len(line) >= AT_ONCE:
                 replies += self._exchange(part)
                 part, size = [], 0
@@ -77,7 +79,7 @@ class Program:
         """The reply to each line that has one, where it is one line: to edits, feeds and deliveries.
 
         Lines are written while replies are read, so that the program never waits: the fastest way to play many."""
-        spoken = [line for line in map(one_line, lines) if not is_silent(line)]
+        spoken = [line for line in map(_command, lines) if not is_silent(line)]
         content = "".join(map(ended, spoken)).encode("latin-1")
         self.before()
         self.is_torn = True
@@ -89,6 +91,14 @@ class Program:
             writer.join()
         self.is_torn = False
         return replies
+
+    def request(self, line: str) -> List[str]:
+        """The lines of the reply to a line that may be a request of tools, too, which no script has."""
+        return self._exchange([one_line(line)])[0]
+
+    def waiting(self) -> List[Tuple[str, str]]:
+        """The directions in which messages wait, by sender, then receiver."""
+        return [(words[0], words[1]) for words in map(words_of, self.request("waiting")[:-1])]
 
     def converge(self, order: str, most: int, told: Callable[[int], None] = lambda count: None) -> Echo:
         """Delivers in an order of the program's, `fair` or `router`, until no message waits or so many were delivered.
@@ -186,6 +196,11 @@ class Program:
             self.given.close()
         except OSError:
             pass
+
+
+def _command(line: str) -> str:
+    """The line for the program. A request of tools is made one that the program refuses, as any that is no command."""
+    return one_line(line) if words_of(line)[:1] not in ([word] for word in REQUESTS) else REQUESTS[0] + " -"
 
 
 def one_line(line: str) -> str:

@@ -246,7 +246,7 @@ class Scripts(Base):
 
     def test_the_network_at_each_step_is_that_of_so_many_lines(self):
         net = self.loaded(LESSONS / "disagree.bgp")
-        net.settle("router")
+        net.settle(seed=3)
         lines = net.script().splitlines()
         self.assertEqual(net.step, len(lines))
         for step in range(net.step + 1):
@@ -367,8 +367,8 @@ class Deliveries(Base):
                          [line for line in net.script().splitlines() if line.startswith("deliver")])
         net = self.loaded(LESSONS / "disagree.bgp")
         done = net.settle(tries_others=True)
-        self.assertEqual(done.order, "router by router")
-        self.assertRegex(done.note, "^in the fair order .*; it settles router by router; of 9 .*, in 2 stable states$")
+        self.assertEqual(done.order, "in the drawn order 3")
+        self.assertRegex(done.note, "^in the fair order .*; it settles in the drawn order 3; of 9 .*, in 2 stable states$")
         self.assertTrue(net.quiet())
 
     def test_at_most_so_many(self):
@@ -471,7 +471,7 @@ class Changes(Base):
 
     def test_another_order_is_told(self):
         found = self.loaded(LESSONS / "disagree.bgp").what_if(["origin 3.0.0.1 20.0.0.0/8"])
-        self.assertEqual([note.split(";")[2] for note in found.notes], [" it settles router by router"] * 2)
+        self.assertEqual([note.split(";")[2] for note in found.notes], [" it settles in the drawn order 3"] * 2)
 
 
 class More(Base):

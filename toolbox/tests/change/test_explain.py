@@ -39,7 +39,7 @@ from bgptools.program.process import Program
 inner = Program()
 for line in sys.stdin.buffer:
     line = line.decode("latin-1")[:-1]
-    reply = inner.say(line)
+    reply = inner.request(line)
     if line.startswith("out "):
         reply = %s
     print("".join(each + "\\n" for each in reply), end="", flush=True)
@@ -132,8 +132,8 @@ feed 2.0.0.1 9.0.0.1 update 198.51.100.0/24 2 igp 0""".split("\n")))
     def test_another_order_is_told(self):
         script = TOP / "toolbox/lessons/disagree.bgp"
         told = tool("explain", "--settle", script, "left", "203.0.113.0/24", status=0)
-        self.assertRegex(told.stderr, "in the fair order .*; it settles router by router; .* in 2 stable states\n")
-        self.assertEqual(tool("explain", "--settle", "--router", script, "left", "203.0.113.0/24", status=0).stderr, "")
+        self.assertRegex(told.stderr, "in the fair order .*; it settles in the drawn order 3; .* in 2 stable states\n")
+        self.assertEqual(tool("explain", "--settle", "--seed", 3, script, "left", "203.0.113.0/24", status=0).stderr, "")
 
     def test_mistakes(self):
         self.assertIn("there is no router 9.9.9.9 in the script; it has 1.0.0.1, 2.0.0.1", tool("explain", "examples/hijack.bgp", "9.9.9.9", "10.0.0.0/8", status=2).stderr)

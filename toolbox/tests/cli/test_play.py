@@ -32,7 +32,7 @@ from bgptools.program.process import Program
 inner, here, count = Program(), pathlib.Path(%r), 0
 for line in sys.stdin.buffer:
     line = line.decode("latin-1")[:-1]
-    reply = inner.say(line)
+    reply = inner.request(line)
     count += reply[:1] != [] and reply[0].startswith("took ")
     if count == %d and not here.exists():
         here.write_text("%%d %%d" %% (os.getsid(0), os.getsid(os.getppid())))

@@ -190,6 +190,19 @@ class Failures(Case):
                 self.assertEqual((echo.commands, echo.replies, echo.ending), (lines[0:6:2], lines[1:6:2], lines[6]))
 
 
+class Requests(Case):
+    def test_what_tools_ask_for_is_no_command(self):
+        """A script, or a participant, that has such a line is told that it is none, and nothing is delivered."""
+        with Run() as run:
+            run.play(lines_of(TWO.encode(), "two.bgp"))
+            for line in ("converge", " converge  fair 5 echo ", "waiting", "waiting x", "converge fair 0"):
+                with self.subTest(line=line):
+                    self.assertEqual(run.say(line), ["refused 1 syntax"])
+                    self.assertEqual(run.program.pour([line]), ["refused 1 syntax"])
+            self.assertEqual(run.ask(["quiet"]), [["no"]])
+            self.assertEqual(run.program.waiting(), [("1.0.0.1", "2.0.0.1")])
+
+
 class Recurrences(Case):
     def test_steps_that_repeat(self):
         self.assertEqual(matches("abab"), [0, 0, 2, 0])

@@ -40,7 +40,7 @@ for line in sys.stdin.buffer:
     if here.exists() and here.read_text() in line:
         here.unlink()
         os._exit(7)
-    print("".join(each + "\\n" for each in inner.say(line)), end="", flush=True)
+    print("".join(each + "\\n" for each in inner.request(line)), end="", flush=True)
 """
 
 
