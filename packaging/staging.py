@@ -1,4 +1,5 @@
-"""A folder of which dpkg-buildpackage makes the package: the files of the repository, the program, and what it is."""
+"""A folder of which dpkg-buildpackage makes the package: the files of the repository, the documents as web pages, the
+program, and what it is."""
 from __future__ import annotations
 
 import os
@@ -12,10 +13,13 @@ from typing import List
 import origin
 from bgptools.program.mistakes import Mistake
 from origin import TOP, Commit, git
+from simtools import site
 
 # What goes into the package, and what makes it.
 PARTS = ("debian", "docs", "examples", "toolbox", "README.md")
-NEEDED = ("dpkg-buildpackage", "dh", "dh_python3", "help2man", "shtab")
+NEEDED = ("dpkg-buildpackage", "dh", "dh_python3", "help2man", "shtab", "mkdocs")
+# What is left out of the web pages: what a server on the network shows, search in other languages, and maps of scripts.
+LEFT_OUT = ("404.html", "sitemap.xml*", "assets/javascripts/lunr", "assets/**/*.map")
 ENTRY = """\
 bgpsim (%s) unstable; urgency=medium
 
@@ -33,6 +37,22 @@ def files() -> List[pathlib.Path]:
     return sorted(path for path in paths if (TOP / path).is_file())
 
 
+def require_tools() -> None:
+    """Mistake where a tool is missing that a package is made with."""
+    missing = [name for name in NEEDED if not shutil.which(name)]
+    if missing:
+        raise Mistake("not installed: %s. `tools/setup` installs what a package is made with" % ", ".join(missing))
+
+
+def stage_pages(folder: pathlib.Path, commit: Commit) -> None:
+    """Fills the folder with the documents as web pages, dated by the commit. Mistake where mkdocs finds a fault."""
+    wrong = site.build(folder, commit.seconds)
+    if wrong:
+        raise Mistake("\n".join(wrong), "mkdocs")
+    for path in [path for pattern in LEFT_OUT for path in folder.glob(pattern)]:
+        shutil.rmtree(path) if path.is_dir() else path.unlink()
+
+
 def stage(folder: pathlib.Path, program: pathlib.Path, version: str, commit: Commit) -> None:
     """Fills the folder. The first entry of its debian/changelog has the version and the time of the commit."""
     proved, record = origin.proved(program, commit), origin.record(program)
@@ -41,6 +61,7 @@ def stage(folder: pathlib.Path, program: pathlib.Path, version: str, commit: Com
         target.parent.mkdir(parents=True, exist_ok=True)
         shutil.copyfile(TOP / path, target)
         target.chmod(0o755 if os.access(TOP / path, os.X_OK) else 0o644)
+    stage_pages(folder / "html", commit)
     shutil.copyfile(program, folder / "program")
     (folder / "program").chmod(0o755)
     if record:
@@ -61,10 +82,7 @@ def _maintainer(folder: pathlib.Path) -> str:
 def build(folder: pathlib.Path) -> pathlib.Path:
     """The package that dpkg-buildpackage makes of the folder; it lies beside the folder.
 
-    Raises Mistake if a Debian tool is missing, or if the build fails: then with the end of what it printed."""
-    missing = [name for name in NEEDED if not shutil.which(name)]
-    if missing:
-        raise Mistake("not installed: %s. `tools/setup` installs what a package is made with" % ", ".join(missing))
+    Raises Mistake if the build fails, with the end of what it printed."""
     # (Nothing is compiled: no compiler has to be installed, which the check of build dependencies asks for.)
     words = ["dpkg-buildpackage", "--unsigned-source", "--unsigned-changes", "--build=binary", "--no-check-builddeps"]
     surroundings = {**os.environ, "PROGRAM": str(folder / "program"), "LC_ALL": "C.UTF-8"}

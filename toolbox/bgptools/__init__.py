@@ -8,6 +8,7 @@ from typing import TYPE_CHECKING
 if TYPE_CHECKING:
     from .api.effect import Effect, InBetween, RouteChange, Sent, WayChange
     from .api.network import Network, Unsettled
+    from .api.tables import Table, read_sweep
     from .api.values import Cost, Delivery, Explanation, Link, Message, Node, Reason, Route, Session, Settled
     from .network.refusals import Refusal
     from .program.mistakes import Mistake
@@ -15,10 +16,11 @@ if TYPE_CHECKING:
 
 __version__ = "0.2.0"
 __all__ = ["Cost", "Delivery", "Effect", "Explanation", "InBetween", "Link", "Message", "Mistake", "Network", "Node",
-           "Reason", "Refusal", "Route", "RouteChange", "Sent", "Session", "Settled", "Trace", "Unsettled", "WayChange"]
+           "Reason", "Refusal", "Route", "RouteChange", "Sent", "Session", "Settled", "Table", "Trace", "Unsettled", "WayChange",
+           "read_sweep"]
 
 # Where the names of the interface are.
-MODULES = ("api.network", "api.values", "api.effect", "network.refusals", "program.replies")
+MODULES = ("api.network", "api.values", "api.effect", "api.tables", "network.refusals", "program.replies")
 
 if not TYPE_CHECKING:
     def __getattr__(name: str) -> object:

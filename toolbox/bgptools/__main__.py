@@ -4,7 +4,7 @@ from __future__ import annotations
 import sys
 from typing import List
 
-from .cli import libraries
+from .cli import interpreter
 from .cli.tools import TOOLS, run, sentence_of
 from .program.mistakes import ended
 
@@ -23,7 +23,7 @@ def main(words: List[str]) -> int:
     if not words or words[0] in ("-h", "--help"):
         print(listed())
         return 0
-    libraries.restart(words[0], ["-m", "bgptools", *words])
+    interpreter.restart(words[0], ["-m", "bgptools", words[0]], words[1:])
     return run(words[0], "%s %s" % (CALLED, words[0]), words[1:])
 
 

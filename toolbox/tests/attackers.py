@@ -17,13 +17,15 @@ import time
 import pytest
 
 from bgptools.program import location
-from common import TOOLBOX, Case
+from common import PATIENCE, TOOLBOX, Case
 from test_lab import Page
 from test_share import Person
 
 TWO = ["router 1.0.0.1 1", "router 2.0.0.1 2", "link 1.0.0.1 2.0.0.1 1", "join 1.0.0.1 2.0.0.1"]
-# An answer that takes some milliseconds comes within so many seconds, whatever others do.
-SOON = 2.0
+# An answer that takes some milliseconds comes within so many seconds, whatever others do: of a Watch, on which time
+# stands still while the processors are needed elsewhere. Who has no secret is let go after UNPROVEN_SECONDS, and who
+# does not read after WRITE_SECONDS, which are more.
+SOON = 4.0
 LIMITS = {"files": resource.RLIMIT_NOFILE, "file_size": resource.RLIMIT_FSIZE}
 
 
@@ -73,7 +75,7 @@ class Server:
     def get(self, path, method="GET", body=None, key=None, **headers):
         """The status, headers and body of an answer."""
         given = {name.replace("_", "-"): value for name, value in headers.items()}
-        with contextlib.closing(http.client.HTTPConnection("127.0.0.1", self.port, timeout=60)) as line:
+        with contextlib.closing(http.client.HTTPConnection("127.0.0.1", self.port, timeout=PATIENCE)) as line:
             line.request(method, "/%s/%s" % (self.key if key is None else key, path), body, given)
             answer = line.getresponse()
             return answer.status, dict(answer.getheaders()), answer.read()
@@ -84,7 +86,7 @@ class Server:
 
     def connected(self):
         """A connection to the pages."""
-        return socket.create_connection(("127.0.0.1", self.port), timeout=60)
+        return socket.create_connection(("127.0.0.1", self.port), timeout=PATIENCE)
 
     # What is seen of it
 
@@ -139,13 +141,13 @@ class Server:
 
     def ended(self):
         """Its status when it has ended by itself, and the rest of what it prints."""
-        out = self.process.communicate(timeout=120)[0].decode()
+        out = self.process.communicate(timeout=PATIENCE)[0].decode()
         return self.process.returncode, out
 
     def close(self):
         if self.is_alive():
             self.process.kill()
-        self.process.wait(60)
+        self.process.wait(PATIENCE)
         self.process.stdout.close()
 
 
@@ -215,7 +217,7 @@ class Until:
         return self
 
     def __exit__(self, *_):
-        self.thread.join(120)
+        self.thread.join(PATIENCE)
         if self.fault is not None:
             raise self.fault
 
@@ -250,14 +252,16 @@ def readable(line, seconds):
         return bool(waiting.select(seconds))
 
 
-def statuses(server, content, most=8):
-    """The statuses that a server answers to these bytes; a 0 behind them where it closes the connection then."""
+def statuses(server, content, fits, most=8):
+    """The statuses that a server answers to these bytes; a 0 behind them where it closes the connection then. What has
+    to come, as one of `fits` has it, is waited for; then nothing else may come for a while."""
     found = []
     with server.connected() as line:
         with contextlib.suppress(OSError):
             line.sendall(content)
         for _ in range(most):
-            if not readable(line, 10.0 if not found else 0.3):
+            is_due = found not in fits and any(each[:len(found)] == found for each in fits)
+            if not readable(line, PATIENCE if is_due else 0.3):
                 return found
             status = one_status(line)
             found.append(status)
@@ -286,13 +290,40 @@ def one_status(line):
     return int(head.split(b" ")[1])
 
 
+def kept_waiting(number):
+    """The seconds in which a process could have run, and none of the processors was free for it."""
+    found = 0
+    for path in pathlib.Path("/proc/%d/task" % number).glob("*/schedstat"):
+        with contextlib.suppress(OSError):
+            found += int(path.read_text().split()[1])
+    return found / 1e9
+
+
+class Watch:
+    """The seconds since it was made, but for those in which the server, its processes or this one waited for a
+    processor."""
+
+    def __init__(self, server):
+        self.server = server
+        self.before = self._kept_waiting()
+        self.began = time.monotonic()
+
+    def _kept_waiting(self):
+        numbers = (os.getpid(), self.server.process.pid, *self.server.children())
+        return {number: kept_waiting(number) for number in numbers}
+
+    def seconds(self):
+        passed = time.monotonic() - self.began
+        return passed - sum(seconds - self.before.get(number, 0.0) for number, seconds in self._kept_waiting().items())
+
+
 def soon(server, path="forms", key=None):
-    """The seconds that an answer to a page takes; it has to be a whole one."""
-    began = time.monotonic()
+    """The seconds of a Watch that an answer to a page takes; it has to be a whole one."""
+    watch = Watch(server)
     status, _, body = server.get(path, key=key)
     if status != 200 or not json.loads(body):
         raise AssertionError("%d %s" % (status, body[:200]))
-    return time.monotonic() - began
+    return watch.seconds()
 
 
 def more_files(wanted):

@@ -5,12 +5,13 @@ import importlib
 import io
 import os
 import pathlib
+import shutil
 import subprocess
 import sys
 import tempfile
 import unittest
 
-from bgptools.program import location
+from bgptools.program import libraries, location
 from bgptools.program.language import ended
 from bgptools.program.mistakes import Mistake
 from bgptools.program.process import Program
@@ -23,13 +24,19 @@ DATA = TOOLBOX / "tests" / "data"
 EXAMPLES = sorted((TOP / "examples").rglob("*.bgp"))
 NOBODY = 65534
 SCRIPTS = EXAMPLES + sorted((TOP / "cases").rglob("*.bgp"))
+# Why no picture is placed here, and the mark of tests that want one.
+NO_PICTURES = "neato, networkx or pygraphviz is not installed (tools/setup)"
+HAS_PICTURES = bool(shutil.which("neato")) and not any(map(libraries.fault, libraries.EXTRAS["pictures"]))
+needs_pictures = unittest.skipUnless(HAS_PICTURES, NO_PICTURES)
 # for simtools, which the commands of tools/ are made of
 sys.path.append(str(TOP / "tools"))
+
+from simtools.running import PATIENCE  # noqa: E402
 
 
 def tool(name, *words, given=b"", status=None):
     """A tool's run: its standard output and standard error as text, and its exit status."""
-    ran = subprocess.run([sys.executable, "-B", str(TOOLBOX / name), *map(str, words)], input=given, capture_output=True, timeout=300, cwd=str(TOP))
+    ran = subprocess.run([sys.executable, "-B", str(TOOLBOX / name), *map(str, words)], input=given, capture_output=True, timeout=PATIENCE, cwd=str(TOP))
     if status is not None and ran.returncode != status:
         raise AssertionError("%s ended with status %d, and not %d:\n%s%s" % (name, ran.returncode, status, ran.stdout.decode("latin-1"), ran.stderr.decode("latin-1")))
     return subprocess.CompletedProcess(ran.args, ran.returncode, ran.stdout.decode("utf-8", "replace"), ran.stderr.decode("utf-8", "replace"))
@@ -54,7 +61,7 @@ def inside(name, *words):
 def alone(called, folder, given=b"", **surroundings):
     """A run in a folder, with nothing of this process's surroundings but the variables that are named; outputs are bytes."""
     some = {name: str(value) for name, value in surroundings.items()}
-    return subprocess.run(list(map(str, called)), cwd=str(folder), input=given, env=some, capture_output=True, timeout=200)
+    return subprocess.run(list(map(str, called)), cwd=str(folder), input=given, env=some, capture_output=True, timeout=PATIENCE)
 
 
 def files_of(folder):
@@ -66,7 +73,7 @@ def files_of(folder):
 def program(script):
     """The lines that the program replies to a script."""
     given = script.encode("latin-1") if isinstance(script, str) else script
-    ran = subprocess.run([location.program(), "script"], input=given, capture_output=True, timeout=300, check=True)
+    ran = subprocess.run([location.program(), "script"], input=given, capture_output=True, timeout=PATIENCE, check=True)
     return ran.stdout.decode("latin-1").split("\n")[:-1]
 
 

@@ -86,8 +86,8 @@ class InABrowser(Case):
         return steps
 
     def at(self, step):
-        """Waits until a step is drawn."""
-        self.browser.until("document.body.dataset.step === '%d'" % step)
+        """Waits until a step is drawn, with its tables, and nothing else is to be drawn."""
+        self.browser.until("document.body.dataset.step === '%d' && document.body.dataset.state === 'drawn'" % step)
 
     def text(self, selector):
         """What an element shows; nothing where there is none."""

@@ -16,7 +16,7 @@ from typing import Any, List, Sequence, Tuple
 
 from . import commands, programs, random_igp, random_scripts
 from .programs import MODEL
-from .running import SECONDS, Ran, run, side_by_side
+from .running import PATIENCE, Ran, run, side_by_side
 
 Words = Tuple[str, ...]
 
@@ -72,7 +72,7 @@ def compare(against: List[Words], generator: Any, seed: int) -> Tuple[int, List[
             if played(words, lines) != want:
                 told.append(account("seed %d, %s" % (seed, words[-1]), words, lines))
         except subprocess.TimeoutExpired:
-            told.append("seed %d, %s: not ended after %d seconds" % (seed, words[-1], SECONDS))
+            told.append("seed %d, %s: not ended after %d seconds" % (seed, words[-1], PATIENCE))
     return len(lines), told
 
 

@@ -25,7 +25,7 @@ from . import commands, logs, programs, team_logs
 from .commands import Missing
 from .fuzz_scripts import by_model
 from .programs import TOP
-from .running import Ran, run, side_by_side
+from .running import PATIENCE, Ran, run, side_by_side
 
 SOURCE = pathlib.Path(__file__).resolve().with_name("streams.c")
 SCRIPT = TOP / "cases" / "rows" / "first-path.bgp"
@@ -33,8 +33,6 @@ TEAM = [TOP / "examples" / "team" / name for name in ("border.engineer", "interi
 TEXTS = ("--help", "-h", "--version", "-V", "help", "help script", "help replay", "help team", "script --help",
          "replay --help", "team --help")
 WRITE_FAULT = b"write fault\n"
-# How many seconds a reply may take.
-PATIENCE = 60
 # What was tried, and what is wrong: nothing, or a run.
 Tried = Tuple[str, object]
 

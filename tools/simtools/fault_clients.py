@@ -19,10 +19,9 @@ import time
 from typing import Any, Dict, List, NamedTuple, Optional, Sequence, Tuple
 
 from .programs import TOP
+from .running import PATIENCE
 
 CHILD = str(pathlib.Path(__file__).resolve().parent / "faulty_server.py")
-# An answer that does not come within so many seconds does not come.
-PATIENCE = 15.0
 Message = Dict[str, Any]
 
 

@@ -19,8 +19,8 @@ origin 2.0.0.1 10.1.0.0/16
 """
 # The routers' seats: the script has 0, and two workers share the routers.
 WORKERS = (1, 2)
-# What a fault left behind is gone after so many seconds.
-HEALED = 5.0
+# What a fault left behind is gone after so many seconds: of a server, after one or two.
+HEALED = 60.0
 SOCKET, PAGE, GET = "socket", "page", "get"
 Call = Tuple[int, str]
 Fields = Dict[str, Any]

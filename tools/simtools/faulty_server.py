@@ -265,11 +265,11 @@ class Commands:
 def main(words: List[str]) -> int:
     """Runs a tool as its launcher does."""
     sys.path.insert(0, str(TOP / "toolbox"))
-    from bgptools.cli import libraries
+    from bgptools.cli import interpreter
     from bgptools.cli.tools import run
     from bgptools.jobs import confinement
     from bgptools.program import mistakes
-    libraries.restart(words[2], [os.path.abspath(__file__), *words])
+    interpreter.restart(words[2], [os.path.abspath(__file__), *words[:3]], words[3:])
     # It ends with who started it.
     call = confinement.prctl()
     if call is not None:

@@ -20,9 +20,8 @@ from typing import Any, Dict, List, Optional, Tuple
 from . import programs
 from .commands import Missing
 from .fuzz_requests import ANSWERS, EVENTS, Request
+from .running import PATIENCE
 
-# An answer that takes milliseconds comes within so many seconds on a machine with much to do.
-PATIENCE = 60.0
 NETWORK = "".join("router %d.0.0.1 %d\n" % (number, number) for number in (1, 2, 3, 4)) + \
     "link 1.0.0.1 2.0.0.1 1\nlink 2.0.0.1 3.0.0.1 1\nlink 1.0.0.1 3.0.0.1 5\n" \
     "join 1.0.0.1 2.0.0.1\njoin 2.0.0.1 3.0.0.1\njoin 1.0.0.1 3.0.0.1\n"

@@ -32,11 +32,11 @@ from . import commands, mutations, programs
 from .importer_inputs import COMMENTS, Input, inputs
 from .mutations import Change
 from .programs import TOP
-from .running import run
+from .running import PATIENCE, run
 
 LIST = TOP / "tools" / "fuzz-importers.list"
 # So many seconds a case has, of a processor and by the clock; and so many bytes of memory all cases.
-SECONDS, BY_THE_CLOCK, MEMORY = 10, 120, 4 << 30
+SECONDS, BY_THE_CLOCK, MEMORY = 30, PATIENCE, 4 << 30
 # How often each importer is chosen.
 OFTEN = {"from-frr": 8, "from-bird": 7, "from-cbgp": 4, "from-graph": 3, "from-as-rel": 2, "from-rib": 2, "from-mrt": 2}
 # Importers that unpack what a name says is packed.

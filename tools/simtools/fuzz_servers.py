@@ -23,12 +23,13 @@ import random
 import re
 import sys
 import tempfile
+import time
 from typing import Any, Dict, List, Optional, Sequence, Tuple
 
 from . import commands, programs
 from .fuzz_clients import AtSocket, Client, Fault, Page, Peer, Server
 from .fuzz_requests import NAMES, Request, garbage, head, mutated, query, valid
-from .running import run
+from .running import PATIENCE, run
 
 # So many things are done in a case, and so many clients are there at once.
 STEPS, CLIENTS = 60, 5
@@ -70,10 +71,9 @@ class Honest:
         if self.pages["lab"].ask({"do": "show", "step": self.count}).get("shown") is not True:
             raise Fault("the teacher shows nothing")
         shown = {"event": "shown", "step": self.count}
-        tries = 0
+        last = time.monotonic() + PATIENCE
         while not any(shown.items() <= event.items() for event in look.events):
-            tries += 1
-            if tries > 600 or not look.is_open:
+            if time.monotonic() > last or not look.is_open:
                 raise Fault("who looks is not shown what the teacher shows")
             look.read(0.1)
         for role in ROLES:
@@ -157,7 +157,7 @@ class Fuzzed:
         if draw.random() < 0.05:
             client.raw(b"x" * (1 << 20) + b"xx\n")
             client.owed = 0
-            while client.is_open and client.read(30):
+            while client.is_open and client.read(PATIENCE):
                 pass
             if client.is_open:
                 raise Fault("who sends a line without an end is not let go")

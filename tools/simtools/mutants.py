@@ -6,7 +6,8 @@ random order. A part of the gate.
                                       since the base that `tools/trusted-base --since` takes
     tools/mutants --list              prints both, and tries none
     tools/mutants --anew              tries also those whose verdict is kept
-    tools/mutants --until FILE        waits for libraries that are not kept yet, until the file is there
+    tools/mutants --until FILE        waits for libraries that are not proved yet, until the file is there
+    tools/mutants --jobs N            tries those of N crates side by side, and not by every second processor
     tools/mutants --table FILE        writes what the chosen ones came to, as CSV: bench/mutants.csv
 
 tools/mutants.list has the mutant of each fault that a proof must refuse, and of each of the program's own promises. The
@@ -15,7 +16,8 @@ each crate, then the first of all, forty together. Without git the digest of the
 nobody chooses them, and each commit has others.
 
 A mutant is tried as `tools/try-mutants` tries it, by a check of its function alone, together with others. The libraries
-below come from what `rt ci` kept on this machine. Where it kept too few, it says so at once, and proves nothing.
+below are those that `rt ci` or `tools/build` proved on this machine. Where some are missing, it says so at once, and
+proves nothing.
 Verdicts are kept on this machine too, by the checksum of all that the check reads. What such a check does not decide
 is reported: it takes a check of the whole crate, by `tools/try-mutants EDIT`.
 
@@ -28,8 +30,10 @@ does not name it as known to be open, with the reason. A chosen one fails where 
 from __future__ import annotations
 
 import argparse
+import concurrent.futures
 import csv
 import hashlib
+import os
 import pathlib
 import tempfile
 import time
@@ -165,6 +169,7 @@ class Trial:
     below: Dict[str, Set[str]]
     verdicts: Verdicts
     room: pathlib.Path
+    jobs: int = 1
     found: Dict[pathlib.Path, Verdict] = field(default_factory=dict)
 
     def take_kept(self, edits: Iterable[pathlib.Path]) -> None:
@@ -189,24 +194,28 @@ class Trial:
                 self.verdicts.keep(crate, one.edit, self.found[one.edit])
 
     def try_all(self, edits: Sequence[pathlib.Path], until: Optional[pathlib.Path]) -> None:
-        """Tries these edits, those first whose libraries are kept. Raises commands.Missing where others are left, and
+        """Tries these edits, those first whose libraries are there. Raises commands.Missing where others are left, and
         nothing is to be waited for."""
         left = self.left(edits)
         needed = set().union(*(self.below[crate] for crate in left))
         libraries = kept_libraries.repository(
-            TOP, self.room, [crate for crate in self.below if crate in needed | set(left)])
+            TOP, self.room, [crate for crate in self.below if crate in needed | set(left)],
+            lambda: until is None or until.exists())
         if libraries is None:
-            raise commands.Missing(kept_libraries.NOT_KEPT % "this kit's `rt` keeps them in a way not known here")
-        while left:
-            is_last = until is None or until.exists()
-            lacking = needed & set(libraries.take())
-            ready = [crate for crate in left if not self.below[crate] & lacking]
-            if is_last and len(ready) < len(left):
-                raise commands.Missing(kept_libraries.NOT_KEPT % " ".join(sorted(lacking)))
-            for crate in ready:
-                self.try_crate(crate, left.pop(crate))
-            if left and not ready:
-                time.sleep(A_WHILE)
+            raise commands.Missing(kept_libraries.NOT_KEPT % "this kit's `rt` is not known here")
+        with concurrent.futures.ThreadPoolExecutor(self.jobs) as pool:
+            tried: List[concurrent.futures.Future[None]] = []
+            while left:
+                is_last = until is None or until.exists()
+                lacking = needed & set(libraries.take())
+                ready = [crate for crate in left if not self.below[crate] & lacking]
+                if is_last and len(ready) < len(left):
+                    raise commands.Missing(kept_libraries.NOT_KEPT % " ".join(sorted(lacking)))
+                tried += [pool.submit(self.try_crate, crate, left.pop(crate)) for crate in ready]
+                if left and not ready:
+                    time.sleep(A_WHILE)
+            for one in tried:
+                one.result()
 
 
 def undecided(edit: pathlib.Path, copied: try_mutants.Copied) -> try_mutants.Outcome:
@@ -248,6 +257,7 @@ def main(words: Sequence[str]) -> int:
     asked.add_argument("--anew", action="store_true")
     asked.add_argument("--until", type=pathlib.Path, metavar="FILE")
     asked.add_argument("--table", type=pathlib.Path, metavar="FILE")
+    asked.add_argument("--jobs", type=commands.number, metavar="N", default=max(1, len(os.sched_getaffinity(0)) // 2))
     asked.add_argument("--random", type=commands.number, default=IN_RANDOM_ORDER, metavar="N",
                        help="take N in random order, and not forty")
     asked.add_argument("crates", nargs="*", metavar="CRATE", help="of these crates alone")
@@ -275,7 +285,7 @@ def try_all(given: argparse.Namespace) -> int:
         print("".join("random: %s\n" % edit.relative_to(TOP).as_posix() for edit in at_random), end="")
         return 0
     with tempfile.TemporaryDirectory(prefix="mutants-") as room:
-        trial = Trial(below, Verdicts(TOP, build_record.kit(), below, folder()), pathlib.Path(room))
+        trial = Trial(below, Verdicts(TOP, build_record.kit(), below, folder()), pathlib.Path(room), given.jobs)
         if not given.anew:
             trial.take_kept(asked)
         trial.try_all(asked, given.until)

@@ -21,7 +21,7 @@ from typing import Iterable, Iterator, List, NamedTuple, Optional, Sequence, Set
 from . import commands, programs
 from .language import REPORTS
 from .programs import TOP
-from .running import SECONDS, Ran, run, side_by_side
+from .running import PATIENCE, Ran, run, side_by_side
 
 LANGUAGE = TOP / "docs" / "reference" / "language.md"
 BEGINS = (".bgp", ".log", ".team", ".make", ".args")
@@ -155,7 +155,7 @@ def faults(one: Run) -> List[str]:
     try:
         want, ran = wanted(one.case), called(one)
     except subprocess.TimeoutExpired:
-        return ["not ended after %d seconds" % SECONDS]
+        return ["not ended after %d seconds" % PATIENCE]
     except (OSError, ValueError, subprocess.CalledProcessError) as error:
         return [str(error)]
     wrong = ["status %d, and not %d" % (ran.status, want.status)] if ran.status != want.status else []

@@ -6,8 +6,9 @@ import os
 import subprocess
 from typing import Any, Callable, Iterable, Iterator, NamedTuple, Sequence, TypeVar, Union
 
-# After so many seconds a run of a case or a random script is taken not to end.
-SECONDS = 120
+# After so many seconds what has to come is taken not to come, and a run not to end. Nothing takes nearly as long, also on
+# a slow machine that has much else to do. Who works at a test may want to hear of it sooner.
+PATIENCE = float(os.environ.get("PATIENCE") or 600)
 Word = Union[str, bytes]
 Result = TypeVar("Result")
 
@@ -22,10 +23,10 @@ class Ran(NamedTuple):
 def run(words: Sequence[Word], given: bytes = b"", **more: Any) -> Ran:
     """Runs a program on this standard input; more are options of subprocess.run.
 
-    Raises subprocess.TimeoutExpired for one that has not ended after `timeout` seconds: two minutes where nothing else
-    is said; with None there is no such limit.
+    Raises subprocess.TimeoutExpired for one that has not ended after `timeout` seconds: PATIENCE where nothing else is
+    said; with None there is no such limit.
     """
-    options = {"input": given, "stdout": subprocess.PIPE, "stderr": subprocess.PIPE, "timeout": SECONDS, **more}
+    options = {"input": given, "stdout": subprocess.PIPE, "stderr": subprocess.PIPE, "timeout": PATIENCE, **more}
     ran = subprocess.run(words, **options)
     return Ran(ran.stdout or b"", ran.stderr or b"", ran.returncode)
 

@@ -11,6 +11,7 @@ Exit status: 0; 1 if mkdocs finds something wrong, which it prints; 2 if somethi
 from __future__ import annotations
 
 import json
+import os
 import pathlib
 import posixpath
 import re
@@ -126,14 +127,18 @@ def stage(folder: pathlib.Path, kinds: Sequence[Kind]) -> None:
     (folder / "mkdocs.yml").write_text("%sdocs_dir: pages\nnav: %s\n" % (settings, json.dumps(kinds)))
 
 
-def build(into: pathlib.Path) -> List[str]:
-    """Builds the pages into a folder; what mkdocs finds wrong, if it fails."""
+def build(into: pathlib.Path, seconds: Optional[int] = None) -> List[str]:
+    """Builds the pages into a folder, dated by this Unix time if there is one; what mkdocs finds wrong, if it fails."""
     if shutil.which("mkdocs") is None:
         raise commands.Missing("mkdocs is not there: `tools/setup` installs it")
+    surroundings = dict(os.environ)
+    if seconds is not None:
+        surroundings["SOURCE_DATE_EPOCH"] = str(seconds)
     with tempfile.TemporaryDirectory() as name:
         stage(pathlib.Path(name), navigation())
         ran = subprocess.run(["mkdocs", "build", "--strict", "--site-dir", str(into.resolve())], cwd=name,
-                             stdin=subprocess.DEVNULL, stdout=subprocess.PIPE, stderr=subprocess.STDOUT)
+                             env=surroundings, stdin=subprocess.DEVNULL, stdout=subprocess.PIPE,
+                             stderr=subprocess.STDOUT)
     text = re.sub(r"\x1b\[[\d;]*m", "", ran.stdout.decode("utf-8", "replace"))
     lines = text.splitlines() if ran.returncode else []
     return [line for line in lines if re.match("WARNING|ERROR|Abort", line)] or lines

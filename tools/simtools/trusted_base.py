@@ -57,12 +57,12 @@ PARTS = (
     Part("", (Root("bgpsim/src/main.rt", ("without_memory",)), Root("bgpsim/src/running.rt", ("show", "serve_script")),
               Root("command_line/src/lib.rt", ("choose",)), Root("sim_text/src/script_run.rt", ("run_script",)),
               Root("reference_machine/src/machine.rt", ("step",)))),
-    Part("for `bgpsim replay`", (Root("bgpsim/src/running.rt", ("replay_log",)),
-                                 Root("log_replay/src/replay_run.rt", ("run_replay",)))),
-    Part("for `bgpsim team`", (Root("bgpsim/src/running.rt", ("*",)), Root("team_run/src/team.rt", ("run_team",)))),
-    Part("laws beside the program", (Root("*/src/laws.rt"), Root("session_law/src/lib.rt"))),
-    Part("what the desk's own calls promise", (Root("room/src/**/*.rt"), Root("desk/src/**/*.rt"))),
-    Part("shortest-path trees over a change", (Root("igp_cost/src/graph.rt"),)),
+    Part("`replay`", (Root("bgpsim/src/running.rt", ("replay_log",)),
+                      Root("log_replay/src/replay_run.rt", ("run_replay",)))),
+    Part("`team`", (Root("bgpsim/src/running.rt", ("*",)), Root("team_run/src/team.rt", ("run_team",)))),
+    Part("laws", (Root("*/src/laws.rt"), Root("session_law/src/lib.rt"))),
+    Part("desk", (Root("room/src/**/*.rt"), Root("desk/src/**/*.rt"))),
+    Part("SPTs", (Root("igp_cost/src/graph.rt"),)),
 )
 
 

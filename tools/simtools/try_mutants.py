@@ -29,7 +29,6 @@ from __future__ import annotations
 import os
 import pathlib
 import re
-import resource
 import shutil
 import subprocess
 import sys
@@ -66,6 +65,8 @@ ADMITTED = re.compile(r"fn (\S+): (?:no holes|depends on a hole in (.*))")
 PROOF = re.compile(r"(?:\./)?(proofs/\S+)\.antt:\d+:\d+: error")
 Texts = Dict[pathlib.Path, str]
 printing = threading.Lock()
+# What the checks of a thread took: `seconds`.
+checks = threading.local()
 
 
 def below() -> Dict[str, Set[str]]:
@@ -144,15 +145,20 @@ def check(folder: pathlib.Path, functions: Collection[str] = ()) -> Tuple[int, L
         raise commands.Missing("there is no rt on the path: the Rattle kit has it")
     words = [word for function in sorted(functions) for word in ("--only", function)]
     holes = ["--allow-holes"] if functions else []
-    ran = subprocess.run([*RT, "check", "--jobs", "1", *holes, *words], cwd=folder, stdin=subprocess.DEVNULL,
-                         stdout=subprocess.PIPE, stderr=subprocess.STDOUT, text=True, errors="replace")
-    return ran.returncode, ran.stdout.splitlines()
+    ran = subprocess.Popen([*RT, "check", "--jobs", "1", *holes, *words], cwd=folder, stdin=subprocess.DEVNULL,
+                           stdout=subprocess.PIPE, stderr=subprocess.STDOUT, text=True, errors="replace")
+    with ran:
+        assert ran.stdout
+        lines = ran.stdout.read().splitlines()
+        _, status, used = os.wait4(ran.pid, 0)
+        ran.returncode = os.WEXITSTATUS(status) if os.WIFEXITED(status) else -os.WTERMSIG(status)
+    checks.seconds = processor_time() + used.ru_utime + used.ru_stime
+    return ran.returncode, lines
 
 
 def processor_time() -> float:
-    """The processor seconds of all commands that ended here."""
-    used = resource.getrusage(resource.RUSAGE_CHILDREN)
-    return used.ru_utime + used.ru_stime
+    """The processor seconds of all checks of this thread."""
+    return float(getattr(checks, "seconds", 0.0))
 
 
 def is_unread(line: str, changed: Collection[str]) -> bool:
@@ -411,8 +417,7 @@ def at_once(edits: List[pathlib.Path], copied: Copied) -> Dict[pathlib.Path, Out
 
 
 class Tried(NamedTuple):
-    """An edit, what it came to and why, and its share of the processor seconds of the check that it was tried in. They
-    are right where one check runs at a time."""
+    """An edit, what it came to and why, and its share of the processor seconds of the check that it was tried in."""
     edit: pathlib.Path
     word: str
     why: Optional[str]

@@ -26,11 +26,12 @@ from typing import Dict, Iterator, List, NamedTuple, Sequence
 from . import commands
 from .trusted_base import crates_in_order
 from .programs import TOP
+from .running import PATIENCE
 
 PAGE = TOP / "docs" / "explanation" / "engine.md"
 QUICK = TOP / "crates/bgpsim/out/unproved/bgpsim"
 LINE = "sim_text::answer::answer_line"
-DEPTH, SECONDS = 5, 120
+DEPTH = 5
 # A router of AS 9 with three neighbours; the last delivery changes its best route, and it sends three messages.
 DELIVER = """router 9.0.0.1 9
 virtual 1.0.0.1 1
@@ -121,7 +122,7 @@ def traced(program: pathlib.Path, script: str) -> Step:
                                 "WALK_PASSED": str(script.count("\n") - 1)}
         ran = subprocess.run(["gdb", "-nx", "-batch", "-x", str(TOP / "tools/simtools/gdb_walk.py"), str(program)],
                              env={**os.environ, **said}, stdin=subprocess.DEVNULL, stdout=subprocess.PIPE,
-                             stderr=subprocess.PIPE, timeout=SECONDS)
+                             stderr=subprocess.PIPE, timeout=PATIENCE)
     found = re.findall(r"(?m)^walk (\d+) (.*)$", ran.stdout.decode())
     if not found:
         raise commands.Missing("gdb shows no function of %s: %s" % (program, ran.stderr.decode()[-300:].strip()))

@@ -5,7 +5,8 @@
 The definitions are those that `tools/trusted-base` finds. In each of them each conjunct (`×`, `&&`), each alternative
 (`⊎`, `||`) and each test (`if .. then .. else ..`, in whose place first one branch stands, then the other) is dropped
 in turn, on a copy. Then a few functions of the crate are checked, laws among them, whose clauses reach the definition:
-the shortest. All others are taken by what they state. Places of several definitions share a check, where the
+those first that are proved from it, and not from what other functions state of it. All others are taken by what they
+state. Places of several definitions share a check, where the
 functions of each have nothing to do with the others. Something should notice:
 
     by a goal        a goal of a function has no proof any more; it is named
@@ -181,11 +182,12 @@ def places(text: str, names: Set[str]) -> Iterator[Place]:
 
 
 class Function(NamedTuple):
-    """A function of a crate as a check names it; the definitions that its clauses reach; those that may have a part in
-    its proof: what the clauses of all that it calls reach, the types that it names, and its proof files; and how many
-    bytes it has."""
+    """A function of a crate as a check names it; the definitions that its clauses reach; those that the clauses of what
+    it calls reach, so that it may hand on what they state; those that may have a part in its proof: these, the types
+    that it names, and its proof files; and how many bytes it has."""
     name: str
     cited: Set[trusted_base.Name]
+    handed_on: Set[trusted_base.Name]
     touched: Set[trusted_base.Name]
     size: int
 
@@ -262,13 +264,14 @@ class Sources:
         types = (reading.shown(source.text, nodes) for nodes in (*one.parameters.values(), one.gives))
         words = body.words.union(*(re.findall(r"\w+", text) for text in types))
         proofs = self.folder.joinpath("proofs", *place.above, place.name).rglob("*.antt")
-        touched = [self.clauses[call] for call in body.calls & set(self.clauses)]
+        called = set().union(*(self.clauses[call] for call in body.calls & set(self.clauses)))
+        touched = [called]
         touched += [self.types[word] for word in words & set(self.types)]
         texts = [path.read_text() for path in proofs]
         touched += [self.reach.named(text, trusted_base.imports_of(text)) for text in texts]
         cited = self.reach.named(said, imports)
         size = one.body.end - one.body.start if one.body else 0
-        return Function(place.printed(self.folder.name), cited, cited.union(*touched), size)
+        return Function(place.printed(self.folder.name), cited, called, cited.union(*touched), size)
 
 
 def said_of(source: reading.Source, one: reading.Function) -> str:
@@ -305,8 +308,10 @@ class Batch:
         return Batch([self.places[at]], [self.names[at]], [self.own[at]])
 
     def asked(self, at: int) -> Set[str]:
-        """The functions that are asked of a place: a few, the shortest."""
-        some = sorted(self.own[at], key=lambda one: (one.size, one.name))[:FUNCTIONS_A_PLACE]
+        """The functions that are asked of a place: a few, those first that call none whose clauses reach it, which are
+        proved from the definition itself, and of these the shortest."""
+        name = self.names[at]
+        some = sorted(self.own[at], key=lambda one: (name in one.handed_on, one.size, one.name))[:FUNCTIONS_A_PLACE]
         return {one.name for one in some}
 
 

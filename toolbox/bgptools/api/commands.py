@@ -1,8 +1,9 @@
 """The commands of the language as calls of Python: each of docs/reference/language.md once."""
 from __future__ import annotations
 
+import operator
 from ipaddress import IPv4Address, IPv4Network
-from typing import Iterable, List, Optional, Union
+from typing import Iterable, List, Optional, SupportsIndex, Union
 
 from ..network.refusals import refused
 from ..program import replies
@@ -10,9 +11,10 @@ from ..program.mistakes import Mistake
 from ..program.replies import Trace
 from . import values
 from .held_run import HeldRun
+from .tables import Table
 from .values import Cost, Delivery, Message, Reason, Route
 
-Word = Union[str, int]
+Word = Union[str, SupportsIndex]
 Address = Union[str, IPv4Address]
 Prefix = Union[str, IPv4Network]
 AnyWord = Union[Word, Address, Prefix]
@@ -127,7 +129,7 @@ class Commands(HeldRun):
 
     # What asks
 
-    def routes(self, router: Address) -> List[Route]:
+    def routes(self, router: Address) -> Table[Route]:
         """The router's Loc-RIB: its chosen routes in order of prefix."""
         router = self._at(router)
         return values.routes_of(router, self._ask("routes", router))
@@ -138,26 +140,26 @@ class Commands(HeldRun):
         told = replies.best(self._ask("best", router, prefix))
         return None if told is None else values.route_of(router, str(told.source), told)
 
-    def why(self, router: Address, prefix: Prefix) -> List[Reason]:
+    def why(self, router: Address, prefix: Prefix) -> Table[Reason]:
         """All its routes to the prefix, and why each was chosen or dropped: its own first, then by peer address."""
         router = self._at(router)
         reply = self._ask("why", router, prefix)
         return values.reasons_of(router, str(prefix), reply, router in self.run.network.med_always)
 
-    def received(self, router: Address, peer: Address) -> List[Route]:
+    def received(self, router: Address, peer: Address) -> Table[Route]:
         """What the router holds as received from the peer, before its import policy. In the language it is `in`."""
         router, peer = self._at(router), self._at(peer)
         return values.routes_of(router, self._ask("in", router, peer), peer)
 
-    def advertised(self, router: Address, peer: Address) -> List[Route]:
+    def advertised(self, router: Address, peer: Address) -> Table[Route]:
         """What the router advertises to the peer, as routes of the peer. In the language it is `out`."""
         router, peer = self._at(router), self._at(peer)
         return values.routes_of(peer, self._ask("out", router, peer), router)
 
-    def queue(self, sender: Address, receiver: Address) -> List[Message]:
+    def queue(self, sender: Address, receiver: Address) -> Table[Message]:
         """The messages on their way from one to the other, the head first."""
         way = self._at(sender), self._at(receiver)
-        return [values.message_of(*way, told) for told in self._ask("queue", *way)[:-1]]
+        return Table((values.message_of(*way, told) for told in self._ask("queue", *way)[:-1]), Message)
 
     def quiet(self) -> bool:
         """Whether all queues are empty."""
@@ -188,11 +190,19 @@ class Commands(HeldRun):
 
 
 def _word(word: AnyWord) -> str:
-    """A word of a command. Mistake for what is not one."""
-    text, kinds = str(word), (str, int, IPv4Address, IPv4Network)
-    if not isinstance(word, kinds) or isinstance(word, bool) or not text or set(text) & set(" \n"):
+    """A word of a command. Mistake for what is not one. A number may be any whole one, as those of a data frame."""
+    text = str(word) if isinstance(word, (str, IPv4Address, IPv4Network)) else _number(word)
+    if not text or set(text) & set(" \n"):
         raise Mistake("one word of a command is expected, and not %r" % (word,))
     return text
+
+
+def _number(word: SupportsIndex) -> str:
+    """A whole number as a word; empty for what is none."""
+    try:
+        return "" if isinstance(word, bool) else str(operator.index(word))
+    except TypeError:
+        return ""
 
 
 def _switch(on: Union[bool, str]) -> str:
@@ -201,4 +211,6 @@ def _switch(on: Union[bool, str]) -> str:
 
 def _path(path: Path) -> str:
     """A path as the language has it."""
-    return str(path) if isinstance(path, (str, int)) else ",".join(map(str, path)) or "-"
+    if isinstance(path, str) or not isinstance(path, Iterable):
+        return str(path)
+    return ",".join(map(str, path)) or "-"

@@ -12,6 +12,7 @@ from ..convergence.tables_by_prefix import Tables
 from ..network.configuration import Network
 from ..program import replies
 from ..program.documents import Document, document, line_of, plain, text_of
+from ..program.language import readable
 from ..program.names import Names
 from ..program.script import Line
 from .effect import Effect, deliveries_of
@@ -33,7 +34,7 @@ def reply(line: Line, told: List[str], network: Network, done: Optional[Settling
     is_expected = line.expected is not None and line.expected in (0, number)
     found = plain(reply_of(line.text, told, network))
     more = {} if done is None else {"convergence": convergence_of(done, network.names)}
-    return document("play", file=line.file, line=line.number, command=line.text, reply=found,
+    return document("play", file=line.file, line=line.number, command=readable(line.text), reply=found,
                     expected=is_expected if number else line.expected is None, **more)
 
 

@@ -1,7 +1,8 @@
 """What a change does, as data: what `what-if` tells, for the interface for Python."""
 from __future__ import annotations
 
-from dataclasses import dataclass, field
+import html
+from dataclasses import dataclass, field, fields
 from typing import Dict, Iterable, List, Optional, Tuple
 
 from ..change import comparison
@@ -12,6 +13,7 @@ from ..convergence.run import settled_otherwise, unsettled
 from ..network.configuration import Direction
 from ..program import replies
 from ..program.replies import Trace
+from .tables import Table
 from .values import Delivery, Message, Route, delivery_of, message_of, route_of
 
 
@@ -62,32 +64,49 @@ class Effect:
     deliveries stopped. `text` is what the tool prints."""
     is_changed: bool
     is_settled: bool
-    routes: List[RouteChange]
-    told: List[RouteChange]
+    routes: Table[RouteChange]
+    told: Table[RouteChange]
     sessions_down: List[Direction]
     sessions_up: List[Direction]
-    forwarding: List[WayChange]
-    loops: List[WayChange]
-    black_holes: List[WayChange]
-    asked: List[WayChange]
-    sent: List[Sent]
-    in_between: List[InBetween]
-    deliveries: List[Delivery]
+    forwarding: Table[WayChange]
+    loops: Table[WayChange]
+    black_holes: Table[WayChange]
+    asked: Table[WayChange]
+    sent: Table[Sent]
+    in_between: Table[InBetween]
+    deliveries: Table[Delivery]
     keeps_changing: Dict[str, List[str]]
     notes: List[str]
     text: str = field(repr=False)
 
     @property
-    def lost(self) -> List[RouteChange]:
-        return [each for each in self.routes if each.kind == "lost"]
+    def lost(self) -> Table[RouteChange]:
+        return self._routes("lost")
 
     @property
-    def moved(self) -> List[RouteChange]:
-        return [each for each in self.routes if each.kind == "moved"]
+    def moved(self) -> Table[RouteChange]:
+        return self._routes("moved")
 
     @property
-    def gained(self) -> List[RouteChange]:
-        return [each for each in self.routes if each.kind == "gained"]
+    def gained(self) -> Table[RouteChange]:
+        return self._routes("gained")
+
+    def _routes(self, kind: str) -> Table[RouteChange]:
+        return Table((each for each in self.routes if each.kind == kind), RouteChange)
+
+    def _repr_html_(self) -> str:
+        """What differs, for a notebook: a table for each field that has something, and the notes."""
+        tables = [(each.name, getattr(self, each.name)) for each in fields(self) if each.name != "notes"]
+        parts = ["<h4>%s</h4>%s" % (name.replace("_", " "), found._repr_html_())
+                 for name, found in tables if isinstance(found, Table) and found]
+        parts += ["<p>%s</p>" % html.escape(each) for each in self._words()]
+        return "".join(parts)
+
+    def _words(self) -> List[str]:
+        """What differs beside the tables."""
+        sessions = [("down", self.sessions_down), ("up", self.sessions_up)]
+        told = ["The session of %s and %s went %s." % (*both, way) for way, found in sessions for both in found]
+        return told + self.notes + ([] if self.is_changed else ["Nothing changed."])
 
 
 def effect_of(outcome: Outcome) -> Effect:
@@ -95,13 +114,15 @@ def effect_of(outcome: Outcome) -> Effect:
     found, endless = outcome.difference, outcome.unsettled
     return Effect(
         is_changed=outcome.is_changed, is_settled=endless is None,
-        routes=[_change(router, each) for router, changes in found.routers.items() for each in changes],
-        told=[_change(peer, each, router) for (router, peer), changes in found.told.items() for each in changes],
+        routes=Table((_change(router, each) for router, changes in found.routers.items() for each in changes), RouteChange),
+        told=Table((_change(peer, each, router) for (router, peer), changes in found.told.items() for each in changes),
+                   RouteChange),
         sessions_down=found.down, sessions_up=found.up, forwarding=_ways(found.ways), loops=_ways(found.loops),
         black_holes=_ways(found.black_holes), asked=_ways(found.asked), sent=_sent(outcome),
-        in_between=[InBetween(each.kind, each.line.number, each.until.number,
-                              message_of(each.sender, each.receiver, each.message)) for each in outcome.passing],
-        deliveries=[each for done in outcome.done for each in deliveries_of(done)],
+        in_between=Table((InBetween(each.kind, each.line.number, each.until.number,
+                                    message_of(each.sender, each.receiver, each.message)) for each in outcome.passing),
+                         InBetween),
+        deliveries=Table((each for done in outcome.done for each in deliveries_of(done)), Delivery),
         keeps_changing=endless.restless if endless else {}, notes=_notes(outcome), text=text_of(outcome, False))
 
 
@@ -126,10 +147,10 @@ def _route(router: str, told: Optional[replies.Route], source: str) -> Optional[
     return None if told is None else route_of(router, source or str(told.source), told)
 
 
-def _ways(ways: Iterable[comparison.Way]) -> List[WayChange]:
-    return [WayChange(way.router, way.address, way.before, way.after) for way in ways]
+def _ways(ways: Iterable[comparison.Way]) -> Table[WayChange]:
+    return Table((WayChange(way.router, way.address, way.before, way.after) for way in ways), WayChange)
 
 
-def _sent(outcome: Outcome) -> List[Sent]:
-    return [Sent(sent.line.number, " ".join(sent.line.words), message_of(*way, message))
-            for sent in outcome.watch.sent for way, messages in sent.messages.items() for message in messages]
+def _sent(outcome: Outcome) -> Table[Sent]:
+    return Table((Sent(sent.line.number, " ".join(sent.line.words), message_of(*way, message))
+                  for sent in outcome.watch.sent for way, messages in sent.messages.items() for message in messages), Sent)

@@ -38,6 +38,7 @@ from ..program.script import Line, lines_of, read
 from . import copies, values
 from .commands import Address, Commands, Prefix
 from .effect import Effect, deliveries_of, effect_of
+from .tables import Table
 from .values import Explanation, Link, Node, Route, Session, Settled
 
 Lines = Union[str, Iterable[str]]
@@ -160,27 +161,28 @@ class Network(Commands):
 
     # What is configured
 
-    def nodes(self) -> List[Node]:
+    def nodes(self) -> Table[Node]:
         """The routers and virtual peers, in order of address."""
         known = self.run.network
-        return [Node(where, known.nodes[where].asn, known.nodes[where].is_virtual, known.names.of.get(where))
-                for where in sorted(known.nodes, key=by_address)]
+        return Table((Node(where, known.nodes[where].asn, known.nodes[where].is_virtual, known.names.of.get(where))
+                      for where in sorted(known.nodes, key=by_address)), Node)
 
-    def links(self) -> List[Link]:
+    def links(self) -> Table[Link]:
         """The links, in order of their addresses."""
         known = self.run.network.links
         found = sorted(map(ends, known), key=lambda both: list(map(by_address, both)))
-        return [Link(one, other, known[pair(one, other)].metric, known[pair(one, other)].is_up) for one, other in found]
+        return Table((Link(one, other, known[pair(one, other)].metric, known[pair(one, other)].is_up)
+                      for one, other in found), Link)
 
-    def sessions(self) -> List[Session]:
+    def sessions(self) -> Table[Session]:
         """The sessions, in order of their addresses."""
         known = self.run.network
-        return [Session(one, other, known.is_external(one, other), known.enabled[pair(one, other)], is_up)
-                for (one, other), is_up in self.run.sessions_up().items()]
+        return Table((Session(one, other, known.is_external(one, other), known.enabled[pair(one, other)], is_up)
+                      for (one, other), is_up in self.run.sessions_up().items()), Session)
 
     # What more it is asked
 
-    def table(self, prefix: Optional[Prefix] = None) -> List[Route]:
+    def table(self, prefix: Optional[Prefix] = None) -> Table[Route]:
         """The chosen routes of all routers, in order of router and prefix; or those to one prefix."""
         wanted = _text(prefix)
         if wanted is not None and language.prefix(wanted) is None:
@@ -188,32 +190,42 @@ class Network(Commands):
         routers = self.run.network.routers()
         found = zip(routers, self.run.ask("routes " + router for router in routers))
         routes = [route for router, reply in found for route in values.routes_of(router, reply)]
-        return [route for route in routes if wanted in (None, route.prefix)]
+        return Table((route for route in routes if wanted in (None, route.prefix)), Route)
 
-    def explain(self, router: Address, prefix: Prefix) -> List[Explanation]:
+    def explain(self, router: Address, prefix: Prefix) -> Table[Explanation]:
         """All routes of the router to the prefix, with the route and value by which each lost, as the tool tells it.
 
         The network is played once more beside this one; for `why` it is not."""
         where, to, network = self._at(router), str(prefix), self.run.network
         self.why(where, prefix)
         found = explain(self.run, where, to)
-        return [values.explanation_of(where, to, each, found, network) for each in found]
+        return Table((values.explanation_of(where, to, each, found, network) for each in found), Explanation)
 
     def picture(self, kind: str = "svg", prefix: Optional[Prefix] = None, trace: Optional[Way] = None, *,
                 sessions: bool = True, only: Optional[Iterable[int]] = None, of: Optional[Address] = None,
                 hops: int = 1, whole: bool = False) -> str:
-        """What the tool `draw` draws, as the text of an `svg`, for which Graphviz is needed, or as `dot`.
+        """What the tool `draw` draws, as the text of an `svg` (with the extra `pictures`), or as `dot`.
 
         `prefix` shows who has which route to it, `trace` the way of a packet, from a router to an address; `only` these
         ASes, `of` what is within so many hops of a router, and `whole` each router also of a large network."""
         if kind not in ("svg", "dot"):
             raise Mistake("a picture is `svg` or `dot`, and not %r" % kind)
         ases = None if only is None else ",".join(map(str, only))
-        way = None if trace is None else [str(trace[0]), str(trace[1])]
+        way = None if trace is None else list(map(str, _way(trace)))
         choice = Choice(_text(prefix), way, sessions, ases, _text(of), hops, whole)
         view = choice.view(self.run.network)
         scene = scene_of(self.run, view, view.way, {}, Known())
         return dot_of(scene) if kind == "dot" else Drawing([scene]).svg(scene)
+
+    def _repr_svg_(self) -> Optional[str]:
+        """The picture for a notebook, which shows the text of `repr` if there is none: without Graphviz, and of a network
+        that was closed or that is empty."""
+        if self._run is None or not self._run.network.nodes:
+            return None
+        try:
+            return self.picture()
+        except Mistake:
+            return None
 
     # Deliveries and changes
 
@@ -251,7 +263,7 @@ class Network(Commands):
         They are tried on a copy, which is settled in an order by the words of `settle`, or in another where it does
         not; with `each` after each line. Where this network is not quiet, another copy is settled first, and is what
         they change. `trace` are packets that are followed, from a router to an address."""
-        asked = [(self._at(router), self._at(to)) for router, to in trace]
+        asked = [(self._at(router), self._at(to)) for router, to in map(_way, trace)]
         for router, to in asked:
             self.trace(router, to)
         changes = [self._named(line) for line in _script(lines)]
@@ -289,18 +301,32 @@ def _order(name: Optional[str], seed: Optional[int]) -> Order:
     """The order of a name, or the drawn one of a seed."""
     if name not in (None, *NAMES):
         raise Mistake("an order is %s, and not %r" % (" or ".join(NAMES), name))
-    if seed is not None and number(str(seed)) is None:
+    drawn = None if seed is None else number(str(seed))
+    if seed is not None and drawn is None:
         raise Mistake("a seed is a number of 0 to 4294967295, and not %r" % (seed,))
     if seed is not None and name not in (None, "drawn"):
         raise Mistake("one order is expected, and not drawn and %s: a seed is for the drawn one" % name)
-    return named(name or ("fair" if seed is None else "drawn"), seed)
+    return named(name or ("fair" if seed is None else "drawn"), drawn)
 
 
 def _text(given: Union[Address, Prefix, None]) -> Optional[str]:
     return None if given is None else str(given)
 
 
+def _way(given: Way) -> Way:
+    """A router, and an address. Mistake for what is no such pair."""
+    if isinstance(given, (tuple, list)) and len(given) == 2:
+        return given[0], given[1]
+    raise Mistake("a packet goes from a router to an address, as `(\"1.0.0.1\", \"198.51.100.1\")`, and not %r" % (given,))
+
+
 def _script(lines: Lines) -> List[Line]:
     """Lines of Python as those of a script, which has the bytes of UTF-8. Those of an open file have their ends."""
-    text = lines if isinstance(lines, str) else "\n".join(line[:-1] if line[-1:] == "\n" else line for line in lines)
-    return lines_of(text.encode("utf-8"), GIVEN)
+    if isinstance(lines, str):
+        return lines_of(lines.encode("utf-8"), GIVEN)
+    is_listed = isinstance(lines, Iterable) and not isinstance(lines, (bytes, bytearray))
+    listed: List[Any] = list(lines) if is_listed else [lines]
+    for line in listed:
+        if not isinstance(line, str):
+            raise Mistake("a text is expected, or its lines, each a text, and not %r" % (line,))
+    return lines_of("\n".join(line[:-1] if line[-1:] == "\n" else line for line in listed).encode("utf-8"), GIVEN)

@@ -1,17 +1,19 @@
 """What the interface for Python answers: data classes with numbers as int, and None for what is absent.
 
-A list of them is a table, which `pandas.DataFrame` takes as it is. `replies` has the same as the program prints it, for
+Those of one kind come as a `Table`. `replies` has the same as the program prints it, for
 the tools, which print it."""
 from __future__ import annotations
 
+import html
 from dataclasses import dataclass
-from typing import List, Optional, Tuple
+from typing import Any, List, Optional, Tuple
 
 from ..change.explanation import Explained, verdict, winner
 from ..network.configuration import Network
 from ..program import replies
 from ..program.language import as_path, neighbour, path_length
 from ..program.reasons import FILTER, reason_text
+from .tables import Table
 
 CHOSEN = "it is chosen"
 
@@ -62,9 +64,10 @@ def route_of(router: str, source: str, told: replies.Route) -> Route:
                  None if text.oid == "-" else text.oid, clusters, tuple(text.communities))
 
 
-def routes_of(router: str, reply: List[str], source: str = "") -> List[Route]:
+def routes_of(router: str, reply: List[str], source: str = "") -> Table[Route]:
     """The reply to `routes`; or to `in` or `out`, whose routes all come from one source."""
-    return [route_of(router, source or str(told.source), told) for told in replies.routes(reply).values()]
+    found = (route_of(router, source or str(told.source), told) for told in replies.routes(reply).values())
+    return Table(found, Route)
 
 
 @dataclass(frozen=True)
@@ -81,10 +84,10 @@ class Reason:
         return self.reason == "best"
 
 
-def reasons_of(router: str, prefix: str, reply: List[str], is_med_always: bool) -> List[Reason]:
+def reasons_of(router: str, prefix: str, reply: List[str], is_med_always: bool) -> Table[Reason]:
     """The reply to `why` of a router that compares MED over all neighbours, or does not."""
-    return [Reason(router, prefix, source, reason, reason_text(reason, is_med_always))
-            for source, reason in replies.reasons(reply)]
+    return Table((Reason(router, prefix, source, reason, reason_text(reason, is_med_always))
+                  for source, reason in replies.reasons(reply)), Reason)
 
 
 @dataclass(frozen=True)
@@ -164,6 +167,15 @@ class Settled:
     order: str
     deliveries: Tuple[Delivery, ...]
     note: str
+
+    def to_pandas(self) -> Any:
+        """The deliveries as a `pandas.DataFrame` with a type for each column, as that of a `Table`."""
+        return Table(self.deliveries, Delivery).to_pandas()
+
+    def _repr_html_(self) -> str:
+        """The order, the note and the deliveries, for a notebook."""
+        told = html.escape("; ".join(filter(None, (self.order, self.note))))
+        return "<p>%s</p>%s" % (told, Table(self.deliveries, Delivery)._repr_html_())
 
 
 # What is configured

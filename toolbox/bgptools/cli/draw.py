@@ -7,19 +7,19 @@ from typing import List, Optional, Tuple
 
 from ..convergence.run import Run, told_of
 from ..picture.dot import dot_of
-from ..picture.layout import graphviz
+from ..picture.graphviz import rendered
 from ..picture.observation import Known, View
 from ..picture.page import page_of
 from ..picture.renderer import Drawing
 from ..picture.selection import MOST, Choice
 from ..picture.shapes import dot_picture
 from ..picture.steps import Steps, scene_of
-from ..program import output
+from ..program import libraries, output
 from ..program.mistakes import CHANGED, Mistake
 from ..program.script import Line, read
 
 FORMATS = ("svg", "png", "pdf")
-DOTS_PER_INCH = "144"
+DOTS_PER_INCH = 144
 
 
 def _count(text: str) -> int:
@@ -126,13 +126,15 @@ def _picture(lines: List[Line], choice: Choice, chosen: argparse.Namespace, kind
     if kind == "svg":
         return drawing.svg(scene).encode("utf-8"), status
     dot = dot_picture(drawing.parts(scene), drawing.width, drawing.height)
-    return graphviz("neato", kind, dot, "-n2", "-Gdpi=" + DOTS_PER_INCH), status
+    return rendered(dot, kind, DOTS_PER_INCH), status
 
 
 def main(words: Optional[List[str]] = None) -> int:
     """The tool."""
     chosen = parser().parse_args(words)
     kind = _kind(chosen)
+    if kind != "dot":
+        libraries.need("pictures")
     lines = read(chosen.script)
     choice = _choice(chosen, lines)
     if kind == "html":

@@ -10,6 +10,7 @@ from ..change.explanation import explain, text_of
 from ..convergence.delivery import Settling
 from ..convergence.orders import add_order, order_of
 from ..convergence.run import Run, told_of
+from ..program import display
 from ..program.language import by_address, prefix
 from ..program.mistakes import CHANGED, DISAGREES, Mistake
 from ..program.script import read
@@ -87,7 +88,10 @@ def main(words: Optional[List[str]] = None) -> int:
             text = _routes(run, router, to, done, chosen.json)
         else:
             text, status = _advert(run, router, to, peer, done, chosen.json)
-        sys.stdout.write(text)
+        if chosen.json:
+            sys.stdout.write(text)
+        else:
+            display.show(text)
     if done and told_of(done):
         print("%s: %s" % (chosen.script, told_of(done, names)), file=sys.stderr)
     return status or (CHANGED if done and not done.is_settled else 0)

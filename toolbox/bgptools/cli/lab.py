@@ -11,6 +11,7 @@ import sys
 import tempfile
 from typing import TYPE_CHECKING, List, Optional, Tuple
 
+from ..program import libraries
 from ..program.mistakes import Mistake
 from ..program.script import Line, read
 from ..session import hub
@@ -19,7 +20,6 @@ from ..session.roles import LOOK, TEACH, WORK
 from ..session.shared_network import Shared
 from ..session.sockets import listening
 from ..web.lesson import notes_of
-from . import libraries
 
 if TYPE_CHECKING:
     from ..web.server import Server
@@ -124,7 +124,7 @@ def main(words: Optional[List[str]] = None) -> int:
     """The tool."""
     chosen = _checked(parser().parse_args(words))
     lines = [] if chosen.script is None else read(chosen.script)
-    libraries.need("tornado", "lab")
+    libraries.need("lab")
     _more_descriptors()
     folder = _place(chosen)
     number = None

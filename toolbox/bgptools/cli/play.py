@@ -9,6 +9,7 @@ from ..convergence.delivery import Settling
 from ..convergence.run import Run
 from ..convergence.transcript import kept_back, tell, tell_settling
 from ..network.refusals import sentence
+from ..program import display
 from ..program.language import readable
 from ..program.line_count import check_length
 from ..program.mistakes import CHANGED, Mistake
@@ -47,9 +48,9 @@ class Counts:
 def show(line: Line, reply: List[str], run: Run) -> None:
     """Prints a line of the script with its replies."""
     if not line.is_command:
-        print((PAD[:6] + readable(line.text).strip(" ")).rstrip(" "))
+        display.show((PAD[:6] + readable(line.text).strip(" ")).rstrip(" ") + "\n")
         return
-    print("%4d  %s" % (line.number, readable(line.text)))
+    display.show("%4d  %s\n" % (line.number, readable(line.text)))
     tell(PAD, reply + kept_back(run, line.words, reply), run.network.names)
 
 
@@ -60,7 +61,7 @@ def explain(line: Line, reply: List[str], run: Run) -> None:
         is_expected = line.expected in (0, number)
         tell(PAD, ["-- %s%s" % (sentence(line.text, number, run.network), " (expected)" if is_expected else "")], run.network.names)
     elif line.expected is not None and line.is_command:
-        print(PAD + "-- it was expected to be refused")
+        display.show(PAD + "-- it was expected to be refused\n")
 
 
 def tell_as_json(line: Line, reply: List[str], run: Run, done: Optional[Settling]) -> None:

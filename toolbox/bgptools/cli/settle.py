@@ -10,7 +10,7 @@ from ..convergence.orders import add_order, order_of
 from ..convergence.run import Run, unsettled
 from ..convergence.stable_states import look_for, text_of
 from ..convergence.tables_by_prefix import tables_of
-from ..program import output
+from ..program import display, output
 from ..program.language import ended
 from ..program.mistakes import CHANGED, Mistake
 from ..program.script import read
@@ -49,7 +49,7 @@ def _states(chosen: argparse.Namespace) -> int:
         from ..api import documents
         output.write(documents.text_of(documents.stable_states(chosen.script, found)), chosen.out)
     else:
-        output.write(text_of(found), chosen.out)
+        display.write(text_of(found), chosen.out)
     return CHANGED if found.endless else 0
 
 

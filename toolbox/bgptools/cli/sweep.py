@@ -5,7 +5,7 @@ import argparse
 import sys
 from typing import Callable, Dict, List, Optional
 
-from ..program import location, output, provenance
+from ..program import display, libraries, location, output, provenance
 from ..program.mistakes import CHANGED, WRONG, Mistake
 from ..program.process_pool import processors
 from ..sweep import cluster, families, table as sweep_table
@@ -98,13 +98,21 @@ def _check(chosen: argparse.Namespace) -> None:
             raise Mistake("--%s %d: a number of at least 1 is expected" % (name.replace("_", "-"), value))
 
 
+def _tell(table: Table, chosen: argparse.Namespace) -> None:
+    """Writes the table in the form that was asked for."""
+    form = next((form for name, form in FORMS.items() if getattr(chosen, name)), None)
+    if form:
+        output.write(form(table), chosen.out)
+    else:
+        display.write(sweep_table.text_of(table), chosen.out)
+
+
 def main(words: Optional[List[str]] = None) -> int:
     """The tool."""
     chosen = parser().parse_args(words)
     _check(chosen)
-    other = chosen.scheduler and cluster.interpreter()
-    if other:
-        cluster.go_on_with(other, sys.argv[1:] if words is None else words)
+    if chosen.scheduler:
+        libraries.need("cluster")
     asked = sweep_of(chosen)
     if not asked.trials:
         raise Mistake("the network has nothing of what is to be changed", chosen.base)
@@ -120,6 +128,5 @@ def main(words: Optional[List[str]] = None) -> int:
     table = Table(chosen.base, asked.trials, rows_of(asked.jobs, known), asked.network.names, program)
     for trial, found in (row for row in table.rows if row[1].mistake):
         print("%s: %s" % (trial.title, found.mistake), file=sys.stderr)
-    form = next((form for name, form in FORMS.items() if getattr(chosen, name)), sweep_table.text_of)
-    output.write(form(table), chosen.out)
+    _tell(table, chosen)
     return WRONG if any(found.mistake for _, found in table.rows) else CHANGED if table.is_bad else 0

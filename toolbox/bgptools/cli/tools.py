@@ -11,7 +11,7 @@ from typing import Any, Callable, List
 
 from ..program import location, provenance
 from ..program.mistakes import Mistake, ended
-from . import libraries
+from . import interpreter
 
 # Each is the name of a launcher in toolbox/, a copy of `launch`, and with `_` for `-` of the module beside this one with
 # its `parser` and `main`. The list of tools, completion, manual pages, and what pip and the package install are made of
@@ -75,7 +75,7 @@ def launched() -> int:
 def _run_at(path: str, words: List[str]) -> int:
     """Runs the tool that a launcher is named for, under a Python that has its libraries if there is one."""
     name = _tool_at(path)
-    libraries.restart(name, [path, *words])
+    interpreter.restart(name, [path], words)
     return run(name, os.path.basename(path), words)
 
 

@@ -10,6 +10,7 @@ from ..change.effect import Outcome
 from ..change.report import text_of
 from ..change.what_if import changed, parser, settled_base
 from ..convergence.run import Run
+from ..program import display
 from ..program.language import address
 from ..program.mistakes import CHANGED, Mistake
 from ..program.script import read
@@ -43,5 +44,8 @@ def main(words: Optional[List[str]] = None) -> int:
         after, watch, done = changed(base, read(chosen.change), chosen)
         with after:
             outcome = Outcome(compare(base, after, asked), watch, settled, done)
-    sys.stdout.write(_json(outcome, chosen) if chosen.json else text_of(outcome, chosen.all))
+    if chosen.json:
+        sys.stdout.write(_json(outcome, chosen))
+    else:
+        display.show(text_of(outcome, chosen.all))
     return CHANGED if outcome.is_changed else 0

@@ -60,10 +60,12 @@ def tables_of(lines: List[Line], chosen: argparse.Namespace) -> Tables:
     left, found = list(range(len(parts))), {}  # type: List[int], Dict[int, Part]
     clock = Clock(len(parts), 0)
     with Workers[int](min(chosen.jobs or processors(), len(parts)), lambda: Settles(parts, chosen)) as workers:
-        for number, part in workers.results(lambda _: left.pop(0) if left else None):
-            found[number] = part
-            clock.tell()
-    clock.end()
+        try:
+            for number, part in workers.results(lambda _: left.pop(0) if left else None):
+                found[number] = part
+                clock.tell()
+        finally:
+            clock.end()
     routers = list(found[0][0])
     return Tables(routers, [found[number][0] for number in range(len(parts))], list(dict.fromkeys(
         text for _, text in found.values() if text)))

@@ -3,7 +3,7 @@ from __future__ import annotations
 
 from typing import Dict, List
 
-from ..program import communities
+from ..program import communities, display
 from ..program.names import Names
 from ..program.replies import refusal, routes
 from .delivery import Settling
@@ -16,7 +16,7 @@ LAST, FIRST = 20, 12
 def tell(pad: str, lines: List[str], names: Names) -> None:
     """Prints lines behind some space, with names and communities."""
     for line in lines:
-        print(pad + communities.in_text(names.in_text(line)))
+        display.show(pad + communities.in_text(names.in_text(line)) + "\n")
 
 
 def kept_back(run: Run, words: List[str], reply: List[str]) -> List[str]:

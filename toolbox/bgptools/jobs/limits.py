@@ -12,8 +12,9 @@ class Limits:
     """All limits of a pool. Times are seconds, sizes bytes.
 
     The first group holds for each worker with the programs that it starts; past it the request ends with a Mistake."""
-    # By the clock. A picture of 200 routers takes a few seconds on a slow build, where nothing was asked before.
-    picture_time: float = 20.0
+    # By the clock. A picture of 200 routers takes a few seconds on a slow build, where nothing was asked before; and
+    # several times as long for those who look, who give way to all others, where the processors have much to do.
+    picture_time: float = 60.0
     # By the clock. A what-if whose change makes many routers choose anew may take a minute.
     long_time: float = 120.0
     # More for each line of the script, and for each byte of a log that is checked: several times what they take.

@@ -6,8 +6,9 @@ import math
 from dataclasses import replace
 from typing import Dict, Iterable, List, Set, Tuple
 
-from .distance_layout import Place, placed
-from .layout import BETWEEN, GAP, HEADER, Box, Layout, arranged, bounds, neighbours, pairs_of, push_apart, surrounding
+from ..network.graph_search import neighbours
+from .graphviz import Place, placed
+from .layout import BETWEEN, GAP, HEADER, Box, Layout, arranged, bounds, pairs_of, push_apart, surrounding
 from .scene import Scene
 
 Size = Tuple[float, float]
@@ -40,7 +41,7 @@ class IncrementalLayout:
         return Layout({a: replace(self.spots[a]) for a in scene.spots}, _groups(scene, self.spots))
 
     def _place_all(self, scene: Scene, sizes: Dict[str, Size]) -> None:
-        self.places = placed(list(scene.spots), pairs_of(scene), self.length, self.places)
+        self.places = placed(list(scene.spots), dict.fromkeys(pairs_of(scene), self.length), self.places)
         self.spots = arranged(scene, sizes, self.aspect, dict(self.places)).spots
 
     def _place_more(self, scene: Scene, sizes: Dict[str, Size], stay: Dict[str, Box],

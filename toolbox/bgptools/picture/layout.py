@@ -1,16 +1,15 @@
 """Where everything stands: one layout of all that a script ever makes, so that nothing moves from one of its pictures
 to the next.
 
-Graphviz (neato) is called once. Then boxes that overlap are pushed apart, those of an AS first and then the ASes as
-wholes."""
+Graphviz places all once. Then boxes that overlap are pushed apart, those of an AS first and then the ASes as wholes."""
 from __future__ import annotations
 
 import math
-import subprocess
 from dataclasses import dataclass
-from typing import Callable, Dict, Iterable, List, Optional, Set, Tuple
+from typing import Callable, Dict, Iterable, List, Optional, Tuple
 
-from ..program.mistakes import Mistake
+from . import graphviz
+from .graphviz import Place
 from .scene import Scene
 
 GAP, BETWEEN, SIDE, HEADER = 34.0, 46.0, 14.0, 24.0
@@ -20,7 +19,6 @@ PASSED = 15.0
 # By how much places inside an AS, and those of ASes, may be drawn together, across and down.
 TIGHTER_INSIDE = [(across, down) for across in (0.8, 0.9, 1.0) for down in (0.6, 0.7, 0.85, 1.0)]
 TIGHTER_BETWEEN = [(across / 10, down / 10) for across in range(3, 11) for down in range(2, 11)]
-MISSING = "`%s` is not installed: it is in Graphviz (apt-get install graphviz); without -o the DOT itself is written"
 
 
 @dataclass
@@ -59,24 +57,12 @@ class Layout:
     groups: Dict[int, Box]
 
 
-def graphviz(engine: str, kind: str, given: str, *words: str) -> bytes:
-    """What Graphviz makes of DOT. Its warnings, of fonts as a rule, are not told."""
-    try:
-        ran = subprocess.run([engine, "-T" + kind, *words], input=given.encode("utf-8"), capture_output=True,
-                             check=False)
-    except OSError:
-        raise Mistake(MISSING % engine) from None
-    if ran.returncode or not ran.stdout:
-        raise Mistake("%s: %s" % (engine, ran.stderr.decode("utf-8", "replace").strip()))
-    return ran.stdout
-
-
 def arranged(scene: Scene, sizes: Dict[str, Tuple[float, float]], aspect: float,
-             given: Optional[Dict[str, Tuple[float, float]]] = None) -> Layout:
+             given: Optional[Dict[str, Place]] = None) -> Layout:
     """The layout of the routers, links and sessions of a scene, with these sizes of their boxes, about so much broader
     than high. Places that are given are packed; else Graphviz gives them."""
     pairs = pairs_of(scene)
-    places = _turned(_placed(scene, sizes, pairs)) if given is None else given
+    places = _turned(graphviz.placed(list(scene.spots), _lengths(sizes, pairs))) if given is None else given
     spots = {a: Box(x, y, *sizes[a]) for a, (x, y) in places.items()}
     if not scene.groups:
         pack(list(spots.values()), BETWEEN, TIGHTER_INSIDE, lambda boxes: _measure(boxes, aspect))
@@ -188,56 +174,27 @@ def pairs_of(scene: Scene) -> Dict[Tuple[str, str], bool]:
 
 def _holding(among: Iterable[str], pairs: Iterable[Tuple[str, str]]) -> List[Tuple[str, str]]:
     """Pairs that would connect all of these, one for each part that is not connected with the first."""
-    left, parts = dict.fromkeys(among), []  # type: Dict[str, None], List[Set[str]]
-    near = neighbours(pairs)
-    while left:
-        parts.append(_reached(next(iter(left)), near, left))
+    names = list(among)
+    there = set(names)
+    parts = graphviz.parts(names, [pair for pair in pairs if there.issuperset(pair)])
     firsts = [min(part) for part in parts]
     return [(firsts[0], first) for first in firsts[1:]]
 
 
-def neighbours(pairs: Iterable[Tuple[str, str]]) -> Dict[str, List[str]]:
-    """To whom each one is paired."""
-    near: Dict[str, List[str]] = {}
-    for one, other in pairs:
-        near.setdefault(one, []).append(other)
-        near.setdefault(other, []).append(one)
-    return near
-
-
-def _reached(start: str, near: Dict[str, List[str]], left: Dict[str, None]) -> Set[str]:
-    """All that is reached from one through those that are left; they are left no more."""
-    found, waiting = {start}, [start]
-    left.pop(start)
-    while waiting:
-        new = [each for each in near.get(waiting.pop(), ()) if each in left]
-        found.update(new)
-        waiting += new
-        for each in new:
-            left.pop(each, None)
-    return found
-
-
-def _placed(scene: Scene, sizes: Dict[str, Tuple[float, float]],
-            pairs: Dict[Tuple[str, str], bool]) -> Dict[str, Tuple[float, float]]:
-    """The places that neato gives."""
-    names = {a: "n%d" % number for number, a in enumerate(scene.spots)}
+def _lengths(sizes: Dict[str, Tuple[float, float]], pairs: Dict[Tuple[str, str], bool]) -> Dict[Tuple[str, str], float]:
+    """How far apart the two of each pair are to be: those of two ASes further than those inside one."""
     width = sum(size[0] for size in sizes.values()) / max(len(sizes), 1) + GAP
-    lines = ["graph g {", "  graph [start=1, epsilon=0.001]", "  node [shape=point, width=0.01]"]
-    lines += ["  %s" % name for name in names.values()]
-    for (one, other), is_inside in pairs.items():
-        lines.append("  %s -- %s [len=%.3f]" % (names[one], names[other], width / 72 * (1.0 if is_inside else 2.2)))
-    told = graphviz("neato", "plain", "\n".join(lines + ["}", ""])).decode("utf-8") if names else ""
-    rows = {words[1]: words for words in (line.split(" ") for line in told.split("\n")) if words[0] == "node"}
-    return {a: (float(rows[name][2]) * 72, -float(rows[name][3]) * 72) for a, name in names.items()}
+    return {pair: width * (1.0 if is_inside else 2.2) for pair, is_inside in pairs.items()}
 
 
-def _turned(places: Dict[str, Tuple[float, float]]) -> Dict[str, Tuple[float, float]]:
-    """The places turned so that the picture is broad."""
+def _turned(places: Dict[str, Place]) -> Dict[str, Place]:
+    """The places turned so that the picture is broad, and the first one stands left of the middle."""
     count = max(len(places), 1)
     middle = (sum(x for x, _ in places.values()) / count, sum(y for _, y in places.values()) / count)
     away = {a: (x - middle[0], y - middle[1]) for a, (x, y) in places.items()}
     difference = sum(x * x - y * y for x, y in away.values())
     angle = -math.atan2(2 * sum(x * y for x, y in away.values()), difference) / 2
     cos, sin = math.cos(angle), math.sin(angle)
+    if away and next(x * cos - y * sin for x, y in away.values()) > 0:
+        cos, sin = -cos, -sin
     return {a: (x * cos - y * sin, x * sin + y * cos) for a, (x, y) in away.items()}

@@ -5,9 +5,9 @@ from dataclasses import dataclass
 from typing import List, Optional, Set
 
 from ..network.configuration import Network, ends
+from ..network.graph_search import hops, neighbours
 from ..program.language import address, number, prefix
 from ..program.mistakes import Mistake
-from .layout import neighbours
 from .observation import View
 from .scene import readable
 
@@ -78,11 +78,7 @@ class Choice:
         if start not in network.nodes:
             raise Mistake("--of %s: there is no router %s in the script" % (of, of))
         near = neighbours((one, other) for one, other in map(ends, network.links))
-        found, last = {start}, {start}
-        for _ in range(min(self.hops, len(network.nodes))):
-            last = {a for each in last for a in near.get(each, ())} - found
-            found |= last
-        return found
+        return {a for a, count in hops(near, start).items() if count <= self.hops}
 
     def _told(self, network: Network) -> str:
         parts = ["AS " + self.only.replace(",", ", ")] if self.only is not None else []

@@ -14,6 +14,8 @@ from .language import escaped
 from .mistakes import Mistake
 
 STANDARD = (None, "-", "/dev/stdout", "/dev/fd/1", "/proc/self/fd/1")
+# So often it is told how far work is, in seconds.
+OFTEN = 0.2
 
 
 def write(text: str, path: Optional[str]) -> None:
@@ -95,23 +97,34 @@ class Progress:
     is_wanted = True
 
     def __init__(self) -> None:
-        self.shown, self.last = False, time.monotonic()
-        self.asked = self.is_wanted and sys.stderr.isatty()
+        self.is_shown, self.last = False, time.monotonic()
+        self.is_asked = self.is_wanted and sys.stderr.isatty()
+
+    def is_due(self) -> bool:
+        """Whether something is to be shown now: at most five times a second."""
+        now = time.monotonic()
+        if not self.is_asked or now - self.last <= OFTEN:
+            return False
+        self.last = now
+        return True
 
     def tell(self, text: str) -> None:
-        """Shows the text over the one before, at most five times a second."""
-        now = time.monotonic()
-        if self.asked and now - self.last > 0.2:
-            self.last, self.shown = now, True
-            self._show(text)
+        """Shows the text over the one before, if that is due."""
+        if self.is_due():
+            self.show(text)
+
+    def show(self, text: str) -> None:
+        """Shows the text over the one before."""
+        self.is_shown = True
+        self._write(text)
 
     def done(self) -> None:
         """Takes the text away."""
-        if self.shown:
-            self._show("")
-            self.shown = False
+        if self.is_shown:
+            self._write("")
+            self.is_shown = False
 
-    def _show(self, text: str) -> None:
+    def _write(self, text: str) -> None:
         sys.stderr.flush()
         sys.stderr.buffer.write(b"\r\033[K" + escaped(text).encode("utf-8"))
         sys.stderr.buffer.flush()

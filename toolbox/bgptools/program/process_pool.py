@@ -1,4 +1,5 @@
 """Processes of this machine that work side by side: each has one task at a time, and results come as they are done."""
+# Not by `concurrent.futures` or joblib: `test_worker_processes` says what these do not do.
 from __future__ import annotations
 
 import multiprocessing

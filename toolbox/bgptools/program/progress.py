@@ -2,26 +2,48 @@
 from __future__ import annotations
 
 import time
+from typing import TYPE_CHECKING, Optional
 
+from . import display
 from .output import Progress
+
+if TYPE_CHECKING:
+    from rich.progress import Progress as Bar
 
 
 class Clock:
-    """Tells how many tasks are done, and how long the others will take."""
+    """Tells how many tasks are done, and how long the others will take: by a bar, or in words if there is no rich.
+
+    `before` tasks were done earlier."""
 
     def __init__(self, count: int, before: int) -> None:
         self.count, self.before, self.done, self.began = count, before, before, time.monotonic()
         self.progress = Progress()
+        self.bar: Optional[Bar] = None
 
     def tell(self) -> None:
         """One more is done."""
         self.done += 1
-        took = time.monotonic() - self.began
-        left = took / (self.done - self.before) * (self.count - self.done)
-        bar = "#" * (24 * self.done // self.count)
-        self.progress.tell("[%-24s] %d of %d, about %s left" % (bar, self.done, self.count, span(left)))
+        if not self.progress.is_due():
+            return
+        self.bar = self.bar or self._bar()
+        if self.bar:
+            self.bar.update(self.bar.task_ids[0], completed=self.done, refresh=True)
+        else:
+            left = (time.monotonic() - self.began) / (self.done - self.before) * (self.count - self.done)
+            self.progress.show("%d of %d, about %s left" % (self.done, self.count, span(left)))
+
+    def _bar(self) -> "Optional[Bar]":
+        made = display.bar()
+        if made:
+            made.add_task("", total=self.count, completed=self.before)
+            made.start()
+        return made
 
     def end(self) -> None:
+        """Takes away what is shown."""
+        if self.bar:
+            self.bar.stop()
         self.progress.done()
 
 

@@ -4,7 +4,7 @@ from __future__ import annotations
 import io
 import os
 import sys
-from typing import Any
+from typing import Any, Tuple
 
 from .language import escaped
 
@@ -18,6 +18,10 @@ class Unwritable(Exception):
     def __init__(self, number: int):
         super().__init__(os.strerror(number))
         self.number = number
+
+    def __reduce__(self) -> Tuple[Any, ...]:
+        """How pickle and copy make it again."""
+        return Unwritable, (self.number,)
 
 
 class _Output(io.FileIO):

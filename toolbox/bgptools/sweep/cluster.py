@@ -4,13 +4,11 @@ The cluster gets this package as a file, and each network as bytes. Only the pro
 from __future__ import annotations
 
 import importlib
-import importlib.util
 import logging
 import os
 import pickle
 import platform
 import subprocess
-import sys
 import tempfile
 import threading
 import zipfile
@@ -24,10 +22,9 @@ from .effect_file import Results, Task
 from .executor import about, gather, lost
 from .player import Job, Player, settled_job
 
-PACKAGE, DEBIAN = "distributed", "/usr/bin/python3"
-HOW = "apt-get install python3-distributed"
+PACKAGE = "distributed"
 # So long a scheduler is waited for, in seconds.
-PATIENCE = 10
+PATIENCE = 30
 # What a worker must have alike, in the order of `version_of`.
 COMPARED = ("Python", "bgptools", "the program", "the program's sources")
 # What a worker keeps, by its threads: which part of which sweep, and what plays it.
@@ -91,26 +88,6 @@ def _use(program: Optional[str]) -> None:
 
 
 # What is done here
-
-def interpreter() -> Optional[str]:
-    """An interpreter that has the package of Dask: this one, or the one that Debian's packages are of. Mistake where
-    neither has. Nothing where it is this one."""
-    if importlib.util.find_spec(PACKAGE):
-        return None
-    if os.access(DEBIAN, os.X_OK) and os.path.realpath(DEBIAN) != os.path.realpath(sys.executable):
-        if subprocess.run([DEBIAN, "-c", "import " + PACKAGE], stderr=subprocess.DEVNULL).returncode == 0:
-            return DEBIAN
-    raise Mistake("--scheduler wants Dask, which neither %s nor %s has: %s" % (sys.executable, DEBIAN, HOW))
-
-
-def go_on_with(path: str, words: List[str]) -> None:
-    """Runs the tool by another interpreter, in the place of this one."""
-    folders = [str(location.HERE.parent)] + [each for each in [os.environ.get("PYTHONPATH")] if each]
-    sys.stdout.flush()
-    flags = ["-B"] if sys.dont_write_bytecode else []
-    surroundings = {**os.environ, "PYTHONPATH": os.pathsep.join(folders)}
-    os.execve(path, [path, *flags, "-m", "bgptools", "sweep", *words], surroundings)
-
 
 def play_by(address: str, program: Optional[str], jobs: List[Job], known: Results) -> None:
     """Does what is not known by the cluster of the scheduler at this address."""

@@ -35,8 +35,8 @@ def gather(executor: Executor, jobs: List[Job], known: Results) -> None:
             known.add(task, figures)
             clock.tell()
     finally:
+        clock.end()
         executor.close()
-    clock.end()
 
 
 def about(jobs: List[Job]) -> str:

@@ -13,6 +13,7 @@ from ..program.mistakes import Mistake
 from ..program.script import Line, read
 
 LINK, ROUTER, SESSION, PAIR, HIJACK, FILE, ORDER = "link", "router", "session", "pair", "hijack", "file", "order"
+KINDS = (LINK, ROUTER, SESSION, PAIR, HIJACK, FILE, ORDER)
 # What fails on its own.
 SINGLE = (LINK, ROUTER, SESSION)
 

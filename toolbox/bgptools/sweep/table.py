@@ -7,7 +7,7 @@ from typing import Any, Dict, List, Tuple
 
 from ..change.report import count
 from ..program import documents
-from ..program.language import by_address
+from ..program.language import by_address, readable
 from ..program.names import Names
 from ..program.provenance import Provenance
 from .effect_counts import Figures
@@ -103,7 +103,7 @@ def csv_of(table: Table) -> str:
 def _json_row(table: Table, place: int, trial: Trial, found: Figures) -> Dict[str, Any]:
     told = [dict(zip(("router", "neighbour"), way.split(" "))) for way in found.told]
     names = ("moved", "lost", "gained", "packets_lost")
-    return {"number": place, "change": trial.title, "kind": trial.kind, "commands": [line.text for line in trial.lines],
+    return {"number": place, "change": trial.title, "kind": trial.kind, "commands": [readable(line.text) for line in trial.lines],
             "single_point": found.is_single, "converged": found.is_settled, **dict(zip(NUMBERS, numbers_of(found))),
             "packets": found.packets, "neighbours": told, "state": table.state_of(found) or None,
             "mistake": found.mistake or None, "routers": {

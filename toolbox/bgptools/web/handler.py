@@ -55,6 +55,10 @@ class Denied(Exception):
         super().__init__(text)
         self.status, self.text = status, text
 
+    def __reduce__(self) -> Tuple[Any, ...]:
+        """How pickle and copy make it again."""
+        return Denied, (self.status, self.text)
+
 
 @stream_request_body
 class Handler(RequestHandler):

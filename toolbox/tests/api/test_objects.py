@@ -1,14 +1,23 @@
 """The objects of the interface as Python handles objects: pickled, copied, and given where others are expected."""
 import concurrent.futures
 import copy
+import importlib.util
+import inspect
 import ipaddress
 import multiprocessing
 import pickle
+import pkgutil
+import unittest
 from ipaddress import IPv4Address, IPv4Network, IPv6Address
 
+import bgptools
 from bgptools import Mistake, Network, Refusal, Unsettled
+from bgptools.convergence.delivery import Settling
+from bgptools.convergence.orders import named
 from bgptools.program.process import ProgramEnded
+from bgptools.program.streams import Unwritable
 from bgptools.session.log import Unkept
+from bgptools.session.recovery import Recovered
 from bgptools.session.requests import Malformed
 from common import TOOLBOX, Case
 
@@ -60,7 +69,44 @@ def fault_of(call, given):
     raise AssertionError("%s raised nothing" % call.__name__)
 
 
+# What an exception is made of, by the names of the parameters.
+GIVEN = {"text": "a text", "file": "a file", "line": 7, "number": 5, "status": 404, "command": "fail 1.0.0.1 2.0.0.1",
+         "reply": "refused 2 no-router", "explanation": "there is no router", "error": OSError(5, "a text"),
+         "done": Settling(named("fair", None), [("1.0.0.1", "2.0.0.1")], ["took 10.0.0.0/8 update"], False,
+                          {"10.0.0.0/8": ["1.0.0.1"]}, 8),
+         "found": Recovered(3, 5, 1, 2, [])}
+
+
+def exceptions():
+    """All exceptions of the package, by the modules that they stand in."""
+    for found in pkgutil.walk_packages(bgptools.__path__, "bgptools."):
+        if found.name != "bgptools.__main__":
+            module = importlib.import_module(found.name)
+            yield from (each for _, each in inspect.getmembers(module, inspect.isclass)
+                        if issubclass(each, BaseException) and each.__module__ == found.name)
+
+
+def made_of(kind):
+    """An exception of this kind: with each parameter that it has, or with a text."""
+    if kind.__init__ in (Exception.__init__, BaseException.__init__):
+        return kind("a text")
+    return kind(**{name: GIVEN[name] for name in inspect.signature(kind).parameters})
+
+
 class Faults(Case):
+    def test_each_exception_of_the_package_is_pickled_and_copied(self):
+        kinds = list(exceptions())
+        self.assertLessEqual({Mistake, Refusal, Unsettled, ProgramEnded, Malformed, Unkept, Unwritable}, set(kinds))
+        public = [getattr(bgptools, name) for name in bgptools.__all__ if inspect.isclass(getattr(bgptools, name))]
+        self.assertEqual({kind for kind in public if issubclass(kind, BaseException)}, {Mistake, Refusal, Unsettled})
+        for kind in kinds:
+            with self.subTest(kind=kind):
+                fault = made_of(kind)
+                for found in (pickle.loads(pickle.dumps(fault)), copy.copy(fault), copy.deepcopy(fault)):
+                    self.assertEqual((type(found), str(found), list(map(repr, found.args))),
+                                     (kind, str(fault), list(map(repr, fault.args))))
+                    self.assertEqual(repr(sorted(vars(found).items())), repr(sorted(vars(fault).items())))
+
     def assert_alike(self, found, wanted):
         self.assertEqual((type(found), str(found), found.args), (type(wanted), str(wanted), wanted.args))
         self.assertEqual(vars(found), vars(wanted))
@@ -162,6 +208,45 @@ class Given(Case):
             self.assertEqual(fault.exception.name, "syntax")
             with self.assertRaisesRegex(Mistake, "^a prefix is expected, as 10.0.0.0/8, and not '1.0.0.1'$"):
                 net.table(IPv4Address("1.0.0.1"))
+
+    def test_what_is_no_text_is_no_line(self):
+        with Network.from_lines(TWO) as net:
+            for given, shown in ((b"quiet", "b'quiet'"), ([b"quiet"], "b'quiet'"), (["quiet", 5], "5"), (None, "None")):
+                for call in (net.play, net.what_if, Network.from_lines):
+                    with self.assertRaises(Mistake) as fault:
+                        call(given)
+                    self.assertEqual(str(fault.exception),
+                                     "a text is expected, or its lines, each a text, and not " + shown)
+
+    def test_what_is_no_pair_is_no_packet(self):
+        with Network.from_lines(TWO) as net:
+            told = "^a packet goes from a router to an address, as "
+            self.assertRaisesRegex(Mistake, told, net.what_if, [], trace=[None])
+            for given in ("1.0.0.1", ("1.0.0.1",), ["1.0.0.1", "2.0.0.1", "3.0.0.1"]):
+                self.assertRaisesRegex(Mistake, told, net.what_if, [], trace=[given])
+                self.assertRaisesRegex(Mistake, told, net.picture, "dot", trace=given)
+            self.assertEqual(len(net.what_if([], trace=[["2.0.0.1", "10.0.0.1"]]).asked), 1)
+
+    @unittest.skipUnless(importlib.util.find_spec("pandas"), "pandas is not installed: apt-get install python3-pandas")
+    def test_numbers_and_lists_of_numpy(self):
+        import numpy
+        of = numpy.int64
+        with Network() as net:
+            net.virtual("7.0.0.1", of(7))
+            net.router("1.0.0.1", of(1))
+            net.link("1.0.0.1", "7.0.0.1", numpy.uint16(10))
+            net.join("1.0.0.1", "7.0.0.1")
+            net.feed("7.0.0.1", "1.0.0.1", "update", "10.0.0.0/8", numpy.array([7, 21]), med=of(5), comm=numpy.array([9, 2]))
+            net.feed("7.0.0.1", "1.0.0.1", "update", "11.0.0.0/8", of(7))
+            net.rule("1.0.0.1", "7.0.0.1", "in", "any", "permit", pref=of(50))
+            self.assertEqual(net.script().splitlines()[4:], [
+                "feed 7.0.0.1 1.0.0.1 update 10.0.0.0/8 7,21 igp 5 comm=2,9", "feed 7.0.0.1 1.0.0.1 update 11.0.0.0/8 7 igp -",
+                "rule 1.0.0.1 7.0.0.1 in any permit pref=50"])
+            with net.at(of(4)) as before, net.copy() as other:
+                self.assertEqual(before.step, 4)
+                self.assertEqual(net.settle(seed=of(3), most=of(99)), other.settle(seed=3, most=99))
+            with self.assertRaisesRegex(Mistake, "^one word of a command is expected, and not array"):
+                net.router("2.0.0.1", numpy.array([1, 2]))
 
     def test_lines_of_an_open_file_and_of_a_generator(self):
         path = self.file("a.bgp", TWO + "fail 1.0.0.1 9.0.0.1\n")

@@ -4,7 +4,7 @@ import subprocess
 import sys
 import unittest
 
-from common import TOOLBOX, TOP, Case
+from common import PATIENCE, TOOLBOX, TOP, Case
 
 from bgptools.program.language_table import EXCLUSIONS, FILTERS
 from bgptools.program.reasons import named, reason_text
@@ -34,7 +34,7 @@ class Unknown(Case):
         """What a tool tells where the program has another word for a reason."""
         program = self.file("other", OTHER % (sys.executable, str(TOOLBOX), os.environ["PROGRAM"], reason))
         program.chmod(0o755)
-        ran = subprocess.run([sys.executable, "-B", *map(str, words)], capture_output=True, timeout=100, cwd=str(TOP),
+        ran = subprocess.run([sys.executable, "-B", *map(str, words)], capture_output=True, timeout=PATIENCE, cwd=str(TOP),
                              env={**os.environ, "PROGRAM": str(program), "PYTHONPATH": str(TOOLBOX)})
         self.assertEqual((ran.stderr.decode(), ran.returncode), ("", status))
         return ran.stdout.decode()

@@ -1,11 +1,15 @@
 """What tools tell as JSON: it is what docs/reference/schemas says, and what they tell as text."""
+import dataclasses
 import json
+import os
 
 import jsonschema
 
 from common import EXAMPLES, TOOLBOX, TOP, Case, tool
 
-from bgptools import Network
+from bgptools import (
+    Cost, Delivery, Effect, Explanation, InBetween, Message, Network, Reason, Route, RouteChange, Sent, Trace, WayChange)
+from bgptools.program import documents
 from bgptools.program.language_table import REFUSALS
 
 SCHEMAS = TOP / "docs" / "reference" / "schemas"
@@ -16,6 +20,18 @@ DISAGREE = LESSONS / "disagree.bgp"
 def schemas():
     """All schemas, by their names."""
     return {path.name: json.loads(path.read_text()) for path in sorted(SCHEMAS.glob("*.json"))}
+
+
+def open_objects(schema, at=""):
+    """Where a schema has an object that may lack fields or have others, with these fields."""
+    if isinstance(schema, dict):
+        fields = set(schema.get("properties", ()))
+        if schema.get("type") == "object" and "properties" in schema and (
+                fields != set(schema.get("required", ())) or schema.get("additionalProperties") is not False):
+            yield at, sorted(fields - set(schema.get("required", ())))
+    parts = schema.items() if isinstance(schema, dict) else enumerate(schema) if isinstance(schema, list) else ()
+    for name, part in parts:
+        yield from open_objects(part, "%s/%s" % (at, name))
 
 
 class Json(Case):
@@ -59,6 +75,40 @@ class Json(Case):
                       {**found, "routes": [{**found["routes"][0], "route": {**route, "path": "7__8"}}]}):
             self.assertFalse(judge.is_valid(wrong))
         self.assertTrue(judge.is_valid(found))
+
+    def test_objects_are_closed_and_all_fields_are_there(self):
+        """But for the deliveries after a command, which are there with --settle alone."""
+        found = {name: list(open_objects(schema)) for name, schema in schemas().items() if name != "request.json"}
+        self.assertEqual(found.pop("play.json"), [("", ["convergence"])])
+        self.assertEqual({name: each for name, each in found.items() if each}, {})
+        wrong = {"a": [{"type": "object", "properties": {"b": {}}}]}
+        self.assertEqual(list(open_objects(wrong)), [("/a/0", ["b"])])
+
+    def test_the_schemas_have_the_fields_of_the_data_classes(self):
+        known = schemas()
+        what_if = known["what-if.json"]
+        places = {kind: known["values.json"]["definitions"][kind.__name__.lower()]
+                  for kind in (Route, Reason, Delivery, Message, Cost, Trace)}
+        places.update({
+            Explanation: known["explain.json"]["definitions"]["explanation"],
+            RouteChange: what_if["definitions"]["route_change"], WayChange: what_if["definitions"]["way_change"],
+            Sent: what_if["properties"]["sent"]["items"], InBetween: what_if["properties"]["in_between"]["items"]})
+        for kind, schema in places.items():
+            fields = [documents.field_name(each.name) for each in dataclasses.fields(kind)]
+            self.assertEqual(list(schema["properties"]), fields, kind.__name__)
+        fields = {documents.field_name(each.name) for each in dataclasses.fields(Effect) if each.repr}
+        self.assertEqual(set(what_if["properties"]), fields | {"version", "tool", "base", "change", "names"})
+
+    def test_bytes_of_a_script_and_of_a_name_are_shown_as_text_shows_them(self):
+        path = os.fsencode(self.folder) + b"/a\xff.bgp"
+        with open(path, "wb") as file:
+            file.write("# name 1.0.0.1 K\u00f6ln\nrouter 1.0.0.1 1\nK\u00f6ln ".encode() + b"\xff\x1bx\n")
+        found = self.played(os.fsdecode(path), status=1)
+        self.assertEqual([each["command"] for each in found], ["router 1.0.0.1 1", "K\u00f6ln \\xff\\x1bx"])
+        self.assertEqual({each["file"] for each in found}, {"%s/a\\xff.bgp" % self.folder})
+        self.assertIn("\n   3  K\u00f6ln \\xff\\x1bx\n", tool("play", os.fsdecode(path), status=1).stdout)
+        lines = documents.line_of(documents.document("play", at={"\udcff": ["\udc80", "\u00f6"]}))
+        self.assertEqual(json.loads(lines)["at"], {"\\xff": ["\\x80", "\u00f6"]})
 
     def test_each_example_is_played_as_the_program_replies(self):
         kinds = set()

@@ -11,7 +11,7 @@ import sys
 import termios
 import time
 
-from common import SCRIPTS, TOOLBOX, TOP, Case, inside, marked, program, tool
+from common import PATIENCE, SCRIPTS, TOOLBOX, TOP, Case, inside, marked, program, tool
 
 OSCILLATION = TOP / "examples" / "lessons" / "med-oscillation.bgp"
 NETWORK = ("router 1.0.0.1 1", "router 2.0.0.1 2", "link 1.0.0.1 2.0.0.1 1", "join 1.0.0.1 2.0.0.1", "origin 1.0.0.1 10.0.0.0/8")
@@ -33,8 +33,8 @@ inner, here, count = Program(), pathlib.Path(%r), 0
 for line in sys.stdin.buffer:
     line = line.decode("latin-1")[:-1]
     reply = inner.request(line)
-    count += reply[:1] != [] and reply[0].startswith("took ")
-    if count == %d and not here.exists():
+    count += sum(each.startswith("took ") for each in reply)
+    if count >= %d and not here.exists():
         here.write_text("%%d %%d" %% (os.getsid(0), os.getsid(os.getppid())))
         %s
     print("".join(each + "\\n" for each in reply), end="", flush=True)
@@ -161,7 +161,8 @@ class Typed:
         termios.tcsetattr(side, termios.TCSANOW, modes)
         self.process = subprocess.Popen(
             [sys.executable, "-B", str(TOOLBOX / tool), *words], stdin=side, stdout=side, stderr=side, cwd=str(folder), start_new_session=True,
-            env={**os.environ, "TERM": "dumb", "XDG_STATE_HOME": str(folder / "state"), **environment},
+            env={**os.environ, "TERM": "dumb", "XDG_STATE_HOME": str(folder / "state"),
+                 "INPUTRC": os.devnull, **environment},
             preexec_fn=lambda: fcntl.ioctl(0, termios.TIOCSCTTY, 0))
         os.close(side)
         self.shown = ""
@@ -175,7 +176,7 @@ class Typed:
                 raise AssertionError("ended, with %r" % self.shown) from None
         return self.shown
 
-    def until(self, text, seconds=20):
+    def until(self, text, seconds=PATIENCE):
         """What is shown until the text has been."""
         last = time.monotonic() + seconds
         while text not in self.shown:
@@ -193,13 +194,13 @@ class Typed:
     def end(self, status=0):
         """Types the end, and waits for it."""
         os.write(self.main, b"quit\n")
-        if self.process.wait(20) != status:
+        if self.process.wait(PATIENCE) != status:
             raise AssertionError("it ended with status %d" % self.process.returncode)
 
     def close(self):
         """Takes the terminal away."""
         os.close(self.main)
-        self.process.wait(20)
+        self.process.wait(PATIENCE)
 
 
 class AtPrompt(Case):
@@ -260,7 +261,7 @@ class Prompt(AtPrompt):
 
     def test_end_of_input(self):
         os.write(self.typed.main, b"\x04")
-        self.assertEqual(self.typed.process.wait(20), 0)
+        self.assertEqual(self.typed.process.wait(PATIENCE), 0)
 
     def test_bytes_that_are_no_text(self):
         typed = self.start(PYTHONIOENCODING="utf-8:strict")
@@ -378,7 +379,7 @@ class Stops(AtPrompt):
     def stop(self, typed, command, wanted="-- waiting for the reply; a second Ctrl-C does not wait"):
         """Types a command, and Ctrl-C while it waits for a reply; what is shown until this is."""
         os.write(typed.main, command.encode() + b"\n")
-        last = time.monotonic() + 20
+        last = time.monotonic() + PATIENCE
         while not (self.here.exists() and self.here.read_text()):
             self.assertLess(time.monotonic(), last)
             time.sleep(0.01)
@@ -422,11 +423,11 @@ class Stops(AtPrompt):
         self.chain(typed)
         self.stop(typed, "settle")
         told = typed.type(b"\x03")
-        self.assertIn("    -- stopped; done until then, and kept: 1\n    -- the network is made anew from what was accepted\n", told)
-        self.assertIn("    none\n", typed.type("best 3.0.0.1 10.0.0.0/8\n"))
-        self.assertIn("    took 10.0.0.0/8 update\n", typed.type("deliver 4.0.0.1 3.0.0.1\n"))
+        self.assertIn("    -- stopped\n    -- the network is made anew from what was accepted\n", told)
+        self.assertIn("    none\n", typed.type("best 4.0.0.1 10.0.0.0/8\n"))
+        self.assertIn("    took 10.0.0.0/8 update\n", typed.type("deliver 5.0.0.1 4.0.0.1\n"))
         self.assertIn("    1 via 2.0.0.1\n", typed.type("cost 1.0.0.1 2.0.0.1\n"))
-        self.assertIn("    quiet after 2 deliveries\n", typed.type("settle\n"))
+        self.assertIn("    quiet after 3 deliveries\n", typed.type("settle\n"))
 
     def test_ctrl_c_ends_a_what_if(self):
         typed = self.start()
@@ -463,7 +464,7 @@ class Restored(AtPrompt):
     def crash(self, typed):
         """Ends a prompt as a crash does."""
         os.kill(typed.process.pid, signal.SIGKILL)
-        typed.process.wait(20)
+        typed.process.wait(PATIENCE)
 
     def test_the_work_of_a_prompt_that_was_killed(self):
         self.network()
@@ -533,7 +534,7 @@ def tool_at_terminal(folder, *words):
     """What play tells at a terminal where it ends by a mistake."""
     typed, shown = Typed(folder, *words), ""
     try:
-        if typed.process.wait(20) != 2:
+        if typed.process.wait(PATIENCE) != 2:
             raise AssertionError("it ended with status %d" % typed.process.returncode)
         shown = os.read(typed.main, 4096).decode()
     finally:

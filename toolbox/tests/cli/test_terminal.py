@@ -2,7 +2,10 @@
 import os
 import re
 import stat
+import unittest.mock
 
+from bgptools.cli.prompt import editing
+from common import Case
 from test_play import NETWORK, AtPrompt, Typed
 
 # What the library writes when a line is about to be typed: pasted text is to be marked.
@@ -16,7 +19,7 @@ def seen(text):
     return STEERS.sub("", text)
 
 
-class Edited(AtPrompt):
+class Keys(AtPrompt):
     def start(self, *words, **environment):
         """A prompt at a terminal that is not dumb."""
         typed = Typed(self.folder, *words, TERM="xterm", PROMPT_TOOLKIT_NO_CPR="1", **environment)
@@ -32,6 +35,8 @@ class Edited(AtPrompt):
         for line in NETWORK + more:
             self.assertIn("    ok\n", self.type(line + "\n"))
 
+
+class Edited(Keys):
     def test_keys_that_edit(self):
         self.assertIn("    yes\n", self.type(b"quiett\x7f\n"))
         self.assertIn("    yes\n", self.type(b"iet\x01qu\n"))
@@ -99,6 +104,82 @@ class Edited(AtPrompt):
         shown = seen(self.typed.until("script into"))
         self.assertRegex(shown, r"link +a new link of cost M")
         self.assertIn("    ok\n", self.type(b"\x7frouter 1.0.0.1 1\n"))
+
+
+ESCAPE, BLOCK, BEAM = b"\x1b", "\x1b[2 q", "\x1b[6 q"
+# A line that is right by the keys of one mode alone: what is missing is put in at its begin.
+BY_VI, BY_EMACS = b"uiet" + ESCAPE + b"0iq\n", b"uiet\x01q\n"
+
+
+class Vi(Keys):
+    """With the keys of vi, as the user's file of readline has it."""
+
+    def start(self, *words, **environment):
+        (self.folder / ".inputrc").write_text("set bell-style none\nset editing-mode vi\n")
+        return super().start(*words, **{"HOME": str(self.folder), "INPUTRC": "", **environment})
+
+    def test_keys_that_edit(self):
+        self.assertIn("    yes\n", self.type(BY_VI))
+        self.assertIn("    yes\n", self.type(b"quiet nonsense" + ESCAPE + b"bhD\n"))
+        self.assertIn("    yes\n", self.type(b"quiettt" + ESCAPE + b"hd$\n"))
+
+    def test_keys_that_step_and_complete(self):
+        self.network()
+        self.assertIn("    deliver 1.0.0.1 2.0.0.1: took 10.0.0.0/8 update\n", self.type(ESCAPE + F8))
+        self.assertIn("    yes\n", self.type(b"quie\t\n"))
+
+    def test_keys_of_the_history(self):
+        self.assertIn("    ok\n", self.type("router 1.0.0.1 1\n"))
+        self.assertIn("    yes\n", self.type("quiet\n"))
+        self.assertIn("there already", self.type(ESCAPE + b"kk\n"))
+        self.assertIn("    yes\n", self.type(ESCAPE + b"/qui\n\n"))
+
+    def test_the_cursor_shows_the_mode(self):
+        self.assertIn(BEAM, self.shown)
+        os.write(self.typed.main, b"quiet" + ESCAPE)
+        self.typed.until(BLOCK)
+
+    def test_the_variable_counts_before_the_file(self):
+        self.typed.end()
+        typed = self.start(BGPSIM_EDITING_MODE="emacs")
+        self.assertNotIn(BEAM, self.shown)
+        self.assertIn("    yes\n", self.type(BY_EMACS, typed))
+        typed.end()
+        typed = self.start(HOME="/", BGPSIM_EDITING_MODE="vi")
+        self.assertIn("    yes\n", self.type(BY_VI, typed))
+
+    def test_a_word_that_is_no_mode_is_a_mistake(self):
+        self.typed.end()
+        typed = Typed(self.folder, BGPSIM_EDITING_MODE="vim")
+        self.addCleanup(typed.close)
+        typed.until("BGPSIM_EDITING_MODE=vim: one of emacs, vi is expected\n")
+        self.assertEqual(typed.process.wait(20), 2)
+
+
+class FileOfReadline(Case):
+    def mode(self, text, begun="emacs"):
+        with unittest.mock.patch.dict(os.environ, TERM="xterm-256color"):
+            return editing.mode_of(str(self.file("inputrc", text)), begun)
+
+    def test_lines_as_the_manual_of_readline_has_them(self):
+        self.file("more", "set editing-mode vi\n")
+        for text, wanted in (
+                ("", "emacs"), ("SET Editing-Mode VI\n", "vi"), ("# set editing-mode vi\n", "emacs"),
+                ("set editing-mode vi\nset editing-mode emacs\n", "emacs"), ("set editing-mode\nset\n$if\n", "emacs"),
+                ("$if bash\nset editing-mode vi\n$endif\n", "emacs"), ("$if BGPsim\nset editing-mode vi\n$endif\n", "vi"),
+                ("$if term=xterm\nset editing-mode vi\n$else\nset editing-mode emacs\n$endif", "vi"),
+                ("$if term=rxvt\n$if mode=emacs\nset editing-mode vi\n$else\nset editing-mode vi\n$endif\n$endif", "emacs"),
+                ("$if mode=vi\n$else\nset editing-mode vi\n$endif\n", "vi"), ("$endif\n$else\nset editing-mode vi", "vi"),
+                ("$if version >= 8.0\nset editing-mode vi\n$endif", "emacs"),
+                ("$include %s/more\n" % self.folder, "vi"), ("$include %s/none\n" % self.folder, "emacs"),
+                ("set editing-mode vi\n$include %s/inputrc\n" % self.folder, "vi")):
+            with self.subTest(text=text):
+                self.assertEqual(self.mode(text), wanted)
+        self.assertEqual(self.mode("set bell-style none\n", "vi"), "vi")
+
+    def test_a_file_that_cannot_be_read_changes_nothing(self):
+        for path in (str(self.folder), str(self.folder / "none"), "\0"):
+            self.assertEqual(editing.mode_of(path, "emacs"), "emacs")
 
 
 class Dumb(AtPrompt):

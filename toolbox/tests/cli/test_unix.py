@@ -7,7 +7,7 @@ import subprocess
 import sys
 import time
 
-from common import TOOLBOX, TOP, Case, tool
+from common import PATIENCE, TOOLBOX, TOP, Case, tool
 
 from bgptools.cli.tools import TOOLS
 from bgptools.convergence.run import Run
@@ -29,7 +29,7 @@ CLOSED = "standard output: it cannot be written: Bad file descriptor\n"
 
 def shell(text, given=b""):
     """What a shell's line does, in which `$0` is Python and the tools are in the folder `toolbox`."""
-    ran = subprocess.run(["sh", "-c", text.replace("$0", sys.executable + " -B")], input=given, capture_output=True, cwd=str(TOP), timeout=100)
+    ran = subprocess.run(["sh", "-c", text.replace("$0", sys.executable + " -B")], input=given, capture_output=True, cwd=str(TOP), timeout=PATIENCE)
     return ran.returncode, ran.stdout.decode(), ran.stderr.decode()
 
 
@@ -58,7 +58,7 @@ class Streams(Case):
         self.addCleanup(os.close, writes)
         for call in self.each():
             with self.subTest(call=call):
-                ran = subprocess.run(["sh", "-c", call.replace("$0", sys.executable + " -B")], stdout=writes, stderr=subprocess.PIPE, cwd=str(TOP), timeout=100)
+                ran = subprocess.run(["sh", "-c", call.replace("$0", sys.executable + " -B")], stdout=writes, stderr=subprocess.PIPE, cwd=str(TOP), timeout=PATIENCE)
                 self.assertEqual((ran.returncode, b"cannot be written" in ran.stderr, b"Traceback" in ran.stderr), (141, False, False))
 
     def test_a_closed_or_full_standard_error(self):
@@ -111,7 +111,7 @@ class Escapes(Case):
         self.addCleanup(os.close, main)
         path = self.folder / "malformed.bgp"
         path.write_bytes(self.MARKED)
-        subprocess.run([sys.executable, "-B", str(TOOLBOX / "settle"), str(path)], stdout=side, stderr=subprocess.DEVNULL, timeout=100)
+        subprocess.run([sys.executable, "-B", str(TOOLBOX / "settle"), str(path)], stdout=side, stderr=subprocess.DEVNULL, timeout=PATIENCE)
         os.close(side)
         told = os.read(main, 4096).decode().replace("\r\n", "\n")
         self.assertIn("# été \\x1b]0;title\\x07 \\x9b2J", told)
@@ -136,7 +136,7 @@ class Escapes(Case):
         self.assertEqual(readable("K\xc3\xb6ln \xff"), "Köln \\xff")
 
     def test_a_locale_without_the_character(self):
-        ran = subprocess.run([sys.executable, "-B", str(TOOLBOX / "play"), "-"], input="# Köln 東\n".encode(), capture_output=True, timeout=100,
+        ran = subprocess.run([sys.executable, "-B", str(TOOLBOX / "play"), "-"], input="# Köln 東\n".encode(), capture_output=True, timeout=PATIENCE,
                              env=dict(os.environ, PYTHONIOENCODING="latin-1:strict"))
         self.assertEqual((ran.returncode, ran.stdout.decode("latin-1").split("\n")[0]), (0, "      # Köln \\u6771"))
 
@@ -160,7 +160,7 @@ class Child(Case):
             with self.subTest(body=body):
                 path = self.file("program", "#!/bin/sh\nread line\necho ok\n%s\n" % body)
                 path.chmod(0o755)
-                ran = subprocess.run([sys.executable, "-B", str(TOOLBOX / "play"), SCRIPT], env=dict(os.environ, PROGRAM=str(path)), capture_output=True, cwd=str(TOP), timeout=100)
+                ran = subprocess.run([sys.executable, "-B", str(TOOLBOX / "play"), SCRIPT], env=dict(os.environ, PROGRAM=str(path)), capture_output=True, cwd=str(TOP), timeout=PATIENCE)
                 self.assertEqual((ran.returncode, ran.stderr.decode()), (2, "%s: the program ended before it had answered, %s\n" % (path, how)))
 
     def test_ctrl_c_ends_a_tool_and_its_program(self):
@@ -169,12 +169,12 @@ class Child(Case):
         path.chmod(0o755)
         words = [sys.executable, "-B", str(TOOLBOX / "play"), SCRIPT]
         with subprocess.Popen(words, env=dict(os.environ, PROGRAM=str(path)), stdout=subprocess.DEVNULL, stderr=subprocess.PIPE, cwd=str(TOP)) as ran:
-            last = time.monotonic() + 20
+            last = time.monotonic() + PATIENCE
             while not here.exists() and time.monotonic() < last:
                 time.sleep(0.01)
             time.sleep(0.1)
             ran.send_signal(signal.SIGINT)
-            self.assertEqual((ran.communicate(timeout=20)[1], ran.returncode), (b"stopped\n", 130))
+            self.assertEqual((ran.communicate(timeout=PATIENCE)[1], ran.returncode), (b"stopped\n", 130))
         self.assertRaises(ProcessLookupError, os.kill, int(here.read_text()), 0)
 
 

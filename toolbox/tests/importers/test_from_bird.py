@@ -4,7 +4,7 @@ import shutil
 import subprocess
 import unittest
 
-from common import DATA, TOP, Case, inside, program, tool
+from common import DATA, PATIENCE, TOP, Case, inside, program, tool
 
 NETWORKS = DATA / "bird"
 NAMES = ("provider", "reflector", "ring")
@@ -88,7 +88,7 @@ class Networks(Case):
     def test_bird_takes_the_examples(self):
         for path in INPUTS:
             bird = shutil.which("bird", path="/usr/sbin:/usr/bin:/sbin:/bin")
-            ran = subprocess.run([bird, "-p", "-c", str(path)], capture_output=True, timeout=60, cwd=str(path.parent))
+            ran = subprocess.run([bird, "-p", "-c", str(path)], capture_output=True, timeout=PATIENCE, cwd=str(path.parent))
             self.assertEqual((ran.returncode, ran.stderr), (0, b""), path)
 
     def test_files_one_by_one(self):

@@ -9,7 +9,7 @@ import unittest
 import unittest.mock
 
 from bgptools.program import line_count
-from common import DATA, TOP, Case, inside, program, tool
+from common import DATA, PATIENCE, TOP, Case, inside, program, tool
 
 TABLES = DATA / "mrt"
 NAMES = {"two-peers": 0, "collector": 1, "add-path": 1}
@@ -80,7 +80,7 @@ class Tables(Dumps):
         """It prints 0 for a MED that is not there, and that alone is otherwise."""
         for name in ("two-peers", "collector"):
             path = self.dump(bytes_of(name))
-            said = subprocess.run(["bgpdump", "-m", "-l", str(path)], capture_output=True, timeout=60, check=True)
+            said = subprocess.run(["bgpdump", "-m", "-l", str(path)], capture_output=True, timeout=PATIENCE, check=True)
             made = inside("from-rib", self.file("rib.txt", said.stdout.decode()))
             wanted = (TABLES / (name + ".bgp")).read_text()
             self.assertEqual(made.stdout, wanted.replace(" -\n", " 0\n"))

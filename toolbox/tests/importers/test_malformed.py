@@ -9,8 +9,9 @@ import subprocess
 import sys
 import unittest
 import unittest.mock
+import zlib
 
-from common import TOOLBOX, TOP, Case, inside, program, refused_something
+from common import PATIENCE, TOOLBOX, TOP, Case, inside, program, refused_something
 
 from bgptools.cli import from_bird
 from bgptools.importers.bird import lexer, translation
@@ -45,7 +46,7 @@ def bounded(name, *words, given=b""):
         resource.setrlimit(resource.RLIMIT_AS, (ROOM, ROOM))
         resource.setrlimit(resource.RLIMIT_CPU, (120, 120))
     ran = subprocess.run([sys.executable, "-B", str(TOOLBOX / name), *map(str, words)], input=given,
-                         capture_output=True, timeout=300, cwd=str(TOP), preexec_fn=limit)
+                         capture_output=True, timeout=PATIENCE, cwd=str(TOP), preexec_fn=limit)
     return ran.returncode, ran.stdout.decode("utf-8", "replace"), ran.stderr.decode("utf-8", "replace")
 
 
@@ -143,12 +144,16 @@ class Files(Malformed):
 class Unpacked(Malformed):
     """Files that unpack to more than is read."""
 
-    def bomb(self, name, part, count):
-        """A packed file of so many parts, each of a million bytes or so."""
+    def bomb(self, name, part):
+        """A packed file of a thousand parts, each of a million bytes or so. A part is packed once: what is packed of it
+        stands a thousand times in one stream of gzip, with no check sum at its end, or in as many of bzip2."""
         path = self.folder / name
-        with (gzip.open if name.endswith(".gz") else bz2.open)(path, "wb", 9) as file:
-            for _ in range(count):
-                file.write(part)
+        if name.endswith(".bz2"):
+            path.write_bytes(bz2.compress(part) * 1000)
+        else:
+            packer = zlib.compressobj(9, zlib.DEFLATED, -zlib.MAX_WBITS)
+            packed = packer.compress(part) + packer.flush(zlib.Z_FULL_FLUSH)
+            path.write_bytes(gzip.compress(b"")[:10] + packed * 1000 + packer.flush() + bytes(8))
         return path
 
     def test_a_bound_on_what_is_unpacked(self):
@@ -157,11 +162,11 @@ class Unpacked(Malformed):
         route = b"TABLE_DUMP2|0|B|192.0.2.1|7|10.0.0.0/16|7 21|IGP|192.0.2.1|0|0||NAG||\n"
         zeros, routes = bytes(1 << 20), route * (10 ** 6 // len(route))
         for name, ending, part, words, said in (
-                ("from-rib", "gz", routes, ["--most-unpacked", "20M"], "it unpacks to more than 20,000,000 bytes; --"),
-                ("from-rib", "bz2", routes, ["--most-unpacked", "5000K"], "it unpacks to more than 5,000,000 bytes"),
+                ("from-rib", "gz", routes, ["--most-unpacked", "2M"], "it unpacks to more than 2,000,000 bytes; --"),
+                ("from-rib", "bz2", routes, ["--most-unpacked", "1500K"], "it unpacks to more than 1,500,000 bytes"),
                 ("from-as-rel", "gz", b"# " + b"x" * 10 ** 5 + b"\n", ["--most-unpacked", "1000000"],
                  "it unpacks to more than 1,000,000 bytes"),
-                ("from-cbgp", "gz", b"print x\n" * 10 ** 5, ["--most-unpacked", "5M"], "more than 5,000,000 bytes"),
+                ("from-cbgp", "gz", b"print x\n" * 10 ** 5, ["--most-unpacked", "1M"], "more than 1,000,000 bytes"),
                 ("from-mrt", "gz", zeros, ["--most-unpacked", "50M"], "it unpacks to more than 50,000,000 bytes"),
                 ("from-mrt", "bz2", zeros, ["--most-unpacked", "9M"], "it unpacks to more than 9,000,000 bytes"),
                 ("from-as-rel", "gz", zeros, [], ":1: the line has more than 1,048,576 bytes"),
@@ -170,7 +175,7 @@ class Unpacked(Malformed):
                 ("from-graph", "gz", zeros, [], "it has more than 32,000,000 bytes, and a text that is held whole"),
                 ("from-graph", "bz2", b" " * (1 << 20), ["--most-unpacked", "9M"], "more than 9,000,000 bytes")):
             with self.subTest(name=name, ending=ending, said=said):
-                path = self.bomb("bomb." + ending, part, 1000 if ending == "gz" else 60)
+                path = self.bomb("bomb." + ending, part)
                 status, wrote, told = bounded(name, path, *words)
                 self.assertEqual((status, wrote), (2, ""), told[-500:])
                 self.assertTrue(told.startswith(str(path) + ":"), told)

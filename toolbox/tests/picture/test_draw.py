@@ -15,11 +15,9 @@ from bgptools.picture.observation import Known, View, look
 from bgptools.picture.steps import Steps as Played
 from bgptools.program.replies import refusal
 from bgptools.program.script import read
-from common import EXAMPLES, SCRIPTS, TOOLBOX, Case, inside, marked, tool
+from common import EXAMPLES, PATIENCE, SCRIPTS, TOOLBOX, Case, inside, marked, needs_pictures, tool
 
-DOT = shutil.which("neato")
 RING = TOOLBOX / "lessons" / "drained-link.bgp"
-NEEDS_DOT = unittest.skipUnless(DOT, "neato is not installed")
 SPOT = re.compile(r'<g><title>([^<]*)</title><rect x="([-0-9.]+)" y="([-0-9.]+)" width="([0-9.]+)" height="([0-9.]+)"'
                   r'[^>]*/>((?:<text[^>]*>[^<]*</text>)+)</g>')
 TWO = "router 1.0.0.1 1\nrouter 2.0.0.1 2\nlink 1.0.0.1 2.0.0.1 7\njoin 1.0.0.1 2.0.0.1\n"
@@ -84,8 +82,8 @@ class Drawn(Case):
                 self.assertEqual(told.returncode, 0)
                 self.assertTrue(told.stdout.startswith("graph network {\n") and told.stdout.endswith("\n}\n"))
                 dots.append(told.stdout)
-        if DOT:
-            ran = subprocess.run(["dot", "-Tsvg"], input="".join(dots).encode(), capture_output=True, timeout=200)
+        if shutil.which("dot"):
+            ran = subprocess.run(["dot", "-Tsvg"], input="".join(dots).encode(), capture_output=True, timeout=PATIENCE)
             self.assertEqual((ran.returncode, ran.stderr), (0, b""))
             self.assertEqual(ran.stdout.count(b"<svg"), len(dots))
 
@@ -226,7 +224,7 @@ class Parts(Case):
             self.assertEqual((told.stderr, len(re.findall(r'^ +"10[^"]*" \[label', told.stdout, re.M))), ("", count))
 
 
-@NEEDS_DOT
+@needs_pictures
 class Placed(Case):
     def test_a_picture_of_ases(self):
         lines = ["router 10.0.%d.%d %d" % (asn, at, asn) for asn in (1, 2, 3) for at in range(1, 22)]
@@ -304,7 +302,7 @@ class Routed(unittest.TestCase):
         self.assertGreater(abs(found["a", "b", False].at(0.5)[1]), 8)
 
 
-@NEEDS_DOT
+@needs_pictures
 class Steps(Case):
     def page(self, text, *words):
         told = inside("draw", self.file("script.bgp", text), "--steps", *words)

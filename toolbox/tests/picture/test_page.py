@@ -4,8 +4,7 @@ import tempfile
 import unittest
 
 from browser import CHROMIUM, Browser
-from common import Case, tool
-from test_draw import DOT
+from common import Case, needs_pictures, tool
 
 SCRIPT = """# step Two routers
 router 1.0.0.1 1
@@ -23,7 +22,8 @@ join 1.0.0.1 2.0.0.1 # expect refused 11
 SHIFT = 8
 
 
-@unittest.skipUnless(DOT and CHROMIUM, "neato or chromium is not installed")
+@needs_pictures
+@unittest.skipUnless(CHROMIUM, "chromium is not installed")
 class InABrowser(Case):
     @classmethod
     def setUpClass(cls):

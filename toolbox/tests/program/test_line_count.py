@@ -5,7 +5,7 @@ import os
 import subprocess
 from unittest import mock
 
-from common import DATA, TOOLBOX, Case, inside
+from common import DATA, PATIENCE, TOOLBOX, Case, inside
 
 from bgptools.convergence.run import Run
 from bgptools.program import line_count
@@ -23,7 +23,7 @@ def most(lines):
 class Counted(Case):
     def test_the_program_reads_so_many_lines_and_no_more(self):
         given = b"#\n" * (line_count.MOST_LINES - 1) + b"quiet\n"
-        ran = subprocess.run([os.environ["PROGRAM"], "script"], input=given + b"quiet\n", capture_output=True, timeout=100)
+        ran = subprocess.run([os.environ["PROGRAM"], "script"], input=given + b"quiet\n", capture_output=True, timeout=PATIENCE)
         self.assertEqual((ran.returncode, ran.stdout), (3, b"yes\n"))
 
     def test_questions_use_nothing_up(self):

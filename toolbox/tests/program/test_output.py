@@ -9,7 +9,7 @@ import subprocess
 import sys
 import time
 
-from common import TOOLBOX, Case, tool
+from common import PATIENCE, TOOLBOX, Case, tool
 
 MADE = ("from-as-rel", "toolbox/lessons/relationships.txt")
 # Writes a file, and waits before it is in its place.
@@ -88,7 +88,7 @@ class Output(Case):
         with socket.socket(socket.AF_UNIX) as listener:
             listener.bind(str(self.out))
             listener.listen()
-            listener.settimeout(20)
+            listener.settimeout(PATIENCE)
             tool(*MADE, "-o", self.out, status=0)
             with listener.accept()[0] as line:
                 self.assertEqual(line.recv(65536).decode(), self.wanted)
@@ -107,21 +107,21 @@ class Output(Case):
         self.assertEqual(tool(*MADE, "-o", "/dev/stdout", status=0).stdout, self.wanted)
         self.out.write_text("old\n")
         with open(self.out, "ab") as file:
-            subprocess.run([sys.executable, "-B", TOOLBOX / MADE[0], TOOLBOX / "lessons" / "relationships.txt", "-o", "/dev/stdout"], stdout=file, check=True, timeout=100)
+            subprocess.run([sys.executable, "-B", TOOLBOX / MADE[0], TOOLBOX / "lessons" / "relationships.txt", "-o", "/dev/stdout"], stdout=file, check=True, timeout=PATIENCE)
         self.assertEqual(self.out.read_text(), "old\n" + self.wanted)
 
     def test_an_open_pipe_by_its_number(self):
         reads, writes = os.pipe()
         self.addCleanup(os.close, reads)
         words = [TOOLBOX / MADE[0], TOOLBOX / "lessons" / "relationships.txt", "-o", "/dev/fd/%d" % writes]
-        subprocess.run([sys.executable, "-B", *words], pass_fds=[writes], check=True, timeout=100)
+        subprocess.run([sys.executable, "-B", *words], pass_fds=[writes], check=True, timeout=PATIENCE)
         os.close(writes)
         self.assertEqual(os.read(reads, 65536).decode(), self.wanted)
 
     def test_what_fails_midway_leaves_the_old_file(self):
         self.out.write_text("old")
         words = [sys.executable, "-B", TOOLBOX / MADE[0], TOOLBOX / "lessons" / "relationships.txt", "-o", self.out]
-        ran = subprocess.run(words, preexec_fn=lambda: resource.setrlimit(resource.RLIMIT_FSIZE, (100, 100)), capture_output=True, timeout=100)
+        ran = subprocess.run(words, preexec_fn=lambda: resource.setrlimit(resource.RLIMIT_FSIZE, (100, 100)), capture_output=True, timeout=PATIENCE)
         self.assertEqual((ran.returncode, ran.stderr), (2, b"%s: it cannot be written: File too large\n" % bytes(self.out)))
         self.assertEqual((self.out.read_text(), self.names()), ("old", ["out"]))
 
@@ -134,5 +134,5 @@ class Output(Case):
                     self.assertEqual(ran.stdout.readline(), b"here\n")
                     time.sleep(0.1)
                     ran.send_signal(number)
-                    self.assertEqual(ran.wait(20), status)
+                    self.assertEqual(ran.wait(PATIENCE), status)
                 self.assertEqual((self.out.read_text(), self.names()), ("old", ["out"]))

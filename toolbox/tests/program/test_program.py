@@ -6,7 +6,7 @@ import re
 import subprocess
 import threading
 
-from common import TOP, Case
+from common import PATIENCE, TOP, Case
 
 from bgptools.program import location
 
@@ -16,7 +16,7 @@ class Streams(Case):
         for words in (["--help"], ["-h"], ["--version"], ["-V"], ["help"], ["script", "--help"], ["help", "team"]):
             with self.subTest(words=words), open("/dev/full", "wb") as full:
                 ran = subprocess.run([location.program(), *words], stdin=subprocess.DEVNULL, stdout=full,
-                                     stderr=subprocess.PIPE, timeout=100, check=False)
+                                     stderr=subprocess.PIPE, timeout=PATIENCE, check=False)
                 self.assertEqual((ran.returncode, ran.stderr), (4, b"write fault\n"))
 
 
@@ -26,7 +26,7 @@ WAITING = str(TOP / "cases" / "team" / "waiting.engineer")
 class Team(Case):
     def team(self, *words, **more):
         return subprocess.run([location.program(), "team", *words], stdin=subprocess.DEVNULL, stdout=subprocess.PIPE,
-                              timeout=100, check=False, **more)
+                              timeout=PATIENCE, check=False, **more)
 
     def test_progress_is_shown_at_a_terminal_alone(self):
         ends = pty.openpty()

@@ -11,7 +11,7 @@ import unittest
 import unittest.mock
 from contextlib import redirect_stderr
 
-from common import TOP, Case
+from common import PATIENCE, TOP, Case
 
 
 # What the kit's functions give the prover so that it keeps its work.
@@ -159,7 +159,7 @@ class Building(Case):
 class Running(Case):
     def test_another_program_is_run_as_it_is(self):
         for words in (["script"], ["--unproved", "script"]):
-            ran = subprocess.run([str(TOP / "bgpsim"), *words], input=b"quiet\n", capture_output=True, timeout=100)
+            ran = subprocess.run([str(TOP / "bgpsim"), *words], input=b"quiet\n", capture_output=True, timeout=PATIENCE)
             self.assertEqual((ran.returncode, ran.stdout, ran.stderr), (0, b"yes\n", b""))
 
 
@@ -171,7 +171,7 @@ class Layers(Case):
 
     def layers(self, text, page):
         words = [sys.executable, "-B", str(TOP / "tools" / "layers"), self.file("crates.txt", text), self.file("map.md", page)]
-        ran = subprocess.run(words, capture_output=True, timeout=100)
+        ran = subprocess.run(words, capture_output=True, timeout=PATIENCE)
         return ran.returncode, ran.stdout.decode()
 
     def test_a_crate_names_what_stands_above_it(self):

@@ -5,7 +5,7 @@ import sys
 import unittest
 
 from bgptools.cli.tools import TOOLS
-from common import TOP, Case
+from common import PATIENCE, TOP, Case
 
 PAGE = TOP / "docs" / "bgpsim.1"
 
@@ -13,11 +13,11 @@ PAGE = TOP / "docs" / "bgpsim.1"
 class Docs(Case):
     def test_each_tool_has_help(self):
         for name in TOOLS:
-            ran = subprocess.run([sys.executable, "-B", str(TOP / "toolbox" / name), "--help"], capture_output=True, timeout=100)
+            ran = subprocess.run([sys.executable, "-B", str(TOP / "toolbox" / name), "--help"], capture_output=True, timeout=PATIENCE)
             self.assertEqual((ran.returncode, ran.stderr), (0, b""))
             self.assertIn(b"usage: %s " % name.encode(), ran.stdout)
 
     @unittest.skipUnless(shutil.which("man"), "man is not installed")
     def test_the_manual_page_has_no_warning(self):
-        ran = subprocess.run(["man", "--warnings", "-l", str(PAGE)], capture_output=True, timeout=100)
+        ran = subprocess.run(["man", "--warnings", "-l", str(PAGE)], capture_output=True, timeout=PATIENCE)
         self.assertEqual((ran.returncode, ran.stderr), (0, b""))

@@ -1,6 +1,5 @@
 """The pages for users: each example is run and replies as is shown, and each option and word of the tools is there."""
 import doctest
-import functools
 import os
 import re
 import shutil
@@ -8,9 +7,9 @@ import subprocess
 import tempfile
 import unittest
 
-from bgptools.cli.tools import TOOLS, parser_of
+from bgptools.cli.tools import TOOLS
 from bgptools.program import location
-from common import TOP, Case
+from common import PATIENCE, TOP, Case
 from pages import KINDS, PAGES, REFERENCE, blocks, examples, pattern
 from simtools import language
 
@@ -28,7 +27,7 @@ class Examples(Case):
         surroundings = {**os.environ, "PROGRAM": location.program(), "HOME": folder, "XDG_STATE_HOME": folder,
                         "COLUMNS": "80", "PYTHONDONTWRITEBYTECODE": "1"}
         return subprocess.run(["bash", "-c", "set -o pipefail; " + command], cwd=folder, env=surroundings,
-                              stdin=subprocess.DEVNULL, stdout=subprocess.PIPE, stderr=subprocess.STDOUT, timeout=300)
+                              stdin=subprocess.DEVNULL, stdout=subprocess.PIPE, stderr=subprocess.STDOUT, timeout=PATIENCE)
 
     def test_each_command_replies_as_is_shown(self):
         """Exit status 1 says that a tool found something; 2 and more are mistakes."""
@@ -102,45 +101,11 @@ def first_cells(text):
     return [row.replace(r"\|", "/") for row in re.findall(r"(?m)^\| ((?:[^|\n]|\\\|)*) \|", text)]
 
 
-def options_of(text):
-    """The options that the first cells of the tables of options name."""
-    tables = re.findall(r"(?m)^\| Option \|.*\n(?:\|.*\n)+", text)
-    return {each for table in tables for cell in first_cells(table) for each in re.findall(r"`(--?[\w-]+)", cell)}
-
-
-@functools.lru_cache(maxsize=None)
-def helped(name):
-    """The options that `--help` of a tool tells."""
-    return frozenset(re.findall(r"(?m)^  (?:-\w, )?(--?[\w-]+)", parser_of(name, name).format_help()))
-
-
 class Options(Case):
-    """docs/reference/tools.md has a section for each tool."""
-
-    def shared(self, name):
-        """The options of several tools that the tool has, by the table of these."""
-        rows = re.findall(r"(?m)^\| (.*?) \| .* \| (.*?) \|$", sections("tools.md")["Options of several tools"])
-        return {option for first, of in rows for option in re.findall(r"`(--?[\w-]+)", first)
-                if of == "all" or "`%s`" % name in of}
-
-    def test_each_option_of_a_tool_is_there_and_no_other(self):
-        for name in TOOLS:
-            with self.subTest(tool=name):
-                own = options_of(sections("tools.md")[name])
-                self.assertEqual(own & self.shared(name), set())
-                self.assertEqual(own | self.shared(name), set(helped(name)))
-
-    def test_each_tool_of_the_table_has_that_option(self):
-        rows = re.findall(r"(?m)^\| (.*?) \| .* \| (.*?) \|$", sections("tools.md")["Options of several tools"])
-        for first, of in rows:
-            for name in re.findall(r"`([\w-]+)`", of):
-                self.assertIn(name, TOOLS)
-                self.assertLessEqual(set(re.findall(r"`(--?[\w-]+)", first)), set(helped(name)) | {"--version"}, name)
-
     def test_the_options_of_the_program(self):
         text = (REFERENCE / "program.md").read_text()
         for words in (["script"], ["team"], ["replay"], []):
-            told = subprocess.run([location.program(), *words, "--help"], capture_output=True, timeout=100).stdout
+            told = subprocess.run([location.program(), *words, "--help"], capture_output=True, timeout=PATIENCE).stdout
             for option in re.findall(r"(?m)^ +(?:-\w, )?(--[\w-]+)", told.decode()):
                 self.assertIn(option, text)
         launcher = (TOP / "bgpsim").read_text()
@@ -182,7 +147,7 @@ class Lessons(Case):
     def test_the_picture_is_what_draw_makes(self):
         page = (TOP / "docs" / "howto" / "draw-pictures.md").read_text()
         command = re.search(r"(?ms)^\$ (toolbox/draw [^$]*) -o ring.svg$", page).group(1)
-        dot = subprocess.run(["bash", "-c", command], capture_output=True, cwd=str(TOP), timeout=100).stdout.decode()
+        dot = subprocess.run(["bash", "-c", command], capture_output=True, cwd=str(TOP), timeout=PATIENCE).stdout.decode()
         picture = (TOP / "docs" / "toolbox.svg").read_text()
         found = re.findall(r'"([0-9.]+)" \[label', dot)
         self.assertGreater(len(found), 4)

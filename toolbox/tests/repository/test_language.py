@@ -5,7 +5,7 @@ import sys
 import tempfile
 import unittest
 
-from common import TOP, Case
+from common import PATIENCE, TOP, Case
 
 from simtools import definitions, language_crates, language_files, language_table
 from simtools.commands import Missing
@@ -55,7 +55,7 @@ class Language(Case):
             path = TOP.joinpath(folder, "language.toml")
             path.write_text(text)
             ran = subprocess.run([sys.executable, "-B", str(TOP / "tools" / "language"), "--table", str(path)],
-                                 capture_output=True, timeout=100, cwd=str(TOP))
+                                 capture_output=True, timeout=PATIENCE, cwd=str(TOP))
         self.assertEqual(ran.stderr, b"")
         return ran.stdout.decode().splitlines()[:-1], ran.returncode
 

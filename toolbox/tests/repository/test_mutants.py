@@ -6,11 +6,14 @@ import hashlib
 import io
 import os
 import re
+import shutil
 import subprocess
+import types
 import unittest.mock
 
 from common import TOP, Case
-from simtools import commands, compile_fail, left_out, mutants, trusted_base, try_mutants, verdicts, weaken
+from simtools import (
+    commands, compile_fail, kept_libraries, left_out, mutants, trusted_base, try_mutants, verdicts, weaken)
 
 
 def called(body):
@@ -103,7 +106,7 @@ class Choice(Case):
 
 
 class Libraries(Case):
-    """Mutants are tried over the libraries that `rt ci` kept; a run never proves one."""
+    """Mutants are tried over libraries that are proved; a run never proves one."""
 
     def setUp(self):
         super().setUp()
@@ -124,7 +127,7 @@ class Libraries(Case):
 
     def test_what_was_not_kept_is_told_before_any_check(self):
         self.lacking = [["low"]]
-        self.assertRaisesRegex(commands.Missing, "did not keep these libraries .*: low: run it", self.tried)
+        self.assertRaisesRegex(commands.Missing, "libraries are not proved on this machine, .*: low: run `rt ci`", self.tried)
         self.assertEqual(self.seen, [])
 
     def test_what_is_kept_is_tried_in_the_order_of_the_crates(self):
@@ -145,6 +148,68 @@ class Libraries(Case):
         called(lambda: self.trial.take_kept(self.edits.values()))
         self.tried()
         self.assertEqual((self.seen, len(self.trial.found)), ([], 2))
+
+
+class BuiltHere(Case):
+    """The libraries of a kit whose gate keeps none: `high` stands on `low`."""
+
+    def setUp(self):
+        super().setUp()
+        self.is_over = True
+        self.low = self.library("low", 100)
+        self.high = self.library("high", 200, self.low)
+
+    def library(self, name, at, *below):
+        """A library that was built at this time, of a source from before."""
+        self.at(self.file("crates/%s/src/lib.rt" % name, name), at - 50)
+        self.at(self.file("crates/%s/out/rlib/%s.rlib/interface" % (name, name), "made of " + name), at)
+        folder = self.folder / "room" / "crates" / name
+        return types.SimpleNamespace(name=name, deps=below, below=lambda: list(below), stamp=lambda: "sum of " + name,
+                                     folder=str(folder), rlib=str(folder / "out" / "rlib" / (name + ".rlib")))
+
+    @staticmethod
+    def at(path, time):
+        os.utime(path, (time, time))
+
+    def stamp(self, name, text):
+        self.file("crates/%s/out/rlib/stamp" % name, text)
+
+    def given(self):
+        """The libraries that count, which are put into the room."""
+        shutil.rmtree(self.folder / "room", ignore_errors=True)
+        built = kept_libraries.BuiltHere(self.folder, lambda: self.is_over)
+        found = [it.name for it in (self.low, self.high) if built.give(it, False, built.key(it))]
+        made = {path.parent.name: path.read_text() for path in self.folder.glob("room/crates/*/out/rlib/*/interface")}
+        self.assertEqual(made, {name + ".rlib": "made of " + name for name in found})
+        self.assertEqual(list(self.folder.glob("room/crates/*/out/rlib/stamp")), [])
+        return found
+
+    def test_those_of_the_gate_count_when_it_has_ended(self):
+        self.assertEqual(self.given(), ["low", "high"])
+        self.is_over = False
+        self.assertEqual(self.given(), [])
+
+    def test_those_of_the_gate_are_newer_than_sources_and_than_libraries_below(self):
+        self.at(self.folder / "crates/low/out/rlib/low.rlib/interface", 300)
+        self.assertEqual(self.given(), ["low"])
+        self.at(self.folder / "crates/low/src/lib.rt", 400)
+        self.assertEqual(self.given(), [])
+
+    def test_those_of_a_check_have_the_checksum_of_their_sources(self):
+        self.is_over = False
+        self.stamp("low", "sum of low")
+        self.assertEqual(self.given(), ["low"])
+        self.stamp("high", "sum of high")
+        self.assertEqual(self.given(), ["low", "high"])
+        self.stamp("low", "another")
+        self.assertEqual(self.given(), [])
+
+    def test_a_library_counts_over_those_that_it_was_built_over(self):
+        self.stamp("low", "sum of low")
+        self.assertEqual(self.given(), ["low"])
+        (self.folder / "crates/low/out/rlib/stamp").unlink()
+        self.stamp("high", "sum of high")
+        self.assertEqual(self.given(), ["low"])
 
 
 class Verdicts(Case):
@@ -274,6 +339,14 @@ other n = low n && high n
         self.assertEqual(found, {
             "low::a": (False, False, False), "low::far": (False, False, True), "low::good": (True, True, False),
             "low::both": (False, True, True), "high::b": (True, True, False), "high::c": (False, False, False)})
+
+    def test_functions_that_hand_nothing_on_are_asked_first(self):
+        """One that calls another whose clauses reach the definition may be proved whatever the definition says."""
+        name = ("low", "Good", "is_good")
+        some = [weaken.Function(one, {name}, handed_on, {name}, size) for one, handed_on, size in (
+            ("low::hands_on", {name}, 1), ("low::long", set(), 9), ("low::short", set(), 2))]
+        with unittest.mock.patch.object(weaken, "FUNCTIONS_A_PLACE", 2):
+            self.assertEqual(weaken.Batch([], [name], [some]).asked(0), {"low::short", "low::long"})
 
     def test_places_share_a_check_where_functions_tell_them_apart(self):
         self.made()

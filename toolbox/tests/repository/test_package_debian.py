@@ -16,8 +16,10 @@ import unittest
 from bgptools import __version__
 from bgptools.cli.tools import TOOLS
 from bgptools.program import location
-from common import TOOLBOX, TOP, Case, alone, files_of
+from common import PATIENCE, TOOLBOX, TOP, Case, alone, files_of
 from pages import PAGES as DOCUMENTS_OF_USERS, blocks, examples, pattern
+from simtools import site
+from web_pages import dead, pages
 
 # The program itself: usr/bin/bgpsim is a script that runs it.
 PROGRAM = "usr/lib/bgpsim/bgpsim"
@@ -25,10 +27,10 @@ DOCUMENTS = "usr/share/doc/bgpsim"
 PAGES = "usr/share/man/man1"
 COMPLETION = "usr/share/bash-completion/completions"
 # What tools/package reads.
-PARTS = ("tools/package", "packaging", "debian", "docs", "examples", "toolbox", "README.md", "LICENSE", "crates.txt",
+PARTS = ("tools/package", "tools/simtools", "packaging", "debian", "mkdocs.yml", "docs", "examples", "toolbox", "README.md", "LICENSE", "crates.txt",
          ".gitignore")
 GIT = shutil.which("git")
-MAKERS = ("dpkg-buildpackage", "dh", "dh_python3", "help2man", "shtab")
+MAKERS = ("dpkg-buildpackage", "dh", "dh_python3", "help2man", "shtab", "mkdocs")
 NEEDS_DEBIAN = unittest.skipUnless(all(map(shutil.which, MAKERS)), "no package can be made here: tools/setup")
 SECONDS = 1700000000
 STAND_IN = "#!/bin/sh\necho bgpsim 7.8\n"
@@ -37,6 +39,13 @@ BUILDER = """\
 #!/bin/sh
 { echo "words $*"; echo "program $($PROGRAM)"; cat debian/changelog; echo "origin $(cat debian/origin)"
 [ -f "$PROGRAM.json" ] && echo record there || echo record none; } > ../bgpsim_1_amd64.deb
+"""
+# In the place of mkdocs: pages that say when they were made, or what is wrong.
+PAGES_MAKER = """\
+#!/bin/sh
+[ "$1 $2 $3" = "build --strict --site-dir" ] || exit 9
+mkdir -p "$4/assets/javascripts/lunr" && echo "made at $SOURCE_DATE_EPOCH" > "$4/index.html"
+touch "$4/404.html" "$4/sitemap.xml" "$4/sitemap.xml.gz" "$4/assets/a.js" "$4/assets/a.js.map"
 """
 # Asks bash for the completion of its arguments, behind the script that defines it.
 ASKS = """
@@ -104,7 +113,7 @@ class Package(Case):
         cls.record = recorded(cls.program, False)
         cls.told, cls.path = packed(TOP, out, PATH=os.environ["PATH"], PROGRAM=cls.program)
         assert cls.path, cls.told
-        subprocess.run(["dpkg-deb", "-x", str(cls.path), str(cls.root)], check=True, timeout=100)
+        subprocess.run(["dpkg-deb", "-x", str(cls.path), str(cls.root)], check=True, timeout=PATIENCE)
         listed = alone(["dpkg-deb", "-c", cls.path], out, PATH=os.environ["PATH"], TZ="UTC").stdout.decode()
         cls.entries = [line.split(None, 5) for line in listed.splitlines()]
 
@@ -123,9 +132,10 @@ class Package(Case):
         self.assertEqual(self.path.name, "bgpsim_%(Version)s_%(Architecture)s.deb" % fields)
         self.assertEqual((fields["Package"], fields["Section"]), ("bgpsim", "net"))
         depends = fields["Depends"].split(", ")
-        for wanted in ("python3 (>= 3.8)", "python3-prompt-toolkit (>= 3.0.28)", "python3-tornado (>= 6.1)"):
+        for wanted in ("python3 (>= 3.8)", "python3-prompt-toolkit (>= 3.0.28)", "python3-tornado (>= 6.1)",
+                       "python3-networkx (>= 2.4)", "python3-pygraphviz (>= 1.7)"):
             self.assertIn(wanted, depends)
-        self.assertEqual(fields["Recommends"], "graphviz")
+        self.assertIn("python3-distributed (>= 2022.1)", fields["Suggests"].split(", "))
         if (self.root / PROGRAM).read_bytes().startswith(b"\x7fELF"):
             self.assertRegex(fields["Depends"], r"\blibc6 \(>= 2\.\d+\)")
 
@@ -243,6 +253,16 @@ class Package(Case):
             self.assertEqual((self.root / DOCUMENTS / path.relative_to(TOP)).read_bytes(), path.read_bytes())
         self.assertEqual(files_of(self.root / "usr/share/bgpsim/bgptools"), files_of(TOOLBOX / "bgptools"))
 
+    def test_it_has_the_documents_as_web_pages(self):
+        """Each page, each link of which leads somewhere in the package, and nothing that is read from elsewhere."""
+        found = pages(self.root / DOCUMENTS / "html")
+        names = {path.relative_to(self.root / DOCUMENTS / "html").as_posix() for path in found}
+        self.assertEqual(names, {re.sub("README.md$", "index.md", name)[:-2] + "html"
+                                 for name in site.names_in(site.navigation())})
+        self.assertEqual(list(dead(found)), [])
+        read = {target for page in found.values() for target in page.sources if "//" in target}
+        self.assertEqual(read, set())
+
     def test_what_the_page_on_installing_names_is_there(self):
         named = re.findall(r"`/(usr/[^`]*)`", (TOP / "docs" / "howto" / "install.md").read_text())
         self.assertGreater(len(named), 8)
@@ -358,7 +378,7 @@ class Staged(Case):
             self.copy(name)
         self.out.mkdir()
         for name in MAKERS:
-            self.file("bin/" + name, BUILDER).chmod(0o755)
+            self.file("bin/" + name, PAGES_MAKER if name == "mkdocs" else BUILDER).chmod(0o755)
         self.source = self.file("top/crates/sim_core/src/lib.rt", "")
         anna = ["-c", "user.name=Anna", "-c", "user.email=anna@ex"]
         for words_of in (["init", "-q"], ["add", "-A"], [*anna, "commit", "-qm", "All"]):
@@ -434,6 +454,17 @@ class Staged(Case):
         self.assertNotIn("./docs/README.md", files)
         self.assertNotIn("./toolbox/build/old.py", files)
 
+    def test_the_web_pages_are_dated_by_the_commit(self):
+        listed = "#!/bin/sh\n{ cat html/index.html; find html; } > ../bgpsim_1_amd64.deb\n"
+        self.file("bin/dpkg-buildpackage", listed).chmod(0o755)
+        told, *files = self.made().split(" html")
+        self.assertEqual(told, "made at %d" % SECONDS)
+        self.assertEqual(set(files), {"", "/index.html", "/assets", "/assets/javascripts", "/assets/a.js"})
+
+    def test_web_pages_with_a_fault(self):
+        self.file("bin/mkdocs", "#!/bin/sh\necho WARNING - a.md: no such link; exit 1\n").chmod(0o755)
+        self.assertEqual(self.refused(), "mkdocs: WARNING - a.md: no such link\n")
+
     def test_nothing_is_made_without_the_program(self):
         self.program.unlink()
         remedy = "`./bgpsim --prove` builds it, or name another one by PROGRAM="
@@ -476,7 +507,7 @@ class Staged(Case):
         alone_there.mkdir()
         (alone_there / "git").symlink_to(GIT)
         (alone_there / "dh").symlink_to(self.bin / "dh")
-        said = "not installed: dpkg-buildpackage, dh_python3, help2man, shtab. `tools/setup` installs what a package is made with\n"
+        said = "not installed: dpkg-buildpackage, dh_python3, help2man, shtab, mkdocs. `tools/setup` installs what a package is made with\n"
         self.assertEqual(self.refused(PATH=alone_there), said)
 
     def test_what_debians_tools_say_of_a_fault(self):

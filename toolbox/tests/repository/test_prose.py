@@ -2,6 +2,7 @@
 import contextlib
 import io
 import re
+import subprocess
 import unittest.mock
 
 from common import TOP, Case, program
@@ -18,6 +19,22 @@ class Documents(Case):
         for path in STRICT:
             with self.subTest(path=path.relative_to(TOP).as_posix()):
                 self.assertEqual(prose.findings(path), [])
+
+    def tracked(self, *patterns):
+        """The files of the repository, as git knows them."""
+        told = subprocess.run(["git", "ls-files", "-z", "--", *patterns], cwd=str(TOP), capture_output=True, check=True)
+        return [name for name in told.stdout.decode().split("\0") if name and (TOP / name).exists()]
+
+    def test_each_document_has_to_follow_them(self):
+        """But for data of tests, which may have any form."""
+        named = {path.relative_to(TOP).as_posix() for path in STRICT}
+        self.assertEqual([name for name in self.tracked("*.md") if name not in named and "/tests/data/" not in name], [])
+
+    def test_each_entry_of_the_top_is_explained(self):
+        text = (TOP / "CONTRIBUTING.md").read_text()
+        table = "".join(re.findall(r"(?m)^\| At the top .*\n(?:\|.*\n)+", text))
+        named = {name for row in re.findall(r"(?m)^\| (.*?) \|", table) for name in re.findall(r"`(.*?)`", row)}
+        self.assertEqual(named, {name.split("/")[0] for name in self.tracked()})
 
     def test_each_link_leads_somewhere(self):
         paths = documents.documents(documents.ALL)

@@ -7,7 +7,7 @@ import subprocess
 import unittest
 import unittest.mock
 
-from common import Case
+from common import PATIENCE, Case
 
 from bgptools.program import location
 from simtools import commands, resource_scripts, resources
@@ -103,7 +103,7 @@ class Scripts(Case):
             given = self.file(resource_scripts.ENGINEER, work.text())
             with self.subTest(script=name), given.open("rb") as text:
                 ran = subprocess.run([location.program(), *work.words], stdin=text, capture_output=True, cwd=self.folder,
-                                     timeout=200, check=True)
+                                     timeout=PATIENCE, check=True)
                 self.assertEqual(ran.stderr, b"")
                 self.assertGreater(len(ran.stdout), 5)
                 self.assertEqual(b"\nrefused " in ran.stdout or b"\n= refused " in ran.stdout, name in REFUSED)

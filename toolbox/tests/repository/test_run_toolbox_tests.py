@@ -9,7 +9,7 @@ import subprocess
 import sys
 import unittest.mock
 
-from common import TOP, Case
+from common import PATIENCE, TOP, Case
 from simtools import run_toolbox_tests
 
 # Calls the command on the tests of another folder.
@@ -73,7 +73,7 @@ class Runs(Case):
                  if name not in ("SKIPPED", "VERBOSE") and not name.startswith("PYTEST")}
         given["PYTHONPATH"] = str(TOP / "tools")
         ran = subprocess.run([sys.executable, "-B", "-c", CALL, str(self.folder), *words], capture_output=True,
-                             timeout=300, cwd=str(self.folder), env={**given, **environment})
+                             timeout=PATIENCE, cwd=str(self.folder), env={**given, **environment})
         return ran.returncode, ran.stdout.decode().split("\n")[:-1]
 
     def conftest(self):
@@ -175,7 +175,7 @@ class Counted(Case):
 
     def test_pytest_by_itself_says_that_a_program_is_not_there(self):
         ran = subprocess.run([sys.executable, "-B", "-m", "pytest", "-q", str(pathlib.Path(__file__).parent)],
-                             capture_output=True, timeout=300, cwd=str(TOP),
+                             capture_output=True, timeout=PATIENCE, cwd=str(TOP),
                              env={**os.environ, "PROGRAM": "/nowhere/bgpsim"})
         self.assertEqual(ran.returncode, 4)
         self.assertIn("there is no program /nowhere/bgpsim: PROGRAM= names it", ran.stderr.decode())

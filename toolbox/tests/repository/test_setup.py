@@ -2,7 +2,7 @@
 import re
 import shutil
 
-from bgptools.cli import libraries
+from bgptools.program import libraries
 from common import TOP, Case, alone
 
 SETUP = (TOP / "tools" / "setup").read_text()

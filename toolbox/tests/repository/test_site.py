@@ -1,5 +1,4 @@
 """tools/site: the documents as web pages. Each link and anchor leads somewhere; there is search, in light and dark."""
-import html.parser
 import json
 import pathlib
 import re
@@ -7,42 +6,10 @@ import shutil
 import tempfile
 import unittest
 import unittest.mock
-import urllib.parse
 
 from common import TOP, Case
 from simtools import commands, documents, site
-
-
-class Page(html.parser.HTMLParser):
-    """What a page links to, and the anchors that it has."""
-
-    def __init__(self, text):
-        super().__init__()
-        self.targets, self.anchors = set(), set()
-        self.feed(text)
-
-    def handle_starttag(self, tag, attrs):
-        named = dict(attrs)
-        self.targets.update(named[name] for name in ("href", "src") if named.get(name))
-        self.anchors.update(named[name] for name in ("id", "name") if named.get(name))
-
-
-def pages(folder):
-    """The pages below a folder, but for the one of what is not found, which a server shows at any place."""
-    return {path: Page(path.read_text()) for path in sorted(folder.rglob("*.html")) if path.name != "404.html"}
-
-
-def dead(found):
-    """The links of pages that lead nowhere."""
-    for path, page in found.items():
-        for target in sorted(page.targets):
-            parts = urllib.parse.urlsplit(target)
-            if parts.scheme or parts.netloc or target.startswith("javascript:"):
-                continue
-            there = (path.parent / urllib.parse.unquote(parts.path)).resolve() if parts.path else path
-            there = there / "index.html" if there.is_dir() else there
-            if not there.is_file() or parts.fragment and there in found and parts.fragment not in found[there].anchors:
-                yield "%s: %s" % (path, target)
+from web_pages import dead, pages
 
 
 @unittest.skipUnless(shutil.which("mkdocs"), "mkdocs is not installed")

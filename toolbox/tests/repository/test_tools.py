@@ -14,7 +14,7 @@ import time
 import unittest
 import unittest.mock
 
-from common import TOP, Case
+from common import PATIENCE, TOP, Case
 
 import model
 from simtools import (allocation_faults, bench_tables, commands, fail_script_allocations, language, left_out, loads,
@@ -29,7 +29,7 @@ NAMED = re.compile(r"(?<![\w/.~-])(?:tools|bench)/[\w./-]*\w")
 def command(name, *words, given=b"", **environment):
     """A command's run: its standard output and standard error as text, and its exit status."""
     ran = subprocess.run([sys.executable, "-B", str(TOP / name), *map(str, words)], input=given, capture_output=True,
-                         timeout=300, cwd=str(TOP), env={**os.environ, **environment})
+                         timeout=PATIENCE, cwd=str(TOP), env={**os.environ, **environment})
     out, err = ran.stdout.decode("latin-1"), ran.stderr.decode("latin-1")
     return subprocess.CompletedProcess(ran.args, ran.returncode, out, err)
 

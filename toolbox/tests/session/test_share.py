@@ -14,7 +14,7 @@ import sys
 import threading
 import time
 
-from common import TOOLBOX, TOP, Case, inside
+from common import PATIENCE, TOOLBOX, TOP, Case, inside
 from test_play import Typed
 
 TWO = ("router 1.0.0.1 1", "router 2.0.0.1 2", "link 1.0.0.1 2.0.0.1 1", "join 1.0.0.1 2.0.0.1")
@@ -29,7 +29,7 @@ class Person:
 
     def __init__(self, path, name=None, token=None):
         self.line = socket.socket(socket.AF_UNIX)
-        self.line.settimeout(30)
+        self.line.settimeout(PATIENCE)
         self.line.connect(str(path))
         self.read = self.line.makefile("rb")
         self.events, self.number = [], 0
@@ -96,21 +96,21 @@ class AtSocket(Case):
     def mistaken(self, *words):
         """What a share tells that cannot begin."""
         called = [sys.executable, "-B", str(TOOLBOX / "share"), "--at", str(self.path), *map(str, words)]
-        ran = subprocess.run(called, capture_output=True, timeout=60)
+        ran = subprocess.run(called, capture_output=True, timeout=PATIENCE)
         self.assertEqual((ran.returncode, ran.stdout), (2, b""), ran.stderr)
         return ran.stderr.decode()
 
     def kill(self, process):
         if process.poll() is None:
             process.kill()
-        process.wait(30)
+        process.wait(PATIENCE)
         process.stdout.close()
         process.stderr.close()
 
     def end(self, process, number=signal.SIGINT):
         """Ends it by a signal: its exit status, and what it tells."""
         process.send_signal(number)
-        out, err = process.communicate(timeout=60)
+        out, err = process.communicate(timeout=PATIENCE)
         self.assertEqual(err, b"")
         return process.returncode, out.decode()
 
@@ -412,7 +412,7 @@ class Killed(AtSocket):
             time.sleep(drawn.uniform(0.02, 0.3))
             self.kill(process)
             for thread in threads:
-                thread.join(30)
+                thread.join(PATIENCE)
             with self.subTest(seed=seed, moment=moment):
                 for seat, calls in answered.items():
                     found = self.entries().get(seat, [])
@@ -448,7 +448,7 @@ class Evening(AtSocket):
         for name, text in blocks:
             for line in text.split("\n")[:-1]:
                 self.line(name, line)
-        self.assertEqual(self.terminals["share"].wait(30), 0)
+        self.assertEqual(self.terminals["share"].wait(PATIENCE), 0)
 
     def line(self, name, line):
         """A line of a terminal: what is typed there, or shown."""
@@ -464,7 +464,7 @@ class Evening(AtSocket):
             self.terminals[name].stdin.write(line[len(name) + 2:].encode() + b"\n")
             self.terminals[name].stdin.flush()
         self.wanted[name] += untimed(line) + "\n"
-        last = time.monotonic() + 30
+        last = time.monotonic() + PATIENCE
         while len(self.more(name, 0.1)) < len(self.wanted[name]) and time.monotonic() < last:
             pass
         self.assertEqual(self.seen[name][:len(self.wanted[name])], self.wanted[name])
@@ -473,7 +473,7 @@ class Evening(AtSocket):
         """Both end their input; and nothing was shown that does not stand there."""
         for name in ("anna", "ben"):
             self.terminals[name].stdin.close()
-            self.assertEqual(self.terminals[name].wait(30), 0)
+            self.assertEqual(self.terminals[name].wait(PATIENCE), 0)
             self.assertEqual(self.more(name, 0), self.wanted[name])
 
     def terminal(self, name, words):
@@ -485,7 +485,7 @@ class Evening(AtSocket):
     def close(self, process):
         if process.poll() is None:
             process.kill()
-        process.wait(30)
+        process.wait(PATIENCE)
         process.stdout.close()
         process.stdin.close()
 
@@ -507,7 +507,7 @@ class AtTerminal(AtSocket):
         """A prompt at a terminal."""
         made = Typed(self.folder, str(self.path), "--as", name, tool="join")
         self.addCleanup(made.close)
-        made.until(name + "> ", 60)
+        made.until(name + "> ")
         return made
 
     def test_completion_and_what_others_do_while_one_types(self):
@@ -537,7 +537,7 @@ class AtTerminal(AtSocket):
         ben, surroundings = self.join("ben"), {"TERM": "xterm", "PROMPT_TOOLKIT_NO_CPR": "1"}
         anna = Typed(self.folder, str(self.path), "--as", "anna", tool="join", **surroundings)
         self.addCleanup(anna.close)
-        anna.until("anna>", 60)
+        anna.until("anna>")
         anna.type("watch\n", "\x1b[?2004h")
         os.write(anna.main, b"cost 1.0.0.1 2.")
         anna.until("cost 1.0.0.1 2.")
@@ -572,7 +572,7 @@ class AtTerminal(AtSocket):
             ben.call("mend 1.0.0.1 3.0.0.1")
         os.write(anna.main, b"wait quiet\n")
         anna.until("wait quiet")
-        time.sleep(0.3)
+        time.sleep(2)
         self.assertIn("-- stopped", anna.type(b"\x03", "anna> "))
         self.assertIn("    1 via 2.0.0.1\n", anna.type("cost 1.0.0.1 2.0.0.1\n", "anna> "))
 
@@ -581,7 +581,7 @@ class AtTerminal(AtSocket):
         anna = self.typed("anna")
         self.kill(process)
         os.write(anna.main, b"quiet\n")
-        self.assertEqual(anna.process.wait(20), 2)
+        self.assertEqual(anna.process.wait(PATIENCE), 2)
 
     def test_there_is_none(self):
         told = "%s: there is no share: No such file or directory\n" % self.path

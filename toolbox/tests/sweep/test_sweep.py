@@ -16,7 +16,7 @@ from bgptools.change.rollback import commands_back
 from bgptools.program.script import lines_of, read
 from bgptools.sweep import families
 from bgptools.sweep.player import Job, Player, settled_job
-from common import DATA, TOP, TOOLBOX, Case, inside, tool
+from common import DATA, PATIENCE, TOOLBOX, TOP, Case, inside, tool
 from relations import relations
 
 LESSONS = TOOLBOX / "lessons"
@@ -315,11 +315,11 @@ class Results(Case):
         called = [sys.executable, "-B", TOOLBOX / "sweep", *words, "--jobs", 2, "--results", path]
         pipes = {"stdout": subprocess.PIPE, "stderr": subprocess.PIPE}
         with subprocess.Popen(list(map(str, called)), cwd=str(TOP), start_new_session=True, **pipes) as ran:
-            end = time.monotonic() + 100
+            end = time.monotonic() + PATIENCE
             while not (path.exists() and path.read_bytes().count(b"\n") > 3) and time.monotonic() < end:
                 time.sleep(0.05)
             os.killpg(ran.pid, signal.SIGINT)
-            self.assertEqual((*ran.communicate(timeout=100), ran.returncode), (b"", b"stopped\n", 130))
+            self.assertEqual((*ran.communicate(timeout=PATIENCE), ran.returncode), (b"", b"stopped\n", 130))
         # Workers have its group; programs have their own, and end with their workers.
         self.assertRaises(ProcessLookupError, os.killpg, ran.pid, 0)
         self.assertEqual(path.read_bytes()[-1:], b"\n")

@@ -11,23 +11,25 @@ import unittest
 
 import pytest
 
+from bgptools.cli.interpreter import SYSTEMS
 from bgptools.program import location
-from bgptools.sweep.cluster import DEBIAN, HOW, PACKAGE
-from common import TOP, TOOLBOX, Case, inside, tool
+from bgptools.sweep.cluster import PACKAGE
+from common import PATIENCE, TOOLBOX, TOP, Case, inside, tool
 from relations import relations
 
-HAS_DASK = os.access(DEBIAN, os.X_OK) and subprocess.run(
-    [DEBIAN, "-c", "import " + PACKAGE], stderr=subprocess.DEVNULL).returncode == 0
+HAS_DASK = os.access(SYSTEMS, os.X_OK) and subprocess.run(
+    [SYSTEMS, "-c", "import " + PACKAGE], stderr=subprocess.DEVNULL).returncode == 0
+NO_DASK = "Dask is not installed: apt-get install python3-distributed"
 PLAIN = {"PATH": "/usr/bin:/bin", "HOME": "/nonexistent", "DASK_DISTRIBUTED__WORKER__DAEMON": "False"}
 
 
-def until(found, seconds=100):
+def until(found, seconds=PATIENCE):
     """What is found, as soon as there is something."""
     end = time.monotonic() + seconds
     while time.monotonic() < end:
         if found():
             return found()
-        time.sleep(0.1)
+        time.sleep(0.01)
     raise AssertionError("nothing came in %d seconds" % seconds)
 
 
@@ -36,7 +38,7 @@ class Cluster(Case):
         """A process of Debian's Dask, which is ended after the test by its own id."""
         log = open(self.folder / "log", "ab")
         self.addCleanup(log.close)
-        process = subprocess.Popen([DEBIAN, *map(str, words)], cwd=str(self.folder), env=PLAIN,
+        process = subprocess.Popen([SYSTEMS, *map(str, words)], cwd=str(self.folder), env=PLAIN,
                                    stdin=subprocess.DEVNULL, stdout=log, stderr=log)
         self.addCleanup(process.wait)
         self.addCleanup(process.terminate)
@@ -52,7 +54,7 @@ class Cluster(Case):
                                     "--local-directory", self.folder / str(number)) for number in range(count)]
 
     @pytest.mark.long
-    @unittest.skipUnless(HAS_DASK, "Dask is not installed: " + HOW)
+    @unittest.skipUnless(HAS_DASK, NO_DASK)
     def test_a_worker_dies_and_the_table_is_that_of_one_process(self):
         address, workers = self.cluster(3)
         text = "\n".join(relations(18, 2)) + "\n"
@@ -65,10 +67,11 @@ class Cluster(Case):
                    "--program", pathlib.Path(location.program()).resolve(), "--results", results]
         pipes = {"stdout": subprocess.PIPE, "stderr": subprocess.PIPE}
         with subprocess.Popen(list(map(str, command)), cwd=str(TOP), **pipes) as ran:
-            until(lambda: results.exists() and results.read_bytes().count(b"\n") > 5 or ran.poll() is not None)
+            # (at once behind the first ones, since the others follow soon)
+            until(lambda: results.exists() and results.read_bytes().count(b"\n") > 1 or ran.poll() is not None)
             workers[0].send_signal(signal.SIGKILL)
             came = results.read_bytes().count(b"\n")
-            told, faults = ran.communicate(timeout=200)
+            told, faults = ran.communicate(timeout=PATIENCE)
         self.assertEqual((told.decode(), ran.returncode, faults), (one.stdout, one.returncode, b""))
         lines = results.read_bytes().splitlines()
         self.assertLess(came, len(lines), "the worker died too late")
@@ -82,15 +85,7 @@ class Cluster(Case):
         other = tool("sweep", *words, "--scheduler", address, "--program", path, status=2)
         self.assertRegex(other.stderr, "tcp:.* another version of the program: `other 1`, and here it is `bgpsim ")
 
-    @unittest.skipUnless(HAS_DASK, "Dask is not installed: " + HOW)
+    @unittest.skipUnless(HAS_DASK, NO_DASK)
     def test_no_scheduler(self):
         told = tool("sweep", TOOLBOX / "lessons/three-ases.bgp", "--fail-links", "--scheduler", "127.0.0.1:1", status=2)
         self.assertIn("--scheduler 127.0.0.1:1: there is no scheduler", told.stderr)
-
-    def test_where_no_interpreter_has_it_is_told_what_to_install(self):
-        program = "import sys; sys.path.insert(0, %r)\nfrom bgptools.program import mistakes\n" \
-            "from bgptools.sweep import cluster\n" \
-            "cluster.PACKAGE = 'no_such_package'\n" \
-            "try: cluster.interpreter()\nexcept mistakes.Mistake as told: print(told)" % str(TOOLBOX)
-        told = subprocess.run([sys.executable, "-B", "-c", program], stdout=subprocess.PIPE, stderr=subprocess.STDOUT)
-        self.assertRegex(told.stdout.decode(), "^--scheduler wants Dask, which neither .* has: %s\n$" % HOW)

@@ -1,5 +1,5 @@
 """Worker processes: those that die are replaced and their tasks tried again, and all end with the tool. And what
-`concurrent.futures` of Python does otherwise, which is why it is not used."""
+`concurrent.futures` and joblib do otherwise, which is why they are not used."""
 import concurrent.futures
 import multiprocessing
 import os
@@ -10,11 +10,14 @@ import sys
 import time
 from unittest import mock
 
+import pytest
+
 from bgptools.program.mistakes import Mistake
 from bgptools.program.process_pool import ProcessPool, Workers
 from bgptools.sweep.effect_counts import Figures
+from bgptools.sweep.local_pool import Plan
 from bgptools.sweep.player import Player
-from common import TOOLBOX, Case, inside
+from common import PATIENCE, TOOLBOX, Case, inside
 
 MANY = TOOLBOX / "lessons" / "many-prefixes.bgp"
 # A tool with two busy workers, of a pool here or of Python's. It tells the numbers of their processes.
@@ -46,7 +49,7 @@ time.sleep(1000)
 
 def ends(number):
     """Whether a process that is told to end has ended, or ends soon."""
-    end = time.monotonic() + 20
+    end = time.monotonic() + PATIENCE
     while time.monotonic() < end:
         try:
             if pathlib.Path("/proc/%d/stat" % number).read_text().rpartition(")")[2].split()[0] == "Z":
@@ -61,6 +64,28 @@ def dies_in_the_executor(task):
     if task == 0:
         os.kill(os.getpid(), signal.SIGKILL)
     time.sleep(1000)
+
+
+def dies(task):
+    return os.kill(os.getpid(), signal.SIGKILL) if task == 0 else task
+
+
+def goes_on(folder):
+    """A task that tells where it works, waits until it may go on, and tells that it has."""
+    folder.joinpath("process").write_text(str(os.getpid()))
+    while not folder.joinpath("go").exists():
+        time.sleep(0.01)
+    folder.joinpath("went on").touch()
+
+
+def loads(folder, task):
+    """A task of a part of a network, which a process loads for its first task. The first two tasks begin together."""
+    file = folder / str(os.getpid())
+    if not file.exists():
+        file.write_text(str(task[0]))
+    while len(list(folder.iterdir())) < 2:
+        time.sleep(0.01)
+    return task
 
 
 class Processes(Case):
@@ -134,6 +159,62 @@ class Processes(Case):
             faults = [future.exception(100) for future in found]
         self.assertEqual([type(fault) for fault in faults], [concurrent.futures.process.BrokenProcessPool] * 2)
         self.assertEqual(*map(str, faults))
+
+    def test_of_a_single_process_concurrent_futures_says_not_how_it_ended(self):
+        """So a pool for each process would know the task, and a user would not know that memory ran out (signal 9)."""
+        with concurrent.futures.ProcessPoolExecutor(1, multiprocessing.get_context("fork")) as executor:
+            fault = executor.submit(dies, 0).exception(100)
+        self.assertIsInstance(fault, concurrent.futures.process.BrokenProcessPool)
+        self.assertNotRegex(str(fault), "9|[Kk]ill|signal")
+        with self.assertRaisesRegex(Mistake, "by signal 9, Killed"):
+            self.results(lambda task, _: dies(task), ["bad", 0])
+
+    def test_concurrent_futures_cannot_end_a_task_that_has_begun(self):
+        executor = concurrent.futures.ProcessPoolExecutor(1, multiprocessing.get_context("fork"))
+        begun = executor.submit(goes_on, self.folder)
+        while not (self.folder / "process").exists():
+            time.sleep(0.01)
+        executor.shutdown(wait=False, cancel_futures=True)
+        self.assertFalse(begun.cancel())
+        (self.folder / "go").touch()
+        begun.result(100)
+        self.assertTrue((self.folder / "went on").exists())
+        for name in ("process", "go", "went on"):
+            (self.folder / name).unlink()
+        with self.assertRaisesRegex(Mistake, "^it is wrong$"):
+            self.results(lambda task, _: goes_on(self.folder) if task == "long" else self._wrong(), ["long", "wrong"])
+        process = int((self.folder / "process").read_text())
+        (self.folder / "go").touch()
+        self.assertTrue(ends(process))
+        self.assertFalse((self.folder / "went on").exists())
+
+    def _wrong(self):
+        while not (self.folder / "process").exists():
+            time.sleep(0.01)
+        raise Mistake("it is wrong")
+
+    def test_a_worker_has_a_part_of_its_own_and_that_of_concurrent_futures_has_not(self):
+        """Which parts of a network two processes load first, of two parts of two tasks each."""
+        tasks, found = [(0, 0), (0, 1), (1, 0), (1, 1)], {}
+        for whose in ("ours", "python's"):
+            folder = self.folder / whose
+            folder.mkdir()
+            if whose == "ours":
+                with Workers(2, self.pool(lambda task, _, folder=folder: loads(folder, task))) as workers:
+                    done = [task for task, _ in workers.results(Plan(tasks).choose)]
+            else:
+                with concurrent.futures.ProcessPoolExecutor(2, multiprocessing.get_context("fork")) as executor:
+                    done = [each.result(100) for each in [executor.submit(loads, folder, task) for task in tasks]]
+            self.assertEqual(sorted(done), tasks)
+            found[whose] = sorted(file.read_text() for file in folder.iterdir())
+        self.assertEqual(found, {"ours": ["0", "1"], "python's": ["0", "0"]})
+
+    def test_joblib_gives_up_all_results_where_a_process_dies(self):
+        """It says how the process ended, and not of which task."""
+        joblib = pytest.importorskip("joblib", reason="joblib is not installed (tools/setup)")
+        with self.assertRaisesRegex(Exception, "exit codes of the workers are .*SIGKILL") as fault:
+            joblib.Parallel(n_jobs=2)(joblib.delayed(dies)(task) for task in (1, 0, 2))
+        self.assertEqual(type(fault.exception).__name__, "TerminatedWorkerError")
 
 
 class Sweeps(Case):

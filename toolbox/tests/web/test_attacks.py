@@ -15,12 +15,12 @@ import time
 import unittest
 
 from attack_values import ODD_IDS, ODD_NOTES, WORDS, WORKER_ENVIRONMENT, prefixes
-from attackers import (SOON, TWO, Attack, Until, answers, asked, entries, more_files, one_status, readable, soon,
-                       statuses)
+from attackers import (SOON, TWO, Attack, Until, Watch, answers, asked, entries, more_files, one_status, readable,
+                       soon, statuses)
 from bgptools.cli.share import parser
 from bgptools.program.mistakes import Mistake
 from bgptools.session.lifecycle import opened
-from common import TOOLBOX, TOP
+from common import PATIENCE, TOOLBOX, TOP
 from http_attacks import get, odd_heads, odd_targets, post, smuggled
 
 
@@ -154,9 +154,9 @@ class Asked(Attack):
                              ("propose", {"name": "x", "lines": [line]})):
                 with self.subTest(do=do, line=line[:20]):
                     sent = anna.send(do, **more)
-                    began = time.monotonic()
+                    watch = Watch(server)
                     self.assertEqual(ben.call("quiet"), ["yes"])
-                    self.assertLess(time.monotonic() - began, SOON)
+                    self.assertLess(watch.seconds(), SOON)
                     told = anna.answer(sent)
                     self.assertTrue("error" in told or told["reply"][0].startswith("refused 1 "), told)
         self.assertEqual(server.program(), program)
@@ -174,7 +174,7 @@ class OverHttp(Attack):
         size = (self.folder / "log").stat().st_size
         for name, content, fits in made(lab, page.page):
             with self.subTest(name=name):
-                self.assertIn(statuses(lab, content), fits)
+                self.assertIn(statuses(lab, content, fits), fits)
                 self.assertEqual((self.folder / "log").stat().st_size, size)
         self.assertEqual(page.until(lambda told: "what" in told)["what"], "all")
         page.heard.clear()
@@ -201,7 +201,7 @@ class OverHttp(Attack):
             with lab.connected() as line:
                 line.sendall(post(lab, b"{", page=page.page, length=100 + number))
         for _ in range(400):
-            soon(lab)
+            self.assertEqual(lab.get("forms")[0], 200)
         self.assertEqual(page.ask("call", line="quiet")["reply"], ["yes"])
         self.assertEqual(lab.told(), "")
 
@@ -218,7 +218,7 @@ class Kept(Attack):
             self.assertEqual(told.count("\n"), 0, told)
             return told
         called = [sys.executable, "-B", str(TOOLBOX / "share"), "--at", str(self.folder / "socket"), *map(str, words)]
-        ran = subprocess.run(called, capture_output=True, timeout=60, stdin=subprocess.DEVNULL)
+        ran = subprocess.run(called, capture_output=True, timeout=PATIENCE, stdin=subprocess.DEVNULL)
         self.assertEqual((ran.returncode, ran.stdout), (2, b""), ran.stderr)
         told = ran.stderr.decode()
         self.assertEqual((told.count("\n"), told[-1:]), (1, "\n"), told)
@@ -357,7 +357,7 @@ class Loaded(Attack):
             self.assertTrue(line)
         self.socket = line.split()[1].decode()
         answered = self.writers(self)
-        self.assertEqual(server.wait(60), 2)
+        self.assertEqual(server.wait(PATIENCE), 2)
         told = (self.folder / "stderr").read_text()
         found = re.search(r"the record is kept: (\S+) \(", told)
         self.assertIn("it cannot be written: File too large", told)
@@ -366,7 +366,7 @@ class Loaded(Attack):
     def test_a_log_at_a_full_device_is_refused(self):
         ran = subprocess.run([sys.executable, "-B", str(TOOLBOX / "share"), "--at", str(self.folder / "s"), "--log",
                               "/dev/full"],
-                             capture_output=True, timeout=60)
+                             capture_output=True, timeout=PATIENCE)
         self.assertEqual((ran.returncode, ran.stderr.count(b"\n")), (2, 1), ran.stderr)
 
     def test_a_program_that_is_killed_again_and_again_is_run_anew(self):
@@ -408,7 +408,7 @@ class Loaded(Attack):
             for do, line in (("call", "origin 1.0.0.1 10.2.0.0/16"), ("ask", "quiet")):
                 self.assertIn("the program ended", person.ask(do, line=line)["error"])
         flag.unlink()
-        last = time.monotonic() + 60
+        last = time.monotonic() + PATIENCE
         while "error" in anna.ask("ask", line="quiet"):
             self.assertLess(time.monotonic(), last)
             time.sleep(0.1)
@@ -435,7 +435,7 @@ class Loaded(Attack):
         for each in held:
             each.close()
         self.join(lab, "ben").call("quiet")
-        soon(lab)
+        self.assertEqual(lab.get("forms")[0], 200)
         self.assertTrue(lab.is_alive())
 
 
@@ -473,9 +473,9 @@ class Crowds(Attack):
         """Who has a secret is answered: by a connection that is new, by one that was there, at the socket."""
         self.assertLess(soon(self.server, key=self.server.keys["to work"]), SOON)
         for ask in (page.ask, person.ask):
-            began = time.monotonic()
+            watch = Watch(self.server)
             self.assertEqual(ask("call", line="quiet")["reply"], ["yes"])
-            self.assertLess(time.monotonic() - began, SOON)
+            self.assertLess(watch.seconds(), SOON)
 
     def test_connections_without_the_secret_keep_nobody_out(self):
         """Five hundred, and then three thousand: idle, with slow heads, with slow bodies."""

@@ -2,7 +2,6 @@
 import contextlib
 import http.client
 import json
-import math
 import os
 import re
 import signal
@@ -13,12 +12,11 @@ import unittest
 
 import pytest
 
-from bgptools.picture.distance_layout import placed
 from bgptools.program import provenance
 from bgptools.program.script import lines_of
 from bgptools.web.lesson import notes_of
 from browser import CHROMIUM, Browser
-from common import TOOLBOX, TOP, Case
+from common import PATIENCE, TOOLBOX, TOP, Case
 from test_share import Person
 
 SCRIPT = """# step Two routers
@@ -65,7 +63,7 @@ class Lab:
     def get(self, path, method="GET", body=None, key=None, **headers):
         """The status, headers and body of an answer."""
         given = {name.replace("_", "-"): value for name, value in headers.items()}
-        line = http.client.HTTPConnection("127.0.0.1", int(self.port), timeout=30)
+        line = http.client.HTTPConnection("127.0.0.1", int(self.port), timeout=PATIENCE)
         with contextlib.closing(line):
             line.request(method, "/%s/%s" % (self.key if key is None else key, path), body, given)
             answer = line.getresponse()
@@ -84,7 +82,7 @@ class Lab:
     def end(self):
         """Ctrl-C: the rest of what it prints, and its status."""
         self.process.send_signal(signal.SIGINT)
-        out, err = self.process.communicate(timeout=60)
+        out, err = self.process.communicate(timeout=PATIENCE)
         return self.process.returncode, out.decode(), err.decode()
 
     def close(self):
@@ -100,7 +98,7 @@ class Page:
 
     def __init__(self, lab, name, key):
         self.lab, self.key, self.heard, self.number = lab, key, [], 0
-        self.line = http.client.HTTPConnection("127.0.0.1", int(lab.port), timeout=30)
+        self.line = http.client.HTTPConnection("127.0.0.1", int(lab.port), timeout=PATIENCE)
         self.line.request("GET", "/%s/events?as=%s" % (key, name))
         self.answer = self.line.getresponse()
         self.first = self.until(lambda told: told.get("event") == "page")
@@ -348,21 +346,6 @@ class Served(AtServer):
         self.assertEqual(_places(self.lab.value("picture?step=6")), {a: after[a] for a in before})
 
 
-class Placing(unittest.TestCase):
-    def test_a_square_is_a_square(self):
-        """In a ring of four a neighbour is nearer than who is across; the same ring has the same places."""
-        ring = [("a", "b"), ("b", "c"), ("c", "d"), ("d", "a")]
-        places = placed(list("abcd"), ring, 100.0)
-        self.assertEqual(places, placed(list("abcd"), ring, 100.0))
-        sides = [math.dist(places[one], places[other]) for one, other in ring]
-        across = [math.dist(places["a"], places["c"]), math.dist(places["b"], places["d"])]
-        self.assertLess(max(sides) - min(sides), 5)
-        self.assertAlmostEqual(across[0] / sides[0], math.sqrt(2), 1)
-        self.assertEqual(placed(["a"], [], 100.0), placed(["a"], [], 100.0, {}))
-        grown = placed(list("abcde"), ring + [("a", "e")], 100.0, places)
-        self.assertLess(max(math.dist(places[one], grown[one]) for one in "abcd"), 60)
-
-
 def _places(picture):
     """Where each router is."""
     return {about[1]: [part[1][name] for part in _all([[about, shape]]) if part[0] == "rect" for name in ("x", "y")]
@@ -407,22 +390,35 @@ MISSING = "chromium is not installed: apt-get install chromium"
 @pytest.mark.xdist_group("browsers")
 @unittest.skipUnless(CHROMIUM, MISSING)
 class InABrowser(Case):
+    """Tests with two browsers, and a lab for each."""
+
+    @classmethod
+    def setUpClass(cls):
+        cls.browsers = []
+        for _ in range(2):
+            folder = tempfile.TemporaryDirectory()
+            cls.addClassCleanup(folder.cleanup)
+            cls.browsers.append(Browser(folder.name, "about:blank#lab"))
+            cls.addClassCleanup(cls.browsers[-1].close)
+
     def setUp(self):
         super().setUp()
         script = self.folder / "script.bgp"
         script.write_text(SCRIPT)
         self.lab = Lab(self.folder, script, "--present")
         self.addCleanup(self.lab.close)
-        self.errors = []
+        self.free = list(self.browsers)
 
     def browser(self, url):
         """A browser with the page, when it has drawn the last step."""
-        folder = tempfile.TemporaryDirectory()
-        self.addCleanup(folder.cleanup)
-        browser = Browser(folder.name, url)
-        self.addCleanup(browser.close)
-        browser.until("document.body.dataset.step === '%d'" % STEPS)
+        browser = self.free.pop(0)
+        browser.go(url)
+        self.at(browser, STEPS)
         return browser
+
+    def at(self, browser, step):
+        """Waits until a step is drawn, with its tables, and nothing else is to be drawn."""
+        browser.until("document.body.dataset.step === '%d' && document.body.dataset.state === 'drawn'" % step)
 
     def test_two_pages_and_a_terminal_see_one_change(self):
         one, other = self.browser(self.lab.url), self.browser(self.lab.url)
@@ -434,7 +430,7 @@ class InABrowser(Case):
         one.value("[...document.querySelectorAll('#forms button')].find((each) => each.textContent === 'fail').focus()")
         one.press("Enter")
         for browser in (one, other):
-            browser.until("document.body.dataset.step === '%d'" % (STEPS + 1))
+            self.at(browser, STEPS + 1)
             browser.until("document.getElementById('log').textContent.includes('page: fail 1.0.0.1 2.0.0.1')")
             browser.until("document.getElementById('picture').textContent.includes('7, failed')")
         self.assertEqual([each["line"] for each in person.until("changes")["changes"]], ["fail 1.0.0.1 2.0.0.1"])
@@ -447,7 +443,7 @@ class InABrowser(Case):
         for step, text in ((2, "Says <script>document.title='owned'</script> & more."), (6, "It is told to the other one.")):
             browser.value("document.getElementById('slider').value = %d" % step)
             browser.value("document.getElementById('slider').dispatchEvent(new Event('input'))")
-            browser.until("document.body.dataset.step === '%d'" % step)
+            self.at(browser, step)
             self.assertEqual(browser.value("document.getElementById('says').textContent"), text)
         browser.value("document.querySelector(\"[data-about='router 1.0.0.1']\").dispatchEvent(new Event('click'))")
         browser.until("document.getElementById('table').textContent.includes('Adj-RIB-Out')")
@@ -464,7 +460,7 @@ class InABrowser(Case):
         seen = []
         for key, step in [("ArrowLeft", step) for step in range(5, -1, -1)] + [("ArrowRight", step) for step in range(1, 7)]:
             browser.press(key)
-            browser.until("document.body.dataset.step === '%d'" % step)
+            self.at(browser, step)
             seen.append(browser.value(shown))
         self.assertEqual(seen[:5], seen[6:11][::-1])
         self.assertEqual(seen[5], ["", ""])
@@ -476,17 +472,17 @@ class InABrowser(Case):
     def test_a_click_on_a_waiting_message_delivers_it(self):
         browser = self.browser(self.lab.url)
         browser.click("[data-about='deliver 2.0.0.1 1.0.0.1'] circle")
-        browser.until("document.body.dataset.step === '7'")
+        self.at(browser, 7)
         self.assertEqual(browser.value("document.getElementById('line').textContent"), "deliver 2.0.0.1 1.0.0.1")
         self.assertEqual(browser.value("document.getElementById('answer').textContent"), "took 10.1.0.0/16 update")
 
     def test_a_student_follows_the_teacher(self):
         teacher, student = self.browser(self.lab.url), self.browser(self.lab.urls["to look"])
         teacher.press("ArrowLeft")
-        student.until("document.body.dataset.step === '5'")
+        self.at(student, 5)
         student.until("document.getElementById('says').textContent === ''")
         teacher.press("n")
-        student.until("document.body.dataset.step === '7'")
+        self.at(student, 7)
         self.assertEqual(student.value("document.getElementById('line').textContent"), "deliver 2.0.0.1 1.0.0.1")
         self.assertEqual(student.value("[...document.querySelectorAll('.work')].filter((each) => each.offsetParent).length"), 0)
         student.press("n")

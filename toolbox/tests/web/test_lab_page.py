@@ -220,6 +220,32 @@ class Together(InABrowser):
         self.press("b")
         self.browser.until("!document.getElementById('table').innerText.includes('Who changed what')")
 
+    def test_what_stays_is_not_made_anew(self):
+        """A button that is pressed while others change something does what it says when it is let go, and what is in
+        focus stays so."""
+        ben = self.person("ben")
+        self.browser.click("[data-about='router 1.0.0.1'] rect")
+        self.press("b")
+        to_the_session = "#table table:first-of-type tr:nth-child(2) button"
+        self.browser.until("document.querySelector('%s') !== null" % to_the_session)
+
+        def changed():
+            ben.ask("call", line="origin 2.0.0.1 10.9.0.0/16")
+            self.at(self.last + 1)
+        self.browser.click(to_the_session, changed)
+        self.at(5)
+        self.browser.value("document.querySelector('%s').focus()" % to_the_session)
+        ben.ask("propose", name="slow", lines=["metric 1.0.0.1 2.0.0.1 900"])
+        self.browser.until("document.querySelector('.proposal .accept') !== null")
+        self.assertEqual(self.browser.value("document.activeElement === document.querySelector('%s')" % to_the_session), True)
+        self.browser.value("document.querySelector('.proposal .accept').focus()")
+        ben.ask("propose", name="down", lines=["fail 1.0.0.1 2.0.0.1"])
+        self.browser.until("document.querySelectorAll('.proposal').length === 2")
+        self.assertEqual(self.browser.value("document.activeElement === document.querySelector('.proposal .accept')"), True)
+        self.press("Enter")
+        self.browser.until("document.getElementById('answer').textContent !== ''")
+        self.assertEqual(self.text("#answer"), "page accepts proposal 1 of ben, slow: 1 command made")
+
 
 @unittest.skipUnless(CHROMIUM, MISSING)
 class ForEverybody(InABrowser):

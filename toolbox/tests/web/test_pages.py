@@ -5,6 +5,7 @@ import re
 import socket
 import time
 
+from common import PATIENCE
 from test_lab import AtServer
 from test_share import Person
 
@@ -104,7 +105,7 @@ class Deaf(AtServer):
             anna = Person(self.lab.socket, "anna")
             self.addCleanup(anna.close)
             anna.ask("watch", what="edits")
-            before, last = self.size(), time.monotonic() + 30
+            before, last = self.size(), time.monotonic() + PATIENCE
             while not any("deaf has gone: " in each.get("text", "") for each in anna.events):
                 for number in [anna.send("call", line="# name 1.0.0.1 %s" % ("n" * 4000)) for _ in range(50)]:
                     self.assertEqual(anna.answer(number)["reply"], [])

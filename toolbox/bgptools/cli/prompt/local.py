@@ -13,7 +13,7 @@ from ...convergence.run import Run
 from ...convergence.transcript import kept_back, tell, tell_settling
 from ...network.configuration import Direction
 from ...network.refusals import sentence
-from ...program import output, script
+from ...program import libraries, output, script
 from ...program.grammar import Form
 from ...program.language import (
     NAMES, QUESTIONS, SETTING_NAMES, address, by_address, escaped, is_silent, readable, words_of)
@@ -23,7 +23,7 @@ from ...program.names import MARK
 from ...program.replies import refusal
 from ...program.script import MARK as EXPECTED, Line, read
 from ...session import journal
-from .. import draw, explain, libraries, what_if
+from .. import draw, explain, what_if
 from .completion import Completion
 from .keyboard import Keyboard
 
@@ -375,7 +375,7 @@ class Reader:
 def need_terminal() -> None:
     """Raises Mistake if the library is missing that edits lines at a terminal."""
     if sys.stdout.isatty():
-        libraries.need("prompt_toolkit", "prompt")
+        libraries.need("prompt")
 
 
 def read_lines(typed: Prompt, next_line: Callable[[], Optional[str]]) -> None:

@@ -15,6 +15,7 @@ from prompt_toolkit.auto_suggest import AutoSuggestFromHistory
 from prompt_toolkit.buffer import Buffer
 from prompt_toolkit.completion import CompleteEvent, Completer, get_common_complete_suffix
 from prompt_toolkit.completion import Completion as Candidate
+from prompt_toolkit.cursor_shapes import ModalCursorShapeConfig
 from prompt_toolkit.document import Document
 from prompt_toolkit.filters import Condition
 from prompt_toolkit.history import FileHistory, History, InMemoryHistory
@@ -25,6 +26,7 @@ from ...program.language import escaped
 from ...program.mistakes import Mistake
 from ...session import journal
 from .completion import Completion
+from .editing import is_vi
 
 # What a key types into an empty line, and enters.
 KEYS = {"f1": "?", "f7": "undo", "f8": "next", "f9": "settle"}
@@ -98,10 +100,12 @@ class Terminal:
         self.loop = asyncio.new_event_loop()
         self.pasted: List[str] = []
         self.before = ""
+        has_vi = is_vi()
         self.session: PromptSession[str] = PromptSession(
             shown, completer=Candidates(completion), complete_while_typing=False, history=_history(),
             auto_suggest=None if self.is_dumb else AutoSuggestFromHistory(), key_bindings=self._keys(),
-            enable_suspend=True)
+            enable_suspend=True, vi_mode=has_vi,
+            cursor=ModalCursorShapeConfig() if has_vi and not self.is_dumb else None)
         if self.is_dumb:
             self.session.default_buffer.on_text_changed += self._echo
 

@@ -23,6 +23,10 @@ class Wrong(Exception):
         super().__init__(text)
         self.text, self.line = text, line
 
+    def __reduce__(self) -> Tuple[Any, ...]:
+        """How pickle and copy make it again."""
+        return Wrong, (self.text, self.line)
+
 
 class Node(NamedTuple):
     """A statement or an expression: what it is, what it consists of, and its line."""

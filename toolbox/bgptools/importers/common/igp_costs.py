@@ -2,9 +2,9 @@
 cost of the interface that has the address."""
 from __future__ import annotations
 
-import heapq
-from typing import Dict, List, NamedTuple, Optional, Set, Tuple
+from typing import Dict, List, NamedTuple, Optional, Set
 
+from ...network.graph_search import least_costs
 from .configuration import short
 from .igp import interface_with, is_loopback, is_static
 from .network import Network
@@ -80,23 +80,5 @@ def _told_cost(network: Network, costs: Dict[str, int], name: str, other: str, d
 
 def costs_from(network: Network, name: str) -> Dict[str, int]:
     """The cost from a router to each one of its AS, over links that are up."""
-    around = _around(network)
-    found: Dict[str, int] = {}
-    waiting = [(0, name)]
-    while waiting:
-        cost, here = heapq.heappop(waiting)
-        if here not in found:
-            found[here] = cost
-            waiting += [(cost + more, there) for more, there in around.get(here, [])]
-            heapq.heapify(waiting)
-    return found
-
-
-def _around(network: Network) -> Dict[str, List[Tuple[int, str]]]:
-    """The links inside ASes that are up, by router, each with its cost and its other end."""
-    around: Dict[str, List[Tuple[int, str]]] = {}
-    for link in network.links.values():
-        if not link.is_down and link.other not in network.virtuals and not network.is_external(link.one, link.other):
-            around.setdefault(link.one, []).append((link.here.cost, link.other))
-            around.setdefault(link.other, []).append((link.here.cost, link.one))
-    return around
+    return least_costs({(link.one, link.other): link.here.cost for link in network.links.values() if not link.is_down
+                  and link.other not in network.virtuals and not network.is_external(link.one, link.other)}, name)

@@ -3,6 +3,7 @@ from __future__ import annotations
 
 from typing import Iterator, List, Optional, Set, Tuple
 
+from ...network.graph_search import hops, neighbours
 from ...program.language import by_address
 from .configuration import Config, Neighbour, short
 from .igp import interface_with, is_loopback, is_static, knows
@@ -142,15 +143,9 @@ def _tell_links(network: Network, config: Config, each: Neighbour, here: str, th
 
 def has_way(network: Network, one: str, other: str, without: Link) -> bool:
     """Whether a router reaches another inside its AS without a link."""
-    seen, waiting = {one}, [one]
-    while waiting:
-        here = waiting.pop()
-        around = {end for key, link in network.links.items() if here in key and link is not without
-                  and not link.is_down for end in key} - seen
-        inside = [end for end in around if not network.is_external(one, end)]
-        seen.update(inside)
-        waiting += inside
-    return other in seen
+    inside = [(link.one, link.other) for link in network.links.values() if link is not without and not link.is_down
+              and not any(network.is_external(one, end) for end in link.ends)]
+    return other in hops(neighbours(inside), one)
 
 
 def _check_sources(network: Network, one: str, other: str) -> None:

@@ -1,10 +1,10 @@
 """The costs of a graph's links: of an attribute, of speeds, or 1; and one link for each two nodes."""
 from __future__ import annotations
 
-import heapq
 import math
-from typing import Callable, Dict, List, Optional, Tuple
+from typing import Callable, Dict, List, Optional
 
+from ...network.graph_search import Pair
 from ...program.language import escaped
 from ...program.mistakes import Mistake
 from .graph import Edge, Graph
@@ -15,7 +15,6 @@ FASTEST = 100e9
 UNITS = {"": 1.0, "K": 1e3, "M": 1e6, "G": 1e9, "T": 1e12}
 # Attributes whose names say that they are costs.
 COSTS = ("cost", "metric", "weight", "igp-weight", "igp_weight", "igp", "ospf")
-Pair = Tuple[str, str]
 Cost = Callable[[Edge], Optional[float]]
 
 
@@ -122,20 +121,3 @@ class Costs:
         if lonely:
             self.graph.left.tell(self.graph.place(lonely[0].line), (
                 "edges that lead one way alone: %d; a link leads both ways" % len(lonely)))
-
-
-def distances(links: Dict[Pair, int], start: str) -> Dict[str, int]:
-    """The least cost from a node to each that it reaches."""
-    around: Dict[str, List[Tuple[str, int]]] = {}
-    for (one, other), cost in links.items():
-        around.setdefault(one, []).append((other, cost))
-        around.setdefault(other, []).append((one, cost))
-    found: Dict[str, int] = {}
-    waiting = [(0, start)]
-    while waiting:
-        at, here = heapq.heappop(waiting)
-        if here not in found:
-            found[here] = at
-            for other, cost in around.get(here, []):
-                heapq.heappush(waiting, (at + cost, other))
-    return found

@@ -1,5 +1,5 @@
 """Graphs in GML: keys with numbers, strings or lists behind them."""
-# No networkx here: it keeps no line of what it reads, and few interpreters have it.
+# networkx reads the same, but keeps no line of what it reads: `test_graph_libraries` says what else it does not do.
 from __future__ import annotations
 
 import html

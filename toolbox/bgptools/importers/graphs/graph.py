@@ -5,6 +5,7 @@ from collections import Counter
 from dataclasses import dataclass, field
 from typing import Dict, List, Set, Tuple
 
+from ...network.graph_search import hops, neighbours
 from ...program.language import escaped
 from ...program.mistakes import Mistake
 from ..common.omissions import LeftOut, Place
@@ -82,24 +83,12 @@ class Graph:
 
     def parts(self, links: Dict[Tuple[str, str], int]) -> List[List[str]]:
         """The nodes that links join, each part in the order of the file, the largest first."""
-        around: Dict[str, Set[str]] = {key: set() for key in self.nodes}
-        for one, other in links:
-            around[one].add(other)
-            around[other].add(one)
+        near = neighbours(links)
         found: List[List[str]] = []
         seen: Set[str] = set()
         for key in self.nodes:
             if key not in seen:
-                part = _reached(around, key)
-                seen |= part
+                part = hops(near, key)
+                seen.update(part)
                 found.append([each for each in self.nodes if each in part])
         return sorted(found, key=len, reverse=True)
-
-
-def _reached(around: Dict[str, Set[str]], start: str) -> Set[str]:
-    seen, waiting = {start}, [start]
-    while waiting:
-        found = around[waiting.pop()] - seen
-        seen |= found
-        waiting += found
-    return seen

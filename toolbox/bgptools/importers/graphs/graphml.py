@@ -1,4 +1,5 @@
 """Graphs in GraphML."""
+# Not by networkx: `test_graph_libraries` says what that does not do.
 from __future__ import annotations
 
 import re

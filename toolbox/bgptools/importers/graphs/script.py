@@ -5,10 +5,11 @@ from collections import Counter
 from dataclasses import dataclass, field
 from typing import Dict, List, Optional, Tuple
 
+from ...network.graph_search import least_costs
 from ...program.language import address, escaped, number, prefix, show_address
 from ...program.mistakes import Mistake
 from ...program.names import TOO_LONG, fits, mark
-from .costs import COSTS, Costs, distances
+from .costs import COSTS, Costs
 from .graph import Graph, Node
 
 MOST_NODES, MOST_LINKS, MOST_SESSIONS = 4096, 16384, 256
@@ -205,7 +206,7 @@ class Writer:
     def _clients(self, chosen: List[str], others: List[str]) -> List[Tuple[str, str]]:
         """Each other router is a client of the two nearest reflectors that have room for it; raises Mistake where none
         has."""
-        ways = {key: distances(self.links, key) for key in chosen}
+        ways = {key: least_costs(self.links, key) for key in chosen}
         outside = Counter(key for key, _ in self.externals)
         room = {key: MOST_SESSIONS - (len(chosen) - 1) - outside[key] for key in chosen}
         found: List[Tuple[str, str]] = []

@@ -1,6 +1,7 @@
 """Files of MRT (RFC 6396): their records, and the routes of a table dump of version 2 (with RFC 8050).
 
 What is read is checked against its length: a Mistake names the byte of the unpacked file at which the record begins."""
+# Not by mrtparse: `test_mrt_libraries` says what that does not do.
 from __future__ import annotations
 
 import struct

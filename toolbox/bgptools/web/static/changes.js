@@ -1,5 +1,5 @@
 // Changes that are proposed: one is shown to all as what it would do, and made when another one accepts it.
-import { element } from "./drawn.js";
+import { element, renew } from "./drawn.js";
 
 const nameOf = (proposal) => "Proposal " + proposal.number + " of " + proposal.who + ": " + proposal.name;
 
@@ -30,11 +30,12 @@ export class Proposals {
   }
 
   show(own) {
-    this.place.replaceChildren(...[...this.open.values()].map((each) => this.#made(each, each.who === own)));
+    renew(this.place, [...this.open.values()].map((each) => this.#made(each, each.who === own)));
   }
 
   #made(proposal, isOwn) {
     const made = element("section", "proposal", "");
+    made.dataset.proposal = proposal.number + " " + proposal.edits;
     const lines = element("pre", "lines", proposal.lines.join("\n"));
     const does = element("pre", "does", (proposal.text || "").trimEnd() || "what it does is not known yet");
     for (const [part, told] of [[lines, "Its commands"], [does, "What it would do"]]) {

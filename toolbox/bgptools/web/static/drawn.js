@@ -18,6 +18,25 @@ export function element(kind, style, text) {
   return made;
 }
 
+// Puts parts into an element, in their order. Those that are there already are not moved: they keep what is in focus.
+function place(inside, parts) {
+  const staying = new Set(parts);
+  for (const each of [...inside.children]) if (!staying.has(each)) each.remove();
+  parts.forEach((each, at) => {
+    if (inside.children[at] !== each) inside.insertBefore(each, inside.children[at] || null);
+  });
+}
+
+// Shows parts in an element. One that looks like an old one gives way to it: a button that is pressed when all is drawn
+// anew is the same one when it is let go. What a part does has to follow from its texts and attributes.
+export function renew(inside, parts) {
+  const old = [...inside.children];
+  place(inside, parts.map((each) => {
+    const at = old.findIndex((one) => one.isEqualNode(each));
+    return at < 0 ? each : old.splice(at, 1)[0];
+  }));
+}
+
 function part([kind, attributes, text, inside]) {
   if (!KINDS.has(kind)) throw new Error("no part of a picture: " + kind);
   const made = document.createElementNS(SVG, kind);
@@ -73,7 +92,7 @@ export class Picture {
       return one;
     });
     this.#fit(picture.width, picture.height);
-    this.#place(parts);
+    place(this.element, parts);
     if (about && document.activeElement !== focused) this.#focus(about);
     return made;
   }
@@ -85,15 +104,6 @@ export class Picture {
     this.element.setAttribute("viewBox", box);
     this.element.style.setProperty("--width", width + "px");
     this.element.style.setProperty("--height", height + "px");
-  }
-
-  // Puts parts in their order; those that stay are not moved, and so keep what is in focus.
-  #place(parts) {
-    const staying = new Set(parts);
-    for (const each of [...this.element.children]) if (!staying.has(each)) each.remove();
-    parts.forEach((each, at) => {
-      if (this.element.children[at] !== each) this.element.insertBefore(each, this.element.children[at] || null);
-    });
   }
 
   // Focus goes to what stands for what had it; of a queue that is empty, to its session.

@@ -1,6 +1,6 @@
 // The page of `lab`: what it asks the server, what happens there, and what is shown of it.
 import { Proposals } from "./changes.js";
-import { Picture, blamed, commandForm, element, tables } from "./drawn.js";
+import { Picture, blamed, commandForm, element, renew, tables } from "./drawn.js";
 import { FORMS, ONE_END, PLACING, UNSEEN } from "./language.js";
 import * as moving from "./moving.js";
 
@@ -268,7 +268,7 @@ async function tabled(step, told, view) {
     if (!found.error) parts.unshift(...blamed(about, found.edits, go));
   }
   at("table").hidden = !parts.length;
-  at("table").replaceChildren(...parts);
+  renew(at("table"), parts);
 }
 
 function words() {
@@ -279,7 +279,7 @@ function words() {
   at("heading").textContent = each.heading || "";
   at("says").textContent = each.says || "";
   at("line").textContent = each.line || "";
-  at("asks").replaceChildren(...(each.asks || []).flatMap(asked));
+  renew(at("asks"), (each.asks || []).flatMap(asked));
   at("follow").hidden = !now.isOwn || now.role === "look" || !each.view;
   const begun = marks().filter(([first]) => first <= step).pop();
   at("headings").value = begun ? String(begun[0]) : "0";
