@@ -451,7 +451,7 @@ class Stops(AtPrompt):
                 typed = self.start(PROGRAM=self.between(2, does))
                 self.chain(typed)
                 self.assertIn("between: the program ended before it had answered, %s\n" % how, typed.type("settle\n"))
-                self.assertIn("    quiet after 3 deliveries\n", typed.type("settle\n"))
+                self.assertIn("    quiet after 4 deliveries\n", typed.type("settle\n"))
                 self.here.unlink()
 
 
