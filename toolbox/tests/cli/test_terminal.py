@@ -5,7 +5,7 @@ import stat
 import unittest.mock
 
 from bgptools.cli.prompt import editing
-from common import Case
+from common import PATIENCE, Case
 from test_play import NETWORK, AtPrompt, Typed
 
 # What the library writes when a line is about to be typed: pasted text is to be marked.
@@ -153,7 +153,7 @@ class Vi(Keys):
         typed = Typed(self.folder, BGPSIM_EDITING_MODE="vim")
         self.addCleanup(typed.close)
         typed.until("BGPSIM_EDITING_MODE=vim: one of emacs, vi is expected\n")
-        self.assertEqual(typed.process.wait(20), 2)
+        self.assertEqual(typed.process.wait(PATIENCE), 2)
 
 
 class FileOfReadline(Case):

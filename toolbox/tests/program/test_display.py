@@ -15,7 +15,7 @@ import unittest
 import rich.console
 import rich.table
 
-from common import TOOLBOX, TOP, Case, tool
+from common import PATIENCE, TOOLBOX, TOP, Case, tool
 
 # What sets colours, and nothing else that begins with an escape.
 COLOURS = re.compile(r"\x1b\[[0-9;]*m")
@@ -80,7 +80,7 @@ def at_terminal(words, width=100, flags=(), errors=None, **environment):
     except OSError:
         # All that had the terminal have ended.
         os.close(main)
-    ran.wait(100)
+    ran.wait(PATIENCE)
     return told.decode().replace("\r\n", "\n")
 
 
@@ -191,7 +191,7 @@ class Bars(unittest.TestCase):
 
     def test_nothing_at_no_terminal(self):
         ran = subprocess.run([sys.executable, "-B", "-c", WORK], stdout=subprocess.PIPE, stderr=subprocess.PIPE,
-                             timeout=100, check=True)
+                             timeout=PATIENCE, check=True)
         self.assertEqual((ran.stdout, ran.stderr), (b"threads 1\n", b""))
 
     def test_a_count_without_an_end_starts_no_thread(self):

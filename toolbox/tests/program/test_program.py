@@ -61,6 +61,6 @@ class Team(Case):
         writer = threading.Thread(target=pipe.write_bytes, args=(b"router 1.0.0.1 1\nquiet\n",), daemon=True)
         writer.start()
         ran = self.team("--workers", "1", str(pipe), stderr=subprocess.PIPE)
-        writer.join(100)
+        writer.join(PATIENCE)
         self.assertEqual((ran.returncode, ran.stderr), (0, b""))
         self.assertEqual(re.findall(rb"^@0 (.*)", ran.stdout, re.M), [b"router 1.0.0.1 1", b"quiet"])

@@ -307,7 +307,7 @@ class Loaded(Attack):
         for each in threads:
             each.start()
         for each in threads:
-            each.join(100)
+            each.join(PATIENCE)
         return {person.seat: some for person, some in zip(people, found)}
 
     def assert_kept(self, log, answered):
