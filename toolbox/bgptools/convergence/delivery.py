@@ -19,23 +19,23 @@ MEMORY = NUMBERS["memory"]
 
 
 @dataclass
-class Settling:
+class Convergence:
     """What was delivered, in which order; and, where it did not end, who keeps choosing anew: prefixes, each with its routers.
 
     `period` is how many deliveries bring the same state back, where that was seen. `others` are the orders that were tried where the
-    first one did not settle, and `first` is that one, where another took its place. `states` is in how many states they ended."""
+    first one did not converge, and `first` is that one, where another took its place. `states` is in how many states they ended."""
     order: Order
     deliveries: List[Direction] = field(default_factory=list)
     taken: List[str] = field(default_factory=list)
-    is_settled: bool = True
+    is_converged: bool = True
     restless: Dict[str, List[str]] = field(default_factory=dict)
     period: int = 0
-    first: Optional["Settling"] = None
-    others: List["Settling"] = field(default_factory=list)
+    first: Optional["Convergence"] = None
+    others: List["Convergence"] = field(default_factory=list)
     states: int = 0
 
 
-class Settler:
+class Deliverer:
     """Delivers what waits in a program's network."""
 
     def __init__(self, program: CountedProgram, network: Network, order: Order, most: Optional[int] = None) -> None:
@@ -59,16 +59,16 @@ class Settler:
             return self.most
         return 10000 + 20 * len(self.network.directions()) * len(self.network.prefixes)
 
-    def settle(self) -> Settling:
+    def converge(self) -> Convergence:
         """Delivers until no message waits, or until the limit. Where that is reached, it is examined why."""
-        done, limit, self.progress = Settling(self.order), self.limit(), Progress()
+        done, limit, self.progress = Convergence(self.order), self.limit(), Progress()
         if self.waiting.most or self.is_unsure:
             self._draw(limit, done)
             self._converge(limit - len(done.deliveries), done)
         self.progress.done()
         return done
 
-    def _draw(self, limit: int, done: Settling) -> None:
+    def _draw(self, limit: int, done: Convergence) -> None:
         """Delivers in the rounds for which lots are drawn, if the order has such."""
         self.order.begin()
         while self.order.draws() and len(done.deliveries) < limit:
@@ -83,13 +83,13 @@ class Settler:
                 done.taken.append(reply[0])
             self.progress.tell("%d deliveries .." % len(done.deliveries))
 
-    def _converge(self, room: int, done: Settling) -> None:
+    def _converge(self, room: int, done: Convergence) -> None:
         """Has the program deliver, at most so many messages."""
         before = len(done.deliveries)
         found = self.program.converge(self.order.name, room,
                                       lambda count: self.progress.tell("%d deliveries .." % (before + count)))
         if not found.is_converged and not found.is_refused:
-            done.is_settled = False
+            done.is_converged = False
             why = examine(self.program, self.network, found.commands, found.replies)
             done.period, done.restless = why.period, why.restless
             del found.commands[why.count:], found.replies[why.count:]

@@ -106,10 +106,10 @@ class Orders(Case):
             kinds = [reply.split(" ")[2] for _, reply in wanted]
             self.assertEqual(echo.ending, "%sconverged after %d (%d updates, %d withdrawals)" % (
                 "" if is_converged else "not ", len(wanted), kinds.count("update"), kinds.count("withdraw")))
-            done = run.settle()
+            done = run.converge()
             made = [("deliver %s %s" % way, took) for way, took in zip(done.deliveries, done.taken)]
             self.assertEqual(made, wanted[:len(made)])
-            self.assertEqual(done.is_settled, is_converged)
+            self.assertEqual(done.is_converged, is_converged)
             self.assertEqual(len(made) == len(wanted) or bool(done.period), True)
         return len(wanted)
 
@@ -136,7 +136,7 @@ class Orders(Case):
         for order in (Order(), RouterByRouter(), Drawn(1)):
             with Run(order) as run:
                 run.play(lines)
-                made.append(run.settle().deliveries)
+                made.append(run.converge().deliveries)
         self.assertEqual(len({tuple(each) for each in made}), 3)
 
 
@@ -169,13 +169,13 @@ class Failures(Case):
         """What was delivered before is kept."""
         run = self.run_of("deliver 1.0.0.1 2.0.0.1\ntook 10.0.0.0/8 update\nrefused 20 memory\n")
         with self.assertRaisesRegex(Mistake, "^converge: refused 20 memory: memory was refused after 1 deliveries$"):
-            run.settle()
+            run.converge()
         self.assertEqual(run.lines, TWO.split("\n")[:-1] + ["deliver 1.0.0.1 2.0.0.1"])
 
     def test_the_program_ends_in_the_midst(self):
         run = self.run_of("deliver 1.0.0.1 2.0.0.1\ntook 10.0")
         with self.assertRaisesRegex(ProgramEnded, "the program ended before it had answered, with status 0"):
-            run.settle()
+            run.converge()
         self.assertEqual(run.lines, TWO.split("\n")[:-1])
 
     def test_a_reply_in_pieces(self):
@@ -217,8 +217,8 @@ class Recurrences(Case):
         with Run() as run:
             run.play(lines_of(BAD_GADGET.encode(), "gadget.bgp"))
             begin = len(run.lines)
-            done = run.settle()
-            self.assertEqual((done.is_settled, done.period), (False, 18))
+            done = run.converge()
+            self.assertEqual((done.is_converged, done.period), (False, 18))
             self.assertEqual(done.restless, {"203.0.113.0/24": ["1.0.0.1", "2.0.0.1", "3.0.0.1"]})
             self.assertLess(len(done.deliveries), 60)
             self.assertEqual(run.lines[begin:], ["deliver %s %s" % way for way in done.deliveries])
@@ -233,8 +233,8 @@ class Recurrences(Case):
         """Who chose another route twice or more in the second half is told."""
         with Run(most=40) as run:
             run.play(lines_of(BAD_GADGET.encode(), "gadget.bgp"))
-            done = run.settle()
-        self.assertEqual((done.is_settled, done.period, len(done.deliveries)), (False, 0, 40))
+            done = run.converge()
+        self.assertEqual((done.is_converged, done.period, len(done.deliveries)), (False, 0, 40))
         self.assertEqual(done.restless, {"203.0.113.0/24": ["1.0.0.1", "2.0.0.1", "3.0.0.1"]})
 
     def test_the_network_stands_where_the_deliveries_stopped(self):
@@ -242,9 +242,9 @@ class Recurrences(Case):
         with Run(most=5) as run:
             run.play(lines_of((DATA / "ring.bgp").read_bytes(), "ring.bgp"))
             begin = len(run.lines)
-            self.assertEqual((run.settle().is_settled, len(run.lines) - begin), (False, 5))
+            self.assertEqual((run.converge().is_converged, len(run.lines) - begin), (False, 5))
             run.follow(Order(), None, False)
-            self.assertEqual(run.settle().is_settled, True)
+            self.assertEqual(run.converge().is_converged, True)
             self.assertEqual(run.ask(["quiet"]), [["yes"]])
             with Run() as other:
                 other.repeat(run.lines)
